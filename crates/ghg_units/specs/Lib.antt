@@ -1,0 +1,9 @@
+pub mod Name
+pub mod Padding
+pub mod Parameter
+pub mod Words
+pub mod Units
+pub mod Decimal
+pub mod Year
+pub mod Fixed
+pub mod WellFormed

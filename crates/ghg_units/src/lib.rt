@@ -1,0 +1,28 @@
+//! The words of submissions: names, decimals, units, rows, and the rules that refuse them.
+#![tactic(auto)]
+
+mod decimal;
+mod fixed;
+mod name;
+mod names;
+mod node;
+mod parameter;
+mod row;
+mod rule;
+mod text;
+mod unit;
+mod word;
+mod year;
+
+pub use decimal::{Decimal, read_decimal, read_whole};
+pub use fixed::write_fixed;
+pub use name::Name;
+pub use names::Names;
+pub use node::Node;
+pub use parameter::ParamName;
+pub use row::{Act, Amount, Binding, Figure, NotationKey, Row, RowForm, Span};
+pub use rule::{Column, Limit, Rule};
+pub use text::Text;
+pub use unit::{Unit, dim, unit_named};
+pub use word::{act_named, key_named};
+pub use year::read_year;
