@@ -1,0 +1,4 @@
+pub mod Data
+pub mod Rows
+pub mod Rules
+pub mod Sound
