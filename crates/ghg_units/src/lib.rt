@@ -23,6 +23,6 @@ pub use parameter::ParamName;
 pub use row::{Act, Amount, Binding, Figure, NotationKey, Row, RowForm, Span};
 pub use rule::{Column, Limit, Rule};
 pub use text::Text;
-pub use unit::{Unit, dim, unit_named};
+pub use unit::{Unit, base_word, dim, ratio, unit_named};
 pub use word::{act_named, key_named};
 pub use year::read_year;

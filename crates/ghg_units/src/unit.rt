@@ -1,7 +1,7 @@
 //! Units of quantities.
 
 ghost use Rattle.std.specs.Prelude.{◌≡◌};
-ghost use Rattle.ghg_units.specs.Units.{dim_of, unit_in};
+ghost use Rattle.ghg_units.specs.Units.{base_word_of, dim_of, ratio_of, unit_in};
 
 use ghg_equations::Dim;
 
@@ -34,5 +34,53 @@ pub fn dim(unit: Unit) -> Dim
     match unit {
         Unit::Terajoule => Dim::Energy,
         Unit::KilogramPerTerajoule => Dim::EnFac,
+    }
+}
+
+/// How many base units a unit is: the first number over the second.
+pub fn ratio(unit: Unit) -> (u64, u64)
+    ensures { (result.0 ≡ (ratio_of unit).over) × (result.1 ≡ (ratio_of unit).under) }
+{
+    match unit {
+        Unit::Terajoule => (1, 1),
+        Unit::KilogramPerTerajoule => (1, 1),
+    }
+}
+
+/// The word of a dimension's base unit; a decay has none.
+pub fn base_word(dim: Dim) -> &'static str
+    ensures { result.now ≡ base_word_of dim }
+{
+    match dim {
+        Dim::Mass => "t",
+        Dim::Energy => "TJ",
+        Dim::Area => "ha",
+        Dim::Volume => "m3",
+        Dim::Head => "head",
+        Dim::Person => "person",
+        Dim::Ratio => "1",
+        Dim::Day => "day",
+        Dim::HalfLife => "yr",
+        Dim::EnFac => "kg/TJ",
+        Dim::CarCon => "tC/TJ",
+        Dim::Calor => "TJ/Gg",
+        Dim::GasVol => "m3/t",
+        Dim::FluidFac => "kg/m3",
+        Dim::HeadFac => "kg/head",
+        Dim::HeadDay => "kg/head/day",
+        Dim::HeadEn => "MJ/head/day",
+        Dim::Excr => "kg/t/day",
+        Dim::Yield => "m3/kg",
+        Dim::AreaFac => "t/ha",
+        Dim::AreaDay => "kg/ha/day",
+        Dim::VolArea => "m3/ha",
+        Dim::Wood => "t/m3",
+        Dim::PersFac => "kg/person",
+        Dim::PersDay => "g/person/day",
+        Dim::Carbon => "GgC",
+        Dim::Gas => "Gg-gas",
+        Dim::AnMin => "AEmin",
+        Dim::Slope => "kg/t/AEmin",
+        Dim::Decay => "none",
     }
 }
