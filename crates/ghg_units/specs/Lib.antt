@@ -7,3 +7,4 @@ pub mod Decimal
 pub mod Year
 pub mod Fixed
 pub mod WellFormed
+pub mod Refusals

@@ -1,4 +1,4 @@
-//! ParamNames of the parameters of equations.
+//! Names of the parameters of equations.
 
 ghost use Rattle.std.specs.Prelude.{◌≡◌, ◌≤◌, IsTrue, length, refl};
 ghost use Rattle.std.specs.Ordering.{nat_cmp};

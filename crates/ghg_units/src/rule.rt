@@ -1,5 +1,8 @@
 //! The rules that a submission may break.
 
+ghost use Rattle.std.specs.Prelude.{◌≡◌};
+ghost use Rattle.ghg_units.specs.Refusals.{column_word, limit_word};
+
 use crate::name::Name;
 use crate::node::Node;
 use crate::parameter::ParamName;
@@ -19,6 +22,40 @@ pub enum Column {
     Note,
 }
 
+impl Column {
+    /// Every column, in the order of the header.
+    pub const ALL: [Column; 10] = [
+        Column::Act,
+        Column::Kind,
+        Column::Subject,
+        Column::Name,
+        Column::Year,
+        Column::Value,
+        Column::Low,
+        Column::High,
+        Column::Unit,
+        Column::Note,
+    ];
+
+    /// The name of the column in the header.
+    pub fn word(self) -> &'static str
+        ensures { result.now ≡ column_word self }
+    {
+        match self {
+            Column::Act => "act",
+            Column::Kind => "kind",
+            Column::Subject => "subject",
+            Column::Name => "name",
+            Column::Year => "year",
+            Column::Value => "value",
+            Column::Low => "low",
+            Column::High => "high",
+            Column::Unit => "unit",
+            Column::Note => "note",
+        }
+    }
+}
+
 /// What a workbook may have too many of.
 #[derive(Clone, Copy, PartialEq, Eq, Debug, Drop)]
 pub enum Limit {
@@ -30,6 +67,20 @@ pub enum Limit {
     Span,
     /// 536,870,912 bytes of kept bodies.
     Bytes,
+}
+
+impl Limit {
+    /// The word that a refusal names the limit by.
+    pub fn word(self) -> &'static str
+        ensures { result.now ≡ limit_word self }
+    {
+        match self {
+            Limit::Lines => "lines",
+            Limit::Records => "records",
+            Limit::Span => "span",
+            Limit::Bytes => "bytes",
+        }
+    }
 }
 
 /// The rule that refuses a submission. A row stands by its number.

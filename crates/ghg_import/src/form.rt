@@ -1,0 +1,220 @@
+//! The forms of rows: what each column may hold.
+//!
+//! A form tests the words of its row from left to right, then the numbers from left to right, and then their order.
+
+ghost use Rattle.std.specs.Prelude.{◌≡◌, IfOk, IfSome};
+ghost use Rattle.ghg_units.specs.WellFormed.{IsAmount, IsBinding, IsForm, withdraws};
+ghost use Rattle.ghg_import.specs.Shape.{texts};
+ghost use Rattle.ghg_import.specs.Forms.{activity_in, bind_in, category_at, content_in, empty_at, factor_in, form_in, known_in, line_in, named_figure_in, no_value_in, span_in, target_in};
+
+use crate::columns::Columns;
+use crate::fault::Fault;
+use crate::kind::{BindingForm, Kind, binding_form_named, kind_named};
+use ghg_equations::eq_named;
+use ghg_units::{
+    Act, Amount, Binding, Column, Figure, Name, ParamName, RowForm, Span, act_named, read_whole,
+    read_year, unit_named,
+};
+
+/// What a row says, or the first rule that it breaks.
+#[tactic(auto, unfolding(crate::specs::Forms::content_in))]
+pub(crate) fn content(row: Columns<'_>) -> Result<(Act, RowForm), Fault>
+    ensures reads { result ≡ content_in (texts row.entry) }
+    ensures keeps { IfOk result (λ content. IsForm (withdraws content.0) content.1) }
+{
+    let act = act_named(row.act).ok_or(Fault::Word(Column::Act))?;
+    let kind = kind_named(row.kind).ok_or(Fault::Word(Column::Kind))?;
+    let form = form(kind, act, row)?;
+    Ok((act, form))
+}
+
+#[tactic(auto, unfolding(crate::specs::Forms::form_in))]
+fn form(kind: Kind, act: Act, row: Columns<'_>) -> Result<RowForm, Fault>
+    ensures reads { result ≡ form_in kind act (texts row.entry) }
+    ensures keeps { IfOk result (IsForm (withdraws act)) }
+{
+    match kind {
+        Kind::Span => span(act, row),
+        Kind::Activity => activity(act, row),
+        Kind::Factor => factor(act, row),
+        Kind::Line => line(act, row),
+        Kind::Bind => bind(act, row),
+    }
+}
+
+#[tactic(auto, unfolding(crate::specs::Forms::span_in))]
+fn span(act: Act, row: Columns<'_>) -> Result<RowForm, Fault>
+    ensures reads { result ≡ span_in act (texts row.entry) }
+    ensures keeps { IfOk result (IsForm (withdraws act)) }
+{
+    empty(row.subject, Column::Subject)?;
+    empty(row.name, Column::Name)?;
+    if act == Act::Withdraw {
+        empty(row.year, Column::Year)?;
+        no_value(row)?;
+        return Ok(RowForm::Span(None));
+    }
+    empty(row.high, Column::High)?;
+    empty(row.unit, Column::Unit)?;
+    let first = read_year(row.year).ok_or(Fault::Number(Column::Year))?;
+    let last = read_year(row.value).ok_or(Fault::Number(Column::Value))?;
+    let base = read_year(row.low).ok_or(Fault::Number(Column::Low))?;
+    if first > base || base > last {
+        return Err(Fault::Disorder);
+    }
+    Ok(RowForm::Span(Some(Span { first, base, last })))
+}
+
+#[tactic(auto, unfolding(crate::specs::Forms::activity_in))]
+fn activity(act: Act, row: Columns<'_>) -> Result<RowForm, Fault>
+    ensures reads { result ≡ activity_in act (texts row.entry) }
+    ensures keeps { IfOk result (IsForm (withdraws act)) }
+{
+    let f = named_figure(act, row)?;
+    Ok(RowForm::Activity(f.name, f.year, f.figure))
+}
+
+#[tactic(auto, unfolding(crate::specs::Forms::factor_in))]
+fn factor(act: Act, row: Columns<'_>) -> Result<RowForm, Fault>
+    ensures reads { result ≡ factor_in act (texts row.entry) }
+    ensures keeps { IfOk result (IsForm (withdraws act)) }
+{
+    let f = named_figure(act, row)?;
+    Ok(RowForm::Factor(f.name, f.year, f.figure))
+}
+
+/// What an activity and a factor have.
+#[derive(Clone, Copy, Drop)]
+struct NamedFigure {
+    name: Name,
+    year: u32,
+    figure: Option<Figure>,
+}
+
+#[tactic(auto, unfolding(crate::specs::Forms::named_figure_in))]
+fn named_figure(act: Act, row: Columns<'_>) -> Result<NamedFigure, Fault>
+    ensures reads { result ≡ named_figure_in act (texts row.entry) }
+    ensures keeps { IfOk result (λ f. IsForm (withdraws act) (RowForm.Activity f.name f.year f.figure)) }
+{
+    empty(row.subject, Column::Subject)?;
+    let name = Name::plain(row.name).ok_or(Fault::Word(Column::Name))?;
+    if act == Act::Withdraw {
+        no_value(row)?;
+        let year = read_year(row.year).ok_or(Fault::Number(Column::Year))?;
+        let figure = None;
+        return Ok(NamedFigure { name, year, figure });
+    }
+    let unit = unit_named(row.unit).ok_or(Fault::Word(Column::Unit))?;
+    let year = read_year(row.year).ok_or(Fault::Number(Column::Year))?;
+    let amount = known(row)?;
+    let figure = Some(Figure { unit, amount });
+    Ok(NamedFigure { name, year, figure })
+}
+
+// A value, and its bounds where they are supplied.
+#[tactic(auto, unfolding(crate::specs::Forms::known_in))]
+fn known(row: Columns<'_>) -> Result<Amount, Fault>
+    ensures reads { result ≡ known_in (texts row.entry) }
+    ensures keeps { IfOk result IsAmount }
+{
+    let value = read_whole(row.value).ok_or(Fault::Number(Column::Value))?;
+    if row.low.is_empty() && row.high.is_empty() {
+        return Ok(Amount::Known {
+            value,
+            low: value,
+            high: value,
+        });
+    }
+    let low = read_whole(row.low).ok_or(Fault::Number(Column::Low))?;
+    let high = read_whole(row.high).ok_or(Fault::Number(Column::High))?;
+    if low > value || value > high {
+        return Err(Fault::Disorder);
+    }
+    Ok(Amount::Known { value, low, high })
+}
+
+#[tactic(auto, unfolding(crate::specs::Forms::line_in))]
+fn line(act: Act, row: Columns<'_>) -> Result<RowForm, Fault>
+    ensures reads { result ≡ line_in act (texts row.entry) }
+    ensures keeps { IfOk result (IsForm (withdraws act)) }
+{
+    if act == Act::Withdraw {
+        empty(row.subject, Column::Subject)?;
+        let name = Name::plain(row.name).ok_or(Fault::Word(Column::Name))?;
+        empty(row.year, Column::Year)?;
+        no_value(row)?;
+        return Ok(RowForm::Line(name, None));
+    }
+    category(row.subject, Column::Subject)?;
+    let name = Name::plain(row.name).ok_or(Fault::Word(Column::Name))?;
+    empty(row.year, Column::Year)?;
+    let equation = eq_named(row.value).ok_or(Fault::Word(Column::Value))?;
+    empty(row.low, Column::Low)?;
+    empty(row.high, Column::High)?;
+    empty(row.unit, Column::Unit)?;
+    Ok(RowForm::Line(name, Some(equation)))
+}
+
+#[tactic(auto, unfolding(crate::specs::Forms::bind_in))]
+fn bind(act: Act, row: Columns<'_>) -> Result<RowForm, Fault>
+    ensures reads { result ≡ bind_in act (texts row.entry) }
+    ensures keeps { IfOk result (IsForm (withdraws act)) }
+{
+    let line = Name::plain(row.subject).ok_or(Fault::Word(Column::Subject))?;
+    let parameter = ParamName::new(row.name).ok_or(Fault::Word(Column::Name))?;
+    empty(row.year, Column::Year)?;
+    if act == Act::Withdraw {
+        no_value(row)?;
+        return Ok(RowForm::Bind(line, parameter, None));
+    }
+    let form = binding_form_named(row.value).ok_or(Fault::Word(Column::Value))?;
+    let binding = target(form, row.low).ok_or(Fault::Word(Column::Low))?;
+    empty(row.high, Column::High)?;
+    empty(row.unit, Column::Unit)?;
+    Ok(RowForm::Bind(line, parameter, Some(binding)))
+}
+
+// What a text names as the target of a binding.
+#[tactic(auto, unfolding(crate::specs::Forms::target_in))]
+fn target(form: BindingForm, text: &[u8]) -> Option<Binding>
+    ensures reads { result ≡ target_in form text.now }
+    ensures keeps { IfSome result IsBinding }
+{
+    match form {
+        BindingForm::Activity => Some(Binding::Activity(Name::plain(text)?)),
+        BindingForm::Factor => Some(Binding::Factor(Name::plain(text)?)),
+    }
+}
+
+// That the columns of the value are empty.
+#[tactic(auto, unfolding(crate::specs::Forms::no_value_in))]
+fn no_value(row: Columns<'_>) -> Result<(), Fault>
+    ensures { result ≡ no_value_in (texts row.entry) }
+{
+    empty(row.value, Column::Value)?;
+    empty(row.low, Column::Low)?;
+    empty(row.high, Column::High)?;
+    empty(row.unit, Column::Unit)
+}
+
+// That a column names the category at which lines stand.
+fn category(text: &[u8], column: Column) -> Result<(), Fault>
+    ensures { result ≡ category_at column text.now }
+{
+    if text == b"1A1a".as_slice() {
+        Ok(())
+    } else {
+        Err(Fault::Word(column))
+    }
+}
+
+// That a column is empty.
+fn empty(text: &[u8], column: Column) -> Result<(), Fault>
+    ensures { result ≡ empty_at column text.now }
+{
+    if text.is_empty() {
+        Ok(())
+    } else {
+        Err(Fault::Word(column))
+    }
+}

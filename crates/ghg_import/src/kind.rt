@@ -1,0 +1,53 @@
+//! The words that choose how the other columns of a row are read.
+
+ghost use Rattle.std.specs.Prelude.{◌≡◌};
+ghost use Rattle.ghg_import.specs.Kinds.{binding_form_in, kind_in};
+
+/// What a row is about, as its kind column names it.
+#[derive(Clone, Copy, Debug, PartialEq, Eq, Drop)]
+pub(crate) enum Kind {
+    Span,
+    Activity,
+    Factor,
+    Line,
+    Bind,
+}
+
+/// The kind that a word names.
+pub(crate) fn kind_named(text: &[u8]) -> Option<Kind>
+    ensures { result ≡ kind_in text.now }
+{
+    if text == b"span".as_slice() {
+        Some(Kind::Span)
+    } else if text == b"activity".as_slice() {
+        Some(Kind::Activity)
+    } else if text == b"factor".as_slice() {
+        Some(Kind::Factor)
+    } else if text == b"line".as_slice() {
+        Some(Kind::Line)
+    } else if text == b"bind".as_slice() {
+        Some(Kind::Bind)
+    } else {
+        None
+    }
+}
+
+/// What a parameter is bound to, as the value column of a binding names it.
+#[derive(Clone, Copy, Debug, PartialEq, Eq, Drop)]
+pub(crate) enum BindingForm {
+    Activity,
+    Factor,
+}
+
+/// The form of a binding that a word names.
+pub(crate) fn binding_form_named(text: &[u8]) -> Option<BindingForm>
+    ensures { result ≡ binding_form_in text.now }
+{
+    if text == b"activity".as_slice() {
+        Some(BindingForm::Activity)
+    } else if text == b"factor".as_slice() {
+        Some(BindingForm::Factor)
+    } else {
+        None
+    }
+}

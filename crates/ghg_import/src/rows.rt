@@ -1,0 +1,99 @@
+//! The rows of a body.
+
+ghost use Rattle.std.specs.Prelude.{◌≡◌, ◌≤◌, ◌+◌, ◌<◌, ◌↔◌, length, IfOk, IsTrue, OnOk, if◌then◌else◌};
+ghost use Rattle.std.specs.List.{AllByRecursion};
+ghost use Rattle.csv.specs.Records.{fields_of};
+ghost use Rattle.ghg_units.specs.WellFormed.{IsForm, IsWellFormed, withdraws};
+ghost use Rattle.ghg_import.specs.Body.{max_body};
+ghost use Rattle.ghg_import.specs.Reading.{no_header, reading_of, row_content, rows_from, under_header};
+ghost use Rattle.ghg_import.specs.Told.{Tells};
+
+use crate::columns::{columns_of, is_header};
+use crate::fault::Fault;
+use crate::form::content;
+use crate::reader::RecordReader;
+use csv::ByteRecord;
+use ghg_units::{Act, Row, RowForm, Rule};
+use std::alloc::{AllocError, Global};
+
+/// The longest body that is read, in bytes.
+pub const MAX_BODY: usize = 4_194_304;
+
+/// Whether a body is longer than any that is read.
+pub fn is_too_long(body: &[u8]) -> bool
+    ensures { IsTrue result ↔ (max_body < length body.now) }
+{
+    body.len() > MAX_BODY
+}
+
+/// The rows before the first that breaks a rule, and that rule.
+#[derive(Drop)]
+pub struct Rows {
+    pub rows: Vec<Row>,
+    pub rest: Option<Rule>,
+}
+
+/// The rows of a body before the first that breaks a rule that a body alone can break, and that rule.
+#[tactic(auto, unfolding(crate::specs::Reading::reading_of))]
+pub fn read_rows(alloc: Global, body: &[u8]) -> Result<Rows, AllocError>
+    requires { length body.now ≤ max_body }
+    // The rows, and the rule, are a function of the body.
+    ensures reads { IfOk result (λ rows. Tells rows (reading_of body.now)) }
+    ensures keeps { IfOk result (λ rows. AllByRecursion IsWellFormed rows.rows.items) }
+{
+    let mut records = RecordReader::new(alloc, body);
+    let mut fields = ByteRecord::new(alloc);
+    if !takes_header(&mut records, &mut fields)? {
+        return Ok(Rows {
+            rows: Vec::new(alloc),
+            rest: Some(Rule::BadShape(0)),
+        });
+    }
+    rows_under_header(alloc, records, fields)
+}
+
+// Whether the first record is the header, which is then taken.
+fn takes_header(records: &mut RecordReader<'_>, fields: &mut ByteRecord) -> Result<bool, AllocError>
+    ensures header { IfOk result (λ found. under_header records.old ≡ (if found then rows_from 1 records.new else no_header)) }
+    ensures fewer { OnOk result (length records.new ≤ length records.old) }
+{
+    if !records.next(fields)? {
+        return Ok(false);
+    }
+    Ok(is_header(fields))
+}
+
+// The rows of the records under the header.
+fn rows_under_header(
+    alloc: Global,
+    mut records: RecordReader<'_>,
+    mut fields: ByteRecord,
+) -> Result<Rows, AllocError>
+    requires { length records ≤ max_body }
+    ensures reads { IfOk result (λ rows. Tells rows (rows_from 1 records.entry)) }
+    ensures keeps { IfOk result (λ rows. AllByRecursion IsWellFormed rows.rows.items) }
+{
+    let mut rows = Vec::new(alloc);
+    let mut number = 1;
+    'records: while records.next(&mut fields)? {
+        match row_content(&fields) {
+            Ok((act, form)) => rows.push(Row { number, act, form })?,
+            Err(fault) => {
+                let rest = Some(fault.at(number));
+                return Ok(Rows { rows, rest });
+            }
+        }
+        number += 1;
+    }
+    Ok(Rows { rows, rest: None })
+}
+
+// What a record says, or the first rule that it breaks.
+#[tactic(auto, unfolding(crate::specs::Reading::row_content))]
+fn row_content(fields: &ByteRecord) -> Result<(Act, RowForm), Fault>
+    ensures reads { result ≡ row_content (fields_of fields.now) }
+    ensures keeps { IfOk result (λ content. IsForm (withdraws content.0) content.1) }
+{
+    let columns = columns_of(fields).ok_or(Fault::Shape)?;
+    content(columns)
+}
