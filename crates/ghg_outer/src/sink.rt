@@ -1,0 +1,29 @@
+ghost use Rattle.std.specs.Prelude.{◌<◌, ◌≤◌, length, IfOk, IsErrOf};
+ghost use Rattle.std.specs.Io.KnownBytes.{Keeps, WriteAppends};
+ghost use Rattle.ghg_outer.specs.Counts.{IsCounted};
+
+use crate::Told;
+
+/// Why nothing was written.
+#[derive(Clone, Copy, Debug, PartialEq, Eq, Drop)]
+pub enum WriteError {
+    /// The sink failed, and its count of faults rose.
+    Failed,
+    /// Memory ran out. Only sinks in memory, whose lists grow, answer this.
+    Memory,
+}
+
+/// Where bytes go.
+pub trait Sink: Told {
+    /// Appends bytes from the front of the piece, which is not empty, and says how many. It is at least one.
+    ///
+    /// After an error nothing was appended.
+    fn write(&mut self, piece: &[u8]) -> Result<usize, WriteError>
+        requires { 0 < length piece.now }
+        ensures some { IfOk result (λ n. 0 < n) }
+        ensures bound { IfOk result (λ n. n ≤ length piece.now) }
+        ensures written { WriteAppends (Self.written self.old) (Self.written self.new) result piece.now }
+        ensures left { Keeps (Self.left self.old) (Self.left self.new) }
+        ensures taken { Keeps (Self.taken self.old) (Self.taken self.new) }
+        ensures faults { IsCounted (Self.faults self.old) (Self.faults self.new) (IsErrOf result WriteError.Failed) };
+}
