@@ -1,16 +1,19 @@
 -- The office: the data in force, the submissions that it accepted, and what it answers.
-use Rattle.std.specs.Prelude.{ℕ, ◌+◌, Bool, ◌&&◌, ◌||◌, ◌==◌, nat_le, nat_lt, if◌then◌else◌, List, [], ◌∷◌, ◌++◌, length, map, sum, Option, Some, None, Result, Ok, Err, codes}
+use Rattle.std.specs.Prelude.{ℕ, ◌+◌, Bool, ◌&&◌, ◌||◌, ◌==◌, nat_le, nat_lt, if◌then◌else◌, List, [], ◌∷◌, ◌++◌, length, map, sum, Option, Some, None, Result, Ok, Err, codes, refl}
 use Rattle.std.specs.Option.{option_map}
 use Rattle.std.specs.List.{filter_map, list_all}
 use Rattle.std.specs.Str.{bytes_eq}
 use Rattle.std.specs.Char.{is_ascii_alphanumeric}
-use Rattle.std.specs.FinMap.{empty}
+use Rattle.std.specs.Coded.{Coded, code_by, coded×, coded_list, coded_ℕ}
+use Rattle.std.specs.FinMap.{code, empty}
 use Rattle.ghg_cell.specs.declared.input.Input.{Input}
 use Rattle.ghg_cell.specs.declared.input.Input.TheVariants.{Blank}
+use Rattle.ghg_definitions.specs.declared.record.Record.{Record}
+use Rattle.ghg_definitions.specs.declared.record.RecordKey.{RecordKey}
 use Rattle.ghg_definitions.specs.Compilation.{is_year_of, line_value, overflow}
 use Rattle.ghg_definitions.specs.Data.{Data, Name, line, line_names, span}
 use Rattle.ghg_definitions.specs.Rules.{planned}
-use Rattle.ghg_import.specs.Body.{longest_body}
+use Rattle.ghg_import.specs.Body.{max_body}
 use Rattle.ghg_import.specs.Reading.{Reading, reading_of}
 use Rattle.ghg_interval.specs.declared.Over.{Over}
 use Rattle.ghg_office.specs.declared.reply.Reply.{Reply}
@@ -32,6 +35,13 @@ pub record Submission : Type 0 where
 pub record State : Type 0 where
   pub content : Data
   pub accepted : List Submission
+
+abbrev pub submission_code : Coded Submission
+submission_code = code_by (List ℕ × List ℕ) (coded× (coded_list coded_ℕ) (coded_list coded_ℕ)) (λ s. (s.id, s.body)) (λ p. record { id = p.0; body = p.1 }) (λ _. refl)
+
+abbrev pub state_code : Coded RecordKey → Coded Record → Coded State
+state_code key entry =
+    code_by (Data × List Submission) (coded× (code key entry) (coded_list submission_code)) (λ s. (s.content, s.accepted)) (λ p. record { content = p.0; accepted = p.1 }) (λ _. refl)
 
 abbrev pub start : State
 start = record { content = empty; accepted = [] }
@@ -86,7 +96,7 @@ read s id body reading = compiled s id body (planned s.content reading.rows read
 
 -- a submission with an id that is not kept
 abbrev pub judged : State → List ℕ → List ℕ → Answer
-judged s id body = if nat_lt longest_body (length body) then refused s BodyTooLong else read s id body (reading_of body)
+judged s id body = if nat_lt max_body (length body) then refused s BodyTooLong else read s id body (reading_of body)
 
 -- the same id and body again changes nothing
 abbrev pub once : State → List ℕ → List ℕ → Option Kept → Answer

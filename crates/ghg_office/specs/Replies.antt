@@ -1,8 +1,9 @@
 -- The texts of replies.
-use Rattle.std.specs.Prelude.{ℕ, List, [], ◌∷◌, ◌++◌, codes}
+use Rattle.std.specs.Prelude.{◌≡◌, ⊤, ℕ, List, [], ◌∷◌, ◌++◌, codes}
 use Rattle.std.specs.Fmt.{decimal}
 use Rattle.ghg_office.specs.declared.reply.Reply.{Reply}
 use Rattle.ghg_office.specs.declared.reply.Reply.TheVariants.{Accepted, Repeated, Refused, Table, NoTable, Memory}
+use Rattle.ghg_office.specs.Office.{Answer, State}
 use Rattle.ghg_units.specs.Refusals.{refusal_text}
 
 -- the line of a reply, without its end; a table is its own lines
@@ -13,3 +14,13 @@ reply_text (Refused rule) = codes "refused " ++ refusal_text rule
 reply_text (Table text) = text
 reply_text NoTable = codes "no table"
 reply_text Memory = codes "memory"
+
+-- the reply is that of the answer, and the state the one after it; where memory ran out, nothing changed
+abbrev pub Answers : Answer → Reply → State → State → Type 0
+Answers answer Memory old new = new ≡ old
+Answers answer reply old new = (reply ≡ answer.reply) × (new ≡ answer.after)
+
+-- the reply is this one, but where memory ran out
+abbrev pub Shows : Reply → Reply → Type 0
+Shows due Memory = ⊤
+Shows due reply = reply ≡ due
