@@ -1,5 +1,5 @@
 -- What the rows of a submission do to the data.
-use Rattle.std.specs.Prelude.{ℕ, List, fold, Option, Some, None}
+use Rattle.std.specs.Prelude.{List, fold, Option, Some, None}
 use Rattle.std.specs.Option.{option_map}
 use Rattle.std.specs.FinMap.{insert, remove}
 use Rattle.ghg_definitions.specs.declared.record.RecordKey.{RecordKey}

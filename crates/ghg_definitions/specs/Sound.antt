@@ -1,5 +1,5 @@
 -- What the data of a workbook keep at every moment.
-use Rattle.std.specs.Prelude.{◌≡◌, Option, Some, None, true}
+use Rattle.std.specs.Prelude.{◌≡◌, Some, None, true}
 use Rattle.std.specs.FinMap.{get}
 use Rattle.ghg_equations.specs.Quantity.{same_dim}
 use Rattle.ghg_definitions.specs.declared.record.Record.{Record}
@@ -24,7 +24,7 @@ IsRecord _ _ = ⊥
 -- records of one kind and name have one dimension
 abbrev pub HaveOneDimension : Data → Type 0
 HaveOneDimension m = (k q : RecordKey) (r s : Record) (f g : Figure) →
-  get m k ≡ Some r → get m q ≡ Some s → is_other_year k q ≡ true → as_figure (Some r) ≡ Some f → as_figure (Some s) ≡ Some g → same_dim (dim_of f.unit) (dim_of g.unit) ≡ true
+    get m k ≡ Some r → get m q ≡ Some s → is_other_year k q ≡ true → as_figure (Some r) ≡ Some f → as_figure (Some s) ≡ Some g → same_dim (dim_of f.unit) (dim_of g.unit) ≡ true
 
 pub record IsWorkbook (m : Data) : Type 0 where
   pub records : (k : RecordKey) (r : Record) → get m k ≡ Some r → IsRecord k r
