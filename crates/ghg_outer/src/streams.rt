@@ -1,6 +1,8 @@
 // The process's own input and output. They are the trusted edge: std's contracts tell nothing of what a terminal, a
 // pipe or a file gives and takes, so neither do these, and what is proved of them is that each error is counted.
-ghost use Rattle.std.specs.Prelude.{◌≡◌, None};
+ghost use Rattle.std.specs.Prelude.{◌≡◌, ◌<◌, ◌≤◌, length, IfOk, IfErr, IsErr, None};
+ghost use Rattle.std.specs.Io.KnownBytes.{WriteAppends};
+ghost use Rattle.ghg_outer.specs.Counts.{IsCounted};
 
 use crate::{Failed, Sink, Source, Told, WriteError};
 use std::io::{Read, Write};
@@ -74,7 +76,16 @@ impl<W: Write + Drop> Told for OutputSink<W> {
 }
 
 impl<W: Write + Drop> Sink for OutputSink<W> {
-    fn write(&mut self, piece: &[u8]) -> Result<usize, WriteError> {
+    fn write(&mut self, piece: &[u8]) -> Result<usize, WriteError>
+        requires { 0 < length piece.now }
+        ensures some { IfOk result (λ n. 0 < n) }
+        ensures bound { IfOk result (λ n. n ≤ length piece.now) }
+        ensures written { WriteAppends (⟦<OutputSink<W> as Told>⟧.written self.old)
+            (⟦<OutputSink<W> as Told>⟧.written self.new) result piece.now }
+        ensures faults { IsCounted (⟦<OutputSink<W> as Told>⟧.faults self.old)
+            (⟦<OutputSink<W> as Told>⟧.faults self.new) (IsErr result) }
+        ensures failed { IfErr result (λ error. error ≡ WriteError.Failed) }
+    {
         match self.writer.write(piece) {
             Ok(count) if count > 0 => Ok(count),
             _ => {

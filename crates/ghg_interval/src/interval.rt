@@ -1,0 +1,181 @@
+ghost use Rattle.std.specs.Prelude.{◌≡◌, ◌≤◌, ◌≤ℤ◌, SomeIff, OkIff, IfOk, IsTrue, ◌↔◌};
+ghost use Rattle.ghg_interval.specs.Fractions as fraction;
+ghost use Rattle.ghg_interval.specs.Bounds.{IsBounded, AreBounded, IsInterval, IsWithin, Inside, unit_scale, exactly, point, sum, difference, product, scaled, hull_of};
+ghost use Rattle.ghg_interval.specs.Products.{corner, side};
+ghost use Rattle.ghg_interval.specs.Containment.{Holds, HoldsBy, HoldsScaled, in_units};
+ghost use Rattle.ghg_interval.specs.Operations.{exact_in, whole_in, sum_in, difference_in, product_in, scaled_in};
+
+use crate::rounding::{ceil_product, ceil_scaled, floor_product, floor_scaled, is_bounded};
+use crate::{Over, SCALE};
+use std::marker::Model;
+
+/// All numbers from a lower to an upper bound. The bounds are whole numbers of parts of a unit ([`SCALE`]) and are
+/// within the limit ([`LIMIT`](crate::LIMIT)).
+#[derive(Clone, Copy, Debug, PartialEq, Eq)]
+pub struct Interval {
+    lo: i128,
+    hi: i128,
+}
+
+impl Model for Interval {
+    ghost use Rattle.ghg_interval.specs.Bounds.{Bounds, IsInterval};
+
+    ghost Value = { Bounds };
+
+    ghost view = { λ i. record { lo = i.lo; hi = i.hi } };
+
+    ghost invariant = { λ i. IsInterval (record { lo = i.lo; hi = i.hi }) };
+
+    ghost inverse = { λ b. record { lo = b.lo; hi = b.hi } };
+}
+
+impl Interval {
+    /// The interval between two bounds, in parts of a unit. `None` where the lower one is greater than the upper
+    /// one, or one of them is beyond the limit.
+    pub fn new(lo: i128, hi: i128) -> Option<Interval>
+        ensures { SomeIff result (IsInterval (record { lo = lo; hi = hi })) (record { lo = lo; hi = hi }) }
+    {
+        if lo <= hi && is_bounded(lo) && is_bounded(hi) {
+            Some(Interval { lo, hi })
+        } else {
+            None
+        }
+    }
+
+    /// The interval of one number, in parts of a unit.
+    pub fn exact(n: i128) -> Result<Interval, Over>
+        ensures value { OkIff result (AreBounded (exactly n)) (exactly n) }
+        ensures gives { result ≡ exact_in n }
+        ensures holds { IfOk result (λ r. Inside r (in_units n)) }
+    {
+        Interval::limited(n, n)
+    }
+
+    /// The interval of one whole number of units.
+    pub fn whole(n: i128) -> Result<Interval, Over>
+        ensures value { OkIff result (AreBounded (point n)) (point n) }
+        ensures gives { result ≡ whole_in n }
+        ensures holds { IfOk result (λ r. Inside r (fraction.whole n)) }
+    {
+        match n.checked_mul(SCALE) {
+            Some(parts) => Interval::limited(parts, parts),
+            None => Err(Over),
+        }
+    }
+
+    // The interval between two bounds, where they are within the limit.
+    fn limited(lo: i128, hi: i128) -> Result<Interval, Over>
+        requires { lo ≤ℤ hi }
+        ensures { OkIff result (AreBounded (record { lo = lo; hi = hi })) (record { lo = lo; hi = hi }) }
+    {
+        let lo_fits = is_bounded(lo);
+        let hi_fits = is_bounded(hi);
+        if lo_fits && hi_fits {
+            Ok(Interval { lo, hi })
+        } else {
+            Err(Over)
+        }
+    }
+
+    /// The lower bound, in parts of a unit.
+    pub fn lo(&self) -> i128
+        ensures value { result ≡ self.now.lo }
+        ensures interval { IsInterval self.now }
+    {
+        self.lo
+    }
+
+    /// The upper bound, in parts of a unit.
+    pub fn hi(&self) -> i128
+        ensures value { result ≡ self.now.hi }
+        ensures interval { IsInterval self.now }
+    {
+        self.hi
+    }
+
+    /// The sums of the numbers of both.
+    pub fn add(&self, other: &Interval) -> Result<Interval, Over>
+        ensures value { OkIff result (AreBounded (sum self.now other.now)) (sum self.now other.now) }
+        ensures gives { result ≡ sum_in self.now other.now }
+        ensures holds { IfOk result (HoldsBy fraction.sum self.now other.now) }
+    {
+        Interval::limited(self.lo + other.lo, self.hi + other.hi)
+    }
+
+    /// The differences of the numbers of both.
+    pub fn sub(&self, other: &Interval) -> Result<Interval, Over>
+        ensures value { OkIff result (AreBounded (difference self.now other.now)) (difference self.now other.now) }
+        ensures gives { result ≡ difference_in self.now other.now }
+        ensures holds { IfOk result (HoldsBy fraction.difference self.now other.now) }
+    {
+        Interval::limited(self.lo - other.hi, self.hi - other.lo)
+    }
+
+    /// The products of the numbers of both, rounded outward.
+    pub fn mul(&self, other: &Interval) -> Result<Interval, Over>
+        ensures value { OkIff result (AreBounded (product self.now other.now)) (product self.now other.now) }
+        ensures gives { result ≡ product_in self.now other.now }
+        ensures holds { IfOk result (HoldsBy fraction.product self.now other.now) }
+    {
+        match (
+            Interval::side(self.lo, other),
+            Interval::side(self.hi, other),
+        ) {
+            (Ok(low), Ok(high)) => Ok(low.hull(&high)),
+            _ => Err(Over),
+        }
+    }
+
+    // The products of a bound and the numbers of an interval.
+    fn side(x: i128, other: &Interval) -> Result<Interval, Over>
+        requires { IsBounded x }
+        ensures { OkIff result (AreBounded (side x other.now)) (side x other.now) }
+    {
+        match (Interval::corner(x, other.lo), Interval::corner(x, other.hi)) {
+            (Ok(low), Ok(high)) => Ok(low.hull(&high)),
+            _ => Err(Over),
+        }
+    }
+
+    // The product of two bounds, rounded both ways.
+    fn corner(x: i128, y: i128) -> Result<Interval, Over>
+        requires x_bounded { IsBounded x }
+        requires y_bounded { IsBounded y }
+        ensures { OkIff result (AreBounded (corner x y)) (corner x y) }
+    {
+        match (floor_product(x, y), ceil_product(x, y)) {
+            (Some(lo), Some(hi)) => Ok(Interval { lo, hi }),
+            _ => Err(Over),
+        }
+    }
+
+    /// Each number times p over q, rounded outward.
+    pub fn scale(&self, p: u64, q: u64) -> Result<Interval, Over>
+        requires p_in { (1 ≤ p) × (p ≤ unit_scale) }
+        requires q_in { (1 ≤ q) × (q ≤ unit_scale) }
+        ensures value { OkIff result (AreBounded (scaled p q self.now)) (scaled p q self.now) }
+        ensures gives { result ≡ scaled_in p q self.now }
+        ensures holds { IfOk result (HoldsScaled p q self.now) }
+    {
+        Interval::limited(floor_scaled(self.lo, p, q), ceil_scaled(self.hi, p, q))
+    }
+
+    /// The least interval that has both in it.
+    pub fn hull(&self, other: &Interval) -> Interval
+        ensures value { result ≡ hull_of self.now other.now }
+        ensures holds_first { Holds self.now result }
+        ensures holds_second { Holds other.now result }
+    {
+        Interval {
+            lo: self.lo.min(other.lo),
+            hi: self.hi.max(other.hi),
+        }
+    }
+
+    /// Whether no number is outside the other interval.
+    pub fn within(&self, other: &Interval) -> bool
+        ensures { IsTrue result ↔ IsWithin self.now other.now }
+    {
+        other.lo <= self.lo && self.hi <= other.hi
+    }
+}
