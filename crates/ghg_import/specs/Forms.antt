@@ -1,5 +1,5 @@
 -- What each column of a row may hold, kind by kind: the words from left to right, then the numbers from left to right.
-use Rattle.std.specs.Prelude.{ℕ, List, length, ◌==◌, ◌||◌, ◌&&◌, nat_lt, int_lt, Option, Some, None, Result, Ok, Err, if◌then◌else◌, codes}
+use Rattle.std.specs.Prelude.{ℕ, Bool, List, length, ◌==◌, ◌||◌, ◌&&◌, nat_lt, int_lt, Option, Some, None, Result, Ok, Err, if◌then◌else◌, codes}
 use Rattle.std.specs.Option.{ok_or, option_map}
 use Rattle.std.specs.Str.{bytes_eq}
 use Rattle.ghg_equations.specs.Table.{named}
@@ -96,9 +96,12 @@ factor_in act row = do
   f ← named_figure_in act row
   Ok (forms.Factor f.name f.year f.figure)
 
--- the category at which lines stand: main activity electricity and heat production
+-- the code of the category at which lines stand: main activity electricity and heat production
+abbrev pub is_category : List ℕ → Bool
+is_category text = bytes_eq text (codes "1A1a")
+
 abbrev pub category_at : Column → List ℕ → Result (Unit {0}) Fault
-category_at column text = if bytes_eq text (codes "1A1a") then Ok tt else Err (Word column)
+category_at column text = if is_category text then Ok tt else Err (Word column)
 
 -- a category, a name and an equation
 unfoldable pub line_in : Act → Texts → Result RowForm Fault

@@ -6,3 +6,5 @@ pub mod Forms
 pub mod Reading
 pub mod Told
 pub mod Failing
+pub mod Table
+pub mod Laws

@@ -5,7 +5,12 @@ mod columns;
 mod fault;
 mod form;
 mod kind;
+mod laws;
 mod reader;
 mod rows;
 
+pub use laws::each_form_is_its_row_of_the_table;
 pub use rows::{MAX_BODY, Rows, is_too_long, read_rows};
+
+#[cfg(test)]
+mod tests;
