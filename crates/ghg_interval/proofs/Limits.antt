@@ -1,5 +1,5 @@
 -- What is answered exactly where the bounds are within the limit.
-use Rattle.std.proofs.Common.{◌≡◌, ℕ, Bool, true, false, ◌&&◌, nat_le, ℤ, ◌≤ℤ◌, unsigned_abs, Result, Ok, Err, OkIff, IfOk, refl, ap, arith, leb-true}
+use Rattle.std.proofs.Common.{◌≡◌, Bool, true, false, ◌&&◌, nat_le, ℤ, ◌≤ℤ◌, unsigned_abs, Result, Ok, Err, OkIff, IfOk, refl, ap, arith, leb-true}
 use Rattle.std.proofs.lemmas.Bool.{le-leb}
 use Rattle.std.proofs.lemmas.Int.{ints, clamps}
 use Rattle.ghg_interval.specs.declared.Over.{Over}

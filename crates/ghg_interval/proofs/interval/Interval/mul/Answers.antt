@@ -1,7 +1,7 @@
 use Rattle.std.proofs.Common.{arith, to_z-of_z}
 use Rattle.ghg_interval.specs.Bounds.{product}
 use Rattle.ghg_interval.specs.Operations.{product_in}
-use Rattle.ghg_interval.proofs.Limits.{answered, answer_holds, hull_bounded, product_beyond}
+use Rattle.ghg_interval.proofs.Limits.{answered, hull_bounded, product_beyond}
 use Rattle.ghg_interval.proofs.Containment.{product_holds}
 use Rattle.ghg_interval.proofs.interval.Interval.mul.Goals as goal
 
