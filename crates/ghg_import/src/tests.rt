@@ -1,7 +1,10 @@
 //! Bodies as they come, and what they say.
 
+ghost use Rattle.std.specs.Prelude.{◌≤ℤ◌, pos};
+
 use crate::{Rows, is_too_long, read_rows};
-use ghg_units::{Amount, Binding, Figure, Row, RowForm, append_rule};
+use ghg_equations::EqId;
+use ghg_units::{Act, Amount, Binding, Decimal, RowForm, append_rule};
 use std::alloc::{AllocError, Global};
 use std::process::Abort;
 use std::str;
@@ -24,53 +27,20 @@ fn word(text: &[u8]) -> &str {
     str::from_utf8(text).unwrap_or("?")
 }
 
-// What a row that enters a record says, with its number in front and figures in billionths.
-fn told(alloc: Global, row: &Row) -> Result<String, AllocError> {
-    let number = row.number;
-    match &row.form {
-        RowForm::Span(Some(span)) => {
-            format!(in alloc; "{number} span {} {} {}", span.first, span.base, span.last)
-        }
-        RowForm::Activity(name, year, Some(figure)) => {
-            let figure = told_figure(alloc, figure)?;
-            format!(in alloc;
-                "{number} activity {} {year} {figure}",
-                word(name.as_bytes())
-            )
-        }
-        RowForm::Factor(name, year, Some(figure)) => {
-            let figure = told_figure(alloc, figure)?;
-            format!(in alloc; "{number} factor {} {year} {figure}", word(name.as_bytes()))
-        }
-        RowForm::Line(name, Some(equation)) => {
-            format!(in alloc; "{number} line {} {equation:?}", word(name.as_bytes()))
-        }
-        RowForm::Bind(line, parameter, Some(binding)) => {
-            let (form, name) = match binding {
-                Binding::Activity(name) => ("activity", name),
-                Binding::Factor(name) => ("factor", name),
-                _ => return format!(in alloc; "{number} another binding"),
-            };
-            let parameter = word(parameter.as_bytes());
-            format!(in alloc;
-                "{number} bind {} {parameter} {form} {}",
-                word(line.as_bytes()),
-                word(name.as_bytes())
-            )
-        }
-        _ => format!(in alloc; "{number} withdraws"),
-    }
-}
-
-fn told_figure(alloc: Global, figure: &Figure) -> Result<String, AllocError> {
-    match figure.amount {
-        Amount::Known { value, low, high } => {
-            format!(in alloc;
-                "{:?} {} {} {}",
-                figure.unit, value.scaled, low.scaled, high.scaled
-            )
-        }
-        Amount::Key(key) => format!(in alloc; "{key:?}"),
+// A value with its bounds, in whole units.
+fn whole(value: i128, low: i128, high: i128) -> Amount
+    requires { pos 0 ≤ℤ value × value ≤ℤ pos 999999 × pos 0 ≤ℤ low × low ≤ℤ pos 999999 × pos 0 ≤ℤ high × high ≤ℤ pos 999999 }
+{
+    Amount::Known {
+        value: Decimal {
+            scaled: value * 1_000_000_000_000,
+        },
+        low: Decimal {
+            scaled: low * 1_000_000_000_000,
+        },
+        high: Decimal {
+            scaled: high * 1_000_000_000_000,
+        },
     }
 }
 
@@ -85,21 +55,42 @@ fn a_power_plant_is_read_row_by_row(rt: HostRuntime) -> Result<(), Fail> {
         enter,activity,,GAS.TJ,1990,1000,,,TJ,\n\
         enter,factor,,GAS.EF,1990,56100,54300,58300,kg/TJ,\n"
     )?;
-    let want = [
-        "1 span 1990 1990 1991",
-        "2 line ELEC.GAS Q10",
-        "3 bind ELEC.GAS FC activity GAS.TJ",
-        "4 bind ELEC.GAS EF factor GAS.EF",
-        "5 activity GAS.TJ 1990 Terajoule 1000000000000000 1000000000000000 1000000000000000",
-        "6 factor GAS.EF 1990 KilogramPerTerajoule 56100000000000000 54300000000000000 58300000000000000",
-    ];
     assert_eq!(rt; body.len(), 291);
     assert!(rt; !is_too_long(body.as_bytes()));
     let Rows { rows, rest } = read_rows(rt.alloc(), body.as_bytes())?;
     assert!(rt; rest.is_none());
-    assert_eq!(rt; rows.len(), want.len());
-    for (row, want) in rows.iter().zip(want) {
-        assert_eq!(rt; told(rt.alloc(), row)?.as_str(), want);
+    assert_eq!(rt; rows.len(), 6);
+    for row in &rows {
+        let (name, says) = match &row.form {
+            RowForm::Span(Some(span)) => ("", span.first == 1990 && span.last == 1991),
+            RowForm::Line(name, Some(equation)) => {
+                (word(name.as_bytes()), *equation == EqId::Q10)
+            }
+            RowForm::Bind(_, parameter, Some(Binding::Activity(name))) => {
+                (word(name.as_bytes()), word(parameter.as_bytes()) == "FC")
+            }
+            RowForm::Bind(_, parameter, Some(Binding::Factor(name))) => {
+                (word(name.as_bytes()), word(parameter.as_bytes()) == "EF")
+            }
+            RowForm::Activity(name, 1990, Some(figure)) => {
+                (
+                    word(name.as_bytes()),
+                    figure.amount == whole(1000, 1000, 1000),
+                )
+            }
+            RowForm::Factor(name, 1990, Some(figure)) => {
+                (
+                    word(name.as_bytes()),
+                    figure.amount == whole(56_100, 54_300, 58_300),
+                )
+            }
+            _ => ("", false),
+        };
+        let names = ["", "ELEC.GAS", "GAS.TJ", "GAS.EF", "GAS.TJ", "GAS.EF"];
+        assert!(rt; row.act == Act::Enter);
+        assert!(rt; 1 <= row.number && row.number <= 6);
+        assert_eq!(rt; names[(row.number - 1) as usize], name);
+        assert!(rt; says, "at row {}", row.number);
     }
     Ok(())
 }
@@ -127,7 +118,7 @@ fn a_body_needs_its_header(rt: HostRuntime) -> Result<(), Fail> {
     ] {
         let (rows, rule) = reading(&rt, rt.alloc(), body.as_bytes())?;
         assert_eq!(rt; rows, 0);
-        assert_eq!(rt; word(&rule), "4 BadShape row 0", "at {body}");
+        assert_eq!(rt; word(&rule), "4 BadShape row 0", "for {body}");
     }
     let (rows, rule) = reading(&rt, rt.alloc(), HEAD.as_bytes())?;
     assert_eq!(rt; rows, 0);
@@ -236,7 +227,7 @@ fn the_first_broken_rule_is_named_with_its_leftmost_column(rt: HostRuntime) -> R
         ("enter,factor,,PZ,1921,5,5,4,TJ,", "7 BoundsDisorder row 2"),
     ] {
         let body = format!(in rt.alloc();
-            "{HEAD}\nwithdraw,line,,A,,,,,,gone\n{row}\nnine,fields,,,,,,,\n"
+            "{HEAD}\nwithdraw,line,,A,,,,,,gone\n{row}\nnine,fields,,,,,,\n"
         )?;
         let (rows, rule) = reading(&rt, rt.alloc(), body.as_bytes())?;
         assert_eq!(rt; rows, 1, "at {row}");
