@@ -1,2 +1,4 @@
 pub mod Rounding
 pub mod Texts
+pub mod Names
+pub mod Laws

@@ -8,3 +8,4 @@ pub mod Year
 pub mod Fixed
 pub mod WellFormed
 pub mod Refusals
+pub mod Laws

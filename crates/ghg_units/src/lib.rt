@@ -3,6 +3,7 @@
 
 mod decimal;
 mod fixed;
+mod laws;
 mod name;
 mod names;
 mod node;
@@ -18,6 +19,7 @@ mod year;
 
 pub use decimal::{Decimal, read_decimal, read_whole};
 pub use fixed::write_fixed;
+pub use laws::fixed_texts_read;
 pub use name::Name;
 pub use names::Names;
 pub use node::Node;

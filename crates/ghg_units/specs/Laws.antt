@@ -1,0 +1,19 @@
+-- What is said of the definitions alone.
+use Rattle.std.specs.Prelude.{◌≡◌, ◌≤◌, ◌<◌, ◌^◌, ◌++◌, ◌∷◌, [], ℕ, ℤ, true, unsigned_abs, List, length}
+use Rattle.std.specs.List.{list_all}
+use Rattle.ghg_units.specs.Decimal.{number_of}
+use Rattle.ghg_units.specs.Fixed.{fixed_text, sign_of}
+use Rattle.ghg_units.specs.Name.{is_digit}
+
+-- the text is n / 10^places: a sign, digits, a point, and so many digits
+pub record Writes (text : List ℕ) (n : ℤ) (places : ℕ) : Type 0 where
+  pub whole : List ℕ
+  pub fraction : List ℕ
+  pub text_is : text ≡ sign_of n ++ whole ++ (46 ∷ []) ++ fraction
+  pub some_whole : 0 < length whole
+  pub places_is : length fraction ≡ places
+  pub digits : list_all is_digit (whole ++ fraction) ≡ true
+  pub number : number_of (whole ++ fraction) ≡ unsigned_abs n
+
+abbrev pub FixedTextsRead : Type 0
+FixedTextsRead = (n : ℤ) (places : ℕ) → 1 ≤ places → unsigned_abs n < 10 ^ 64 → Writes (fixed_text n places) n places
