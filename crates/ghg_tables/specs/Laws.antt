@@ -2,8 +2,8 @@
 use Rattle.std.specs.Prelude.{◌≡◌, ◌≤◌, ◌<◌, ℕ, ◌*◌, ℤ, pos, negsuc, ◌-ℤ◌, ◌*ℤ◌, ◌≤ℤ◌, unsigned_abs, [], ◌∷◌, codes, List, Option, Some, None, Result, Ok, Err}
 use Rattle.ghg_equations.specs.declared.eq_id.EqId.TheVariants.{Q10}
 use Rattle.ghg_interval.specs.declared.Over.{Over}
-use Rattle.ghg_interval.specs.Bounds.{Bounds, point}
-use Rattle.ghg_interval.specs.Fraction.{Inside}
+use Rattle.ghg_interval.specs.Bounds.{Bounds, Inside, exactly}
+use Rattle.ghg_interval.specs.Fractions.{Fraction}
 use Rattle.ghg_cell.specs.declared.input.Input.{Input}
 use Rattle.ghg_cell.specs.declared.input.Input.TheVariants.{Known}
 use Rattle.ghg_cell.specs.Values.{equation_value}
@@ -12,13 +12,13 @@ use Rattle.ghg_tables.specs.declared.precision.Precision.TheVariants.{Thousandth
 use Rattle.ghg_tables.specs.Rounding.{low_of, high_of, parts_of, nearest}
 use Rattle.ghg_tables.specs.Texts.{cell_text, figures_text}
 
--- low / parts ≤ n / d ≤ high / parts
-pub record Holds (low high : ℤ) (parts : ℕ) (n : ℤ) (d : ℕ) : Type 0 where
-  pub above : (low *ℤ pos d) ≤ℤ (n *ℤ pos parts)
-  pub below : (n *ℤ pos parts) ≤ℤ (high *ℤ pos d)
+-- low / parts ≤ f ≤ high / parts
+pub record Holds (low high : ℤ) (parts : ℕ) (f : Fraction) : Type 0 where
+  pub above : (low *ℤ pos f.denominator) ≤ℤ (f.numerator *ℤ pos parts)
+  pub below : (f.numerator *ℤ pos parts) ≤ℤ (high *ℤ pos f.denominator)
 
 abbrev pub BoundsHold : Type 0
-BoundsHold = (p : Precision) (range : Bounds) (n : ℤ) (d : ℕ) → 0 < d → Inside range n d → Holds (low_of p range) (high_of p range) (parts_of p) n d
+BoundsHold = (p : Precision) (range : Bounds) (f : Fraction) → Inside range f → Holds (low_of p range) (high_of p range) (parts_of p) f
 
 -- n is off z / d by no more than half, and where it is off by half it is the one farther from zero
 pub record IsNearest (d : ℕ) (z n : ℤ) : Type 0 where
@@ -30,10 +30,10 @@ NearIsNearest = (d : ℕ) (z : ℤ) → 0 < d → IsNearest d z (nearest d z)
 
 -- 1000 TJ, and 56100 kg/TJ, from 54300 to 58300
 abbrev pub activity : Input
-activity = Known (point (pos 1000000000000000)) (point (pos 1000000000000000))
+activity = Known (exactly (pos 1000000000000000)) (exactly (pos 1000000000000000))
 
 abbrev pub factor : Input
-factor = Known (point (pos 56100000000000000)) (record { lo = pos 54300000000000000; hi = pos 58300000000000000 })
+factor = Known (exactly (pos 56100000000000000)) (record { lo = pos 54300000000000000; hi = pos 58300000000000000 })
 
 -- the text of the row of a line with such a value
 abbrev pub row_text : Result Input Over → Option (List ℕ)
@@ -45,7 +45,7 @@ PowerPlantPrints = row_text (equation_value Q10 (activity ∷ factor ∷ [])) �
 
 -- the text of a value that is known exactly
 abbrev pub exact_text : ℤ → List ℕ
-exact_text z = figures_text Thousandths (Known (point z) (point z))
+exact_text z = figures_text Thousandths (Known (exactly z) (exactly z))
 
 -- 0.0005 and -0.0005
 abbrev pub SmallestPrints : Type 0
