@@ -41,7 +41,7 @@ fn floor_part(part: i128, y: i128) -> i128
 // The product of two numbers over the unit, rounded down; nothing where that is beyond the limit.
 pub(crate) fn floor_product(x: i128, y: i128) -> Option<i128>
     requires { IsBounded y }
-    ensures { SomeIff result (IsBounded (floor_by unit_scale (x *ℤ y))) (floor_by unit_scale (x *ℤ y)) }
+    ensures { let q = floor_by unit_scale (x *ℤ y) in SomeIff result (IsBounded q) q }
 {
     let part = floor_part(x.rem_euclid(SCALE), y);
     match x.div_euclid(SCALE).checked_mul(y) {
@@ -54,7 +54,7 @@ pub(crate) fn floor_product(x: i128, y: i128) -> Option<i128>
 pub(crate) fn ceil_product(x: i128, y: i128) -> Option<i128>
     requires x_bounded { IsBounded x }
     requires y_bounded { IsBounded y }
-    ensures { SomeIff result (IsBounded (ceil_by unit_scale (x *ℤ y))) (ceil_by unit_scale (x *ℤ y)) }
+    ensures { let q = ceil_by unit_scale (x *ℤ y) in SomeIff result (IsBounded q) q }
 {
     match floor_product(negated(x), y) {
         Some(floor) => Some(negated(floor)),

@@ -18,7 +18,10 @@ impl Model for SteadySource {
 
     ghost Value = { SourceBytes };
 
-    ghost view = { λ s. record { left = drop s.at s.bytes.items; taken = take s.at s.bytes.items } };
+    ghost view = { λ s. record {
+      left = drop s.at s.bytes.items;
+      taken = take s.at s.bytes.items;
+    } };
 
     ghost invariant = { λ s. s.at ≤ length s.bytes.items };
 }
