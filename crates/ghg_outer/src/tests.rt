@@ -84,12 +84,3 @@ fn streams_fail_as_their_inner_ones(rt: HostRuntime) {
     assert_eq!(rt; write_twice(&mut output, b"ab"), [Ok(2), Ok(1)]);
     assert_eq!(rt; output.write(b"ab"), Err(WriteError::Failed));
 }
-
-ghost use Rattle.std.specs.Io.KnownBytes.{Keeps};
-
-fn touch<T: Source + Sink>(link: &mut T, buf: &mut [u8]) -> Result<usize, Failed>
-    requires { 0 < length buf.old }
-    ensures { Keeps (T.Told.written link.old) (T.Told.written link.new) }
-{
-    link.read(buf)
-}
