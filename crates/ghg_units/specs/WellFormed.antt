@@ -12,6 +12,7 @@ use Rattle.ghg_units.specs.declared.row.Row.{Row}
 use Rattle.ghg_units.specs.declared.row.RowForm.{RowForm}
 use Rattle.ghg_units.specs.declared.row.RowForm.TheVariants as forms
 use Rattle.ghg_units.specs.declared.row.Span.{Span}
+use Rattle.ghg_units.specs.Decimal.{IsDecimal}
 use Rattle.ghg_units.specs.Name.{plain_name_in}
 
 abbrev pub withdraws : Act → Bool
@@ -28,9 +29,10 @@ IsPlainName name = plain_name_in name ≡ Some name
 abbrev pub IsSpan : Span → Type 0
 IsSpan span = IsYear span.first × IsYear span.last × (span.first ≤ span.base) × (span.base ≤ span.last)
 
+-- the value stands between its bounds, which are decimals
 abbrev pub IsAmount : Amount → Type 0
 IsAmount (Key key) = ⊤
-IsAmount (Known value low high) = (low.scaled ≤ℤ value.scaled) × (value.scaled ≤ℤ high.scaled)
+IsAmount (Known value low high) = (low.scaled ≤ℤ value.scaled) × (value.scaled ≤ℤ high.scaled) × IsDecimal low × IsDecimal high
 
 -- whether a name is among others
 abbrev pub is_among : List ℕ → List (List ℕ) → Bool
