@@ -57,4 +57,3 @@ base_word_of dims.Gas = codes "Gg-gas"
 base_word_of dims.AnMin = codes "AEmin"
 base_word_of dims.Slope = codes "kg/t/AEmin"
 base_word_of dims.Decay = codes "none"
-

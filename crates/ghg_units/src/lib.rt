@@ -32,3 +32,6 @@ pub use text::Text;
 pub use unit::{Unit, base_word, dim, ratio, unit_named};
 pub use word::{act_named, key_named};
 pub use year::read_year;
+
+#[cfg(test)]
+mod tests;
