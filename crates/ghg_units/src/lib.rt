@@ -33,3 +33,6 @@ pub use text::Text;
 pub use unit::{Unit, base_word, dim, ratio, to_interval, unit_named};
 pub use word::{act_named, key_named};
 pub use year::read_year;
+
+#[cfg(test)]
+mod tests;
