@@ -9,4 +9,6 @@ mod tests;
 
 pub use figures::Figures;
 pub use input::Input;
-pub use laws::{blank_inputs_give_blanks, known_inputs_give_both, points_and_ranges};
+pub use laws::{
+    blank_inputs_give_blanks, known_inputs_give_both, points_and_ranges, points_lie_within,
+};
