@@ -1,7 +1,7 @@
 -- What is said of the definitions alone.
-use Rattle.std.specs.Prelude.{◌≡◌, ◌≤◌, ◌<◌, ◌^◌, ◌++◌, ◌∷◌, [], ℕ, ℤ, true, unsigned_abs, List, length}
+use Rattle.std.specs.Prelude.{◌+◌, ◌-◌, ◌*ℤ◌, pos, Some, ◌≡◌, ◌≤◌, ◌<◌, ◌^◌, ◌++◌, ◌∷◌, [], ℕ, ℤ, true, unsigned_abs, List, length}
 use Rattle.std.specs.List.{list_all}
-use Rattle.ghg_units.specs.Decimal.{number_of}
+use Rattle.ghg_units.specs.Decimal.{decimal_in, number_of}
 use Rattle.ghg_units.specs.Fixed.{fixed_text, sign_of}
 use Rattle.ghg_units.specs.Name.{is_digit}
 
@@ -17,3 +17,7 @@ pub record Writes (text : List ℕ) (n : ℤ) (places : ℕ) : Type 0 where
 
 abbrev pub FixedTextsRead : Type 0
 FixedTextsRead = (n : ℤ) (places : ℕ) → 1 ≤ places → unsigned_abs n < 10 ^ 64 → Writes (fixed_text n places) n places
+
+-- a printed number is a decimal of that value, where it has no more digits than decimals have
+abbrev pub PrintedDecimalsRead : Type 0
+PrintedDecimalsRead = (n : ℤ) (places : ℕ) → 1 ≤ places → places ≤ 12 → unsigned_abs n < 10 ^ (14 + places) → decimal_in (fixed_text n places) ≡ Some (record { scaled = n *ℤ pos (10 ^ (12 - places)) })

@@ -1,8 +1,13 @@
 //! What follows of the definitions alone.
 
-ghost use Rattle.ghg_units.specs.Laws.{FixedTextsRead};
+ghost use Rattle.ghg_units.specs.Laws.{FixedTextsRead, PrintedDecimalsRead};
 
 /// A number with a fixed count of decimals is a sign, digits, a point and so many digits, which together write it.
 pub fn fixed_texts_read()
     ensures { FixedTextsRead }
+{}
+
+/// A printed number of 1 to 12 decimals and of no more digits than decimals have reads back as the decimal of its value.
+pub fn printed_decimals_read()
+    ensures { PrintedDecimalsRead }
 {}
