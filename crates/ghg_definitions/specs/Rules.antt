@@ -35,9 +35,13 @@ use Rattle.ghg_definitions.specs.Rows.{after_row, key_of, record_of}
 
 -- ---- units: the records of one kind and name have one dimension
 
+-- the same kind and name
+abbrev pub is_alike : RecordKey → RecordKey → Bool
+is_alike k q = (kind k == kind q) && bytes_eq (first_name k) (first_name q)
+
 -- the same kind and name for another year
 abbrev pub is_other_year : RecordKey → RecordKey → Bool
-is_other_year k q = (kind k == kind q) && bytes_eq (first_name k) (first_name q) && not (year_of k == year_of q)
+is_other_year k q = is_alike k q && not (year_of k == year_of q)
 
 abbrev pub has_dimension : Dim → Figure → Bool
 has_dimension d f = same_dim d (dim_of f.unit)
