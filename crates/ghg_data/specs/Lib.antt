@@ -1,2 +1,4 @@
 pub mod Changes
 pub mod Shelf
+pub mod Years
+pub mod Refusal

@@ -1,2 +1,6 @@
 pub mod Keys
 pub mod Entries
+pub mod Members
+pub mod Dims
+pub mod Alike
+pub mod Consistent

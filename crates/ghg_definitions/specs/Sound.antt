@@ -25,6 +25,11 @@ IsRecord _ _ = ⊥
 abbrev pub HaveOneDimension : Data → Type 0
 HaveOneDimension m = (k q : RecordKey) (f g : Figure) → figure m k ≡ Some f → figure m q ≡ Some g → is_alike k q ≡ true → same_dim (dim_of f.unit) (dim_of g.unit) ≡ true
 
+-- what data keep from row to row, before they are judged
+pub record IsConsistent (m : Data) : Type 0 where
+  pub records : (k : RecordKey) (r : Record) → get m k ≡ Some r → IsRecord k r
+  pub dimensions : HaveOneDimension m
+
 pub record IsWorkbook (m : Data) : Type 0 where
   pub records : (k : RecordKey) (r : Record) → get m k ≡ Some r → IsRecord k r
   pub dimensions : HaveOneDimension m
