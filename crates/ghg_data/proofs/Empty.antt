@@ -5,7 +5,7 @@ use Rattle.std.specs.List.{filter_map}
 use Rattle.ghg_definitions.specs.declared.record.Record.{Record}
 use Rattle.ghg_definitions.specs.declared.record.RecordKey.{RecordKey}
 use Rattle.ghg_definitions.specs.declared.record.RecordKey.TheVariants as key
-use Rattle.ghg_definitions.specs.Data.{Data, as_figure, as_span, figure, first_name, key_cmp, line, line_name, span}
+use Rattle.ghg_definitions.specs.Data.{Data, as_figure, as_span, figure, first_name, key_cmp, line, line_name, line_names, span}
 use Rattle.ghg_definitions.specs.Rules.{is_long, is_sound, least_place, most_lines, most_records, passed_limit, places_in, unsound_place}
 use Rattle.ghg_definitions.specs.Sound.{IsWorkbook}
 use Rattle.ghg_units.specs.declared.row.Figure.{Figure}
@@ -40,6 +40,10 @@ no_figure k f e = absurd (apart (sym (ap as_figure (get-empty key_cmp k)) ∙ e)
   where
     apart : ◌≡◌ {A = Option Figure} None (Some f) → ⊥
     apart h = cc
+
+pub no_lines : line_names (empty {X = Record} {R = key_cmp}) ≡ []
+unfolding none
+no_lines = ap (λ es. filter_map line_name (map (λ e. e.0) es)) no_entries
 
 sound : unsound_place none ≡ None
 unfolding unsound_place

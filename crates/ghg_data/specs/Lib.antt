@@ -2,3 +2,4 @@ pub mod Changes
 pub mod Shelf
 pub mod Years
 pub mod Refusal
+pub mod Names

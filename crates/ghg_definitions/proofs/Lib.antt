@@ -4,3 +4,4 @@ pub mod Members
 pub mod Dims
 pub mod Alike
 pub mod Consistent
+pub mod Lines
