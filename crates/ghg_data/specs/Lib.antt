@@ -3,3 +3,4 @@ pub mod Shelf
 pub mod Years
 pub mod Refusal
 pub mod Names
+pub mod Faults
