@@ -17,7 +17,7 @@ mod unit;
 mod word;
 mod year;
 
-pub use decimal::{Decimal, read_decimal, read_whole};
+pub use decimal::{Decimal, read_decimal, read_number, read_whole};
 pub use fixed::write_fixed;
 pub use laws::fixed_texts_read;
 pub use name::Name;
