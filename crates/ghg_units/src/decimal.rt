@@ -72,7 +72,7 @@ fn whole(text: &[u8]) -> Option<u128>
     ensures value { result ≡ whole_in text.now }
     ensures small { IfSome result (λ n. n + 10 ^ 12 ≤ 10 ^ 26) }
 {
-    let whole = number(text, Decimal::WHOLE_DIGITS)?;
+    let whole = read_number(text, Decimal::WHOLE_DIGITS)?;
     Some(u128::from(whole) * 1_000_000_000_000)
 }
 
@@ -82,13 +82,13 @@ fn fraction(text: &[u8]) -> Option<u128>
     ensures value { result ≡ fraction_in text.now }
     ensures small { IfSome result (λ n. n < 10 ^ 12) }
 {
-    let parts = number(text, Decimal::PLACES)?;
+    let parts = read_number(text, Decimal::PLACES)?;
     let unit = 10u64.pow((Decimal::PLACES - text.len()) as u32);
     Some(u128::from(parts) * u128::from(unit))
 }
 
-// The number that 1 to `most` digits write.
-pub(crate) fn number(text: &[u8], most: usize) -> Option<u64>
+/// The number that 1 to `most` digits write.
+pub fn read_number(text: &[u8], most: usize) -> Option<u64>
     requires { most ≤ 19 }
     ensures value { result ≡ number_in most text.now }
     ensures small { IfSome result (λ n. n < 10 ^ length text.now) }
@@ -115,7 +115,7 @@ pub fn read_whole(text: &[u8]) -> Option<Decimal>
     ensures reads { result ≡ whole_decimal_in text.now }
     ensures keeps { IfSome result IsDecimal }
 {
-    let whole = number(text, FIGURE_DIGITS)?;
+    let whole = read_number(text, FIGURE_DIGITS)?;
     Some(Decimal {
         scaled: i128::from(whole) * 1_000_000_000_000,
     })

@@ -18,7 +18,7 @@ mod unit;
 mod word;
 mod year;
 
-pub use decimal::{Decimal, read_decimal, read_whole};
+pub use decimal::{Decimal, read_decimal, read_number, read_whole};
 pub use fixed::write_fixed;
 pub use laws::{fixed_texts_read, printed_decimals_read};
 pub use name::Name;
