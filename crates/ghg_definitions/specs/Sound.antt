@@ -10,13 +10,13 @@ use Rattle.ghg_definitions.specs.Data.{Data, as_figure}
 use Rattle.ghg_definitions.specs.Rules.{is_other_year, passed_limit, unsound_place}
 use Rattle.ghg_units.specs.declared.row.Figure.{Figure}
 use Rattle.ghg_units.specs.Units.{dim_of}
-use Rattle.ghg_units.specs.WellFormed.{IsAmount, IsBinding, IsPlainName, IsSpan, IsYear}
+use Rattle.ghg_units.specs.WellFormed.{IsBinding, IsFigure, IsPlainName, IsSpan, IsYear}
 
 -- the record is one that a well formed row puts under the key
 abbrev pub IsRecord : RecordKey → Record → Type 0
 IsRecord key.Span (entry.Span s) = IsSpan s
-IsRecord (key.Activity name year) (entry.Activity f) = IsPlainName name × IsYear year × IsAmount f.amount
-IsRecord (key.Factor name start) (entry.Factor f) = IsPlainName name × IsYear start × IsAmount f.amount
+IsRecord (key.Activity name year) (entry.Activity f) = IsPlainName name × IsYear year × IsFigure f
+IsRecord (key.Factor name start) (entry.Factor f) = IsPlainName name × IsYear start × IsFigure f
 IsRecord (key.Line name) (entry.Line e) = IsPlainName name
 IsRecord (key.Bind name parameter) (entry.Bind b) = IsPlainName name × IsBinding b
 IsRecord _ _ = ⊥
