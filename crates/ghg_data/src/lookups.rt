@@ -148,6 +148,12 @@ mod tests {
         );
     }
 
+    fn keyed(key: NotationKey) -> Input {
+        let amount = Amount::Key(key);
+        let unit = Unit::Terajoule;
+        input(Some(&Figure { unit, amount }))
+    }
+
     #[test]
     fn a_notation_key_gives_zero_or_nothing(rt: HostRuntime) {
         let zero = Interval::exact(0).expect(&rt, "within the limit");
@@ -161,9 +167,7 @@ mod tests {
             (NotationKey::Ie, known),
             (NotationKey::Ne, Input::Blank),
         ] {
-            let amount = Amount::Key(key);
-            let unit = Unit::Terajoule;
-            assert_eq!(rt; input(Some(&Figure { unit, amount })), want);
+            assert_eq!(rt; keyed(key), want);
         }
     }
 

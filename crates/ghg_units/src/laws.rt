@@ -1,8 +1,13 @@
 //! What follows of the definitions alone.
 
-ghost use Rattle.ghg_units.specs.Laws.{FixedTextsRead};
+ghost use Rattle.ghg_units.specs.Laws.{ConversionsAreLeast, FixedTextsRead};
 
 /// A number with a fixed count of decimals is a sign, digits, a point and so many digits, which together write it.
 pub fn fixed_texts_read()
     ensures { FixedTextsRead }
+{}
+
+/// A converted decimal is the least interval of whole bounds that holds the decimal in the base unit.
+pub fn conversions_are_least()
+    ensures { ConversionsAreLeast }
 {}
