@@ -5,6 +5,7 @@ mod book;
 mod draft;
 mod edits;
 mod holdings;
+mod lookups;
 mod names;
 mod plan;
 mod records;

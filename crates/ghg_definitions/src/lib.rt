@@ -3,6 +3,7 @@
 //! The definitions stand in `specs/`. The types that code and definitions share are Rust's.
 #![tactic(auto)]
 
+mod laws;
 mod place;
 mod record;
 
