@@ -6,3 +6,4 @@ pub mod Placed
 pub mod Faults
 pub mod Covered
 pub mod Figures
+pub mod Parameters
