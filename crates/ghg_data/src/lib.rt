@@ -1,6 +1,7 @@
 //! The records of a workbook: reading them, planning what rows make of them, and committing a plan.
 #![tactic(auto)]
 
+mod bindings;
 mod book;
 mod draft;
 mod edits;

@@ -7,5 +7,6 @@ mod laws;
 mod place;
 mod record;
 
+pub use laws::inputs_hold_their_figures;
 pub use place::Place;
 pub use record::{Record, RecordKey};

@@ -20,7 +20,7 @@ mod year;
 
 pub use decimal::{Decimal, read_decimal, read_number, read_whole};
 pub use fixed::write_fixed;
-pub use laws::{fixed_texts_read, printed_decimals_read};
+pub use laws::{conversions_are_least, fixed_texts_read, printed_decimals_read};
 pub use name::Name;
 pub use names::Names;
 pub use node::Node;
