@@ -7,3 +7,4 @@ pub mod Faults
 pub mod Covered
 pub mod Figures
 pub mod Parameters
+pub mod Counts

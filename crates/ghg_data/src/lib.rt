@@ -6,6 +6,7 @@ mod book;
 mod draft;
 mod edits;
 mod holdings;
+mod limits;
 mod names;
 mod plan;
 mod records;
