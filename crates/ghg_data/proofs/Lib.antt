@@ -8,3 +8,4 @@ pub mod Covered
 pub mod Figures
 pub mod InForce
 pub mod Parameters
+pub mod Counts

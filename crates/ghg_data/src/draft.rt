@@ -2,7 +2,7 @@
 
 ghost use Rattle.std.specs.Prelude.{◌≡◌, true, None, option_copied, IfSome, IfNone};
 ghost use Rattle.std.specs.FinMap as finite;
-ghost use Rattle.ghg_definitions.specs.Data.{as_line, binding, figure, line};
+ghost use Rattle.ghg_definitions.specs.Data.{as_line, as_span, binding, figure, line, span};
 ghost use Rattle.ghg_definitions.specs.Rules.{is_other_year};
 ghost use Rattle.ghg_definitions.specs.Sound.{IsConsistent};
 ghost use Rattle.ghg_data.specs.Changes.{applied};
@@ -12,7 +12,7 @@ use crate::edits::Edits;
 use crate::holdings::Holdings;
 use ghg_definitions::{Record, RecordKey};
 use ghg_equations::EqId;
-use ghg_units::{Binding, Figure, Name, ParamName};
+use ghg_units::{Binding, Figure, Name, ParamName, Span};
 use std::marker::Model;
 
 // The years that a record may be of.
@@ -70,6 +70,12 @@ impl<'a> Draft<'a> {
         }
     }
 
+    pub(crate) fn span(&self) -> Option<Span>
+        ensures { result ≡ span self.now }
+    {
+        span_in(self.get(&RecordKey::Span))
+    }
+
     // The equation of a line that is present.
     pub(crate) fn line(&self, name: &Name) -> Option<EqId>
         ensures { result ≡ line self.now name.now }
@@ -105,6 +111,16 @@ impl<'a> Draft<'a> {
             }
         }
         None
+    }
+}
+
+// The years that a span's record holds.
+pub(crate) fn span_in(entry: Option<&Record>) -> Option<Span>
+    ensures { result ≡ as_span (option_copied entry.entry) }
+{
+    match entry {
+        Some(Record::Span(span)) => Some(*span),
+        _ => None,
     }
 }
 

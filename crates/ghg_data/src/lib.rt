@@ -7,6 +7,7 @@ mod draft;
 mod edits;
 mod holdings;
 mod lookups;
+mod limits;
 mod names;
 mod plan;
 mod records;
