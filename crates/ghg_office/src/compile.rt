@@ -10,8 +10,8 @@ ghost use Rattle.ghg_units.specs.Parameter.{is_parameter};
 ghost use Rattle.ghg_units.specs.WellFormed.{IsSpan, IsYear};
 ghost use Rattle.ghg_office.specs.Office.{cell_rows, row_of, shown};
 
-use ghg_data::Records;
 use ghg_cell::{Figures, Input};
+use ghg_data::Records;
 use ghg_definitions::{Record, RecordKey};
 use ghg_equations::EqId;
 use ghg_interval::Over;
