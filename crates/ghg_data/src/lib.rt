@@ -6,13 +6,15 @@ mod book;
 mod draft;
 mod edits;
 mod holdings;
-mod lookups;
 mod limits;
+mod lookups;
 mod names;
 mod plan;
 mod records;
 mod refusal;
 mod rows;
+#[cfg(test)]
+mod tests;
 mod view;
 
 pub use book::{Book, after};

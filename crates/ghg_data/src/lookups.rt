@@ -156,19 +156,12 @@ mod tests {
 
     #[test]
     fn a_notation_key_gives_zero_or_nothing(rt: HostRuntime) {
-        let zero = Interval::exact(0).expect(&rt, "within the limit");
-        let known = Input::Known {
-            point: zero,
-            range: zero,
-        };
-        for (key, want) in [
-            (NotationKey::No, known),
-            (NotationKey::Na, known),
-            (NotationKey::Ie, known),
-            (NotationKey::Ne, Input::Blank),
-        ] {
-            assert_eq!(rt; keyed(key), want);
+        for key in [NotationKey::No, NotationKey::Na, NotationKey::Ie] {
+            let point = Interval::exact(0).expect(&rt, "within the limit");
+            let range = Interval::exact(0).expect(&rt, "within the limit");
+            assert_eq!(rt; keyed(key), Input::Known { point, range });
         }
+        assert_eq!(rt; keyed(NotationKey::Ne), Input::Blank);
     }
 
     #[test]
