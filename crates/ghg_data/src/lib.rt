@@ -13,6 +13,8 @@ mod plan;
 mod records;
 mod refusal;
 mod rows;
+#[cfg(test)]
+mod tests;
 mod view;
 
 pub use book::{Book, after};

@@ -1,0 +1,216 @@
+//! Planning and committing rows.
+
+ghost use Rattle.std.specs.Prelude.{◌≡◌, ◌≤◌, false, true, IfOk};
+ghost use Rattle.std.specs.List.{AllByRecursion};
+ghost use Rattle.ghg_units.specs.WellFormed.{IsFigure, IsForm, IsPlainName, IsWellFormed, IsYear};
+
+use crate::{Book, PlanRefusal, Records, after};
+use ghg_definitions::RecordKey;
+use ghg_equations::EqId;
+use ghg_units::{
+    Act, Amount, Binding, Column, Decimal, Figure, Limit, Name, ParamName, Row, RowForm, Rule,
+    Span, Unit,
+};
+use std::alloc::{AllocError, Global};
+use std::process::Abort;
+use std::test::Fail;
+
+fn name(rt: &impl Abort, text: &[u8]) -> Name
+    ensures { IsPlainName result }
+{
+    Name::plain(text).expect(rt, "a name")
+}
+
+fn parameter(rt: &impl Abort, text: &[u8]) -> ParamName {
+    ParamName::new(text).expect(rt, "a parameter")
+}
+
+// A whole number of units without bounds.
+fn figure(whole: u32, unit: Unit) -> Figure
+    ensures { IsFigure result }
+{
+    let value = Decimal {
+        scaled: i128::from(whole) * 1_000_000_000_000,
+    };
+    Figure {
+        unit,
+        amount: Amount::Known {
+            value,
+            low: value,
+            high: value,
+        },
+    }
+}
+
+fn activity(name: Name, year: u32, figure: Option<Figure>) -> RowForm {
+    RowForm::Activity(name, year, figure)
+}
+
+// A line of burnt gas with its activity of 1990 and its factor of this year: 1000 TJ at 56100 kg/TJ.
+fn burnt_gas(rt: &impl Abort, alloc: Global, factor_year: u32) -> Result<Vec<Row>, AllocError>
+    requires { IsYear factor_year }
+    ensures { IfOk result (λ rows. AllByRecursion IsWellFormed rows.items) }
+{
+    let line = name(rt, b"ELEC.GAS");
+    let gas = name(rt, b"GAS.TJ");
+    let content = name(rt, b"GAS.EF");
+    let fuel = Binding::Activity(gas);
+    let factor = Binding::Factor(content);
+    let span = Span {
+        first: 1990,
+        base: 1990,
+        last: 1991,
+    };
+    let mut rows = Vec::with_capacity(alloc, 6)?;
+    rows.push(entered(1, RowForm::Span(Some(span))))?;
+    rows.push(entered(2, RowForm::Line(line, Some(EqId::Q10))))?;
+    rows.push(entered(3, RowForm::Bind(line, parameter(rt, b"FC"), Some(fuel))))?;
+    rows.push(entered(4, RowForm::Bind(line, parameter(rt, b"EF"), Some(factor))))?;
+    rows.push(entered(
+        5,
+        RowForm::Activity(gas, 1990, Some(figure(1000, Unit::Terajoule))),
+    ))?;
+    rows.push(entered(
+        6,
+        RowForm::Factor(
+            content,
+            factor_year,
+            Some(figure(56100, Unit::KilogramPerTerajoule)),
+        ),
+    ))?;
+    Ok(rows)
+}
+
+fn entered(number: u32, form: RowForm) -> Row
+    requires { IsForm false form }
+    ensures { IsWellFormed result }
+{
+    Row {
+        number,
+        act: Act::Enter,
+        form,
+    }
+}
+
+fn one_row(number: u32, act: Act, form: RowForm) -> [Row; 1]
+    requires { IsWellFormed (record { number = number; act = act; form = form }) }
+    ensures { AllByRecursion IsWellFormed result }
+{
+    [Row { number, act, form }]
+}
+
+// The rule that refuses the rows, with what stopped the reading and the bytes that are kept.
+fn refusal(
+    alloc: Global,
+    book: &mut Book,
+    rows: &[Row],
+    rest: Option<Rule>,
+    kept_bytes: u64,
+) -> Option<Rule>
+    requires { AllByRecursion IsWellFormed rows.now }
+{
+    match book.plan(alloc, rows, rest, kept_bytes) {
+        Err(PlanRefusal::Rule(rule)) => Some(rule),
+        Err(PlanRefusal::Memory) => None,
+        Ok(edits) => {
+            drop(edits);
+            None
+        }
+    }
+}
+
+#[test]
+fn a_power_plant_is_planned_and_committed(rt: HostRuntime) -> Result<(), Fail> {
+    let alloc = rt.alloc();
+    let line = name(&rt, b"ELEC.GAS");
+    let gas = RecordKey::Activity(name(&rt, b"GAS.TJ"), 1990);
+    let rows = burnt_gas(&rt, alloc, 1990)?;
+    let mut book = Book::new(alloc);
+    let edits = match book.plan(alloc, &rows, None, 291) {
+        Ok(edits) => edits,
+        Err(_) => return Err("refused".into()),
+    };
+    assert_eq!(rt; edits.keys().len(), 6);
+    assert!(rt; book.get(&gas).is_none());
+    let planned = after(&book, &edits);
+    assert!(rt; planned.get(&gas).is_some());
+    assert!(rt; planned.span().is_some_and(|span| span.last == 1991));
+    assert!(rt; planned.lines(alloc)?.as_slice() == [line].as_slice());
+    book.commit(edits);
+    assert!(rt; book.get(&gas).is_some());
+    assert!(rt; book.span().is_some_and(|span| span.base == 1990));
+    assert!(rt; book.lines(alloc)?.as_slice() == [line].as_slice());
+    Ok(())
+}
+
+// The book with a power plant whose factor begins in this year.
+fn plant(rt: &impl Abort, alloc: Global, factor_year: u32) -> Result<Book, AllocError>
+    requires { IsYear factor_year }
+{
+    let rows = burnt_gas(rt, alloc, factor_year)?;
+    let mut book = Book::new(alloc);
+    match book.plan(alloc, &rows, None, 291) {
+        Ok(edits) => book.commit(edits),
+        Err(_) => panic!(rt; "refused"),
+    }
+    Ok(book)
+}
+
+#[test]
+fn the_first_broken_rule_is_named(rt: HostRuntime) -> Result<(), Fail> {
+    let alloc = rt.alloc();
+    let line = name(&rt, b"ELEC.GAS");
+    let gas = name(&rt, b"GAS.TJ");
+    let content = name(&rt, b"GAS.EF");
+    let mut book = plant(&rt, alloc, 1990)?;
+    let again = burnt_gas(&rt, alloc, 1990)?;
+    assert!(rt; refusal(alloc, &mut book, &again, None, 1000) == Some(Rule::Exists(1)));
+    let away = one_row(1, Act::Withdraw, RowForm::Factor(content, 1990, None));
+    assert!(rt;
+        refusal(alloc, &mut book, &away, None, 1000)
+            == Some(Rule::BadBinding(line, parameter(&rt, b"EF")))
+    );
+    let joules = Some(figure(1001, Unit::Terajoule));
+    let absent = one_row(1, Act::Correct, RowForm::Activity(gas, 1991, joules));
+    assert!(rt; refusal(alloc, &mut book, &absent, None, 1000) == Some(Rule::Absent(1)));
+    let content_of_fuel = Some(figure(1001, Unit::KilogramPerTerajoule));
+    let unit = one_row(
+        3,
+        Act::Correct,
+        RowForm::Activity(gas, 1991, content_of_fuel),
+    );
+    assert!(rt; refusal(alloc, &mut book, &unit, None, 1000) == Some(Rule::WrongUnit(3)));
+    let span = Span {
+        first: 1900,
+        base: 1990,
+        last: 2051,
+    };
+    let long = one_row(1, Act::Correct, RowForm::Span(Some(span)));
+    assert!(rt; refusal(alloc, &mut book, &long, None, 1000) == Some(Rule::TooMany(Limit::Span)));
+    assert!(rt; book.span().is_some_and(|span| span.last == 1991));
+    Ok(())
+}
+
+#[test]
+fn what_stopped_the_reading_comes_before_bindings_and_limits(rt: HostRuntime) -> Result<(), Fail> {
+    let alloc = rt.alloc();
+    let content = name(&rt, b"GAS.EF");
+    let mut book = plant(&rt, alloc, 1990)?;
+    let away = one_row(1, Act::Withdraw, RowForm::Factor(content, 1990, None));
+    let rest = Some(Rule::BadNumber(2, Column::Value));
+    assert!(rt; refusal(alloc, &mut book, &away, rest, 536_870_913) == rest);
+    let bytes = Some(Rule::TooMany(Limit::Bytes));
+    assert!(rt; refusal(alloc, &mut book, &[], None, 536_870_913) == bytes);
+    assert!(rt; book.plan(alloc, &[], None, 536_870_912).is_ok());
+    Ok(())
+}
+
+#[test]
+fn a_factor_may_begin_after_the_first_year(rt: HostRuntime) -> Result<(), Fail> {
+    let book = plant(&rt, rt.alloc(), 1991)?;
+    assert!(rt;
+        book.get(&RecordKey::Factor(name(&rt, b"GAS.EF"), 1991))
+            .is_some()
+    );
+    Ok(())
+}
