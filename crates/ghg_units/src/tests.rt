@@ -1,9 +1,9 @@
 //! Words, numbers and refusals as they are written.
 
 use crate::{
-    Act, Column, Limit, Name, Names, Node, NotationKey, ParamName, Rule, ShortText, Text, Unit,
-    act_named, append_rule, base_word, dim, fixed_texts_read, key_named, ratio, read_decimal,
-    read_whole, read_year, unit_named, write_fixed,
+    Act, Column, Decimal, Limit, Name, Names, Node, NotationKey, ParamName, Rule, ShortText, Text,
+    Unit, act_named, append_rule, base_word, dim, key_named, ratio, read_decimal, read_whole,
+    read_year, to_interval, unit_named, write_fixed,
 };
 use ghg_equations::Dim;
 use std::alloc::{AllocError, Global};
@@ -17,7 +17,6 @@ fn word(text: &[u8]) -> &str {
 
 #[test]
 fn decimals_are_printed_with_their_sign_and_every_place(rt: HostRuntime) -> Result<(), Fail> {
-    fixed_texts_read();
     for (n, places, want) in [
         (0, 0, "0"),
         (0, 3, "0.000"),
@@ -157,6 +156,12 @@ fn words_name_what_they_stand_for(rt: HostRuntime) -> Result<(), Fail> {
     assert_eq!(rt; dim(Unit::Terajoule), Dim::Energy);
     assert_eq!(rt; ratio(Unit::Terajoule), (1, 1));
     assert_eq!(rt; base_word(Dim::EnFac), "kg/TJ");
+    let half = Decimal {
+        scaled: -500_000_000_000,
+    };
+    let converted = to_interval(half, Unit::Terajoule).expect(&rt, "half a terajoule");
+    assert_eq!(rt; converted.lo(), half.scaled);
+    assert_eq!(rt; converted.hi(), half.scaled);
     Ok(())
 }
 
