@@ -2,22 +2,17 @@
 use Rattle.std.specs.Prelude.{ℕ, zero, suc, List, Option, Some, None, Bool, is_some, if◌then◌else◌, pos}
 use Rattle.ghg_cell.specs.declared.input.Input.{Input}
 use Rattle.ghg_cell.specs.declared.input.Input.TheVariants.{Blank, Known}
-use Rattle.ghg_interval.specs.Bounds.{Bounds, point, scaled}
-use Rattle.ghg_units.specs.declared.decimal.Decimal.{Decimal}
+use Rattle.ghg_interval.specs.Bounds.{point}
 use Rattle.ghg_units.specs.declared.row.Amount.{Amount}
 use Rattle.ghg_units.specs.declared.row.Amount.TheVariants as amounts
 use Rattle.ghg_units.specs.declared.row.Figure.{Figure}
 use Rattle.ghg_units.specs.declared.row.NotationKey.{NotationKey}
 use Rattle.ghg_units.specs.declared.row.NotationKey.TheVariants.{No, Na, Ie, Ne}
 use Rattle.ghg_units.specs.declared.unit.Unit.{Unit as UnitWord}
-use Rattle.ghg_units.specs.Units.{ratio_of}
+use Rattle.ghg_units.specs.Units.{converted}
 use Rattle.ghg_definitions.specs.declared.record.RecordKey.{RecordKey}
 use Rattle.ghg_definitions.specs.declared.record.RecordKey.TheVariants as key
 use Rattle.ghg_definitions.specs.Data.{Data, Name, figure}
-
--- from one decimal to another in the base unit, rounded outward
-abbrev pub converted : UnitWord → Decimal → Decimal → Bounds
-converted u low high = scaled (ratio_of u).over (ratio_of u).under (record { lo = low.scaled; hi = high.scaled })
 
 -- a quantity of zero
 abbrev pub zero_input : Input

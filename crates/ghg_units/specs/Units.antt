@@ -1,8 +1,15 @@
--- The units: what each word names, and what the unit measures.
-use Rattle.std.specs.Prelude.{ℕ, List, Option, Some, None, if◌then◌else◌, codes}
+-- The units: what each word names, what the unit measures, and what a decimal in it is in the base unit.
+use Rattle.std.specs.Prelude.{ℕ, ◌<◌, ◌≤◌, List, Option, Some, None, Result, if◌then◌else◌, codes}
 use Rattle.std.specs.Str.{bytes_eq}
+use Rattle.std.proofs.Common.{lit<}
 use Rattle.ghg_equations.specs.declared.quantity.Dim.{Dim}
 use Rattle.ghg_equations.specs.declared.quantity.Dim.TheVariants as dims
+use Rattle.ghg_interval.specs.declared.Over.{Over}
+use Rattle.ghg_interval.specs.Bounds.{Bounds, scaled}
+use Rattle.ghg_interval.specs.Fractions as fraction
+use Rattle.ghg_interval.specs.Fractions.{Fraction}
+use Rattle.ghg_interval.specs.Operations.{limited}
+use Rattle.ghg_units.specs.declared.decimal.Decimal.{Decimal}
 use Rattle.ghg_units.specs.declared.unit.Unit.{Unit as UnitWord}
 use Rattle.ghg_units.specs.declared.unit.Unit.TheVariants.{Terajoule, KilogramPerTerajoule}
 
@@ -20,10 +27,31 @@ dim_of KilogramPerTerajoule = dims.EnFac
 pub record Ratio : Type 0 where
   pub over : ℕ
   pub under : ℕ
+  pub positive : 0 < under
 
 abbrev pub ratio_of : UnitWord → Ratio
-ratio_of Terajoule = record { over = 1; under = 1 }
-ratio_of KilogramPerTerajoule = record { over = 1; under = 1 }
+ratio_of Terajoule = record { over = 1; under = 1; positive = lit< tt }
+ratio_of KilogramPerTerajoule = record { over = 1; under = 1; positive = lit< tt }
+
+-- the greatest number of a ratio
+abbrev pub ratio_limit : ℕ
+ratio_limit = 1_000_000
+
+-- a number of a ratio
+abbrev pub IsRatioPart : ℕ → Type 0
+IsRatioPart n = (1 ≤ n) × (n ≤ ratio_limit)
+
+-- a fraction of a unit in the base unit, exactly
+abbrev pub in_base : UnitWord → Fraction → Fraction
+in_base u f = fraction.scaled (ratio_of u).over (ratio_of u).under (ratio_of u).positive f
+
+-- from one decimal to another in the base unit, rounded outward
+abbrev pub converted : UnitWord → Decimal → Decimal → Bounds
+converted u low high = scaled (ratio_of u).over (ratio_of u).under (record { lo = low.scaled; hi = high.scaled })
+
+-- the interval of a decimal in the base unit, or over, where a bound is beyond the limit
+unfoldable pub interval_in : UnitWord → Decimal → Result Bounds Over
+interval_in u d = limited (converted u d d)
 
 -- the word of a dimension's base unit
 abbrev pub base_word_of : Dim → List ℕ
@@ -57,4 +85,3 @@ base_word_of dims.Gas = codes "Gg-gas"
 base_word_of dims.AnMin = codes "AEmin"
 base_word_of dims.Slope = codes "kg/t/AEmin"
 base_word_of dims.Decay = codes "none"
-

@@ -1,9 +1,13 @@
 //! Units of quantities.
 
-ghost use Rattle.std.specs.Prelude.{◌≡◌};
-ghost use Rattle.ghg_units.specs.Units.{base_word_of, dim_of, ratio_of, unit_in};
+ghost use Rattle.std.specs.Prelude.{◌≡◌, OkIff};
+ghost use Rattle.ghg_interval.specs.Bounds.{AreBounded};
+ghost use Rattle.ghg_units.specs.Units.{IsRatioPart, base_word_of, converted, dim_of, interval_in, ratio_of, unit_in};
 
+use crate::decimal::Decimal;
+use crate::quotient::interval_of;
 use ghg_equations::Dim;
+use ghg_interval::{Interval, Over};
 
 /// A word for a unit.
 #[derive(Clone, Copy, Debug, PartialEq, Eq, Drop)]
@@ -39,12 +43,24 @@ pub fn dim(unit: Unit) -> Dim
 
 /// How many base units a unit is: the first number over the second.
 pub fn ratio(unit: Unit) -> (u64, u64)
-    ensures { (result.0 ≡ (ratio_of unit).over) × (result.1 ≡ (ratio_of unit).under) }
+    ensures value { (result.0 ≡ (ratio_of unit).over) × (result.1 ≡ (ratio_of unit).under) }
+    ensures small { IsRatioPart result.0 × IsRatioPart result.1 }
 {
     match unit {
         Unit::Terajoule => (1, 1),
         Unit::KilogramPerTerajoule => (1, 1),
     }
+}
+
+/// A decimal of a unit in the base unit of what it measures, rounded outward. Over exactly where a bound is beyond
+/// the limit of intervals.
+#[tactic(auto, unfolding(crate::specs::Units::interval_in))]
+pub fn to_interval(d: Decimal, u: Unit) -> Result<Interval, Over>
+    ensures value { OkIff result (AreBounded (converted u d d)) (converted u d d) }
+    ensures gives { result ≡ interval_in u d }
+{
+    let (over, under) = ratio(u);
+    interval_of(d.scaled, over, under)
 }
 
 /// The word of a dimension's base unit; a decay has none.
