@@ -1,6 +1,8 @@
 -- What is said of the definitions alone.
-use Rattle.std.specs.Prelude.{◌≡◌, ◌≤◌, ◌<◌, ◌^◌, ◌++◌, ◌∷◌, [], ℕ, ℤ, true, unsigned_abs, List, length}
+use Rattle.std.specs.Prelude.{◌≡◌, ◌≤◌, ◌<◌, ◌^◌, ◌++◌, ◌∷◌, [], ℕ, ℤ, Some, true, unsigned_abs, List, length}
 use Rattle.std.specs.List.{list_all}
+use Rattle.ghg_units.specs.declared.unit.Unit.{Unit as UnitWord}
+use Rattle.ghg_units.specs.Units.{unit_in, word_of}
 use Rattle.ghg_units.specs.Decimal.{number_of}
 use Rattle.ghg_units.specs.Fixed.{fixed_text, sign_of}
 use Rattle.ghg_units.specs.Name.{is_digit}
@@ -17,3 +19,7 @@ pub record Writes (text : List ℕ) (n : ℤ) (places : ℕ) : Type 0 where
 
 abbrev pub FixedTextsRead : Type 0
 FixedTextsRead = (n : ℤ) (places : ℕ) → 1 ≤ places → unsigned_abs n < 10 ^ 64 → Writes (fixed_text n places) n places
+
+-- each unit is the one that its word names: no unit is missed, and no word stands for two
+abbrev pub EachWordNamesItsUnit : Type 0
+EachWordNamesItsUnit = (u : UnitWord) → unit_in (word_of u) ≡ Some u
