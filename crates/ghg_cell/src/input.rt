@@ -6,11 +6,12 @@ ghost use Rattle.ghg_cell.specs.Values.{input_of, known};
 use crate::figures::Figures;
 use ghg_interval::Interval;
 
-/// What a parameter takes: nothing where it is not estimated or not found, or else two intervals in the base unit,
-/// one of the central figure and one from the low to the high figure.
+/// What a parameter takes, in the base unit of its dimension.
 #[derive(Clone, Copy, Debug, PartialEq, Eq, Drop)]
 pub enum Input {
+    /// Not estimated, or not found.
     Blank,
+    /// The interval of the central figure, and one from the low to the high figure.
     Known { point: Interval, range: Interval },
 }
 
@@ -25,7 +26,7 @@ impl Input {
         }
     }
 
-    /// The quantity, where it is known.
+    /// The quantity; `None` exactly where the input is blank.
     pub fn figures(&self) -> Option<Figures>
         ensures { result ≡ known self.now }
     {

@@ -3,8 +3,12 @@
 
 mod figures;
 mod input;
-mod law;
+mod laws;
+#[cfg(test)]
+mod tests;
 
 pub use figures::Figures;
 pub use input::Input;
-pub use law::points_and_ranges;
+pub use laws::{
+    blank_inputs_give_blanks, known_inputs_give_both, points_and_ranges, points_lie_within,
+};

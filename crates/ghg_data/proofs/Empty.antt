@@ -5,9 +5,10 @@ use Rattle.std.specs.List.{filter_map}
 use Rattle.ghg_definitions.specs.declared.record.Record.{Record}
 use Rattle.ghg_definitions.specs.declared.record.RecordKey.{RecordKey}
 use Rattle.ghg_definitions.specs.declared.record.RecordKey.TheVariants as key
-use Rattle.ghg_definitions.specs.Data.{Data, as_span, first_name, key_cmp, line, line_name, span}
+use Rattle.ghg_definitions.specs.Data.{Data, as_figure, as_span, figure, first_name, key_cmp, line, line_name, line_names, span}
 use Rattle.ghg_definitions.specs.Rules.{is_long, is_sound, least_place, most_lines, most_records, passed_limit, places_in, unsound_place}
 use Rattle.ghg_definitions.specs.Sound.{IsWorkbook}
+use Rattle.ghg_units.specs.declared.row.Figure.{Figure}
 use Rattle.ghg_units.specs.declared.rule.Limit.TheVariants.{Lines, Records}
 use Rattle.ghg_units.specs.declared.rule.Limit.TheVariants as limits
 
@@ -33,6 +34,17 @@ no_span : get none key.Span ≡ None
 unfolding none
 no_span = get-empty key_cmp key.Span
 
+no_figure : {P : Type 0} (k : RecordKey) (f : Figure) → figure none k ≡ Some f → P
+unfolding none
+no_figure k f e = absurd (apart (sym (ap as_figure (get-empty key_cmp k)) ∙ e))
+  where
+    apart : ◌≡◌ {A = Option Figure} None (Some f) → ⊥
+    apart h = cc
+
+pub no_lines : line_names (empty {X = Record} {R = key_cmp}) ≡ []
+unfolding none
+no_lines = ap (λ es. filter_map line_name (map (λ e. e.0) es)) no_entries
+
 sound : unsound_place none ≡ None
 unfolding unsound_place
 sound = ap (λ es. least_place (filter (λ p. not (is_sound none p)) (flat_map (λ e. places_in e.0 (line none (first_name e.0))) es))) no_entries
@@ -48,7 +60,7 @@ pub is_workbook : IsWorkbook (empty {X = Record} {R = key_cmp})
 unfolding none
 is_workbook = record {
   records = λ k r e. absent k r e;
-  dimensions = λ k q r s f g e _ _ _ _. absent k r e;
+  dimensions = λ k q f g e _ _. no_figure k f e;
   bindings = sound;
   limits = within;
 }

@@ -1,2 +1,6 @@
 pub mod Changes
 pub mod Shelf
+pub mod Years
+pub mod Refusal
+pub mod Names
+pub mod Faults

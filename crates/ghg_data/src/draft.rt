@@ -1,13 +1,23 @@
 //! Records with edits applied, in the midst of planning.
 
-ghost use Rattle.std.specs.Prelude.{◌≡◌, option_copied};
+ghost use Rattle.std.specs.Prelude.{◌≡◌, true, None, option_copied, IfSome, IfNone};
 ghost use Rattle.std.specs.FinMap as finite;
+ghost use Rattle.ghg_definitions.specs.Data.{figure};
+ghost use Rattle.ghg_definitions.specs.Rules.{is_other_year};
+ghost use Rattle.ghg_definitions.specs.Sound.{IsConsistent};
 ghost use Rattle.ghg_data.specs.Changes.{applied};
+ghost use Rattle.ghg_data.specs.Years.{in_year};
 
 use crate::edits::Edits;
 use crate::holdings::Holdings;
 use ghg_definitions::{Record, RecordKey};
+use ghg_units::Figure;
 use std::marker::Model;
+
+// The years that a record may be of.
+const FIRST_YEAR: u32 = 1900;
+
+const LAST_YEAR: u32 = 2100;
 
 // Records as the edits so far leave them.
 #[derive(Drop)]
@@ -20,6 +30,7 @@ impl<'a> Model for Draft<'a> {
     ghost use Rattle.std.specs.FinMap.{code};
     ghost use Rattle.std.specs.Coded.{codes};
     ghost use Rattle.ghg_definitions.specs.Data.{Data};
+    ghost use Rattle.ghg_definitions.specs.Sound.{IsConsistent};
     ghost use Rattle.ghg_data.specs.Changes.{applied};
 
     ghost Value = { Data };
@@ -27,10 +38,13 @@ impl<'a> Model for Draft<'a> {
     ghost coded = { code (Prim.hlevel codes) (Prim.hlevel codes) };
 
     ghost view = { λ d. applied d.holdings.now.content d.edits.now };
+
+    ghost invariant = { λ d. IsConsistent (applied d.holdings.now.content d.edits.now) };
 }
 
 impl<'a> Draft<'a> {
     pub(crate) fn of(holdings: &'a Holdings, edits: &'a Edits) -> Draft<'a>
+        requires { IsConsistent (applied holdings.now.content edits.now) }
         ensures { result ≡ applied holdings.now.content edits.now }
     {
         Draft { holdings, edits }
@@ -43,5 +57,46 @@ impl<'a> Draft<'a> {
             Some(change) => change.as_ref(),
             None => self.holdings.get(key),
         }
+    }
+
+    // The figure of an activity's or a factor's record.
+    pub(crate) fn figure(&self, key: &RecordKey) -> Option<Figure>
+        ensures { result ≡ figure self.now key.now }
+    {
+        match self.get(key) {
+            Some(Record::Activity(figure) | Record::Factor(figure)) => Some(*figure),
+            _ => None,
+        }
+    }
+
+    // The figure of some record of the same kind and name for another year.
+    pub(crate) fn other_year(&self, key: &RecordKey) -> Option<Figure>
+        ensures found { IfSome result (λ f. (q : RecordKey) × (figure self.now q ≡ Some f) × (is_other_year key.now q ≡ true)) }
+        ensures none { IfNone result ((q : RecordKey) → is_other_year key.now q ≡ true → figure self.now q ≡ None) }
+        ensures consistent { IsConsistent self.now }
+    {
+        // The proof learns the type's invariant where a field is named.
+        let _ = &self.holdings;
+        for year in FIRST_YEAR..LAST_YEAR + 1 {
+            let other = in_year(key, year);
+            if other != *key {
+                let figure = self.figure(&other);
+                if figure.is_some() {
+                    return figure;
+                }
+            }
+        }
+        None
+    }
+}
+
+// The key of the same kind and name for a year.
+fn in_year(key: &RecordKey, year: u32) -> RecordKey
+    ensures { result ≡ in_year key.now year }
+{
+    match key {
+        RecordKey::Activity(name, _) => RecordKey::Activity(*name, year),
+        RecordKey::Factor(name, _) => RecordKey::Factor(*name, year),
+        other => *other,
     }
 }

@@ -2,32 +2,42 @@
 
 ghost use Rattle.std.specs.Prelude.{◌≡◌, ◌+◌, ◌≤◌, ◌<◌, OnOk, option_copied, length};
 ghost use Rattle.std.specs.FinMap as finite;
+ghost use Rattle.std.specs.FinMap.{from_entries};
+ghost use Rattle.indexmap.specs.IndexMap.{spare};
+ghost use Rattle.ghg_definitions.specs.Data.{line_names};
 ghost use Rattle.ghg_definitions.specs.Rows.{with_record};
 ghost use Rattle.ghg_data.specs.Changes.{applied};
 
 use crate::edits::Edits;
+use crate::names::change_names;
 use ghg_definitions::{Record, RecordKey};
+use ghg_units::Name;
 use indexmap::IndexMap;
 use std::alloc::{AllocError, Global};
 use std::marker::Model;
 
-// Records by their keys, and room for more.
+// Records by their keys with the names of the lines in order, and room for more.
 #[derive(Drop)]
 pub(crate) struct Holdings {
     records: IndexMap<RecordKey, Record>,
+    lines: Vec<Name>,
 }
 
 impl Model for Holdings {
+    ghost use Rattle.std.specs.Prelude.{◌≡◌, ◌-◌, min, vec_len, vec_capacity};
     ghost use Rattle.std.specs.FinMap.{from_entries};
-    ghost use Rattle.indexmap.specs.IndexMap.{spare};
-    ghost use Rattle.ghg_data.specs.Shelf.{Shelf, shelf_code};
     ghost use Rattle.std.specs.Coded.{codes};
+    ghost use Rattle.indexmap.specs.IndexMap.{spare};
+    ghost use Rattle.ghg_definitions.specs.Data.{line_names};
+    ghost use Rattle.ghg_data.specs.Shelf.{Shelf, shelf_code};
 
     ghost Value = { Shelf };
 
     ghost coded = { shelf_code (Prim.hlevel codes) (Prim.hlevel codes) };
 
-    ghost view = { λ h. record { content = from_entries h.records.entries; spare = spare h.records } };
+    ghost view = { λ h. record { content = from_entries h.records.entries; spare = min (spare h.records) (vec_capacity h.lines - vec_len h.lines) } };
+
+    ghost invariant = { λ h. h.lines.items ≡ line_names (from_entries h.records.entries) };
 }
 
 impl Holdings {
@@ -36,6 +46,7 @@ impl Holdings {
     {
         Holdings {
             records: IndexMap::new(alloc),
+            lines: Vec::new(alloc),
         }
     }
 
@@ -45,29 +56,28 @@ impl Holdings {
         self.records.get(key)
     }
 
-    // Makes room for so many more records.
+    // How many records there are.
+    pub(crate) fn len(&self) -> usize
+        ensures { result ≡ finite.len self.now.content }
+    {
+        self.records.len()
+    }
+
+    // The names of the lines, in order.
+    pub(crate) fn lines(&self) -> &[Name]
+        ensures { result.now ≡ line_names self.now.content }
+    {
+        &self.lines
+    }
+
+    // Makes room for so many more changes.
     pub(crate) fn reserve(&mut self, additional: usize) -> Result<(), AllocError>
         ensures content { self.new.content ≡ self.old.content }
         ensures room { OnOk result (additional ≤ self.new.spare) }
     {
-        self.records.reserve(additional)
-    }
-
-    // Puts a record under a key, and gives what stood there.
-    fn set(&mut self, key: RecordKey, entry: Record) -> Option<Record>
-        requires { 0 < self.old.spare }
-        ensures content { self.new.content ≡ finite.insert self.old.content key entry }
-        ensures room { self.old.spare ≤ self.new.spare + 1 }
-    {
-        self.records.insert(key, entry).unwrap()
-    }
-
-    // Takes out what stands under a key.
-    fn take(&mut self, key: &RecordKey) -> Option<Record>
-        ensures content { self.new.content ≡ finite.remove self.old.content key.now }
-        ensures room { self.old.spare ≤ self.new.spare }
-    {
-        self.records.swap_remove(key)
+        self.records.reserve(additional)?;
+        self.lines.reserve(additional)?;
+        Ok(())
     }
 
     fn change(&mut self, key: RecordKey, change: Option<Record>)
@@ -75,10 +85,8 @@ impl Holdings {
         ensures content { self.new.content ≡ with_record self.old.content key change }
         ensures room { self.old.spare ≤ self.new.spare + 1 }
     {
-        match change {
-            Some(entry) => drop(self.set(key, entry)),
-            None => drop(self.take(&key)),
-        }
+        change_names(&mut self.lines, &key, change.is_some());
+        drop(change_record(&mut self.records, key, change));
     }
 
     // Makes the changes. It takes no memory.
@@ -89,5 +97,21 @@ impl Holdings {
         while let Some((key, change)) = edits.pop() {
             self.change(key, change);
         }
+    }
+}
+
+// Gives the key this record or none, and gives back what it had.
+fn change_record(
+    records: &mut IndexMap<RecordKey, Record>,
+    key: RecordKey,
+    change: Option<Record>,
+) -> Option<Record>
+    requires { 0 < spare records.old }
+    ensures content { from_entries records.new.entries ≡ with_record (from_entries records.old.entries) key change }
+    ensures room { spare records.old ≤ spare records.new + 1 }
+{
+    match change {
+        Some(entry) => records.insert(key, entry).unwrap(),
+        None => records.swap_remove(&key),
     }
 }

@@ -5,10 +5,15 @@ mod book;
 mod draft;
 mod edits;
 mod holdings;
+mod names;
+mod plan;
 mod records;
+mod refusal;
+mod rows;
 mod view;
 
 pub use book::{Book, after};
 pub use edits::Edits;
 pub use records::Records;
+pub use refusal::PlanRefusal;
 pub use view::After;

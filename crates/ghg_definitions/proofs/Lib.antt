@@ -1,2 +1,7 @@
 pub mod Keys
 pub mod Entries
+pub mod Members
+pub mod Dims
+pub mod Alike
+pub mod Consistent
+pub mod Lines

@@ -36,7 +36,7 @@ bound_input m year None = Blank
 bound_input m year (Some (bound.Activity name)) = activity_input m name year
 bound_input m year (Some (bound.Factor name)) = factor_input m name year
 bound_input m year (Some (bound.Key notation)) = input_of_key notation
-bound_input m year (Some _) = Blank -- no row binds a parameter to a line or a half-life yet
+bound_input m year (Some _) = Blank  -- no row binds a parameter to a line or a half-life yet
 
 -- the inputs of a line's equation in a year, in the order of its parameters
 abbrev pub line_inputs : Data → Name → EqId → ℕ → List Input

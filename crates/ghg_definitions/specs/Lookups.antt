@@ -1,5 +1,5 @@
 -- The input that an activity or a factor gives in a year.
-use Rattle.std.specs.Prelude.{ℕ, zero, suc, List, Option, Some, None, Bool, is_some, if◌then◌else◌, pos}
+use Rattle.std.specs.Prelude.{ℕ, zero, suc, Option, Some, None, is_some, if◌then◌else◌, pos}
 use Rattle.ghg_cell.specs.declared.input.Input.{Input}
 use Rattle.ghg_cell.specs.declared.input.Input.TheVariants.{Blank, Known}
 use Rattle.ghg_interval.specs.Bounds.{point}
@@ -10,7 +10,6 @@ use Rattle.ghg_units.specs.declared.row.NotationKey.{NotationKey}
 use Rattle.ghg_units.specs.declared.row.NotationKey.TheVariants.{No, Na, Ie, Ne}
 use Rattle.ghg_units.specs.declared.unit.Unit.{Unit as UnitWord}
 use Rattle.ghg_units.specs.Units.{converted}
-use Rattle.ghg_definitions.specs.declared.record.RecordKey.{RecordKey}
 use Rattle.ghg_definitions.specs.declared.record.RecordKey.TheVariants as key
 use Rattle.ghg_definitions.specs.Data.{Data, Name, figure}
 

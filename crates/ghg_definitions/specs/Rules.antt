@@ -27,6 +27,7 @@ use Rattle.ghg_units.specs.declared.rule.Limit.TheVariants as limits
 use Rattle.ghg_units.specs.declared.rule.Rule.{Rule}
 use Rattle.ghg_units.specs.declared.rule.Rule.TheVariants.{WrongUnit, Exists, Absent, BadBinding, TooMany}
 use Rattle.ghg_units.specs.Units.{dim_of}
+use Rattle.ghg_definitions.specs.declared.place.Place.{Place}
 use Rattle.ghg_definitions.specs.declared.record.Record.{Record}
 use Rattle.ghg_definitions.specs.declared.record.RecordKey.{RecordKey}
 use Rattle.ghg_definitions.specs.declared.record.RecordKey.TheVariants as key
@@ -35,9 +36,13 @@ use Rattle.ghg_definitions.specs.Rows.{after_row, key_of, record_of}
 
 -- ---- units: the records of one kind and name have one dimension
 
+-- the same kind and name
+abbrev pub is_alike : RecordKey → RecordKey → Bool
+is_alike k q = (kind k == kind q) && bytes_eq (first_name k) (first_name q)
+
 -- the same kind and name for another year
 abbrev pub is_other_year : RecordKey → RecordKey → Bool
-is_other_year k q = (kind k == kind q) && bytes_eq (first_name k) (first_name q) && not (year_of k == year_of q)
+is_other_year k q = is_alike k q && not (year_of k == year_of q)
 
 abbrev pub has_dimension : Dim → Figure → Bool
 has_dimension d f = same_dim d (dim_of f.unit)
@@ -126,11 +131,6 @@ is_bound m d (Some b) = if same_dim d dims.Decay then gives_decay m b else gives
 -- the parameter is one of the equation's, and is bound
 abbrev pub binds_parameter : Data → EqId → Name → Option Binding → Bool
 binds_parameter m e parameter b = option_map_or (λ q. is_bound m q.dim b) (find (λ q. bytes_eq q.name parameter) (parameters e)) false
-
--- a line and a parameter
-pub record Place : Type 0 where
-  pub line : Name
-  pub parameter : Name
 
 abbrev pub place_cmp : Place → Place → Ordering
 place_cmp p q = ordering_then (name_cmp p.line q.line) (name_cmp p.parameter q.parameter)

@@ -3,6 +3,8 @@
 //! The definitions stand in `specs/`. The types that code and definitions share are Rust's.
 #![tactic(auto)]
 
+mod place;
 mod record;
 
+pub use place::Place;
 pub use record::{Record, RecordKey};

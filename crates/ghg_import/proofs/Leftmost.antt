@@ -1,5 +1,5 @@
 -- Each form of a row is its row of the table: one test after another, as the form has them.
-use Rattle.std.proofs.Common.{◌≡◌, ◌∙◌, ◌==◌, ℕ, List, length, Option, Some, None, Result, Ok, Err, Bool, true, false, refl, arith}
+use Rattle.std.proofs.Common.{◌≡◌, ◌∙◌, ◌==◌, length, Option, Some, None, Result, Ok, Err, Bool, true, false, refl, arith}
 use Rattle.ghg_units.specs.declared.row.Act.{Act}
 use Rattle.ghg_units.specs.declared.row.Act.TheVariants.{Enter, Correct, Withdraw}
 use Rattle.ghg_units.specs.Name.{plain_name_in}
@@ -11,7 +11,7 @@ use Rattle.ghg_import.specs.declared.fault.Fault.TheVariants.{Shape, Word, Numbe
 use Rattle.ghg_import.specs.declared.kind.Kind.{Kind}
 use Rattle.ghg_import.specs.declared.kind.Kind.TheVariants as kinds
 use Rattle.ghg_import.specs.Fault.{◌>>=◌}
-use Rattle.ghg_import.specs.Forms.{activity_in, bind_in, factor_in, form_in, is_category, known_in, line_in, named_figure_in, no_value_in, span_in, target_in}
+use Rattle.ghg_import.specs.Forms.{activity_in, bind_in, factor_in, form_in, is_category, known_in, line_in, named_figure_in, no_value_in, span_in}
 use Rattle.ghg_import.specs.Kinds.{binding_form_in}
 use Rattle.ghg_import.specs.Shape.{Texts}
 use Rattle.ghg_import.specs.Table.{column_fault, wrong_column}

@@ -1,22 +1,23 @@
 -- What each column of a row may hold, kind by kind: the words from left to right, then the numbers from left to right.
-use Rattle.std.specs.Prelude.{ℕ, Bool, List, length, ◌==◌, ◌||◌, ◌&&◌, nat_lt, int_lt, Option, Some, None, Result, Ok, Err, if◌then◌else◌, codes}
+use Rattle.std.specs.Prelude.{ℕ, Bool, List, length, ◌==◌, ◌||◌, ◌&&◌, nat_lt, int_lt, Option, Some, None, option_and_then, Result, Ok, Err, is_err, if◌then◌else◌, codes}
 use Rattle.std.specs.Option.{ok_or, option_map}
 use Rattle.std.specs.Str.{bytes_eq}
 use Rattle.ghg_equations.specs.Table.{named}
+use Rattle.ghg_units.specs.declared.decimal.Decimal.{Decimal}
 use Rattle.ghg_units.specs.declared.row.Act.{Act}
 use Rattle.ghg_units.specs.declared.row.Amount.{Amount}
 use Rattle.ghg_units.specs.declared.row.Amount.TheVariants as amounts
 use Rattle.ghg_units.specs.declared.row.Binding.{Binding}
 use Rattle.ghg_units.specs.declared.row.Binding.TheVariants as bound
-use Rattle.ghg_units.specs.declared.row.Figure.{Figure}
 use Rattle.ghg_units.specs.declared.row.RowForm.{RowForm}
 use Rattle.ghg_units.specs.declared.row.RowForm.TheVariants as forms
 use Rattle.ghg_units.specs.declared.rule.Column.{Column}
 use Rattle.ghg_units.specs.declared.rule.Column.TheVariants as columns
+use Rattle.ghg_units.specs.declared.unit.Unit.{Unit as UnitWord}
 use Rattle.ghg_units.specs.Decimal.{whole_decimal_in}
 use Rattle.ghg_units.specs.Name.{plain_name_in}
 use Rattle.ghg_units.specs.Parameter.{parameter_in}
-use Rattle.ghg_units.specs.Units.{unit_in}
+use Rattle.ghg_units.specs.Units.{interval_in, unit_in}
 use Rattle.ghg_units.specs.WellFormed.{withdraws}
 use Rattle.ghg_units.specs.Words.{act_in}
 use Rattle.ghg_units.specs.Year.{year_in}
@@ -60,14 +61,18 @@ span_in act row = do
         base ← ok_or (year_in row.low) (Number columns.Low)
         if nat_lt base first || nat_lt last base then Err Disorder else Ok (forms.Span (Some (record { first = first; base = base; last = last }))))
 
+-- the decimal that a text writes, where it is within the limit in the base unit
+unfoldable pub quantity_in : UnitWord → List ℕ → Option Decimal
+quantity_in u text = option_and_then (λ d. if is_err (interval_in u d) then None else Some d) (whole_decimal_in text)
+
 -- a value, and its bounds: two, or none
-unfoldable pub known_in : Texts → Result Amount Fault
-known_in row = do
-  value ← ok_or (whole_decimal_in row.value) (Number columns.Value)
+unfoldable pub known_in : UnitWord → Texts → Result Amount Fault
+known_in u row = do
+  value ← ok_or (quantity_in u row.value) (Number columns.Value)
   if (length row.low == 0) && (length row.high == 0) then Ok (amounts.Known value value value)
       else (do
-        low ← ok_or (whole_decimal_in row.low) (Number columns.Low)
-        high ← ok_or (whole_decimal_in row.high) (Number columns.High)
+        low ← ok_or (quantity_in u row.low) (Number columns.Low)
+        high ← ok_or (quantity_in u row.high) (Number columns.High)
         if int_lt value.scaled low.scaled || int_lt high.scaled value.scaled then Err Disorder else Ok (amounts.Known value low high))
 
 -- the name, the year and the figure of an activity or a factor
@@ -82,7 +87,7 @@ named_figure_in act row = do
       else (do
         unit ← ok_or (unit_in row.unit) (Word columns.Unit)
         year ← ok_or (year_in row.year) (Number columns.Year)
-        amount ← known_in row
+        amount ← known_in unit row
         Ok (record { name = name; year = year; figure = Some (record { unit = unit; amount = amount }) }))
 
 unfoldable pub activity_in : Act → Texts → Result RowForm Fault

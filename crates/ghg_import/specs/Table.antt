@@ -6,7 +6,7 @@ use Rattle.ghg_equations.specs.Table.{named}
 use Rattle.ghg_units.specs.declared.row.Act.{Act}
 use Rattle.ghg_units.specs.declared.rule.Column.{Column}
 use Rattle.ghg_units.specs.declared.rule.Column.TheVariants as columns
-use Rattle.ghg_units.specs.Decimal.{whole_decimal_in}
+use Rattle.ghg_units.specs.declared.unit.Unit as measures
 use Rattle.ghg_units.specs.Name.{plain_name_in}
 use Rattle.ghg_units.specs.Parameter.{parameter_in}
 use Rattle.ghg_units.specs.Units.{unit_in}
@@ -17,7 +17,7 @@ use Rattle.ghg_import.specs.declared.fault.Fault.TheVariants.{Shape, Word, Numbe
 use Rattle.ghg_import.specs.declared.kind.BindingForm.{BindingForm}
 use Rattle.ghg_import.specs.declared.kind.Kind.{Kind}
 use Rattle.ghg_import.specs.declared.kind.Kind.TheVariants as kinds
-use Rattle.ghg_import.specs.Forms.{is_category, target_in}
+use Rattle.ghg_import.specs.Forms.{is_category, quantity_in, target_in}
 use Rattle.ghg_import.specs.Kinds.{binding_form_in}
 use Rattle.ghg_import.specs.Shape.{Texts}
 
@@ -72,6 +72,11 @@ abbrev pub is_target : Option BindingForm → List ℕ → Bool
 is_target None text = false
 is_target (Some form) text = is_some (target_in form text)
 
+-- whether a text is a number that is within the limit, in the unit that the row names
+abbrev pub is_quantity : Option measures.Unit → List ℕ → Bool
+is_quantity None text = false
+is_quantity (Some u) text = is_some (quantity_in u text)
+
 -- whether a text is what a column may hold in its row
 abbrev pub is_held : Holding → Texts → List ℕ → Bool
 is_held Empty row text = length text == 0
@@ -83,8 +88,8 @@ is_held Form row text = is_some (binding_form_in text)
 is_held Target row text = is_target (binding_form_in row.value) text
 is_held UnitWord row text = is_some (unit_in text)
 is_held Year row text = is_some (year_in text)
-is_held Figure row text = is_some (whole_decimal_in text)
-is_held Bound row text = ((length row.low == 0) && (length row.high == 0)) || is_some (whole_decimal_in text)
+is_held Figure row text = is_quantity (unit_in row.unit) text
+is_held Bound row text = ((length row.low == 0) && (length row.high == 0)) || is_quantity (unit_in row.unit) text
 
 -- a column, what it may hold, and its text
 pub record Place : Type 0 where

@@ -3,17 +3,19 @@
 //! A form tests the words of its row from left to right, then the numbers from left to right, and then their order.
 
 ghost use Rattle.std.specs.Prelude.{◌≡◌, IfOk, IfSome};
-ghost use Rattle.ghg_units.specs.WellFormed.{IsAmount, IsBinding, IsForm, withdraws};
+ghost use Rattle.ghg_interval.specs.Bounds.{AreBounded};
+ghost use Rattle.ghg_units.specs.Units.{converted};
+ghost use Rattle.ghg_units.specs.WellFormed.{IsAmountOf, IsBinding, IsForm, withdraws};
 ghost use Rattle.ghg_import.specs.Shape.{texts};
-ghost use Rattle.ghg_import.specs.Forms.{activity_in, bind_in, category_at, content_in, empty_at, factor_in, form_in, known_in, line_in, named_figure_in, no_value_in, span_in, target_in};
+ghost use Rattle.ghg_import.specs.Forms.{activity_in, bind_in, category_at, content_in, empty_at, factor_in, form_in, known_in, line_in, named_figure_in, no_value_in, quantity_in, span_in, target_in};
 
 use crate::columns::Columns;
 use crate::fault::Fault;
 use crate::kind::{BindingForm, Kind, binding_form_named, kind_named};
 use ghg_equations::eq_named;
 use ghg_units::{
-    Act, Amount, Binding, Column, Figure, Name, ParamName, RowForm, Span, act_named, read_whole,
-    read_year, unit_named,
+    Act, Amount, Binding, Column, Decimal, Figure, Name, ParamName, RowForm, Span, Unit, act_named,
+    read_whole, read_year, to_interval, unit_named,
 };
 
 /// What a row says, or the first rule that it breaks.
@@ -106,18 +108,18 @@ fn named_figure(act: Act, row: Columns<'_>) -> Result<NamedFigure, Fault>
     }
     let unit = unit_named(row.unit).ok_or(Fault::Word(Column::Unit))?;
     let year = read_year(row.year).ok_or(Fault::Number(Column::Year))?;
-    let amount = known(row)?;
+    let amount = known(row, unit)?;
     let figure = Some(Figure { unit, amount });
     Ok(NamedFigure { name, year, figure })
 }
 
 // A value, and its bounds where they are supplied.
 #[tactic(auto, unfolding(crate::specs::Forms::known_in))]
-fn known(row: Columns<'_>) -> Result<Amount, Fault>
-    ensures reads { result ≡ known_in (texts row.entry) }
-    ensures keeps { IfOk result IsAmount }
+fn known(row: Columns<'_>, unit: Unit) -> Result<Amount, Fault>
+    ensures reads { result ≡ known_in unit (texts row.entry) }
+    ensures keeps { IfOk result (IsAmountOf unit) }
 {
-    let value = read_whole(row.value).ok_or(Fault::Number(Column::Value))?;
+    let value = quantity(row.value, unit).ok_or(Fault::Number(Column::Value))?;
     if row.low.is_empty() && row.high.is_empty() {
         return Ok(Amount::Known {
             value,
@@ -125,12 +127,25 @@ fn known(row: Columns<'_>) -> Result<Amount, Fault>
             high: value,
         });
     }
-    let low = read_whole(row.low).ok_or(Fault::Number(Column::Low))?;
-    let high = read_whole(row.high).ok_or(Fault::Number(Column::High))?;
+    let low = quantity(row.low, unit).ok_or(Fault::Number(Column::Low))?;
+    let high = quantity(row.high, unit).ok_or(Fault::Number(Column::High))?;
     if low > value || value > high {
         return Err(Fault::Disorder);
     }
     Ok(Amount::Known { value, low, high })
+}
+
+// The decimal that a text writes, where it is within the limit in the base unit.
+#[tactic(auto, unfolding(crate::specs::Forms::quantity_in))]
+fn quantity(text: &[u8], unit: Unit) -> Option<Decimal>
+    ensures reads { result ≡ quantity_in unit text.now }
+    ensures keeps { IfSome result (λ d. AreBounded (converted unit d d)) }
+{
+    let decimal = read_whole(text)?;
+    if to_interval(decimal, unit).is_err() {
+        return None;
+    }
+    Some(decimal)
 }
 
 #[tactic(auto, unfolding(crate::specs::Forms::line_in))]

@@ -1,7 +1,7 @@
 ghost use Rattle.std.specs.Prelude.{◌≡◌, ◌≤◌, ◌≤ℤ◌, SomeIff, OkIff, IfOk, IsTrue, ◌↔◌};
 ghost use Rattle.ghg_interval.specs.Fractions as fraction;
-ghost use Rattle.ghg_interval.specs.Bounds.{IsBounded, AreBounded, IsInterval, IsWithin, Inside, unit_scale, exactly, point, sum, difference, product, scaled, hull_of};
-ghost use Rattle.ghg_interval.specs.Products.{corner, side};
+ghost use Rattle.ghg_interval.specs.Bounds.{IsBounded, AreBounded, IsInterval, IsWithin, Inside, unit_scale, between, exactly, point, sum, difference, product, scaled, hull_of};
+ghost use Rattle.ghg_interval.specs.Corners.{corner, side};
 ghost use Rattle.ghg_interval.specs.Containment.{Holds, HoldsBy, HoldsScaled, in_units};
 ghost use Rattle.ghg_interval.specs.Operations.{exact_in, whole_in, sum_in, difference_in, product_in, scaled_in};
 
@@ -18,13 +18,13 @@ pub struct Interval {
 }
 
 impl Model for Interval {
-    ghost use Rattle.ghg_interval.specs.Bounds.{Bounds, IsInterval};
+    ghost use Rattle.ghg_interval.specs.Bounds.{Bounds, IsInterval, between};
 
     ghost Value = { Bounds };
 
-    ghost view = { λ i. record { lo = i.lo; hi = i.hi } };
+    ghost view = { λ i. between i.lo i.hi };
 
-    ghost invariant = { λ i. IsInterval (record { lo = i.lo; hi = i.hi }) };
+    ghost invariant = { λ i. IsInterval (between i.lo i.hi) };
 
     ghost inverse = { λ b. record { lo = b.lo; hi = b.hi } };
 }
@@ -33,7 +33,7 @@ impl Interval {
     /// The interval between two bounds, in parts of a unit. `None` where the lower one is greater than the upper
     /// one, or one of them is beyond the limit.
     pub fn new(lo: i128, hi: i128) -> Option<Interval>
-        ensures { SomeIff result (IsInterval (record { lo = lo; hi = hi })) (record { lo = lo; hi = hi }) }
+        ensures { let b = between lo hi in SomeIff result (IsInterval b) b }
     {
         if lo <= hi && is_bounded(lo) && is_bounded(hi) {
             Some(Interval { lo, hi })
@@ -44,7 +44,7 @@ impl Interval {
 
     /// The interval of one number, in parts of a unit.
     pub fn exact(n: i128) -> Result<Interval, Over>
-        ensures value { OkIff result (AreBounded (exactly n)) (exactly n) }
+        ensures value { let b = exactly n in OkIff result (AreBounded b) b }
         ensures gives { result ≡ exact_in n }
         ensures holds { IfOk result (λ r. Inside r (in_units n)) }
     {
@@ -53,7 +53,7 @@ impl Interval {
 
     /// The interval of one whole number of units.
     pub fn whole(n: i128) -> Result<Interval, Over>
-        ensures value { OkIff result (AreBounded (point n)) (point n) }
+        ensures value { let b = point n in OkIff result (AreBounded b) b }
         ensures gives { result ≡ whole_in n }
         ensures holds { IfOk result (λ r. Inside r (fraction.whole n)) }
     {
@@ -66,7 +66,7 @@ impl Interval {
     // The interval between two bounds, where they are within the limit.
     fn limited(lo: i128, hi: i128) -> Result<Interval, Over>
         requires { lo ≤ℤ hi }
-        ensures { OkIff result (AreBounded (record { lo = lo; hi = hi })) (record { lo = lo; hi = hi }) }
+        ensures { let b = between lo hi in OkIff result (AreBounded b) b }
     {
         let lo_fits = is_bounded(lo);
         let hi_fits = is_bounded(hi);
@@ -95,7 +95,7 @@ impl Interval {
 
     /// The sums of the numbers of both.
     pub fn add(&self, other: &Interval) -> Result<Interval, Over>
-        ensures value { OkIff result (AreBounded (sum self.now other.now)) (sum self.now other.now) }
+        ensures value { let b = sum self.now other.now in OkIff result (AreBounded b) b }
         ensures gives { result ≡ sum_in self.now other.now }
         ensures holds { IfOk result (HoldsBy fraction.sum self.now other.now) }
     {
@@ -104,7 +104,7 @@ impl Interval {
 
     /// The differences of the numbers of both.
     pub fn sub(&self, other: &Interval) -> Result<Interval, Over>
-        ensures value { OkIff result (AreBounded (difference self.now other.now)) (difference self.now other.now) }
+        ensures value { let b = difference self.now other.now in OkIff result (AreBounded b) b }
         ensures gives { result ≡ difference_in self.now other.now }
         ensures holds { IfOk result (HoldsBy fraction.difference self.now other.now) }
     {
@@ -113,7 +113,7 @@ impl Interval {
 
     /// The products of the numbers of both, rounded outward.
     pub fn mul(&self, other: &Interval) -> Result<Interval, Over>
-        ensures value { OkIff result (AreBounded (product self.now other.now)) (product self.now other.now) }
+        ensures value { let b = product self.now other.now in OkIff result (AreBounded b) b }
         ensures gives { result ≡ product_in self.now other.now }
         ensures holds { IfOk result (HoldsBy fraction.product self.now other.now) }
     {
@@ -129,7 +129,7 @@ impl Interval {
     // The products of a bound and the numbers of an interval.
     fn side(x: i128, other: &Interval) -> Result<Interval, Over>
         requires { IsBounded x }
-        ensures { OkIff result (AreBounded (side x other.now)) (side x other.now) }
+        ensures { let b = side x other.now in OkIff result (AreBounded b) b }
     {
         match (Interval::corner(x, other.lo), Interval::corner(x, other.hi)) {
             (Ok(low), Ok(high)) => Ok(low.hull(&high)),
@@ -141,7 +141,7 @@ impl Interval {
     fn corner(x: i128, y: i128) -> Result<Interval, Over>
         requires x_bounded { IsBounded x }
         requires y_bounded { IsBounded y }
-        ensures { OkIff result (AreBounded (corner x y)) (corner x y) }
+        ensures { let b = corner x y in OkIff result (AreBounded b) b }
     {
         match (floor_product(x, y), ceil_product(x, y)) {
             (Some(lo), Some(hi)) => Ok(Interval { lo, hi }),
@@ -153,7 +153,7 @@ impl Interval {
     pub fn scale(&self, p: u64, q: u64) -> Result<Interval, Over>
         requires p_in { (1 ≤ p) × (p ≤ unit_scale) }
         requires q_in { (1 ≤ q) × (q ≤ unit_scale) }
-        ensures value { OkIff result (AreBounded (scaled p q self.now)) (scaled p q self.now) }
+        ensures value { let b = scaled p q self.now in OkIff result (AreBounded b) b }
         ensures gives { result ≡ scaled_in p q self.now }
         ensures holds { IfOk result (HoldsScaled p q self.now) }
     {

@@ -6,6 +6,7 @@ ghost use Rattle.ghg_interval.specs.Rounding.{floor_by, ceil_by};
 
 use crate::{LIMIT, SCALE};
 
+/// Whether a bound is within the limit.
 pub(crate) fn is_bounded(bound: i128) -> bool
     ensures { IsTrue result ↔ IsBounded bound }
 {
@@ -38,10 +39,10 @@ fn floor_part(part: i128, y: i128) -> i128
     (part * y).div_euclid(SCALE)
 }
 
-// The product of two numbers over the unit, rounded down; nothing where that is beyond the limit.
+/// The product of two numbers over the unit, rounded down; nothing where that is beyond the limit.
 pub(crate) fn floor_product(x: i128, y: i128) -> Option<i128>
     requires { IsBounded y }
-    ensures { SomeIff result (IsBounded (floor_by unit_scale (x *ℤ y))) (floor_by unit_scale (x *ℤ y)) }
+    ensures { let q = floor_by unit_scale (x *ℤ y) in SomeIff result (IsBounded q) q }
 {
     let part = floor_part(x.rem_euclid(SCALE), y);
     match x.div_euclid(SCALE).checked_mul(y) {
@@ -50,11 +51,11 @@ pub(crate) fn floor_product(x: i128, y: i128) -> Option<i128>
     }
 }
 
-// The product of two bounds over the unit, rounded up; nothing where that is beyond the limit.
+/// The product of two bounds over the unit, rounded up; nothing where that is beyond the limit.
 pub(crate) fn ceil_product(x: i128, y: i128) -> Option<i128>
     requires x_bounded { IsBounded x }
     requires y_bounded { IsBounded y }
-    ensures { SomeIff result (IsBounded (ceil_by unit_scale (x *ℤ y))) (ceil_by unit_scale (x *ℤ y)) }
+    ensures { let q = ceil_by unit_scale (x *ℤ y) in SomeIff result (IsBounded q) q }
 {
     match floor_product(negated(x), y) {
         Some(floor) => Some(negated(floor)),
@@ -62,7 +63,7 @@ pub(crate) fn ceil_product(x: i128, y: i128) -> Option<i128>
     }
 }
 
-// A bound times p over q, rounded down.
+/// A bound times p over q, rounded down.
 pub(crate) fn floor_scaled(x: i128, p: u64, q: u64) -> i128
     requires x_bounded { IsBounded x }
     requires p_in { p ≤ unit_scale }
@@ -73,7 +74,7 @@ pub(crate) fn floor_scaled(x: i128, p: u64, q: u64) -> i128
     (x * i128::from(p)).div_euclid(i128::from(q))
 }
 
-// A bound times p over q, rounded up.
+/// A bound times p over q, rounded up.
 pub(crate) fn ceil_scaled(x: i128, p: u64, q: u64) -> i128
     requires x_bounded { IsBounded x }
     requires p_in { p ≤ unit_scale }

@@ -52,8 +52,10 @@ impl Source for MemorySource {
     fn read(&mut self, buf: &mut [u8]) -> Result<usize, Failed>
         requires { 0 < length buf.old }
         ensures bound { ReadsAtMost result buf.new }
-        ensures left { ReadConsumes (Some self.old.bytes.left) (Some self.new.bytes.left) result buf.new }
-        ensures taken { ReadTakes (Some self.old.bytes.taken) (Some self.new.bytes.taken) result buf.new }
+        ensures left { ReadConsumes (Some self.old.bytes.left)
+            (Some self.new.bytes.left) result buf.new }
+        ensures taken { ReadTakes (Some self.old.bytes.taken)
+            (Some self.new.bytes.taken) result buf.new }
         ensures faults { IsCounted self.old.plan.faults self.new.plan.faults (IsErr result) }
         ensures fails { IsErr result ↔ IsTrue (fails_next self.old.plan) }
         ensures plan { self.new.plan ≡ after_call self.old.plan }
@@ -116,8 +118,10 @@ impl Sink for MemorySink {
         requires { 0 < length piece.now }
         ensures some { IfOk result (λ n. 0 < n) }
         ensures bound { IfOk result (λ n. n ≤ length piece.now) }
-        ensures written { WriteAppends (Some self.old.written) (Some self.new.written) result piece.now }
-        ensures faults { IsCounted self.old.plan.faults self.new.plan.faults (IsErrOf result WriteError.Failed) }
+        ensures written { WriteAppends (Some self.old.written)
+            (Some self.new.written) result piece.now }
+        ensures faults { IsCounted self.old.plan.faults self.new.plan.faults
+            (IsErrOf result WriteError.Failed) }
         ensures fails { IsErrOf result WriteError.Failed ↔ IsTrue (fails_next self.old.plan) }
         ensures plan { self.new.plan ≡ after_call self.old.plan }
     {

@@ -23,8 +23,10 @@ pub trait Sink: Told {
         requires { 0 < length piece.now }
         ensures some { IfOk result (λ n. 0 < n) }
         ensures bound { IfOk result (λ n. n ≤ length piece.now) }
-        ensures written { WriteAppends (Self.written self.old) (Self.written self.new) result piece.now }
+        ensures written { WriteAppends (Self.written self.old)
+            (Self.written self.new) result piece.now }
         ensures left { Keeps (Self.left self.old) (Self.left self.new) }
         ensures taken { Keeps (Self.taken self.old) (Self.taken self.new) }
-        ensures faults { IsCounted (Self.faults self.old) (Self.faults self.new) (IsErrOf result WriteError.Failed) };
+        ensures faults { IsCounted (Self.faults self.old) (Self.faults self.new)
+            (IsErrOf result WriteError.Failed) };
 }

@@ -18,7 +18,10 @@ impl Model for SteadySource {
 
     ghost Value = { SourceBytes };
 
-    ghost view = { λ s. record { left = drop s.at s.bytes.items; taken = take s.at s.bytes.items } };
+    ghost view = { λ s. record {
+      left = drop s.at s.bytes.items;
+      taken = take s.at s.bytes.items;
+    } };
 
     ghost invariant = { λ s. s.at ≤ length s.bytes.items };
 }
@@ -31,7 +34,7 @@ impl SteadySource {
         SteadySource { bytes, at: 0 }
     }
 
-    // Takes as many of the next bytes as there is room for.
+    /// Takes as many of the next bytes as there is room for.
     #[tactic(auto, using(crate::proofs::Fronts::longer_front))]
     pub(crate) fn take_front(&mut self, buf: &mut [u8]) -> usize
         ensures count { result ≡ min (length self.old.left) (length buf.new) }
@@ -103,7 +106,7 @@ impl SteadySink {
         &self.bytes
     }
 
-    // Appends the whole piece, or nothing where memory runs out.
+    /// Appends the whole piece, or nothing where memory runs out.
     pub(crate) fn append(&mut self, piece: &[u8]) -> Result<(), AllocError>
         ensures ok { OnOk result (self.new ≡ self.old ++ piece.now) }
         ensures err { OnErr result (self.new ≡ self.old) }

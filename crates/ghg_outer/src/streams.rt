@@ -1,5 +1,4 @@
-// The process's own input and output. They are the trusted edge: std's contracts tell nothing of what a terminal, a
-// pipe or a file gives and takes, so neither do these, and what is proved of them is that each error is counted.
+// The process's own input and output, which are the trusted edge.
 ghost use Rattle.std.specs.Prelude.{◌≡◌, ◌<◌, ◌≤◌, length, IfOk, IfErr, IsErr, None};
 ghost use Rattle.std.specs.Io.KnownBytes.{WriteAppends};
 ghost use Rattle.ghg_outer.specs.Counts.{IsCounted};
@@ -7,8 +6,11 @@ ghost use Rattle.ghg_outer.specs.Counts.{IsCounted};
 use crate::{Failed, Sink, Source, Told, WriteError};
 use std::io::{Read, Write};
 
-/// A reader of std, with a count of its errors. It tells what is left where the reader does, which standard input
-/// does not.
+/// A reader of std, as standard input, with a count of its errors.
+///
+/// It is part of the trusted edge: std's contracts do not say what standard input gives, so there this source tells
+/// nothing of its bytes, and it is proved that each error is counted. Over a reader that tells what it has left,
+/// as a slice, this source tells the same.
 #[derive(Drop)]
 pub struct InputSource<R: Read + Drop> {
     reader: R,
@@ -47,8 +49,12 @@ impl<R: Read + Drop> Source for InputSource<R> {
     }
 }
 
-/// A writer of std, with a count of its errors. That it takes nothing is one. It tells what was written where the
-/// writer does, which standard output does not.
+/// A writer of std, as standard output, with a count of its errors. Where the writer takes nothing of a piece, that
+/// is an error too.
+///
+/// It is part of the trusted edge: std's contracts do not say where standard output's bytes go, so there this sink
+/// tells nothing of them, and it is proved that each error is counted. Over a writer that tells what it holds, as a
+/// vector, this sink tells the same.
 #[derive(Drop)]
 pub struct OutputSink<W: Write + Drop> {
     writer: W,

@@ -13,10 +13,10 @@ use std::alloc::{AllocError, Global};
 /// The category at which each line stands.
 const CATEGORY: &str = "1A1a";
 
-/// The most bytes that a row takes.
+/// Room for a row. None is longer: the words and their commas take at most 53 bytes, and each of the three figures 23.
 const LONGEST_ROW: usize = 128;
 
-/// The table of cells: its header, and a line of text for each row.
+/// The table of cells: its header, and a line of text for each row, in the order of the rows.
 #[tactic(auto, unfolding(crate::specs::Texts::cells_text))]
 pub fn print_cells(alloc: Global, rows: &[CellRow]) -> Result<Text, AllocError>
     ensures { IfOk result (λ text. text ≡ cells_text rows.now) }

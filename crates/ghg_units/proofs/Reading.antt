@@ -1,5 +1,5 @@
 -- What a number with a fixed count of decimals reads as.
-use Rattle.std.proofs.Common.{◌≡◌, ◌<◌, ◌≤◌, ◌+◌, ◌*◌, ◌/◌, ◌%◌, ◌^◌, ◌++◌, ◌∷◌, [], ◌∙◌, ◌&&◌, ℕ, zero, suc, ℤ, List, length, unsigned_abs, refl, sym, ap, arith, rules, decimal, append_assoc, mul-le-mul, true}
+use Rattle.std.proofs.Common.{◌≡◌, ◌<◌, ◌≤◌, ◌+◌, ◌*◌, ◌/◌, ◌%◌, ◌^◌, ◌++◌, ◌∷◌, [], ◌∙◌, ℕ, zero, suc, ℤ, length, unsigned_abs, refl, sym, ap, arith, rules, decimal, append_assoc, mul-le-mul, true}
 use Rattle.std.proofs.lemmas.Bool.Decides.{nat_tests}
 use Rattle.std.proofs.lemmas.List.Folds.{list_all-append}
 use Rattle.std.proofs.lemmas.List.Sums.{fold-append}
@@ -14,7 +14,7 @@ use Rattle.ghg_units.specs.Laws.{Writes}
 use Rattle.ghg_units.specs.Name.{is_digit}
 
 -- digits and what they write, in the words of parsing
-numerals : IsNumeralModel (λ ds. list_all is_digit ds ≡ true) number_of
+pub numerals : IsNumeralModel (λ ds. list_all is_digit ds ≡ true) number_of
 numerals = numerals_by_fold _ (search rules) (λ n ds. fold with_digit n ds) (search rules)
 
 -- one digit more of what is left

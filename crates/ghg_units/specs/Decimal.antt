@@ -1,8 +1,12 @@
 -- Which decimals texts write.
-use Rattle.std.specs.Prelude.{ℕ, ◌+◌, ◌-◌, ◌*◌, ◌^◌, ℤ, pos, neg_ℤ, List, length, take, drop, ◌==◌, ◌&&◌, nat_le, nat_lt, Option, Some, None, if◌then◌else◌, option_and_then, option_map, position, fold, slice_index}
+use Rattle.std.specs.Prelude.{ℕ, ◌+◌, ◌-◌, ◌*◌, ◌^◌, ◌<◌, ℤ, pos, neg_ℤ, unsigned_abs, List, length, take, drop, ◌==◌, ◌&&◌, nat_le, nat_lt, Option, Some, None, if◌then◌else◌, option_and_then, option_map, position, fold, slice_index}
 use Rattle.std.specs.List.{list_all}
 use Rattle.ghg_units.specs.declared.decimal.Decimal.{Decimal}
 use Rattle.ghg_units.specs.Name.{is_digit}
+
+-- what 14 digits before a point and 12 behind it can write
+abbrev pub IsDecimal : Decimal → Type 0
+IsDecimal d = unsigned_abs d.scaled < 10 ^ 26
 
 infixl 10 ◌>>=◌
 abbrev pub ◌>>=◌ : {A B : Type 0} → Option A → (A → Option B) → Option B

@@ -1,11 +1,11 @@
 -- What is said of the definitions alone.
-use Rattle.std.specs.Prelude.{◌≡◌, ◌≤◌, ◌<◌, ◌^◌, ◌++◌, ◌∷◌, [], ℕ, ℤ, Some, true, unsigned_abs, List, length}
+use Rattle.std.specs.Prelude.{◌+◌, ◌-◌, ◌*ℤ◌, pos, Some, ◌≡◌, ◌≤◌, ◌<◌, ◌^◌, ◌++◌, ◌∷◌, [], ℕ, ℤ, true, unsigned_abs, List, length}
 use Rattle.std.specs.List.{list_all}
 use Rattle.ghg_units.specs.declared.unit.Unit.{Unit as UnitWord}
-use Rattle.ghg_units.specs.Units.{unit_in, word_of}
-use Rattle.ghg_units.specs.Decimal.{number_of}
+use Rattle.ghg_units.specs.Decimal.{decimal_in, number_of}
 use Rattle.ghg_units.specs.Fixed.{fixed_text, sign_of}
 use Rattle.ghg_units.specs.Name.{is_digit}
+use Rattle.ghg_units.specs.Units.{unit_in, word_of}
 
 -- the text is n / 10^places: a sign, digits, a point, and so many digits
 pub record Writes (text : List ℕ) (n : ℤ) (places : ℕ) : Type 0 where
@@ -23,3 +23,7 @@ FixedTextsRead = (n : ℤ) (places : ℕ) → 1 ≤ places → unsigned_abs n < 
 -- each unit is the one that its word names: no unit is missed, and no word stands for two
 abbrev pub EachWordNamesItsUnit : Type 0
 EachWordNamesItsUnit = (u : UnitWord) → unit_in (word_of u) ≡ Some u
+
+-- a printed number is a decimal of that value, where it has no more digits than decimals have
+abbrev pub PrintedDecimalsRead : Type 0
+PrintedDecimalsRead = (n : ℤ) (places : ℕ) → 1 ≤ places → places ≤ 12 → unsigned_abs n < 10 ^ (14 + places) → decimal_in (fixed_text n places) ≡ Some (record { scaled = n *ℤ pos (10 ^ (12 - places)) })

@@ -1,5 +1,5 @@
 -- How the rule that refuses a submission is printed.
-use Rattle.std.specs.Prelude.{ℕ, List, [], ◌∷◌, ◌++◌, codes, decimal}
+use Rattle.std.specs.Prelude.{ℕ, List, ◌++◌, codes, decimal}
 use Rattle.ghg_units.specs.declared.node.Node.{Node}
 use Rattle.ghg_units.specs.declared.node.Node.TheVariants.{Line}
 use Rattle.ghg_units.specs.declared.rule.Column.{Column}
@@ -22,12 +22,7 @@ column_word columns.High = codes "high"
 column_word columns.Unit = codes "unit"
 column_word columns.Note = codes "note"
 
--- the columns in the order of the header
-abbrev pub every_column : List Column
-every_column =
-    columns.Act ∷ columns.Kind ∷ columns.Subject ∷ columns.Name ∷ columns.Year
-    ∷ columns.Value ∷ columns.Low ∷ columns.High ∷ columns.Unit ∷ columns.Note ∷ []
-
+-- the word that a refusal names a limit by
 abbrev pub limit_word : Limit → List ℕ
 limit_word limits.Lines = codes "lines"
 limit_word limits.Records = codes "records"

@@ -1,18 +1,22 @@
 -- What the rows of a submission keep.
-use Rattle.std.specs.Prelude.{◌≡◌, ◌≤◌, ◌≤ℤ◌, ◌&&◌, ◌==◌, ℕ, Bool, true, false, not, List, [], ◌∷◌, length, nat_eq, Some, None, ⊤}
+use Rattle.std.specs.Prelude.{◌≡◌, ◌≤◌, ◌≤ℤ◌, ◌&&◌, ℕ, Bool, true, false, not, List, [], ◌∷◌, length, nat_eq, Some, None, ⊤}
 use lib.Pointwise.{pointwise}
-use Rattle.std.specs.List.{AllByRecursion, list_all, list_any}
+use Rattle.std.specs.List.{AllByRecursion, list_any}
+use Rattle.ghg_interval.specs.Bounds.{AreBounded}
 use Rattle.ghg_units.specs.declared.row.Act.{Act}
 use Rattle.ghg_units.specs.declared.row.Act.TheVariants.{Enter, Correct, Withdraw}
 use Rattle.ghg_units.specs.declared.row.Amount.{Amount}
 use Rattle.ghg_units.specs.declared.row.Amount.TheVariants.{Key, Known}
 use Rattle.ghg_units.specs.declared.row.Binding.{Binding}
 use Rattle.ghg_units.specs.declared.row.Binding.TheVariants as bound
+use Rattle.ghg_units.specs.declared.row.Figure.{Figure}
 use Rattle.ghg_units.specs.declared.row.Row.{Row}
 use Rattle.ghg_units.specs.declared.row.RowForm.{RowForm}
 use Rattle.ghg_units.specs.declared.row.RowForm.TheVariants as forms
 use Rattle.ghg_units.specs.declared.row.Span.{Span}
+use Rattle.ghg_units.specs.declared.unit.Unit.{Unit as UnitWord}
 use Rattle.ghg_units.specs.Name.{plain_name_in}
+use Rattle.ghg_units.specs.Units.{converted}
 
 abbrev pub withdraws : Act → Bool
 withdraws Enter = false
@@ -28,9 +32,13 @@ IsPlainName name = plain_name_in name ≡ Some name
 abbrev pub IsSpan : Span → Type 0
 IsSpan span = IsYear span.first × IsYear span.last × (span.first ≤ span.base) × (span.base ≤ span.last)
 
-abbrev pub IsAmount : Amount → Type 0
-IsAmount (Key key) = ⊤
-IsAmount (Known value low high) = (low.scaled ≤ℤ value.scaled) × (value.scaled ≤ℤ high.scaled)
+-- an amount of a unit: the bounds stand round the value, and in the base unit they are within the limit of intervals
+abbrev pub IsAmountOf : UnitWord → Amount → Type 0
+IsAmountOf u (Key key) = ⊤
+IsAmountOf u (Known value low high) = (low.scaled ≤ℤ value.scaled) × (value.scaled ≤ℤ high.scaled) × AreBounded (converted u low high)
+
+abbrev pub IsFigure : Figure → Type 0
+IsFigure f = IsAmountOf f.unit f.amount
 
 -- whether a name is among others
 abbrev pub is_among : List ℕ → List (List ℕ) → Bool
@@ -59,9 +67,9 @@ abbrev pub IsForm : Bool → RowForm → Type 0
 IsForm away (forms.Span None) = away ≡ true
 IsForm away (forms.Span (Some span)) = (away ≡ false) × IsSpan span
 IsForm away (forms.Activity name year None) = (away ≡ true) × IsPlainName name × IsYear year
-IsForm away (forms.Activity name year (Some figure)) = (away ≡ false) × IsPlainName name × IsYear year × IsAmount figure.amount
+IsForm away (forms.Activity name year (Some figure)) = (away ≡ false) × IsPlainName name × IsYear year × IsFigure figure
 IsForm away (forms.Factor name year None) = (away ≡ true) × IsPlainName name × IsYear year
-IsForm away (forms.Factor name year (Some figure)) = (away ≡ false) × IsPlainName name × IsYear year × IsAmount figure.amount
+IsForm away (forms.Factor name year (Some figure)) = (away ≡ false) × IsPlainName name × IsYear year × IsFigure figure
 IsForm away (forms.Line name None) = (away ≡ true) × IsPlainName name
 IsForm away (forms.Line name (Some equation)) = (away ≡ false) × IsPlainName name
 IsForm away (forms.Bind line parameter None) = (away ≡ true) × IsPlainName line

@@ -1,11 +1,12 @@
 //! Decimals.
 
-ghost use Rattle.std.specs.Prelude.{◌≡◌, ◌≤◌, ◌<◌, ◌^◌, ◌-◌, ◌*◌, ℕ, length, IfSome, position, ◌==◌};
-ghost use Rattle.ghg_units.specs.Decimal.{decimal_in, fraction_in, magnitude_in, number_in, whole_in, whole_decimal_in};
+ghost use Rattle.std.specs.Prelude.{◌≡◌, ◌≤◌, ◌<◌, ◌^◌, ◌+◌, length, IfSome, position, ◌==◌};
+ghost use Rattle.ghg_units.specs.Decimal.{decimal_in, fraction_in, IsDecimal, magnitude_in, number_in, whole_in, whole_decimal_in};
 
-/// A whole number of 10^-12.
+/// A decimal number with at most 12 places, without a unit.
 #[derive(Clone, Copy, PartialEq, Eq, PartialOrd, Ord, Debug)]
 pub struct Decimal {
+    /// The number in 10^-12.
     pub scaled: i128,
 }
 
@@ -18,9 +19,12 @@ impl Decimal {
 }
 
 /// The decimal that a text writes: an optional `-`, 1 to 14 digits, and optionally a point with 1 to 12 digits.
+///
+/// `None` exactly where the text is none.
 #[tactic(auto, unfolding(crate::specs::Decimal::scaled_in))]
 pub fn read_decimal(text: &[u8]) -> Option<Decimal>
-    ensures { result ≡ decimal_in text.now }
+    ensures reads { result ≡ decimal_in text.now }
+    ensures keeps { IfSome result IsDecimal }
 {
     match text {
         [b'-', rest @ ..] => {
@@ -42,7 +46,7 @@ pub fn read_decimal(text: &[u8]) -> Option<Decimal>
 #[tactic(auto, unfolding(crate::specs::Decimal::magnitude_in))]
 fn magnitude(text: &[u8]) -> Option<u128>
     ensures value { result ≡ magnitude_in text.now }
-    ensures small { IfSome result (λ n. n < 10 ^ 27) }
+    ensures small { IfSome result (λ n. n < 10 ^ 26) }
 {
     match point_in(text) {
         None => whole(text),
@@ -66,9 +70,9 @@ fn point_in(text: &[u8]) -> Option<usize>
 #[tactic(auto, unfolding(crate::specs::Decimal::whole_in))]
 fn whole(text: &[u8]) -> Option<u128>
     ensures value { result ≡ whole_in text.now }
-    ensures small { IfSome result (λ n. n < 10 ^ 26) }
+    ensures small { IfSome result (λ n. n + 10 ^ 12 ≤ 10 ^ 26) }
 {
-    let whole = number(text, Decimal::WHOLE_DIGITS)?;
+    let whole = read_number(text, Decimal::WHOLE_DIGITS)?;
     Some(u128::from(whole) * 1_000_000_000_000)
 }
 
@@ -76,15 +80,15 @@ fn whole(text: &[u8]) -> Option<u128>
 #[tactic(auto, unfolding(crate::specs::Decimal::fraction_in))]
 fn fraction(text: &[u8]) -> Option<u128>
     ensures value { result ≡ fraction_in text.now }
-    ensures small { IfSome result (λ n. n < 10 ^ 26) }
+    ensures small { IfSome result (λ n. n < 10 ^ 12) }
 {
-    let parts = number(text, Decimal::PLACES)?;
+    let parts = read_number(text, Decimal::PLACES)?;
     let unit = 10u64.pow((Decimal::PLACES - text.len()) as u32);
     Some(u128::from(parts) * u128::from(unit))
 }
 
-// The number that 1 to `most` digits write.
-pub(crate) fn number(text: &[u8], most: usize) -> Option<u64>
+/// The number that 1 to `most` digits write.
+pub fn read_number(text: &[u8], most: usize) -> Option<u64>
     requires { most ≤ 19 }
     ensures value { result ≡ number_in most text.now }
     ensures small { IfSome result (λ n. n < 10 ^ length text.now) }
@@ -103,14 +107,15 @@ pub(crate) fn number(text: &[u8], most: usize) -> Option<u64>
     Some(n)
 }
 
-/// The longest whole number that a figure is given in.
+// The longest whole number that a figure is given in.
 const FIGURE_DIGITS: usize = 6;
 
-/// The decimal that a whole number of 1 to 6 digits writes.
+/// The decimal that a whole number of 1 to 6 digits writes; `None` exactly where the text is none.
 pub fn read_whole(text: &[u8]) -> Option<Decimal>
-    ensures { result ≡ whole_decimal_in text.now }
+    ensures reads { result ≡ whole_decimal_in text.now }
+    ensures keeps { IfSome result IsDecimal }
 {
-    let whole = number(text, FIGURE_DIGITS)?;
+    let whole = read_number(text, FIGURE_DIGITS)?;
     Some(Decimal {
         scaled: i128::from(whole) * 1_000_000_000_000,
     })

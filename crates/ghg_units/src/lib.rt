@@ -18,9 +18,9 @@ mod unit;
 mod word;
 mod year;
 
-pub use decimal::{Decimal, read_decimal, read_whole};
+pub use decimal::{Decimal, read_decimal, read_number, read_whole};
 pub use fixed::write_fixed;
-pub use laws::{each_word_names_its_unit, fixed_texts_read};
+pub use laws::{each_word_names_its_unit, fixed_texts_read, printed_decimals_read};
 pub use name::Name;
 pub use names::Names;
 pub use node::Node;
@@ -33,3 +33,6 @@ pub use text::Text;
 pub use unit::{Unit, base_word, dim, ratio, to_interval, unit_named};
 pub use word::{act_named, key_named};
 pub use year::read_year;
+
+#[cfg(test)]
+mod tests;

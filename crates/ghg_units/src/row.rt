@@ -35,6 +35,7 @@ pub enum NotationKey {
 #[derive(Clone, Copy, PartialEq, Eq, Debug, Drop)]
 pub struct Span {
     pub first: u32,
+    /// The year that trends are measured from, not before the first and not after the last.
     pub base: u32,
     pub last: u32,
 }
@@ -42,6 +43,7 @@ pub struct Span {
 /// A value with its bounds, or the reason why there is none.
 #[derive(Clone, Copy, PartialEq, Eq, Debug, Drop)]
 pub enum Amount {
+    /// A word that says why there is no figure.
     Key(NotationKey),
     /// In the figure's unit; low and high equal the value where none were supplied.
     Known {
@@ -54,6 +56,7 @@ pub enum Amount {
 /// An amount of activity data or of an emission factor. Its dimension is that of its unit.
 #[derive(Clone, Copy, PartialEq, Eq, Debug, Drop)]
 pub struct Figure {
+    /// The unit that the amount is given in.
     pub unit: Unit,
     pub amount: Amount,
 }
@@ -73,17 +76,20 @@ pub enum Binding {
     Sum(Names),
     /// The yearly decay factor of a half-life.
     Decay(Name),
+    /// Zero, or nothing where the key is not estimated.
     Key(NotationKey),
 }
 
 /// What a row is about. The option is empty exactly in a row that withdraws.
 #[derive(Drop)]
 pub enum RowForm {
+    /// The years of the inventory.
     Span(Option<Span>),
     /// A name and a year.
     Activity(Name, u32, Option<Figure>),
     /// A name and the first year in which the factor is in force.
     Factor(Name, u32, Option<Figure>),
+    /// A line and its equation.
     Line(Name, Option<EqId>),
     /// A line and a parameter of its equation.
     Bind(Name, ParamName, Option<Binding>),
@@ -93,6 +99,7 @@ pub enum RowForm {
 #[derive(Drop)]
 pub struct Row {
     pub number: u32,
+    /// What the row does with the record of its key.
     pub act: Act,
     pub form: RowForm,
 }

@@ -7,36 +7,32 @@ use crate::name::Name;
 use crate::node::Node;
 use crate::parameter::ParamName;
 
-/// A column of the header.
+/// A column of a submission's body. What the columns from the subject on hold depends on the kind.
 #[derive(Clone, Copy, PartialEq, Eq, Debug, Drop)]
 pub enum Column {
+    /// What the row does with its record.
     Act,
+    /// What the row is about.
     Kind,
+    /// A line's category, or the line of a binding.
     Subject,
+    /// The name of the record, or the parameter of a binding.
     Name,
+    /// The year of a figure, or the first year of the span.
     Year,
+    /// A figure, an equation, the form of a binding, or the last year of the span.
     Value,
+    /// The lower bound of a figure, the target of a binding, or the base year of the span.
     Low,
+    /// The upper bound of a figure.
     High,
+    /// The unit of a figure.
     Unit,
+    /// Any text; it is no part of the record.
     Note,
 }
 
 impl Column {
-    /// Every column, in the order of the header.
-    pub const ALL: [Column; 10] = [
-        Column::Act,
-        Column::Kind,
-        Column::Subject,
-        Column::Name,
-        Column::Year,
-        Column::Value,
-        Column::Low,
-        Column::High,
-        Column::Unit,
-        Column::Note,
-    ];
-
     /// The name of the column in the header.
     pub fn word(self) -> &'static str
         ensures { result.now ≡ column_word self }
@@ -59,13 +55,13 @@ impl Column {
 /// What a workbook may have too many of.
 #[derive(Clone, Copy, PartialEq, Eq, Debug, Drop)]
 pub enum Limit {
-    /// 5,000 lines.
+    /// Lines: at most 5,000.
     Lines,
-    /// 500,000 records.
+    /// Records: at most 500,000.
     Records,
-    /// A last year 150 years after the first.
+    /// Years: the last is at most 150 after the first.
     Span,
-    /// 536,870,912 bytes of kept bodies.
+    /// Bytes of kept bodies: at most 536,870,912.
     Bytes,
 }
 
@@ -108,6 +104,7 @@ pub enum Rule {
     Absent(u32),
     /// The least line and parameter whose binding is unsound.
     BadBinding(Name, ParamName),
+    /// The first limit that the workbook with the submission is beyond.
     TooMany(Limit),
     /// The least line that lies on a ring of bindings.
     Cycle(Name),

@@ -1,0 +1,8 @@
+mod Bodies
+mod Commands
+mod Lines
+mod Local
+mod Taken
+mod Turns
+mod Readings
+mod Whole

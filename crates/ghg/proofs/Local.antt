@@ -1,0 +1,112 @@
+-- What follows END changes nothing.
+use Rattle.std.proofs.Common.{◌≡◌, ℕ, zero, suc, ◌+◌, ◌≤◌, Bool, true, false, List, [], ◌∷◌, ◌++◌, length, take, drop, refl, sym, ap, ◌∙◌, arith, None, Some, Option, nat_le, nat_eq, length-append, append-nil}
+use Rattle.std.specs.Option.{option_and_then, option_map}
+use Rattle.std.proofs.lemmas.List.{append_cancel_right, take-append-le}
+use Rattle.std.proofs.Math.Seq.{drop-append-le}
+use Rattle.ghg.specs.Laws.{IsScript, ReadsLocally, ReadsOnce}
+use Rattle.ghg.specs.Script.{Reading, after_requests, command_at, command_of, ended, form_of, longest_line, most_commands, most_kept, no_command, prefixed, reading, reading_of, split_line, with_more}
+use Rattle.ghg.specs.declared.command.Command.{Command}
+use Rattle.ghg.specs.declared.command.Command.TheVariants as command
+use Rattle.ghg.specs.declared.command.Line.{Line}
+use Rattle.ghg.specs.declared.command.Line.TheVariants as line
+use Rattle.ghg.specs.declared.command.Request.{Request}
+use Rattle.ghg.specs.declared.command.Request.TheVariants as request
+use Rattle.ghg.proofs.Readings.{reading_none, reading_end, reading_request, reading_spent}
+
+-- ---- a line
+
+-- a split with more behind it
+abbrev extended : List ℕ → Option (List ℕ × List ℕ) → Option (List ℕ × List ℕ) → Type 0
+extended more None longer = Unit {0}
+extended more (Some parts) longer = longer ≡ Some (parts.0, parts.1 ++ more)
+
+extended_prefixed : (b : ℕ) (more : List ℕ) (o longer : Option (List ℕ × List ℕ)) → extended more o longer → extended more (prefixed (b ∷ []) o) (prefixed (b ∷ []) longer)
+extended_prefixed b more None longer e = tt
+extended_prefixed b more (Some parts) longer e = ap (prefixed (b ∷ [])) e
+
+line_step : (n b : ℕ) (bytes more : List ℕ) (feed : Bool) → nat_eq b 10 ≡ feed → extended more (split_line n bytes) (split_line n (bytes ++ more)) → extended more (split_line (suc n) (b ∷ bytes)) (split_line (suc n) ((b ∷ bytes) ++ more))
+line_step n b bytes more true e h = rw e refl
+line_step n b bytes more false e h = rw e (extended_prefixed b more (split_line n bytes) (split_line n (bytes ++ more)) h)
+
+line_extends : (n : ℕ) (bytes more : List ℕ) → extended more (split_line n bytes) (split_line n (bytes ++ more))
+line_extends zero bytes more = tt
+line_extends (suc n) [] more = tt
+line_extends (suc n) (b ∷ bytes) more = line_step n b bytes more (nat_eq b 10) refl (line_extends n bytes more)
+
+-- ---- a command
+
+-- a parsed value with more behind it
+abbrev behind : List ℕ → Command × List ℕ → Command × List ℕ
+behind more p = (p.0, p.1 ++ more)
+
+moved : (more : List ℕ) (p q : Command × List ℕ) → Some p ≡ Some q → Some (behind more p) ≡ Some (behind more q)
+moved more p q e = ap (option_map (behind more)) e
+
+no_value : (v : Command × List ℕ) → None ≡ Some v → ⊥
+no_value v e = cc
+
+body_extends : (id bytes rest more : List ℕ) (n : ℕ) (found : Command) (fits : Bool) → nat_le n (length bytes) ≡ fits
+    → command_of (line.Submit id n) bytes ≡ Some (found, rest) → command_of (line.Submit id n) (bytes ++ more) ≡ Some (found, rest ++ more)
+body_extends id bytes rest more n found true t e =
+    let within : n ≤ length bytes = grind (arith, t) in
+    let longer : nat_le n (length (bytes ++ more)) ≡ true = grind (arith, length-append bytes more) in
+    let first = rw t at e in
+    rw (longer, take-append-le n bytes more within, drop-append-le n bytes more within) (moved more (command.Request (request.Submit id (take most_kept (take n bytes))), drop n bytes) (found, rest) first)
+body_extends id bytes rest more n found false t e = let none = rw t at e in absurd (no_value (found, rest) none)
+
+command_extends : (form : Line) (bytes rest more : List ℕ) (found : Command) → command_of form bytes ≡ Some (found, rest) → command_of form (bytes ++ more) ≡ Some (found, rest ++ more)
+command_extends (line.Submit id n) bytes rest more found e = body_extends id bytes rest more n found (nat_le n (length bytes)) refl e
+command_extends (line.Show table year) bytes rest more found e = moved more (command.Request (request.Show table year), bytes) (found, rest) e
+command_extends line.End bytes rest more found e = moved more (command.End, bytes) (found, rest) e
+
+at_form : (form : Option Line) (bytes rest more : List ℕ) (found : Command) → option_and_then (λ f. command_of f bytes) form ≡ Some (found, rest) → option_and_then (λ f. command_of f (bytes ++ more)) form ≡ Some (found, rest ++ more)
+at_form None bytes rest more found e = absurd (no_value (found, rest) e)
+at_form (Some form) bytes rest more found e = command_extends form bytes rest more found e
+
+at_line : (split longer : Option (List ℕ × List ℕ)) (rest more : List ℕ) (found : Command) → extended more split longer
+    → option_and_then (λ s. option_and_then (λ f. command_of f s.1) (form_of s.0)) split ≡ Some (found, rest)
+    → option_and_then (λ s. option_and_then (λ f. command_of f s.1) (form_of s.0)) longer ≡ Some (found, rest ++ more)
+at_line None longer rest more found x e = absurd (no_value (found, rest) e)
+at_line (Some parts) longer rest more found x e = rw x (at_form (form_of parts.0) parts.1 rest more found e)
+
+-- what follows a command changes nothing of it
+command_locally : (bytes rest more : List ℕ) (found : Command) → command_at bytes ≡ Some (found, rest) → command_at (bytes ++ more) ≡ Some (found, rest ++ more)
+unfolding command_at
+command_locally bytes rest more found e = at_line (split_line longest_line bytes) (split_line longest_line (bytes ++ more)) rest more found (line_extends longest_line bytes more) e
+
+-- ---- a script
+
+abbrev ReadsOn : ℕ → ℕ → List ℕ → List ℕ → Type 0
+ReadsOn n number bytes more = (reading n number bytes).wrong ≡ None → reading n number (bytes ++ more) ≡ with_more more (reading n number bytes)
+
+-- a reading by its first command
+by_command : (n number : ℕ) (bytes more : List ℕ) (first : Option (Command × List ℕ)) → command_at bytes ≡ first → ((rest : List ℕ) → ReadsOn n (number + 1) rest more) → ReadsOn (suc n) number bytes more
+by_command n number bytes more None e go = rw (reading_none n number bytes e) (λ h. absurd cc)
+by_command n number bytes more (Some (command.End, rest)) e go =
+    rw (reading_end n number bytes rest e, reading_end n number (bytes ++ more) (rest ++ more) (command_locally bytes rest more command.End e)) (λ h. refl)
+by_command n number bytes more (Some (command.Request asked, rest)) e go =
+    rw (reading_request n number bytes rest asked e, reading_request n number (bytes ++ more) (rest ++ more) asked (command_locally bytes rest more (command.Request asked) e))
+    (λ h. ap (after_requests (asked ∷ [])) (go rest h))
+
+reads_on : (n number : ℕ) (bytes more : List ℕ) → ReadsOn n number bytes more
+reads_on zero number bytes more = rw (reading_spent number bytes) (λ h. absurd cc)
+reads_on (suc n) number bytes more = by_command n number bytes more (command_at bytes) refl (λ rest. reads_on n (number + 1) rest more)
+
+pub reads_locally : ReadsLocally
+reads_locally bytes more h = reads_on most_commands 1 bytes more h
+
+-- what a script and any bytes behind it read as
+abbrev script_and : List Request → List ℕ → Reading
+script_and requests rest = record { requests = requests; wrong = None; rest = rest }
+
+script_behind : (text behind : List ℕ) (requests : List Request) → IsScript text requests → reading_of (text ++ behind) ≡ script_and requests behind
+script_behind text behind requests s =
+    reads_locally text behind (ap (λ (r : Reading). r.wrong) s.reads) ∙ ap (with_more behind) s.reads
+
+same_behind : (a b behind_a behind_b : List ℕ) → behind_a ≡ behind_b → a ++ behind_a ≡ b ++ behind_b → a ≡ b
+same_behind a b behind_a behind_b same e = append_cancel_right a b behind_b (ap (λ (l : List ℕ). a ++ l) (sym same) ∙ e)
+
+pub reads_once : ReadsOnce
+reads_once a b behind_a behind_b xs ys s t e =
+    let both : script_and xs behind_a ≡ script_and ys behind_b = sym (script_behind a behind_a xs s) ∙ ap reading_of e ∙ script_behind b behind_b ys t in
+    (same_behind a b behind_a behind_b (ap (λ (r : Reading). r.rest) both) e, ap (λ (r : Reading). r.requests) both)

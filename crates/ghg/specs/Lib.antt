@@ -1,0 +1,9 @@
+pub mod Calls
+pub mod Laws
+pub mod Reader
+pub mod Replies
+pub mod Run
+pub mod Script
+pub mod Session
+pub mod Turns
+pub mod Words

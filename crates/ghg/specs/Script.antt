@@ -1,0 +1,129 @@
+-- The grammar of a script: which command bytes begin with, and what a whole script asks for.
+use Rattle.std.specs.Prelude.{ℕ, zero, suc, ◌+◌, ◌-◌, ◌*◌, Bool, ◌&&◌, List, [], ◌∷◌, ◌++◌, length, take, drop, Option, Some, None, ◌==◌, nat_le, if◌then◌else◌, codes, position, option_and_then, option_map}
+use Rattle.std.specs.Option.{option_map_or}
+use Rattle.std.specs.List.{list_all}
+use Rattle.std.specs.Str.{bytes_eq}
+use Rattle.ghg_units.specs.Decimal.{◌>>=◌, number_in}
+use Rattle.ghg.specs.declared.command.Command.{Command}
+use Rattle.ghg.specs.declared.command.Command.TheVariants as command
+use Rattle.ghg.specs.declared.command.Line.{Line}
+use Rattle.ghg.specs.declared.command.Line.TheVariants as line
+use Rattle.ghg.specs.declared.command.Request.{Request}
+use Rattle.ghg.specs.declared.command.Request.TheVariants as request
+
+-- ---- a line
+
+-- bytes in front of the first part of a pair
+abbrev pub prefixed : List ℕ → Option (List ℕ × List ℕ) → Option (List ℕ × List ℕ)
+prefixed front split = option_map (λ parts. (front ++ parts.0, parts.1)) split
+
+-- the first line, whose line feed stands within so many bytes, and what follows it
+abbrev pub split_line : ℕ → List ℕ → Option (List ℕ × List ℕ)
+split_line zero bytes = None
+split_line (suc n) [] = None
+split_line (suc n) (b ∷ bytes) = if b == 10 then Some ([], bytes) else prefixed (b ∷ []) (split_line n bytes)
+
+-- a line has at most 120 bytes, and then a line feed
+abbrev pub longest_line : ℕ
+longest_line = 121
+
+abbrev pub line_at : List ℕ → Option (List ℕ × List ℕ)
+line_at bytes = split_line longest_line bytes
+
+-- ---- the words of a line
+
+-- what follows a word that bytes begin with
+abbrev pub after_word : List ℕ → List ℕ → Option (List ℕ)
+after_word word bytes = if bytes_eq (take (length word) bytes) word then Some (drop (length word) bytes) else None
+
+-- what stands before the first space, and behind it
+abbrev pub two_parts : List ℕ → Option (List ℕ × List ℕ)
+two_parts bytes = option_map (λ at. (take at bytes, drop (at + 1) bytes)) (position (λ b. b == 32) bytes)
+
+abbrev pub has_length : ℕ → ℕ → List ℕ → Bool
+has_length fewest most bytes = nat_le fewest (length bytes) && nat_le (length bytes) most
+
+abbrev pub is_lower : ℕ → Bool
+is_lower b = nat_le 97 b && nat_le b 122
+
+-- 1 to 60 bytes, and the number that 1 to 8 digits write
+abbrev pub submit_form : List ℕ → Option Line
+submit_form bytes = do
+  parts ← two_parts bytes
+  count ← number_in 8 parts.1
+  if has_length 1 60 parts.0 then Some (line.Submit parts.0 count) else None
+
+-- 1 to 16 lower-case letters, and four digits
+abbrev pub show_form : List ℕ → Option Line
+show_form bytes = do
+  parts ← two_parts bytes
+  year ← number_in 4 parts.1
+  if has_length 1 16 parts.0 && list_all is_lower parts.0 && (length parts.1 == 4) then Some (line.Show parts.0 year) else None
+
+-- what a line says that begins a command
+unfoldable pub form_of : List ℕ → Option Line
+form_of bytes =
+    if bytes_eq bytes (codes "END") then Some line.End
+    else option_map_or submit_form (after_word (codes "SUBMIT ") bytes) (option_and_then show_form (after_word (codes "SHOW ") bytes))
+
+-- ---- a command
+
+-- of a body only so many bytes are kept, which is one more than the longest that is taken
+abbrev pub most_kept : ℕ
+most_kept = 4194305
+
+-- the command that a line begins, and what follows it; the body stands behind the line
+abbrev pub command_of : Line → List ℕ → Option (Command × List ℕ)
+command_of (line.Submit id n) rest =
+    if nat_le n (length rest) then Some (command.Request (request.Submit id (take most_kept (take n rest))), drop n rest) else None
+command_of (line.Show table year) rest = Some (command.Request (request.Show table year), rest)
+command_of line.End rest = Some (command.End, rest)
+
+-- the command that bytes begin with, and what follows it
+unfoldable pub command_at : List ℕ → Option (Command × List ℕ)
+command_at bytes = do
+  split ← line_at bytes
+  form ← form_of split.0
+  command_of form split.1
+
+-- ---- a script
+
+-- what a script asks for, in order; the number of the command that is none, where the bytes are no script;
+-- and the bytes that stand behind END, or where that command should
+pub record Reading : Type 0 where
+  pub requests : List Request
+  pub wrong : Option ℕ
+  pub rest : List ℕ
+
+-- the script has its end
+abbrev pub ended : List ℕ → Reading
+ended rest = record { requests = []; wrong = None; rest = rest }
+
+-- the command of this number is none
+abbrev pub no_command : ℕ → List ℕ → Reading
+no_command number rest = record { requests = []; wrong = Some number; rest = rest }
+
+-- requests, and then those of the rest
+abbrev pub after_requests : List Request → Reading → Reading
+after_requests requests reading = record reading { requests = requests ++ reading.requests }
+
+-- more bytes behind
+abbrev pub with_more : List ℕ → Reading → Reading
+with_more more reading = record reading { rest = reading.rest ++ more }
+
+abbrev pub read_on : (List ℕ → Reading) → Command → List ℕ → Reading
+read_on later (command.Request asked) rest = after_requests (asked ∷ []) (later rest)
+read_on later command.End rest = ended rest
+
+-- what bytes read as, where at most so many commands may come and the next has this number
+unfoldable pub reading : ℕ → ℕ → List ℕ → Reading
+reading zero number bytes = no_command number bytes
+reading (suc n) number bytes =
+    option_map_or (λ found. read_on (λ rest. reading n (number + 1) rest) found.0 found.1) (command_at bytes) (no_command number bytes)
+
+-- a script has at most so many commands, END included
+abbrev pub most_commands : ℕ
+most_commands = 1_000_000
+
+abbrev pub reading_of : List ℕ → Reading
+reading_of bytes = reading most_commands 1 bytes

@@ -1,0 +1,175 @@
+-- Whether all figures of a name are of a dimension, told by one of them.
+use Rattle.std.proofs.Common.{◌≡◌, ℕ, Bool, true, false, cond, not, ◌&&◌, ◌||◌, ◌==◌, List, [], ◌∷◌, Option, Some, None, is_some, if◌then◌else◌, refl, sym, ap, ◌∙◌, subst, arith, eqb-true}
+use Rattle.std.specs.FinMap.{entries, get}
+use Rattle.std.specs.List.{cons_option, filter_map, list_all, list_any}
+use Rattle.std.specs.Option.{option_map_or}
+use Rattle.ghg_equations.specs.declared.quantity.Dim.{Dim}
+use Rattle.ghg_equations.specs.Quantity.{same_dim}
+use Rattle.ghg_units.specs.declared.row.Figure.{Figure}
+use Rattle.ghg_units.specs.Units.{dim_of}
+use Rattle.ghg_definitions.specs.declared.record.Record.{Record}
+use Rattle.ghg_definitions.specs.declared.record.RecordKey.{RecordKey}
+use Rattle.ghg_definitions.specs.declared.record.RecordKey.TheVariants as key
+use Rattle.ghg_definitions.specs.Data.{Data, Name, as_figure, figure, year_of}
+use Rattle.ghg_definitions.specs.Rules.{activities, activity_figure, are_of, factor_figure, factors, has_dimension, is_alike, is_other_year}
+use Rattle.ghg_definitions.specs.Sound.{IsConsistent}
+use Rattle.ghg_definitions.proofs.Alike.{alike_back, alike_joined, both, first_so, held, met, not_so, one_dimension, other_alike, second_so, so_not}
+use Rattle.ghg_definitions.proofs.Consistent.{figure_dated}
+use Rattle.ghg_definitions.proofs.Dims.{dim_same, same_dim-itself}
+use Rattle.ghg_definitions.proofs.Keys.{keys_same, keys_total}
+use Rattle.ghg_definitions.proofs.Members.{any_entry, entry_any}
+use Rattle.ghg_data.proofs.Faults.{not_true}
+
+abbrev Entry : Type 0
+Entry = RecordKey × Record
+
+-- the figure of an entry that is of the key's kind and name
+abbrev of_name : RecordKey → Entry → Option Figure
+of_name k e = if is_alike k e.0 then as_figure (Some e.1) else None
+
+abbrev figures : Data → RecordKey → List Figure
+figures m k = filter_map (of_name k) (entries m)
+
+-- ---- lists
+
+same_filter_map : {A B : Type 0} (f g : A → Option B) → ((x : A) → f x ≡ g x) → (xs : List A) → filter_map f xs ≡ filter_map g xs
+same_filter_map f g h [] = refl
+same_filter_map f g h (x ∷ xs) = λ i. cons_option (h x i) (same_filter_map f g h xs i)
+
+activities_are : (m : Data) (name : Name) → activities m name ≡ figures m (key.Activity name 0)
+activities_are m name = same_filter_map _ _ (λ (e : Entry). by e.0 e.1) (entries m)
+  where
+    by : (k : RecordKey) (r : Record) → activity_figure name k r ≡ of_name (key.Activity name 0) (k, r)
+    by key.Span r = refl
+    by (key.Activity other year) r = refl
+    by (key.Factor other start) r = refl
+    by (key.Line other) r = refl
+    by (key.Bind l p) r = refl
+
+factors_are : (m : Data) (name : Name) → factors m name ≡ figures m (key.Factor name 0)
+factors_are m name = same_filter_map _ _ (λ (e : Entry). by e.0 e.1) (entries m)
+  where
+    by : (k : RecordKey) (r : Record) → factor_figure name k r ≡ of_name (key.Factor name 0) (k, r)
+    by key.Span r = refl
+    by (key.Activity other year) r = refl
+    by (key.Factor other start) r = refl
+    by (key.Line other) r = refl
+    by (key.Bind l p) r = refl
+
+is_filled : List Figure → Bool
+is_filled [] = false
+is_filled (f ∷ fs) = true
+
+none_left : {A : Type 0} (h : A → Option Figure) (xs : List A) → list_any (λ x. is_some (h x)) xs ≡ false → filter_map h xs ≡ []
+none_left h [] e = refl
+none_left h (x ∷ xs) e = by (h x) e (none_left h xs)
+  where
+    by : (o : Option Figure) → is_some o || list_any (λ x. is_some (h x)) xs ≡ false → (list_any (λ x. is_some (h x)) xs ≡ false → filter_map h xs ≡ []) → cons_option o (filter_map h xs) ≡ []
+    by None e rest = rest e
+    by (Some f) e rest = absurd (cc)
+
+some_left : {A : Type 0} (h : A → Option Figure) (xs : List A) → list_any (λ x. is_some (h x)) xs ≡ true → is_filled (filter_map h xs) ≡ true
+unfolding is_filled
+some_left h [] e = absurd (cc)
+some_left h (x ∷ xs) e = by (h x) e (some_left h xs)
+  where
+    by : (o : Option Figure) → is_some o || list_any (λ x. is_some (h x)) xs ≡ true → (list_any (λ x. is_some (h x)) xs ≡ true → is_filled (filter_map h xs) ≡ true) → is_filled (cons_option o (filter_map h xs)) ≡ true
+    by None e rest = rest e
+    by (Some f) e rest = refl
+
+of_dim : Dim → Figure → Bool
+of_dim d f = same_dim d (dim_of f.unit)
+
+or_none : (a b : Bool) → a || b ≡ false → (a ≡ false) × (b ≡ false)
+or_none true b e = absurd (cc)
+or_none false b e = (refl, e)
+
+not_not : (b : Bool) → not b ≡ false → b ≡ true
+not_not true e = refl
+not_not false e = absurd (cc)
+
+all_left : {A : Type 0} (d : Dim) (h : A → Option Figure) (xs : List A) → list_any (λ x. option_map_or (λ g. not (of_dim d g)) (h x) false) xs ≡ false → list_all (of_dim d) (filter_map h xs) ≡ true
+all_left d h [] e = refl
+all_left d h (x ∷ xs) e = by (h x) (or_none _ _ e) (all_left d h xs)
+  where
+    by : (o : Option Figure) → (option_map_or (λ g. not (of_dim d g)) o false ≡ false) × (list_any (λ x. option_map_or (λ g. not (of_dim d g)) (h x) false) xs ≡ false) → (list_any (λ x. option_map_or (λ g. not (of_dim d g)) (h x) false) xs ≡ false → list_all (of_dim d) (filter_map h xs) ≡ true) → list_all (of_dim d) (cons_option o (filter_map h xs)) ≡ true
+    by None e rest = rest e.1
+    by (Some f) e rest = both _ _ (not_not _ e.0) (rest e.1)
+
+-- ---- figures that are all of one dimension
+
+all_of : (d other : Dim) (fs : List Figure) → list_all (of_dim d) fs ≡ true → same_dim other d ≡ true → list_all (has_dimension other) fs ≡ true
+unfolding of_dim
+all_of d other [] all e = refl
+all_of d other (f ∷ fs) all e = both _ _ (ap (same_dim other) (sym (dim_same _ _ (first_so _ _ all))) ∙ e) (all_of d other fs (second_so (same_dim d (dim_of f.unit)) _ all) e)
+
+one_answers : (d other : Dim) (fs : List Figure) → list_all (of_dim d) fs ≡ true → is_filled fs ≡ true → are_of other fs ≡ same_dim other d
+unfolding of_dim is_filled
+one_answers d other [] all filled = absurd (cc)
+one_answers d other (f ∷ fs) all filled = by (same_dim other d) refl
+  where
+    first_is : same_dim other (dim_of f.unit) ≡ same_dim other d
+    first_is = ap (same_dim other) (sym (dim_same _ _ (first_so _ _ all)))
+
+    by : (b : Bool) → same_dim other d ≡ b → same_dim other (dim_of f.unit) && list_all (has_dimension other) fs ≡ same_dim other d
+    by true e = both _ _ (first_is ∙ e) (all_of d other fs (second_so (same_dim d (dim_of f.unit)) _ all) e) ∙ sym e
+    by false e = ap (λ b. b && list_all (has_dimension other) fs) (first_is ∙ e) ∙ sym e
+
+-- ---- the figures of a name
+
+alike_figure : (b : Bool) (o : Option Figure) (g : Figure) → (if b then o else None) ≡ Some g → (b ≡ true) × (o ≡ Some g)
+alike_figure true o g e = (refl, e)
+alike_figure false o g e = absurd (cc)
+
+some_figure : (o : Option Figure) → is_some o ≡ true → (g : Figure) × (o ≡ Some g)
+some_figure None e = absurd (cc)
+some_figure (Some g) e = (g, refl)
+
+differing : (d : Dim) (o : Option Figure) → option_map_or (λ g. not (of_dim d g)) o false ≡ true → (g : Figure) × (o ≡ Some g) × (of_dim d g ≡ false)
+differing d None e = absurd (cc)
+differing d (Some g) e = (g, refl, not_so _ e)
+
+differs : (f g : Figure) → dim_of f.unit ≡ dim_of g.unit → of_dim (dim_of f.unit) g ≡ false → ⊥
+unfolding of_dim
+differs f g one e = met _ e (same_dim-itself _ _ one)
+
+module _ {m : Data} (is : IsConsistent m) (k : RecordKey) (unyeared : year_of k ≡ 0) where
+  -- each figure of the name is of another year
+  of_other_year : (q : RecordKey) (g : Figure) → figure m q ≡ Some g → is_alike k q ≡ true → is_other_year k q ≡ true
+  of_other_year q g e a =
+      let year = (figure_dated is q g e).0 in
+      both _ _ a (so_not _ (not_true (year_of k == year_of q) (λ h. let y : year_of k ≡ year_of q = eqb-true _ _ h in absurd (omega arith))))
+
+  pub figures_none : (d : Dim) → ((q : RecordKey) → is_other_year k q ≡ true → figure m q ≡ None) → are_of d (figures m k) ≡ false
+  figures_none d none = ap (are_of d) (none_left (of_name k) (entries m) (not_true _ (λ h.
+      let found = any_entry keys_total keys_same (λ (e : Entry). is_some (of_name k e)) m h in
+      let g = some_figure (of_name k (found.0, found.1)) found.3 in
+      let parts = alike_figure (is_alike k found.0) (as_figure (Some found.1)) g.0 g.1 in
+      let at : figure m found.0 ≡ Some g.0 = ap as_figure found.2 ∙ parts.1 in
+      apart _ g.0 at (none found.0 (of_other_year found.0 g.0 at parts.0)))))
+    where
+      apart : (o : Option Figure) (f : Figure) → o ≡ Some f → o ≡ None → ⊥
+      apart o f e n = cc
+
+  pub figures_some : (d : Dim) (q : RecordKey) (f : Figure) → figure m q ≡ Some f → is_other_year k q ≡ true → are_of d (figures m k) ≡ same_dim d (dim_of f.unit)
+  figures_some d q f e o = one_answers (dim_of f.unit) d (figures m k)
+      (all_left (dim_of f.unit) (of_name k) (entries m) (not_true _ (λ h.
+          let found = any_entry keys_total keys_same (λ (e : Entry). option_map_or (λ g. not (of_dim (dim_of f.unit) g)) (of_name k e) false) m h in
+          let g = differing (dim_of f.unit) (of_name k (found.0, found.1)) found.3 in
+          let parts = alike_figure (is_alike k found.0) (as_figure (Some found.1)) g.0 g.1 in
+          differs f g.0 (one_dimension is q found.0 f g.0 e (ap as_figure found.2 ∙ parts.1) (alike_joined q k found.0 (alike_back k q (other_alike k q o)) parts.0)) g.2)))
+      (some_left (of_name k) (entries m) (let r = held (get m q) f e in
+          entry_any keys_total keys_same (λ (e : Entry). is_some (of_name k e)) m q r.0 r.1
+          (ap (λ b. is_some (if b then as_figure (Some r.0) else None)) (other_alike k q o) ∙ ap is_some (sym (ap as_figure r.1) ∙ e))))
+
+pub activities_none : {m : Data} → IsConsistent m → (name : Name) (d : Dim) → ((q : RecordKey) → is_other_year (key.Activity name 0) q ≡ true → figure m q ≡ None) → are_of d (activities m name) ≡ false
+activities_none {m} is name d none = ap (are_of d) (activities_are m name) ∙ figures_none is (key.Activity name 0) refl d none
+
+pub activities_some : {m : Data} → IsConsistent m → (name : Name) (d : Dim) (q : RecordKey) (f : Figure) → figure m q ≡ Some f → is_other_year (key.Activity name 0) q ≡ true → are_of d (activities m name) ≡ same_dim d (dim_of f.unit)
+activities_some {m} is name d q f e o = ap (are_of d) (activities_are m name) ∙ figures_some is (key.Activity name 0) refl d q f e o
+
+pub factors_none : {m : Data} → IsConsistent m → (name : Name) (d : Dim) → ((q : RecordKey) → is_other_year (key.Factor name 0) q ≡ true → figure m q ≡ None) → are_of d (factors m name) ≡ false
+factors_none {m} is name d none = ap (are_of d) (factors_are m name) ∙ figures_none is (key.Factor name 0) refl d none
+
+pub factors_some : {m : Data} → IsConsistent m → (name : Name) (d : Dim) (q : RecordKey) (f : Figure) → figure m q ≡ Some f → is_other_year (key.Factor name 0) q ≡ true → are_of d (factors m name) ≡ same_dim d (dim_of f.unit)
+factors_some {m} is name d q f e o = ap (are_of d) (factors_are m name) ∙ figures_some is (key.Factor name 0) refl d q f e o

@@ -1,0 +1,25 @@
+-- Places with an unsound binding, and the least among several.
+use Rattle.std.specs.Prelude.{Bool, false, not, ◌&&◌, ◌||◌, is_some, if◌then◌else◌, List, Option, Some}
+use Rattle.std.specs.List.{list_any}
+use Rattle.std.specs.Option.{option_map_or}
+use Rattle.std.specs.Str.{bytes_eq}
+use Rattle.ghg_equations.specs.declared.eq_id.EqId.{EqId}
+use Rattle.ghg_equations.specs.Table.{parameters}
+use Rattle.ghg_definitions.specs.declared.place.Place.{Place}
+use Rattle.ghg_definitions.specs.Data.{Data, Name, binding, line}
+use Rattle.ghg_definitions.specs.Rules.{is_sound, lesser_place}
+
+-- the equation has the parameter
+abbrev pub takes : EqId → Name → Bool
+takes e parameter = list_any (λ q. bytes_eq q.name parameter) (parameters e)
+
+-- a line that is present takes the parameter, or a binding names it
+abbrev pub is_place : Data → Place → Bool
+is_place m p = is_some (binding m p.line p.parameter) || option_map_or (λ e. takes e p.parameter) (line m p.line) false
+
+abbrev pub is_fault : Data → Place → Bool
+is_fault m p = is_place m p && not (is_sound m p)
+
+-- the least fault so far, once this place is looked at
+abbrev pub considered : Data → Option Place → Place → Option Place
+considered m least p = if is_fault m p then Some (lesser_place p least) else least

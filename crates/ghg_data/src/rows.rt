@@ -1,0 +1,101 @@
+//! Rows: the record that a row changes, and the rules on units and presence.
+
+ghost use Rattle.std.specs.Prelude.{◌≡◌, IfOk};
+ghost use Rattle.ghg_definitions.specs.Rows.{key_of, record_of};
+ghost use Rattle.ghg_definitions.specs.Rules.{breaks_unit, meets_other_dimension, presence_fault, row_fault};
+
+use crate::draft::Draft;
+use ghg_definitions::{Record, RecordKey};
+use ghg_equations::Dim;
+use ghg_units::{Act, Binding, Names, Row, RowForm, Rule};
+use std::alloc::{AllocError, Global};
+
+// The key of the record that a row is about.
+pub(crate) fn key_of(form: &RowForm) -> RecordKey
+    ensures { result ≡ key_of form.now }
+{
+    match form {
+        RowForm::Span(_) => RecordKey::Span,
+        RowForm::Activity(name, year, _) => RecordKey::Activity(*name, *year),
+        RowForm::Factor(name, start, _) => RecordKey::Factor(*name, *start),
+        RowForm::Line(name, _) => RecordKey::Line(*name),
+        RowForm::Bind(line, parameter, _) => RecordKey::Bind(*line, *parameter),
+    }
+}
+
+// The record that a row puts there, or none where it withdraws.
+pub(crate) fn record_of(alloc: Global, form: &RowForm) -> Result<Option<Record>, AllocError>
+    ensures { IfOk result (λ entry. entry ≡ record_of form.now) }
+{
+    match form {
+        RowForm::Span(Some(span)) => Ok(Some(Record::Span(*span))),
+        RowForm::Activity(_, _, Some(figure)) => Ok(Some(Record::Activity(*figure))),
+        RowForm::Factor(_, _, Some(figure)) => Ok(Some(Record::Factor(*figure))),
+        RowForm::Line(_, Some(equation)) => Ok(Some(Record::Line(*equation))),
+        RowForm::Bind(_, _, Some(binding)) => Ok(Some(Record::Bind(copied(alloc, binding)?))),
+        _ => Ok(None),
+    }
+}
+
+fn copied(alloc: Global, binding: &Binding) -> Result<Binding, AllocError>
+    ensures { IfOk result (λ copy. copy ≡ binding.now) }
+{
+    match binding {
+        Binding::Activity(name) => Ok(Binding::Activity(*name)),
+        Binding::Factor(name) => Ok(Binding::Factor(*name)),
+        Binding::Line(name) => Ok(Binding::Line(*name)),
+        Binding::Prev(name) => Ok(Binding::Prev(*name)),
+        Binding::Sum(names) => Ok(Binding::Sum(copied_names(alloc, names)?)),
+        Binding::Decay(name) => Ok(Binding::Decay(*name)),
+        Binding::Key(key) => Ok(Binding::Key(*key)),
+    }
+}
+
+fn copied_names(alloc: Global, names: &Names) -> Result<Names, AllocError>
+    ensures { IfOk result (λ copy. copy ≡ names.now) }
+{
+    Ok(Names::new(Vec::from_slice(alloc, names.as_slice())?))
+}
+
+// The first rule that a row breaks over the records as they stand.
+#[tactic(auto, unfolding(ghg_definitions::specs::Rules::row_fault))]
+pub(crate) fn row_fault(draft: &Draft<'_>, row: &Row) -> Option<Rule>
+    ensures { result ≡ row_fault draft.now row.now }
+{
+    if breaks_unit(draft, &row.form) {
+        return Some(Rule::WrongUnit(row.number));
+    }
+    presence_fault(row.number, row.act, draft.get(&key_of(&row.form)).is_some())
+}
+
+fn breaks_unit(draft: &Draft<'_>, form: &RowForm) -> bool
+    ensures { result ≡ breaks_unit draft.now form.now }
+{
+    match form {
+        RowForm::Activity(_, _, Some(figure)) | RowForm::Factor(_, _, Some(figure)) => {
+            meets_other_dimension(draft, &key_of(form), ghg_units::dim(figure.unit))
+        }
+        _ => false,
+    }
+}
+
+// Whether a record of the same kind and name for another year has another dimension.
+fn meets_other_dimension(draft: &Draft<'_>, key: &RecordKey, dim: Dim) -> bool
+    ensures { result ≡ meets_other_dimension draft.now key.now dim }
+{
+    match draft.other_year(key) {
+        Some(other) => dim != ghg_units::dim(other.unit),
+        None => false,
+    }
+}
+
+// A record is entered where there is none, and corrected or withdrawn where there is one.
+fn presence_fault(number: u32, act: Act, present: bool) -> Option<Rule>
+    ensures { result ≡ presence_fault number act present }
+{
+    match (act, present) {
+        (Act::Enter, true) => Some(Rule::Exists(number)),
+        (Act::Correct | Act::Withdraw, false) => Some(Rule::Absent(number)),
+        _ => None,
+    }
+}
