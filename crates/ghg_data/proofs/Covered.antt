@@ -1,7 +1,7 @@
 -- Where the old data are sound, each fault of the new stands at an old line's parameter or under a changed key.
 use Rattle.std.proofs.Common.{◌≡◌, ◌⊎◌, inl, inr, Bool, true, false, cond, not, ◌&&◌, ◌||◌, List, [], ◌∷◌, ◌++◌, map, flat_map, fold, Option, Some, None, is_some, refl, sym, ap, ◌∙◌, subst}
 use Rattle.std.specs.Ordering.{eq_by_cmp}
-use Rattle.std.specs.FinMap.{FinMap, contains_key-keys, find as find_key, get, keys}
+use Rattle.std.specs.FinMap.{contains_key-keys, find as find_key, get, keys}
 use Rattle.std.specs.List.{cons_option, filter_map, find, list_any}
 use Rattle.std.specs.Option.{option_map_or}
 use Rattle.std.specs.Str.{bytes_eq}
@@ -12,23 +12,16 @@ use Rattle.ghg_definitions.specs.declared.place.Place.{Place}
 use Rattle.ghg_definitions.specs.declared.record.Record.{Record}
 use Rattle.ghg_definitions.specs.declared.record.RecordKey.{RecordKey}
 use Rattle.ghg_definitions.specs.declared.record.RecordKey.TheVariants as key
-use Rattle.ghg_definitions.specs.Data.{Data, Name, as_binding, as_line, binding, first_name, key_cmp, line, line_name, line_names}
-use Rattle.ghg_definitions.specs.Rules.{binds_parameter, is_bound, is_sound, places_in, unsound_place}
+use Rattle.ghg_definitions.specs.Data.{Data, Name, as_binding, as_line, binding, key_cmp, line, line_name, line_names}
+use Rattle.ghg_definitions.specs.Rules.{is_bound, is_sound, places_in, unsound_place}
 use Rattle.ghg_definitions.specs.Sound.{IsConsistent, IsWorkbook}
-use Rattle.ghg_definitions.proofs.Alike.{first_so, second_so}
+use Rattle.ghg_definitions.proofs.Alike.{first_so}
 use Rattle.ghg_definitions.proofs.Consistent.{workbook_consistent}
 use Rattle.ghg_definitions.proofs.Keys.{equal_by, keys_same}
 use Rattle.ghg_data.specs.Changes.{Change, applied}
-use Rattle.ghg_data.specs.Faults.{considered, is_fault, is_place, takes}
+use Rattle.ghg_data.specs.Faults.{considered, is_fault, is_place, key_places, line_places, takes}
 use Rattle.ghg_data.proofs.Applied.{get-applied, over}
-use Rattle.ghg_data.proofs.Faults.{IsAmong, IsLeastFault, among_flat, among_left, among_right, either, held_line, least_fault, or_left, or_right, parameter_at, takes_among, unsound_found, with_equation}
-
--- the parameters of a line's equation, and those that a key is about
-abbrev pub line_places : Data → Name → List Place
-line_places m name = places_in (key.Line name) (line m name)
-
-abbrev pub key_places : Data → RecordKey → List Place
-key_places m k = places_in k (line m (first_name k))
+use Rattle.ghg_data.proofs.Faults.{IsAmong, IsLeastFault, among_flat, among_left, among_right, either, held_line, least_fault, or_left, takes_among, unsound_found, with_equation}
 
 -- ---- keys
 

@@ -1,26 +1,25 @@
 -- The least unsound place, from any list that has each fault.
-use Rattle.std.proofs.Common.{◌≡◌, ◌⊎◌, inl, inr, Bool, true, false, cond, not, ◌&&◌, ◌||◌, List, [], ◌∷◌, ◌++◌, map, filter, fold, flat_map, Option, Some, None, is_some, refl, sym, ap, ◌∙◌, subst, Ordering, Less, Equal, Greater, is_eq, if◌then◌else◌}
-use Rattle.std.specs.Ordering.{eq_by_cmp, is_gt, min_by_ordering, ordering_then, ordering_reverse}
+use Rattle.std.proofs.Common.{◌≡◌, ◌⊎◌, inl, inr, Bool, true, false, cond, not, ◌||◌, List, [], ◌∷◌, ◌++◌, map, filter, fold, flat_map, Option, Some, None, is_some, refl, sym, ap, ◌∙◌, subst, Ordering, Less, Equal, Greater, is_eq, if◌then◌else◌}
+use Rattle.std.specs.Ordering.{eq_by_cmp, is_gt, min_by_ordering, ordering_reverse}
 use Rattle.std.specs.Cmp.{IsTotalOrder}
 use Rattle.std.specs.Cmp.Lexicographic.{bytes_decides, nat_list_cmp_total}
 use Rattle.std.specs.FinMap.{entries, get}
-use Rattle.std.specs.List.{find, list_any}
+use Rattle.std.specs.List.{list_any}
 use Rattle.std.specs.Option.{option_map_or}
 use Rattle.std.specs.Str.{bytes_eq}
 use Rattle.std.proofs.lemmas.Cmp.{on_total, then_total, tied_itself, upto}
 use Rattle.std.proofs.lemmas.List.Folds.{list_any-append}
 use Rattle.ghg_equations.specs.declared.eq_id.EqId.{EqId}
 use Rattle.ghg_equations.specs.Table.{Quantity, parameters}
-use Rattle.ghg_units.specs.declared.row.Binding.{Binding}
 use Rattle.ghg_definitions.specs.declared.place.Place.{Place}
 use Rattle.ghg_definitions.specs.declared.record.Record.{Record}
 use Rattle.ghg_definitions.specs.declared.record.Record.TheVariants as entry
 use Rattle.ghg_definitions.specs.declared.record.RecordKey.{RecordKey}
 use Rattle.ghg_definitions.specs.declared.record.RecordKey.TheVariants as key
-use Rattle.ghg_definitions.specs.Data.{Data, Name, as_binding, as_line, binding, first_name, line, name_cmp}
-use Rattle.ghg_definitions.specs.Rules.{binds_parameter, is_bound, is_sound, least_place, lesser_place, place_cmp, places, places_in, unsound_place}
+use Rattle.ghg_definitions.specs.Data.{Data, Name, as_binding, as_line, binding, first_name, line}
+use Rattle.ghg_definitions.specs.Rules.{is_sound, least_place, lesser_place, place_cmp, places, places_in, unsound_place}
 use Rattle.ghg_definitions.specs.Sound.{IsConsistent, IsRecord}
-use Rattle.ghg_definitions.proofs.Alike.{both, first_so, met, not_so, second_so, so_not}
+use Rattle.ghg_definitions.proofs.Alike.{both, first_so, met, second_so}
 use Rattle.ghg_definitions.proofs.Keys.{both_equal, equal_by, keys_same, keys_total, names_same}
 use Rattle.ghg_definitions.proofs.Members.{any_entry, entry_any}
 use Rattle.ghg_data.specs.Faults.{considered, is_fault, is_place, takes}
@@ -137,12 +136,13 @@ IsLeastAmong ps (Some q) = IsAmong q ps × ((p : Place) → IsAmong p ps → Upt
 least_step : (p : Place) (ps : List Place) (r : Option Place) → IsLeastAmong ps r → IsLeastAmong (p ∷ ps) (Some (lesser_place p r))
 unfolding IsLeastAmong
 least_step p ps None none = (inl refl, λ q i. elim i [ inl e ↦ subst (Upto p) (sym e) (upto_itself p) | inr h ↦ absurd (none q h) ])
-least_step p ps (Some r) least =
-    (elim (lesser_either p r) [ inl e ↦ inl e | inr e ↦ inr (subst (λ x. IsAmong x ps) (sym e) least.0) ],
-    λ q i. elim i [
-      | inl e ↦ subst (Upto (lesser_place p (Some r))) (sym e) (lesser_first p (Some r))
-      | inr h ↦ upto places_total (lesser_place p (Some r)) r q (lesser_other p r) (least.1 q h)
-    ])
+least_step p ps (Some r) least = (
+  elim (lesser_either p r) [ inl e ↦ inl e | inr e ↦ inr (subst (λ x. IsAmong x ps) (sym e) least.0) ],
+  λ q i. elim i [
+    | inl e ↦ subst (Upto (lesser_place p (Some r))) (sym e) (lesser_first p (Some r))
+    | inr h ↦ upto places_total (lesser_place p (Some r)) r q (lesser_other p r) (least.1 q h)
+  ],
+)
 
 least_among : (ps : List Place) → IsLeastAmong ps (least_place ps)
 unfolding IsLeastAmong
@@ -226,7 +226,7 @@ place_listed m p h = any_among p (places m) (any_flat (places_of m) (same p) (en
       let e = with_equation (line m p.line) p.parameter taken in
       let r = held_line (get m (key.Line p.line)) e.0 e.1 in
       entry_any keys_total keys_same (λ (e : RecordKey × Record). list_any (same p) (places_of m e)) m (key.Line p.line) r.0 r.1
-          (among_any p _ (subst (λ o. IsAmong p (places_in (key.Line p.line) o)) (sym e.1) (takes_among p.line p.parameter (parameters e.0) e.2)))
+      (among_any p _ (subst (λ o. IsAmong p (places_in (key.Line p.line) o)) (sym e.1) (takes_among p.line p.parameter (parameters e.0) e.2)))
 ])
 
 bound_record : (l n : Name) (r : Record) → IsRecord (key.Bind l n) r → is_some (as_binding (Some r)) ≡ true

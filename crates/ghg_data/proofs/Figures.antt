@@ -1,5 +1,5 @@
 -- Whether all figures of a name are of a dimension, told by one of them.
-use Rattle.std.proofs.Common.{◌≡◌, ℕ, Bool, true, false, cond, not, ◌&&◌, ◌||◌, ◌==◌, List, [], ◌∷◌, Option, Some, None, is_some, if◌then◌else◌, refl, sym, ap, ◌∙◌, subst, arith, eqb-true}
+use Rattle.std.proofs.Common.{◌≡◌, Bool, true, false, not, ◌&&◌, ◌||◌, ◌==◌, List, [], ◌∷◌, Option, Some, None, is_some, if◌then◌else◌, refl, sym, ap, ◌∙◌, arith, eqb-true}
 use Rattle.std.specs.FinMap.{entries, get}
 use Rattle.std.specs.List.{cons_option, filter_map, list_all, list_any}
 use Rattle.std.specs.Option.{option_map_or}
@@ -154,13 +154,13 @@ module _ {m : Data} (is : IsConsistent m) (k : RecordKey) (unyeared : year_of k 
   pub figures_some : (d : Dim) (q : RecordKey) (f : Figure) → figure m q ≡ Some f → is_other_year k q ≡ true → are_of d (figures m k) ≡ same_dim d (dim_of f.unit)
   figures_some d q f e o = one_answers (dim_of f.unit) d (figures m k)
       (all_left (dim_of f.unit) (of_name k) (entries m) (not_true _ (λ h.
-          let found = any_entry keys_total keys_same (λ (e : Entry). option_map_or (λ g. not (of_dim (dim_of f.unit) g)) (of_name k e) false) m h in
-          let g = differing (dim_of f.unit) (of_name k (found.0, found.1)) found.3 in
-          let parts = alike_figure (is_alike k found.0) (as_figure (Some found.1)) g.0 g.1 in
-          differs f g.0 (one_dimension is q found.0 f g.0 e (ap as_figure found.2 ∙ parts.1) (alike_joined q k found.0 (alike_back k q (other_alike k q o)) parts.0)) g.2)))
+      let found = any_entry keys_total keys_same (λ (e : Entry). option_map_or (λ g. not (of_dim (dim_of f.unit) g)) (of_name k e) false) m h in
+      let g = differing (dim_of f.unit) (of_name k (found.0, found.1)) found.3 in
+      let parts = alike_figure (is_alike k found.0) (as_figure (Some found.1)) g.0 g.1 in
+      differs f g.0 (one_dimension is q found.0 f g.0 e (ap as_figure found.2 ∙ parts.1) (alike_joined q k found.0 (alike_back k q (other_alike k q o)) parts.0)) g.2)))
       (some_left (of_name k) (entries m) (let r = held (get m q) f e in
-          entry_any keys_total keys_same (λ (e : Entry). is_some (of_name k e)) m q r.0 r.1
-          (ap (λ b. is_some (if b then as_figure (Some r.0) else None)) (other_alike k q o) ∙ ap is_some (sym (ap as_figure r.1) ∙ e))))
+      entry_any keys_total keys_same (λ (e : Entry). is_some (of_name k e)) m q r.0 r.1
+      (ap (λ b. is_some (if b then as_figure (Some r.0) else None)) (other_alike k q o) ∙ ap is_some (sym (ap as_figure r.1) ∙ e))))
 
 pub activities_none : {m : Data} → IsConsistent m → (name : Name) (d : Dim) → ((q : RecordKey) → is_other_year (key.Activity name 0) q ≡ true → figure m q ≡ None) → are_of d (activities m name) ≡ false
 activities_none {m} is name d none = ap (are_of d) (activities_are m name) ∙ figures_none is (key.Activity name 0) refl d none

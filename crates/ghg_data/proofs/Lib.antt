@@ -6,3 +6,6 @@ pub mod Placed
 pub mod Faults
 pub mod Covered
 pub mod Figures
+pub mod InForce
+pub mod Parameters
+pub mod Counts

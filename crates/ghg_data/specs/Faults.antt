@@ -6,8 +6,10 @@ use Rattle.std.specs.Str.{bytes_eq}
 use Rattle.ghg_equations.specs.declared.eq_id.EqId.{EqId}
 use Rattle.ghg_equations.specs.Table.{parameters}
 use Rattle.ghg_definitions.specs.declared.place.Place.{Place}
-use Rattle.ghg_definitions.specs.Data.{Data, Name, binding, line}
-use Rattle.ghg_definitions.specs.Rules.{is_sound, lesser_place}
+use Rattle.ghg_definitions.specs.declared.record.RecordKey.{RecordKey}
+use Rattle.ghg_definitions.specs.declared.record.RecordKey.TheVariants as key
+use Rattle.ghg_definitions.specs.Data.{Data, Name, binding, first_name, line}
+use Rattle.ghg_definitions.specs.Rules.{is_sound, lesser_place, places_in}
 
 -- the equation has the parameter
 abbrev pub takes : EqId → Name → Bool
@@ -23,3 +25,11 @@ is_fault m p = is_place m p && not (is_sound m p)
 -- the least fault so far, once this place is looked at
 abbrev pub considered : Data → Option Place → Place → Option Place
 considered m least p = if is_fault m p then Some (lesser_place p least) else least
+
+-- the parameters of a line's equation
+abbrev pub line_places : Data → Name → List Place
+line_places m name = places_in (key.Line name) (line m name)
+
+-- the places that a key is about
+abbrev pub key_places : Data → RecordKey → List Place
+key_places m k = places_in k (line m (first_name k))

@@ -4,3 +4,4 @@ pub mod Years
 pub mod Refusal
 pub mod Names
 pub mod Faults
+pub mod Counts

@@ -1,15 +1,22 @@
 //! A workbook's records.
 
-ghost use Rattle.std.specs.Prelude.{◌≡◌};
+ghost use Rattle.std.specs.Prelude.{◌≡◌, Ok, Err, IfOk, MatchResult};
 ghost use Rattle.std.specs.FinMap as finite;
+ghost use Rattle.std.specs.List.{AllByRecursion};
+ghost use Rattle.ghg_units.specs.WellFormed.{IsWellFormed};
+ghost use Rattle.ghg_definitions.specs.Rules.{planned};
+ghost use Rattle.ghg_data.specs.Refusal.{IfRule};
 ghost use Rattle.ghg_data.specs.Changes.{applied};
 ghost use Rattle.ghg_data.specs.Shelf.{IsPlanned};
 
 use crate::edits::Edits;
 use crate::holdings::Holdings;
+use crate::plan::planned_edits;
 use crate::records::Records;
+use crate::refusal::PlanRefusal;
 use crate::view::After;
 use ghg_definitions::{Record, RecordKey};
+use ghg_units::{Row, Rule};
 use std::alloc::Global;
 use std::marker::Model;
 
@@ -57,6 +64,28 @@ impl Book {
         Book {
             holdings: Holdings::new(alloc),
         }
+    }
+
+    /// What the rows of a submission make of this book: the edits, with room made for them, where no rule is broken.
+    ///
+    /// `rest` is the rule that stopped the reading of the rows, and `kept_bytes` how many bytes all kept bodies have with this one.
+    /// The first rule that is broken is answered: that of the first row that breaks one on units or presence, `rest`,
+    /// the least unsound binding, and the first limit. The records stay with every answer.
+    pub fn plan(
+        &mut self,
+        alloc: Global,
+        rows: &[Row],
+        rest: Option<Rule>,
+        kept_bytes: u64,
+    ) -> Result<Edits, PlanRefusal>
+        requires { AllByRecursion IsWellFormed rows.now }
+        ensures kept { self.new.content ≡ self.old.content }
+        ensures planned { MatchResult result (λ edits. planned self.old.content rows.now rest kept_bytes ≡ Ok (applied self.old.content edits)) (IfRule (λ rule. planned self.old.content rows.now rest kept_bytes ≡ Err rule)) }
+        ensures ready { IfOk result (IsPlanned self.new) }
+    {
+        let edits = planned_edits(alloc, &self.holdings, rows, rest, kept_bytes)?;
+        self.holdings.reserve(edits.len())?;
+        Ok(edits)
     }
 
     /// Makes the changes of edits that were planned on this book as it stands. It takes no memory.

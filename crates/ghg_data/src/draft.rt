@@ -2,7 +2,7 @@
 
 ghost use Rattle.std.specs.Prelude.{◌≡◌, true, None, option_copied, IfSome, IfNone};
 ghost use Rattle.std.specs.FinMap as finite;
-ghost use Rattle.ghg_definitions.specs.Data.{figure};
+ghost use Rattle.ghg_definitions.specs.Data.{as_line, as_span, binding, figure, line, span};
 ghost use Rattle.ghg_definitions.specs.Rules.{is_other_year};
 ghost use Rattle.ghg_definitions.specs.Sound.{IsConsistent};
 ghost use Rattle.ghg_data.specs.Changes.{applied};
@@ -11,7 +11,8 @@ ghost use Rattle.ghg_data.specs.Years.{in_year};
 use crate::edits::Edits;
 use crate::holdings::Holdings;
 use ghg_definitions::{Record, RecordKey};
-use ghg_units::Figure;
+use ghg_equations::EqId;
+use ghg_units::{Binding, Figure, Name, ParamName, Span};
 use std::marker::Model;
 
 // The years that a record may be of.
@@ -69,6 +70,29 @@ impl<'a> Draft<'a> {
         }
     }
 
+    pub(crate) fn span(&self) -> Option<Span>
+        ensures { result ≡ span self.now }
+    {
+        span_in(self.get(&RecordKey::Span))
+    }
+
+    // The equation of a line that is present.
+    pub(crate) fn line(&self, name: &Name) -> Option<EqId>
+        ensures { result ≡ line self.now name.now }
+    {
+        equation_in(self.get(&RecordKey::Line(*name)))
+    }
+
+    // What a parameter of a line is bound to.
+    pub(crate) fn binding(&self, line: &Name, parameter: &ParamName) -> Option<&Binding>
+        ensures { option_copied result ≡ binding self.now line.now parameter.now }
+    {
+        match self.get(&RecordKey::Bind(*line, *parameter)) {
+            Some(Record::Bind(binding)) => Some(binding),
+            _ => None,
+        }
+    }
+
     // The figure of some record of the same kind and name for another year.
     pub(crate) fn other_year(&self, key: &RecordKey) -> Option<Figure>
         ensures found { IfSome result (λ f. (q : RecordKey) × (figure self.now q ≡ Some f) × (is_other_year key.now q ≡ true)) }
@@ -87,6 +111,26 @@ impl<'a> Draft<'a> {
             }
         }
         None
+    }
+}
+
+// The years that a span's record holds.
+pub(crate) fn span_in(entry: Option<&Record>) -> Option<Span>
+    ensures { result ≡ as_span (option_copied entry.entry) }
+{
+    match entry {
+        Some(Record::Span(span)) => Some(*span),
+        _ => None,
+    }
+}
+
+// The equation that a line's record holds.
+pub(crate) fn equation_in(entry: Option<&Record>) -> Option<EqId>
+    ensures { result ≡ as_line (option_copied entry.entry) }
+{
+    match entry {
+        Some(Record::Line(equation)) => Some(*equation),
+        _ => None,
     }
 }
 

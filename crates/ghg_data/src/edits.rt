@@ -1,6 +1,6 @@
 //! Edits of a book.
 
-ghost use Rattle.std.specs.Prelude.{◌≡◌, [], ◌∷◌, ◌++◌, map, option_copied, MatchOption, OnOk, OnErr};
+ghost use Rattle.std.specs.Prelude.{◌≡◌, ◌^◌, ◌<◌, [], ◌∷◌, ◌++◌, Some, length, map, slice_get, option_copied, MatchOption, OnOk, OnErr};
 ghost use Rattle.std.specs.FinMap.{find};
 ghost use Rattle.ghg_definitions.specs.Data.{Data, key_cmp};
 ghost use Rattle.ghg_definitions.specs.Rows.{with_record};
@@ -40,6 +40,21 @@ impl Edits {
         ensures { result.now ≡ map (λ c. c.0) self.now }
     {
         self.changes.keys().as_slice()
+    }
+
+    pub(crate) fn len(&self) -> usize
+        ensures len { result ≡ length self.now }
+        ensures small { result < 2 ^ 63 }
+    {
+        self.changes.len()
+    }
+
+    // A change by its number.
+    pub(crate) fn at(&self, index: usize) -> (&RecordKey, &Option<Record>)
+        requires { index < length self.now }
+        ensures { slice_get self.now index ≡ Some (result.0.now, result.1.now) }
+    {
+        self.changes.get_index(index).unwrap()
     }
 
     // The change of a key.

@@ -1,6 +1,6 @@
 //! Records by their keys.
 
-ghost use Rattle.std.specs.Prelude.{◌≡◌, ◌+◌, ◌≤◌, ◌<◌, OnOk, option_copied, length};
+ghost use Rattle.std.specs.Prelude.{◌≡◌, ◌+◌, ◌^◌, ◌≤◌, ◌<◌, OnOk, option_copied, length};
 ghost use Rattle.std.specs.FinMap as finite;
 ghost use Rattle.std.specs.FinMap.{from_entries};
 ghost use Rattle.indexmap.specs.IndexMap.{spare};
@@ -58,7 +58,8 @@ impl Holdings {
 
     // How many records there are.
     pub(crate) fn len(&self) -> usize
-        ensures { result ≡ finite.len self.now.content }
+        ensures len { result ≡ finite.len self.now.content }
+        ensures small { result < 2 ^ 63 }
     {
         self.records.len()
     }

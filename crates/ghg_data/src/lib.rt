@@ -1,10 +1,13 @@
 //! The records of a workbook: reading them, planning what rows make of them, and committing a plan.
 #![tactic(auto)]
 
+mod bindings;
 mod book;
 mod draft;
 mod edits;
 mod holdings;
+mod lookups;
+mod limits;
 mod names;
 mod plan;
 mod records;

@@ -1,12 +1,34 @@
 //! The names of lines, each once and in order.
 
-ghost use Rattle.std.specs.Prelude.{◌≡◌, ◌+◌, ◌≤◌, ◌<◌, vec_len, vec_capacity};
+ghost use Rattle.std.specs.Prelude.{◌≡◌, ◌+◌, ◌≤◌, ◌<◌, IfOk, vec_len, vec_capacity};
 ghost use Rattle.std.specs.List.Sorted.{IsStrictlySortedBy};
-ghost use Rattle.ghg_definitions.specs.Data.{name_cmp};
+ghost use Rattle.ghg_definitions.specs.Data.{line_names, name_cmp};
+ghost use Rattle.ghg_data.specs.Changes.{applied};
 ghost use Rattle.ghg_data.specs.Names.{names_after, with_name, without_name};
 
+use crate::edits::Edits;
+use crate::holdings::Holdings;
 use ghg_definitions::RecordKey;
 use ghg_units::Name;
+use std::alloc::{AllocError, Global};
+
+// The names of the lines once the edits are made, in order.
+pub(crate) fn lines_after(
+    alloc: Global,
+    holdings: &Holdings,
+    edits: &Edits,
+) -> Result<Vec<Name>, AllocError>
+    ensures { IfOk result (λ lines. lines.items ≡ line_names (applied holdings.now.content edits.now)) }
+{
+    let before = holdings.lines();
+    let mut lines = Vec::with_capacity(alloc, before.len() + edits.len())?;
+    lines.extend_from_slice(before)?;
+    for i in (0..edits.len()).rev() {
+        let (key, change) = edits.at(i);
+        change_names(&mut lines, key, change.is_some());
+    }
+    Ok(lines)
+}
 
 // Makes the names those of the lines once the key has a record, or has none. It takes no memory.
 pub(crate) fn change_names(names: &mut Vec<Name>, key: &RecordKey, present: bool)

@@ -1,58 +1,134 @@
 //! Planning the rows of a submission.
 
-ghost use Rattle.std.specs.Prelude.{◌≡◌, Ok, Err, Some, None, MatchResult, OnOk, IfOk};
+ghost use Rattle.std.specs.Prelude.{◌≡◌, ℕ, ◌+◌, ◌^◌, ◌<◌, ◌≤◌, Ok, Err, Some, None, MatchResult, OnOk, IfOk};
 ghost use Rattle.std.specs.List.{AllByRecursion};
+ghost use Rattle.std.specs.FinMap.{len};
 ghost use Rattle.ghg_units.specs.WellFormed.{IsWellFormed};
 ghost use Rattle.ghg_definitions.specs.Rows.{after_row};
-ghost use Rattle.ghg_definitions.specs.Rules.{row_fault, rows_applied};
-ghost use Rattle.ghg_definitions.specs.Sound.{IsConsistent};
+ghost use Rattle.ghg_definitions.specs.Rules.{judged, planned, row_fault, rows_applied};
+ghost use Rattle.ghg_definitions.specs.Sound.{IsConsistent, IsWorkbook};
 ghost use Rattle.ghg_data.specs.Changes.{applied};
+ghost use Rattle.ghg_data.specs.Counts.{count_after};
 ghost use Rattle.ghg_data.specs.Refusal.{IfRule};
 
+use crate::bindings::unsound_place;
 use crate::draft::Draft;
 use crate::edits::Edits;
 use crate::holdings::Holdings;
+use crate::limits::limit_fault;
+use crate::names::lines_after;
 use crate::refusal::PlanRefusal;
 use crate::rows::{key_of, record_of, row_fault};
-use ghg_units::Row;
+use ghg_units::{Act, Row, Rule};
 use std::alloc::Global;
 
-// What the rows make of the records, or the first rule that a row breaks.
-#[tactic(auto, unfolding(ghg_definitions::specs::Rules::rows_applied))]
-pub(crate) fn edits_of(
+// The edits of the rows so far, with the number of records that they leave.
+#[derive(Drop)]
+struct Progress {
+    edits: Edits,
+    records: usize,
+}
+
+/// The edits that rows make, where they break no rule; or the first rule that is broken.
+#[tactic(auto, unfolding(ghg_definitions::specs::Rules::planned))]
+pub(crate) fn planned_edits(
     alloc: Global,
     holdings: &Holdings,
     rows: &[Row],
+    rest: Option<Rule>,
+    kept_bytes: u64,
 ) -> Result<Edits, PlanRefusal>
+    requires workbook { IsWorkbook holdings.now.content }
+    requires well_formed { AllByRecursion IsWellFormed rows.now }
+    ensures planned { MatchResult result (λ edits. planned holdings.now.content rows.now rest kept_bytes ≡ Ok (applied holdings.now.content edits)) (IfRule (λ rule. planned holdings.now.content rows.now rest kept_bytes ≡ Err rule)) }
+    ensures workbook { IfOk result (λ edits. IsWorkbook (applied holdings.now.content edits)) }
+{
+    let Progress { edits, records } = progress_of(alloc, holdings, rows)?;
+    judge(alloc, holdings, &edits, records, rest, kept_bytes)?;
+    Ok(edits)
+}
+
+// What the rows make of the records, or the first rule that a row breaks.
+#[tactic(auto, unfolding(ghg_definitions::specs::Rules::rows_applied))]
+fn progress_of(alloc: Global, holdings: &Holdings, rows: &[Row]) -> Result<Progress, PlanRefusal>
     requires consistent { IsConsistent holdings.now.content }
     requires well_formed { AllByRecursion IsWellFormed rows.now }
-    ensures applied { MatchResult result (λ edits. rows_applied holdings.now.content rows.now ≡ Ok (applied holdings.now.content edits)) (IfRule (λ rule. rows_applied holdings.now.content rows.now ≡ Err rule)) }
-    ensures consistent { IfOk result (λ edits. IsConsistent (applied holdings.now.content edits)) }
+    ensures applied { MatchResult result (λ p. rows_applied holdings.now.content rows.now ≡ Ok (applied holdings.now.content p.edits)) (IfRule (λ rule. rows_applied holdings.now.content rows.now ≡ Err rule)) }
+    ensures consistent { IfOk result (λ p. IsConsistent (applied holdings.now.content p.edits)) }
+    ensures records { IfOk result (λ p. p.records ≡ len (applied holdings.now.content p.edits)) }
 {
-    let mut edits = Edits::new(alloc);
+    let mut progress = Progress {
+        edits: Edits::new(alloc),
+        records: holdings.len(),
+    };
     for row in rows {
-        add_row(alloc, holdings, &mut edits, row)?;
+        add_row(alloc, holdings, &mut progress, row)?;
     }
-    Ok(edits)
+    Ok(progress)
 }
 
 // Makes a row's change on top of the edits so far, where it breaks no rule.
 fn add_row(
     alloc: Global,
     holdings: &Holdings,
-    edits: &mut Edits,
+    progress: &mut Progress,
     row: &Row,
 ) -> Result<(), PlanRefusal>
-    requires consistent { IsConsistent (applied holdings.now.content edits.old) }
+    requires consistent { IsConsistent (applied holdings.now.content progress.old.edits) }
     requires well_formed { IsWellFormed row.now }
-    ensures fault { MatchResult result (λ _. row_fault (applied holdings.now.content edits.old) row.now ≡ None) (IfRule (λ rule. row_fault (applied holdings.now.content edits.old) row.now ≡ Some rule)) }
-    ensures added { OnOk result (applied holdings.now.content edits.new ≡ after_row (applied holdings.now.content edits.old) row.now) }
-    ensures consistent { OnOk result (IsConsistent (applied holdings.now.content edits.new)) }
+    requires records { progress.old.records ≡ len (applied holdings.now.content progress.old.edits) }
+    requires fits { progress.old.records + 1 < 2 ^ 64 }
+    ensures fault { MatchResult result (λ _. row_fault (applied holdings.now.content progress.old.edits) row.now ≡ None) (IfRule (λ rule. row_fault (applied holdings.now.content progress.old.edits) row.now ≡ Some rule)) }
+    ensures added { OnOk result (applied holdings.now.content progress.new.edits ≡ after_row (applied holdings.now.content progress.old.edits) row.now) }
+    ensures consistent { OnOk result (IsConsistent (applied holdings.now.content progress.new.edits)) }
+    ensures records { OnOk result (progress.new.records ≡ len (applied holdings.now.content progress.new.edits)) }
+    ensures bound { progress.new.records ≤ progress.old.records + 1 }
 {
-    if let Some(rule) = row_fault(&Draft::of(holdings, edits), row) {
+    if let Some(rule) = row_fault(&Draft::of(holdings, &progress.edits), row) {
         return Err(PlanRefusal::Rule(rule));
     }
     let change = record_of(alloc, &row.form)?;
-    edits.put(key_of(&row.form), change)?;
+    progress.edits.put(key_of(&row.form), change)?;
+    progress.records = count_after(row.act, progress.records);
+    Ok(())
+}
+
+// How many records there are after a row that keeps the rule of presence.
+fn count_after(act: Act, records: usize) -> usize
+    requires { records + 1 < 2 ^ 64 }
+    ensures { result ≡ count_after act records }
+{
+    match act {
+        Act::Enter => records + 1,
+        Act::Correct => records,
+        Act::Withdraw => records.saturating_sub(1),
+    }
+}
+
+// Whether the records with all edits made keep the rules that see them whole.
+fn judge(
+    alloc: Global,
+    holdings: &Holdings,
+    edits: &Edits,
+    records: usize,
+    rest: Option<Rule>,
+    kept_bytes: u64,
+) -> Result<(), PlanRefusal>
+    requires workbook { IsWorkbook holdings.now.content }
+    requires consistent { IsConsistent (applied holdings.now.content edits.now) }
+    requires records { records ≡ len (applied holdings.now.content edits.now) }
+    ensures judged { MatchResult result (λ _. judged rest kept_bytes (applied holdings.now.content edits.now) ≡ Ok (applied holdings.now.content edits.now)) (IfRule (λ rule. judged rest kept_bytes (applied holdings.now.content edits.now) ≡ Err rule)) }
+    ensures workbook { OnOk result (IsWorkbook (applied holdings.now.content edits.now)) }
+{
+    if let Some(rule) = rest {
+        return Err(PlanRefusal::Rule(rule));
+    }
+    if let Some(place) = unsound_place(holdings, edits) {
+        return Err(PlanRefusal::Rule(Rule::BadBinding(place.line, place.parameter)));
+    }
+    let lines = lines_after(alloc, holdings, edits)?.len();
+    if let Some(rule) = limit_fault(&Draft::of(holdings, edits), lines, records, kept_bytes) {
+        return Err(PlanRefusal::Rule(rule));
+    }
     Ok(())
 }

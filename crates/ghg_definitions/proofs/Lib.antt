@@ -5,3 +5,4 @@ pub mod Dims
 pub mod Alike
 pub mod Consistent
 pub mod Lines
+pub mod Held

@@ -4,3 +4,4 @@ pub mod Rules
 pub mod Sound
 pub mod Lookups
 pub mod Compilation
+pub mod Laws

@@ -3,8 +3,10 @@
 //! The definitions stand in `specs/`. The types that code and definitions share are Rust's.
 #![tactic(auto)]
 
+mod laws;
 mod place;
 mod record;
 
+pub use laws::inputs_hold_their_figures;
 pub use place::Place;
 pub use record::{Record, RecordKey};

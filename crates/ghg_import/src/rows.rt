@@ -19,21 +19,27 @@ use std::alloc::{AllocError, Global};
 /// The longest body that is read, in bytes.
 pub const MAX_BODY: usize = 4_194_304;
 
-/// Whether a body is longer than any that is read.
+/// Whether a body is longer than any that is read: the condition under which `read_rows` may not be called.
 pub fn is_too_long(body: &[u8]) -> bool
     ensures { IsTrue result ↔ (max_body < length body.now) }
 {
     body.len() > MAX_BODY
 }
 
-/// The rows before the first that breaks a rule, and that rule.
+/// What a body says.
 #[derive(Drop)]
 pub struct Rows {
+    /// The rows before the first that breaks a rule, each well formed.
     pub rows: Vec<Row>,
+    /// The rule that stopped the reading, if one did.
     pub rest: Option<Rule>,
 }
 
-/// The rows of a body before the first that breaks a rule that a body alone can break, and that rule.
+/// The rows of a body, up to the first that breaks a rule which its body alone shows: its shape, its words, its numbers
+/// or the order of its bounds.
+///
+/// Rows are the records that `csv` cuts the body into: the header has the number 0, and an empty line has none. A word is
+/// tested before a number and a number before the order of bounds; of each sort the leftmost wrong column is named.
 #[tactic(auto, unfolding(crate::specs::Reading::reading_of))]
 pub fn read_rows(alloc: Global, body: &[u8]) -> Result<Rows, AllocError>
     requires { length body.now ≤ max_body }

@@ -1,6 +1,6 @@
 //! What follows of the definitions alone.
 
-ghost use Rattle.ghg_units.specs.Laws.{EachWordNamesItsUnit, FixedTextsRead, PrintedDecimalsRead};
+ghost use Rattle.ghg_units.specs.Laws.{ConversionsAreLeast, EachWordNamesItsUnit, FixedTextsRead, PrintedDecimalsRead};
 
 /// A number with a fixed count of decimals is a sign, digits, a point and so many digits, which together write it.
 pub fn fixed_texts_read()
@@ -15,4 +15,9 @@ pub fn each_word_names_its_unit()
 /// A printed number of 1 to 12 decimals and of no more digits than decimals have reads back as the decimal of its value.
 pub fn printed_decimals_read()
     ensures { PrintedDecimalsRead }
+{}
+
+/// A converted decimal is the least interval of whole bounds that holds the decimal in the base unit.
+pub fn conversions_are_least()
+    ensures { ConversionsAreLeast }
 {}

@@ -4,5 +4,5 @@ use Rattle.ghg_definitions.proofs.Entries.{counted}
 use Rattle.ghg_definitions.proofs.Keys.{key_eq, key_ties, keys_total}
 use Rattle.ghg_data.proofs.holdings.Holdings.len.Goals as goal
 
-pub returns : goal.returns
-returns c = c.len.ensures.len ∙ sym (counted keys_total key_eq key_ties c.self.inside.records.entries c.len.ensures.unique) ∙ ap (λ s. finite.len s.content) c.self.view_is
+pub returns-clause-len : goal.returns-clause-len
+returns-clause-len c = c.len.ensures.len ∙ sym (counted keys_total key_eq key_ties c.self.inside.records.entries c.len.ensures.unique) ∙ ap (λ s. finite.len s.content) c.self.view_is

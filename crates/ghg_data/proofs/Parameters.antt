@@ -1,0 +1,59 @@
+-- The parameters of equations, as the code has them and as the table names them.
+use Rattle.std.proofs.Common.{◌≡◌, Bool, true, false, cond, ◌||◌, List, [], ◌∷◌, map, Option, Some, None, is_some, refl, sym, ap, subst}
+use Rattle.std.specs.List.{AllByRecursion, find, list_any}
+use Rattle.std.specs.Option.{option_map, option_map_or}
+use Rattle.std.specs.Str.{bytes_eq}
+use Rattle.ghg_equations.specs.declared.eq_id.EqId.{EqId}
+use Rattle.ghg_equations.specs.declared.eq_id.EqId.TheVariants.{Q10}
+use Rattle.ghg_equations.specs.declared.quantity.Dim.{Dim}
+use Rattle.ghg_equations.specs.declared.row.Equation.{Equation}
+use Rattle.ghg_equations.specs.declared.row.Param.{Param}
+use Rattle.ghg_equations.specs.Table.{Quantity, ◌of◌, parameters, row, seen}
+use Rattle.ghg_units.specs.Parameter.{is_parameter}
+use Rattle.ghg_definitions.specs.Data.{Name}
+use Rattle.ghg_data.specs.Faults.{takes}
+
+abbrev quantity : Param → Quantity
+quantity p = p.name.now of p.dim
+
+pub parameters_seen : (e : Equation) (id : EqId) → seen e ≡ row id → map quantity e.params.now ≡ parameters id
+parameters_seen e id is = ap (λ r. r.parameters) is
+
+pub dim_seen : (n : Name) (ps : List Param) → option_map (λ (q : Param). q.dim) (find (λ q. bytes_eq q.name.now n) ps) ≡ option_map (λ (q : Quantity). q.dim) (find (λ q. bytes_eq q.name n) (map quantity ps))
+dim_seen n [] = refl
+dim_seen n (p ∷ ps) = by (bytes_eq p.name.now n) (dim_seen n ps)
+  where
+    by : (b : Bool) → option_map (λ (q : Param). q.dim) (find (λ q. bytes_eq q.name.now n) ps) ≡ option_map (λ (q : Quantity). q.dim) (find (λ q. bytes_eq q.name n) (map quantity ps))
+        → option_map (λ (q : Param). q.dim) (cond b (Some p) (find (λ q. bytes_eq q.name.now n) ps)) ≡ option_map (λ (q : Quantity). q.dim) (cond b (Some (quantity p)) (find (λ q. bytes_eq q.name n) (map quantity ps)))
+    by true rest = refl
+    by false rest = rest
+
+any_found : (p : Quantity → Bool) (qs : List Quantity) → is_some (option_map (λ (q : Quantity). q.dim) (find p qs)) ≡ list_any p qs
+any_found p [] = refl
+any_found p (q ∷ qs) = by (p q) (any_found p qs)
+  where
+    by : (b : Bool) → is_some (option_map (λ (x : Quantity). x.dim) (find p qs)) ≡ list_any p qs → is_some (option_map (λ (x : Quantity). x.dim) (cond b (Some q) (find p qs))) ≡ b || list_any p qs
+    by true rest = refl
+    by false rest = rest
+
+-- an equation that has a dimension for a parameter takes it
+pub takes_found : (id : EqId) (n : Name) → is_some (option_map (λ (q : Quantity). q.dim) (find (λ q. bytes_eq q.name n) (parameters id))) ≡ takes id n
+takes_found id n = any_found (λ q. bytes_eq q.name n) (parameters id)
+
+pub by_dim : (f : Dim → Bool) (o : Option Quantity) (d : Dim) → Some d ≡ option_map (λ (q : Quantity). q.dim) o → f d ≡ option_map_or (λ q. f q.dim) o false
+by_dim f None d e = absurd (cc)
+by_dim f (Some q) d e = ap f (same d q.dim e)
+  where
+    same : (a b : Dim) → Some a ≡ Some b → a ≡ b
+    same a b e = cc
+
+-- each parameter's name is one
+are_parameters : (id : EqId) → AllByRecursion (λ q. is_parameter q.name ≡ true) (parameters id)
+are_parameters Q10 = (refl, (refl, tt))
+
+all_seen : (ps : List Param) → AllByRecursion (λ q. is_parameter q.name ≡ true) (map quantity ps) → AllByRecursion (λ (q : Param). is_parameter q.name.now ≡ true) ps
+all_seen [] h = tt
+all_seen (p ∷ ps) h = (h.0, all_seen ps h.1)
+
+pub parameters_named : (e : Equation) (id : EqId) → seen e ≡ row id → AllByRecursion (λ (q : Param). is_parameter q.name.now ≡ true) e.params.now
+parameters_named e id is = all_seen e.params.now (subst (AllByRecursion (λ q. is_parameter q.name ≡ true)) (sym (parameters_seen e id is)) (are_parameters id))

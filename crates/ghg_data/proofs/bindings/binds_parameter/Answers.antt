@@ -1,0 +1,11 @@
+use Rattle.std.proofs.Common.{◌∙◌, sym, option_copied}
+use Rattle.std.specs.List.{find}
+use Rattle.std.specs.Str.{bytes_eq}
+use Rattle.ghg_equations.specs.Table.{parameters}
+use Rattle.ghg_definitions.specs.Rules.{is_bound}
+use Rattle.ghg_data.proofs.Parameters.{by_dim}
+use Rattle.ghg_data.proofs.bindings.binds_parameter.Goals as goal
+
+pub returns-in-Some : goal.returns-in-Some
+returns-in-Some c =
+    c.is_bound.ensures ∙ by_dim (λ d. is_bound c.args.draft.now d (option_copied c.args.binding)) (find (λ q. bytes_eq q.name c.args.parameter.now) (parameters c.args.id)) c.in-Some.dim (sym c.in-Some.is ∙ c.dim_of_parameter.ensures)

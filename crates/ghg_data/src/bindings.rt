@@ -1,0 +1,253 @@
+//! Bindings: each parameter of a line's equation is bound, to something of its dimension.
+
+ghost use Rattle.std.specs.Prelude.{◌≡◌, true, None, find, fold, flat_map, map, option_copied};
+ghost use Rattle.std.specs.List.{AllByRecursion, list_all};
+ghost use Rattle.std.specs.Option.{option_map};
+ghost use Rattle.std.specs.Str.{bytes_eq};
+ghost use Rattle.ghg_equations.specs.Table.{parameters};
+ghost use Rattle.ghg_units.specs.Parameter.{is_parameter};
+ghost use Rattle.ghg_definitions.specs.Data.{first_name, line, line_names};
+ghost use Rattle.ghg_definitions.specs.Rules.{activities, are_of, binds_parameter, dim_of_output, factors, gives_decay, gives_dimension, is_bound, is_line_of, is_sound, lesser_place, places_in, unsound_place};
+ghost use Rattle.ghg_definitions.specs.Sound.{IsConsistent, IsWorkbook};
+ghost use Rattle.ghg_data.specs.Changes.{applied};
+ghost use Rattle.ghg_data.specs.Faults.{considered, is_place, key_places, line_places};
+
+use crate::draft::{Draft, equation_in};
+use crate::edits::Edits;
+use crate::holdings::Holdings;
+use ghg_definitions::{Place, RecordKey};
+use ghg_equations::{Dim, EqId, Output, Param, equation};
+use ghg_units::{Binding, Name, ParamName};
+use std::cmp::Ordering;
+
+// In place of the year in a key that stands for all years.
+const NO_YEAR: u32 = 0;
+
+// The activity has records, all of the dimension.
+fn is_activity_of(draft: &Draft<'_>, dim: Dim, name: &Name) -> bool
+    ensures { result ≡ are_of dim (activities draft.now name.now) }
+{
+    match draft.other_year(&RecordKey::Activity(*name, NO_YEAR)) {
+        Some(figure) => dim == ghg_units::dim(figure.unit),
+        None => false,
+    }
+}
+
+// The factor has records, all of the dimension.
+fn is_factor_of(draft: &Draft<'_>, dim: Dim, name: &Name) -> bool
+    ensures { result ≡ are_of dim (factors draft.now name.now) }
+{
+    match draft.other_year(&RecordKey::Factor(*name, NO_YEAR)) {
+        Some(figure) => dim == ghg_units::dim(figure.unit),
+        None => false,
+    }
+}
+
+fn dim_of_output(output: Output) -> Dim
+    ensures { result ≡ dim_of_output output }
+{
+    match output {
+        Output::Emission(_) => Dim::Gas,
+        Output::Aux(dim) => dim,
+    }
+}
+
+// The line is present, and its output is of the dimension.
+fn is_line_of(draft: &Draft<'_>, dim: Dim, name: &Name) -> bool
+    ensures { result ≡ is_line_of draft.now dim name.now }
+{
+    match draft.line(name) {
+        Some(id) => dim == dim_of_output(equation(id).output),
+        None => false,
+    }
+}
+
+fn are_lines_of(draft: &Draft<'_>, dim: Dim, names: &[Name]) -> bool
+    ensures { result ≡ list_all (λ n. is_line_of draft.now dim n) names.now }
+{
+    names.iter().all(|name| is_line_of(draft, dim, name))
+}
+
+// What a parameter that is no decay factor may be bound to.
+fn gives_dimension(draft: &Draft<'_>, dim: Dim, binding: &Binding) -> bool
+    ensures { result ≡ gives_dimension draft.now dim binding.now }
+{
+    match binding {
+        Binding::Activity(name) => is_activity_of(draft, dim, name),
+        Binding::Factor(name) => is_factor_of(draft, dim, name),
+        Binding::Line(name) | Binding::Prev(name) => is_line_of(draft, dim, name),
+        Binding::Sum(names) => are_lines_of(draft, dim, names.as_slice()),
+        Binding::Decay(_) => false,
+        Binding::Key(_) => true,
+    }
+}
+
+// A decay factor is that of a half-life.
+fn gives_decay(draft: &Draft<'_>, binding: &Binding) -> bool
+    ensures { result ≡ gives_decay draft.now binding.now }
+{
+    match binding {
+        Binding::Decay(name) => is_factor_of(draft, Dim::HalfLife, name),
+        _ => false,
+    }
+}
+
+fn is_bound(draft: &Draft<'_>, dim: Dim, binding: Option<&Binding>) -> bool
+    ensures { result ≡ is_bound draft.now dim (option_copied binding.entry) }
+{
+    match binding {
+        Some(binding) if dim == Dim::Decay => gives_decay(draft, binding),
+        Some(binding) => gives_dimension(draft, dim, binding),
+        None => false,
+    }
+}
+
+// What the parameter of an equation measures.
+fn dim_of_parameter(id: EqId, parameter: &ParamName) -> Option<Dim>
+    ensures { result ≡ option_map (λ q. q.dim) (find (λ q. bytes_eq q.name parameter.now) (parameters id)) }
+{
+    dim_in(equation(id).params, parameter)
+}
+
+fn dim_in(params: &[Param], parameter: &ParamName) -> Option<Dim>
+    ensures { result ≡ option_map (λ q. q.dim) (find (λ q. bytes_eq q.name.now parameter.now) params.now) }
+{
+    params
+        .iter()
+        .find(|q| q.name.as_bytes() == parameter.as_bytes())
+        .map(|q| q.dim)
+}
+
+// The parameter is one of the equation's, and is bound.
+fn binds_parameter(
+    draft: &Draft<'_>,
+    id: EqId,
+    parameter: &ParamName,
+    binding: Option<&Binding>,
+) -> bool
+    ensures { result ≡ binds_parameter draft.now id parameter.now (option_copied binding.entry) }
+{
+    match dim_of_parameter(id, parameter) {
+        Some(dim) => is_bound(draft, dim, binding),
+        None => false,
+    }
+}
+
+#[tactic(auto, unfolding(ghg_definitions::specs::Rules::is_sound))]
+fn is_sound(draft: &Draft<'_>, place: &Place) -> bool
+    ensures { result ≡ is_sound draft.now place.now }
+{
+    let binding = draft.binding(&place.line, &place.parameter);
+    match draft.line(&place.line) {
+        Some(id) => binds_parameter(draft, id, &place.parameter, binding),
+        None => false,
+    }
+}
+
+// A line that is present takes the parameter, or a binding names it.
+fn is_place(draft: &Draft<'_>, place: &Place) -> bool
+    ensures { result ≡ is_place draft.now place.now }
+{
+    draft.binding(&place.line, &place.parameter).is_some()
+        || match draft.line(&place.line) {
+            Some(id) => dim_of_parameter(id, &place.parameter).is_some(),
+            None => false,
+        }
+}
+
+fn lesser_place(place: &Place, least: &Option<Place>) -> Place
+    ensures { result ≡ lesser_place place.now least.now }
+{
+    match least {
+        Some(other) if place.cmp(other) == Ordering::Greater => *other,
+        _ => *place,
+    }
+}
+
+// Keeps the least fault, once this place is looked at.
+fn consider(draft: &Draft<'_>, least: &mut Option<Place>, place: &Place)
+    ensures { least.new ≡ considered draft.now least.old place.now }
+{
+    if is_place(draft, place) && !is_sound(draft, place) {
+        *least = Some(lesser_place(place, least));
+    }
+}
+
+// Looks at each parameter of a line with this equation.
+fn consider_parameters(draft: &Draft<'_>, least: &mut Option<Place>, line: &Name, id: EqId)
+    ensures { least.new ≡ fold (considered draft.now) least.old (map (λ q. record { line = line.now; parameter = q.name }) (parameters id)) }
+{
+    consider_params(draft, least, line, equation(id).params);
+}
+
+fn consider_params(draft: &Draft<'_>, least: &mut Option<Place>, line: &Name, params: &[Param])
+    requires { AllByRecursion (λ q. is_parameter q.name.now ≡ true) params.now }
+    ensures { least.new ≡ fold (considered draft.now) least.old (map (λ q. record { line = line.now; parameter = q.name.now }) params.now) }
+{
+    for param in params {
+        let parameter = ParamName::new(param.name.as_bytes()).unwrap();
+        consider(
+            draft,
+            least,
+            &Place {
+                line: *line,
+                parameter,
+            },
+        );
+    }
+}
+
+// Looks at the places that a key is about.
+fn consider_key(draft: &Draft<'_>, least: &mut Option<Place>, key: &RecordKey)
+    ensures { least.new ≡ fold (considered draft.now) least.old (key_places draft.now key.now) }
+{
+    match key {
+        RecordKey::Line(name) => {
+            if let Some(id) = draft.line(name) {
+                consider_parameters(draft, least, name, id);
+            }
+        }
+        RecordKey::Bind(line, parameter) => consider(
+            draft,
+            least,
+            &Place {
+                line: *line,
+                parameter: *parameter,
+            },
+        ),
+        _ => {}
+    }
+}
+
+// Looks at each parameter of the lines before the edits.
+fn consider_lines(draft: &Draft<'_>, least: &mut Option<Place>, holdings: &Holdings)
+    ensures { least.new ≡ fold (considered draft.now) least.old (flat_map (line_places holdings.now.content) (line_names holdings.now.content)) }
+{
+    for line in holdings.lines() {
+        if let Some(id) = equation_in(holdings.get(&RecordKey::Line(*line))) {
+            consider_parameters(draft, least, line, id);
+        }
+    }
+}
+
+// Looks at the places that changed keys are about.
+fn consider_keys(draft: &Draft<'_>, least: &mut Option<Place>, keys: &[RecordKey])
+    ensures { least.new ≡ fold (considered draft.now) least.old (flat_map (key_places draft.now) keys.now) }
+{
+    for key in keys {
+        consider_key(draft, least, key);
+    }
+}
+
+/// The least place that is unsound once the edits are made.
+pub(crate) fn unsound_place(holdings: &Holdings, edits: &Edits) -> Option<Place>
+    requires workbook { IsWorkbook holdings.now.content }
+    requires consistent { IsConsistent (applied holdings.now.content edits.now) }
+    ensures { result ≡ unsound_place (applied holdings.now.content edits.now) }
+{
+    let draft = Draft::of(holdings, edits);
+    let mut least = None;
+    consider_lines(&draft, &mut least, holdings);
+    consider_keys(&draft, &mut least, edits.keys());
+    least
+}

@@ -1,0 +1,181 @@
+//! What activities and factors give in a year.
+
+ghost use Rattle.std.specs.Prelude.{◌≡◌, IfSome, option_copied};
+ghost use Rattle.ghg_definitions.specs.Data.{figure};
+ghost use Rattle.ghg_definitions.specs.Lookups.{activity_input, factor_figure_at, factor_input, input_of_amount, input_of_figure, input_of_key, zero_input};
+ghost use Rattle.ghg_definitions.specs.Sound.{IsWorkbook};
+ghost use Rattle.ghg_interval.specs.Bounds.{AreBounded};
+ghost use Rattle.ghg_units.specs.Units.{converted};
+ghost use Rattle.ghg_units.specs.WellFormed.{IsAmountOf, IsFigure};
+
+use crate::records::Records;
+use ghg_cell::Input;
+use ghg_definitions::{Record, RecordKey};
+use ghg_interval::Interval;
+use ghg_units::{Amount, Decimal, Figure, Name, NotationKey, Unit, to_interval};
+
+/// The first and the last year in which a record may begin.
+const FIRST_YEAR: u32 = 1900;
+
+const LAST_YEAR: u32 = 2100;
+
+/// What an activity's record of the year gives.
+pub(crate) fn activity<R: Records>(records: &R, name: &Name, year: u32) -> Input
+    ensures { result ≡ activity_input (R.content records.now) name.now year }
+{
+    input(figure(records, &RecordKey::Activity(*name, year)))
+}
+
+/// What a factor's record with the greatest start year that is not after the year gives.
+pub(crate) fn factor<R: Records>(records: &R, name: &Name, year: u32) -> Input
+    ensures { result ≡ factor_input (R.content records.now) name.now year }
+{
+    input(figure_in_force(records, name, year))
+}
+
+// The figure of a factor's record with the greatest start year that is not after the year. No record begins before
+// the first year or after the last one.
+fn figure_in_force<'a, R: Records>(records: &'a R, name: &Name, year: u32) -> Option<&'a Figure>
+    ensures figure { option_copied result ≡ factor_figure_at (R.content records.now) name.now year }
+    ensures keeps { IfSome result (λ f. IsFigure f.now) }
+{
+    let mut start = year.min(LAST_YEAR);
+    'years: loop {
+        match figure(records, &RecordKey::Factor(*name, start)) {
+            Some(figure) => return Some(figure),
+            None if start <= FIRST_YEAR => return None,
+            None => start -= 1,
+        }
+    }
+}
+
+// The figure of an activity's or a factor's record.
+fn figure<'a, R: Records>(records: &'a R, key: &RecordKey) -> Option<&'a Figure>
+    ensures figure { option_copied result ≡ figure (R.content records.now) key.now }
+    ensures keeps { IfSome result (λ f. IsFigure f.now) }
+    ensures workbook { IsWorkbook (R.content records.now) }
+{
+    match records.get(key) {
+        Some(Record::Activity(figure)) => Some(figure),
+        Some(Record::Factor(figure)) => Some(figure),
+        _ => None,
+    }
+}
+
+// The input of a record's figure; blank where there is none.
+fn input(figure: Option<&Figure>) -> Input
+    requires { IfSome figure (λ f. IsFigure f.now) }
+    ensures { result ≡ input_of_figure (option_copied figure.entry) }
+{
+    let Some(figure) = figure else {
+        return Input::Blank;
+    };
+    match figure.amount {
+        Amount::Key(key) => input_of_key(key),
+        Amount::Known { value, low, high } => known(figure.unit, value, low, high),
+    }
+}
+
+// The input of a value and its bounds.
+fn known(unit: Unit, value: Decimal, low: Decimal, high: Decimal) -> Input
+    requires { IsAmountOf unit (Amount.Known value low high) }
+    ensures { result ≡ input_of_amount unit (Amount.Known value low high) }
+{
+    let point = interval(value, unit);
+    let range = interval(low, unit).hull(&interval(high, unit));
+    Input::Known { point, range }
+}
+
+// The interval of a decimal that is within the limit in the base unit.
+fn interval(decimal: Decimal, unit: Unit) -> Interval
+    requires { AreBounded (converted unit decimal decimal) }
+    ensures { result ≡ converted unit decimal decimal }
+{
+    to_interval(decimal, unit).unwrap()
+}
+
+// The input of a notation key: what does not occur, does not apply or is included elsewhere counts as zero.
+fn input_of_key(key: NotationKey) -> Input
+    ensures { result ≡ input_of_key key }
+{
+    match key {
+        NotationKey::No | NotationKey::Na | NotationKey::Ie => zero(),
+        NotationKey::Ne => Input::Blank,
+    }
+}
+
+fn zero() -> Input
+    ensures { result ≡ zero_input }
+{
+    let point = Interval::whole(0).unwrap();
+    Input::Known {
+        point,
+        range: point,
+    }
+}
+
+#[cfg(test)]
+mod tests {
+    use crate::lookups::input;
+    use crate::{Book, Records};
+    use ghg_cell::Input;
+    use ghg_interval::Interval;
+    use ghg_units::{Amount, Decimal, Figure, Name, NotationKey, Unit};
+
+    // 56,100 kg/TJ, between 54,300 and 58,300, in parts of 10^-12.
+    #[test]
+    fn a_figure_gives_its_value_and_its_bounds(rt: HostRuntime) {
+        let amount = Amount::Known {
+            value: Decimal {
+                scaled: 56_100_000_000_000_000,
+            },
+            low: Decimal {
+                scaled: 54_300_000_000_000_000,
+            },
+            high: Decimal {
+                scaled: 58_300_000_000_000_000,
+            },
+        };
+        let point = Interval::exact(56_100_000_000_000_000).expect(&rt, "within the limit");
+        let range = Interval::new(54_300_000_000_000_000, 58_300_000_000_000_000).expect(
+            &rt,
+            "bounds in order",
+        );
+        let unit = Unit::KilogramPerTerajoule;
+        assert_eq!(rt;
+            input(Some(&Figure { unit, amount })),
+            Input::Known { point, range }
+        );
+    }
+
+    fn keyed(key: NotationKey) -> Input {
+        let amount = Amount::Key(key);
+        let unit = Unit::Terajoule;
+        input(Some(&Figure { unit, amount }))
+    }
+
+    #[test]
+    fn a_notation_key_gives_zero_or_nothing(rt: HostRuntime) {
+        let zero = Interval::exact(0).expect(&rt, "within the limit");
+        let known = Input::Known {
+            point: zero,
+            range: zero,
+        };
+        for (key, want) in [
+            (NotationKey::No, known),
+            (NotationKey::Na, known),
+            (NotationKey::Ie, known),
+            (NotationKey::Ne, Input::Blank),
+        ] {
+            assert_eq!(rt; keyed(key), want);
+        }
+    }
+
+    #[test]
+    fn where_there_is_no_record_the_input_is_blank(rt: HostRuntime) {
+        let book = Book::new(rt.alloc());
+        let name = Name::new(b"GAS.TJ").expect(&rt, "a name");
+        assert_eq!(rt; book.activity(&name, 1990), Input::Blank);
+        assert_eq!(rt; book.factor(&name, 1990), Input::Blank);
+    }
+}
