@@ -12,6 +12,8 @@ mod reply;
 mod run;
 mod session;
 mod stop;
+#[cfg(test)]
+mod tests;
 mod words;
 mod writing;
 

@@ -4,6 +4,7 @@ ghost use Rattle.std.specs.Prelude.{◌≡◌, ◌+◌, ◌<◌, ◌^◌, ℕ, s
 ghost use Rattle.std.specs.Io.KnownBytes.{Appends};
 ghost use Rattle.ghg.specs.Calls.{Reads, Writes, WritesOnly};
 ghost use Rattle.ghg.specs.Replies.{reply_of, state_after};
+ghost use Rattle.ghg.specs.Script.{most_commands};
 ghost use Rattle.ghg.specs.Session.{end_status, wrong_line};
 ghost use Rattle.ghg.specs.Turns.{AppendsFront, GoesOn, IsCut, IsCutOff, IsOver, first_place, place};
 
@@ -42,7 +43,7 @@ impl End {
 /// The most commands of a script, its end included.
 const MOST_COMMANDS: u32 = 1_000_000;
 
-/// Answers a script to its end.
+/// Answers a script to its end, as an office that accepted nothing so far.
 pub fn play<S: Source, W: Sink, L: Ledger>(
     alloc: Global,
     input: &mut S,
@@ -57,8 +58,26 @@ pub fn play<S: Source, W: Sink, L: Ledger>(
     ensures steps { steps.new ≡ steps.old }
 {
     let mut office = Office::new(alloc);
+    answer_all(alloc, input, out, &mut office, steps)
+}
+
+// Answers a script to its end.
+fn answer_all<S: Source, W: Sink, L: Ledger>(
+    alloc: Global,
+    input: &mut S,
+    out: &mut W,
+    office: &mut Office,
+    steps: &mut Steps<L>,
+) -> Result<End, Stop>
+    ensures over { IfOk result (IsOver (place most_commands 1 office.old) S.left S.taken input.old input.new W.written out.old out.new) }
+    ensures stopped { IsErrOf result Stop.Input → IsCutOff (place most_commands 1 office.old) S.left S.taken input.old input.new }
+    ensures cut { OnErr result (IsCut (place most_commands 1 office.old) (S.left input.old) (W.written out.old) (W.written out.new)) }
+    ensures reads { Reads S.faults S.written input.old input.new result }
+    ensures writes { Writes W.faults W.left W.taken out.old out.new result }
+    ensures steps { steps.new ≡ steps.old }
+{
     'commands: for done in 0..MOST_COMMANDS {
-        match turn(alloc, input, out, &mut office, done + 1, steps) {
+        match turn(alloc, input, out, office, done + 1, steps) {
             Ok(None) => {}
             Ok(Some(end)) => return Ok(end),
             Err(stop) => return Err(stop),

@@ -1,5 +1,5 @@
 -- Figures of a workbook's records: they are well formed, and no factor begins outside the years.
-use Rattle.std.proofs.Common.{◌≡◌, ◌≤◌, ◌<◌, ◌-◌, ◌∙◌, ℕ, zero, suc, min, pos, ◌<ℤ◌, ◌≤ℤ◌, Option, Some, None, is_some, if◌then◌else◌, refl, sym, ap, subst, arith, Bor, IfSome, option_copied}
+use Rattle.std.proofs.Common.{◌≡◌, ◌≤◌, ◌<◌, ◌-◌, ◌∙◌, ℕ, zero, suc, min, pos, ◌<ℤ◌, ◌≤ℤ◌, Option, Some, None, is_some, if◌then◌else◌, refl, sym, ap, subst, arith}
 use Rattle.std.proofs.lemmas.Int.{ints, by_lt_z}
 use Rattle.ghg_definitions.specs.Data.{Data, Name, as_figure, figure}
 use Rattle.ghg_definitions.specs.Lookups.{factor_figure_at}

@@ -9,3 +9,4 @@ pub mod Figures
 pub mod InForce
 pub mod Parameters
 pub mod Counts
+pub mod Order

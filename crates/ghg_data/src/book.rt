@@ -9,6 +9,7 @@ ghost use Rattle.ghg_data.specs.Refusal.{IfRule};
 ghost use Rattle.ghg_data.specs.Changes.{applied};
 ghost use Rattle.ghg_data.specs.Shelf.{IsPlanned};
 
+use crate::draft::span_in;
 use crate::edits::Edits;
 use crate::holdings::Holdings;
 use crate::plan::planned_edits;
@@ -16,8 +17,8 @@ use crate::records::Records;
 use crate::refusal::PlanRefusal;
 use crate::view::After;
 use ghg_definitions::{Record, RecordKey};
-use ghg_units::{Row, Rule};
-use std::alloc::Global;
+use ghg_units::{Name, Row, Rule, Span};
+use std::alloc::{AllocError, Global};
 use std::marker::Model;
 
 /// The records of a workbook. Contracts see its data, and how many more changes fit without memory.
@@ -53,6 +54,14 @@ impl Records for Book {
 
     fn get(&self, key: &RecordKey) -> Option<&Record> {
         self.holdings.get(key)
+    }
+
+    fn span(&self) -> Option<Span> {
+        span_in(self.holdings.get(&RecordKey::Span))
+    }
+
+    fn lines(&self, alloc: Global) -> Result<Vec<Name>, AllocError> {
+        Vec::from_slice(alloc, self.holdings.lines())
     }
 }
 

@@ -1,8 +1,8 @@
 //! Records with edits applied, in the midst of planning.
 
-ghost use Rattle.std.specs.Prelude.{◌≡◌, true, None, option_copied, IfSome, IfNone};
+ghost use Rattle.std.specs.Prelude.{◌≡◌, true, None, option_copied, IfOk, IfSome, IfNone};
 ghost use Rattle.std.specs.FinMap as finite;
-ghost use Rattle.ghg_definitions.specs.Data.{as_line, as_span, binding, figure, line, span};
+ghost use Rattle.ghg_definitions.specs.Data.{as_line, as_span, binding, figure, line, line_names, span};
 ghost use Rattle.ghg_definitions.specs.Rules.{is_other_year};
 ghost use Rattle.ghg_definitions.specs.Sound.{IsConsistent};
 ghost use Rattle.ghg_data.specs.Changes.{applied};
@@ -10,9 +10,11 @@ ghost use Rattle.ghg_data.specs.Years.{in_year};
 
 use crate::edits::Edits;
 use crate::holdings::Holdings;
+use crate::names::lines_after;
 use ghg_definitions::{Record, RecordKey};
 use ghg_equations::EqId;
 use ghg_units::{Binding, Figure, Name, ParamName, Span};
+use std::alloc::{AllocError, Global};
 use std::marker::Model;
 
 // The years that a record may be of.
@@ -74,6 +76,13 @@ impl<'a> Draft<'a> {
         ensures { result ≡ span self.now }
     {
         span_in(self.get(&RecordKey::Span))
+    }
+
+    // The names of the lines, in order.
+    pub(crate) fn lines(&self, alloc: Global) -> Result<Vec<Name>, AllocError>
+        ensures { IfOk result (λ lines. lines.items ≡ line_names self.now) }
+    {
+        lines_after(alloc, self.holdings, self.edits)
     }
 
     // The equation of a line that is present.

@@ -157,18 +157,12 @@ mod tests {
     #[test]
     fn a_notation_key_gives_zero_or_nothing(rt: HostRuntime) {
         let zero = Interval::exact(0).expect(&rt, "within the limit");
-        let known = Input::Known {
-            point: zero,
-            range: zero,
-        };
-        for (key, want) in [
-            (NotationKey::No, known),
-            (NotationKey::Na, known),
-            (NotationKey::Ie, known),
-            (NotationKey::Ne, Input::Blank),
-        ] {
-            assert_eq!(rt; keyed(key), want);
+        for key in [NotationKey::No, NotationKey::Na, NotationKey::Ie] {
+            let figures = keyed(key).figures().expect(&rt, "a known input");
+            assert_eq!(rt; figures.point, zero);
+            assert_eq!(rt; figures.range, zero);
         }
+        assert_eq!(rt; keyed(NotationKey::Ne), Input::Blank);
     }
 
     #[test]

@@ -1,15 +1,17 @@
 //! What reads as the records of a workbook.
 
-ghost use Rattle.std.specs.Prelude.{◌≡◌, option_copied};
+ghost use Rattle.std.specs.Prelude.{◌≡◌, IfOk, option_copied};
 ghost use Rattle.std.specs.FinMap.{get};
-ghost use Rattle.ghg_definitions.specs.Data.{Data};
+ghost use Rattle.std.specs.List.Sorted.{IsStrictlySortedBy};
+ghost use Rattle.ghg_definitions.specs.Data.{Data, line_names, name_cmp, span};
 ghost use Rattle.ghg_definitions.specs.Lookups.{activity_input, factor_input};
 ghost use Rattle.ghg_definitions.specs.Sound.{IsWorkbook};
 
 use crate::lookups;
 use ghg_cell::Input;
 use ghg_definitions::{Record, RecordKey};
-use ghg_units::Name;
+use ghg_units::{Name, Span};
+use std::alloc::{AllocError, Global};
 
 /// A workbook's records: those of a book, or those that it will have once its edits are committed.
 pub trait Records {
@@ -18,6 +20,17 @@ pub trait Records {
     /// The record under a key; `None` exactly where the key has none.
     fn get(&self, key: &RecordKey) -> Option<&Record>
         ensures record { option_copied result ≡ get (content self.now) key.now }
+        ensures workbook { IsWorkbook (content self.now) };
+
+    /// The years of the inventory; `None` exactly where there is no record of them.
+    fn span(&self) -> Option<Span>
+        ensures span { result ≡ span (content self.now) }
+        ensures workbook { IsWorkbook (content self.now) };
+
+    /// The names of the lines that are present, each once, in byte order.
+    fn lines(&self, alloc: Global) -> Result<Vec<Name>, AllocError>
+        ensures names { IfOk result (λ names. names.items ≡ line_names (content self.now)) }
+        ensures order { IfOk result (λ names. IsStrictlySortedBy name_cmp names.items) }
         ensures workbook { IsWorkbook (content self.now) };
 
     /// What an activity gives in a year: the figures of the year's record in the base unit. Blank where there is no

@@ -9,6 +9,8 @@ use crate::draft::Draft;
 use crate::edits::Edits;
 use crate::records::Records;
 use ghg_definitions::{Record, RecordKey};
+use ghg_units::{Name, Span};
+use std::alloc::{AllocError, Global};
 use std::marker::Model;
 
 /// The records that a book will have once its edits are committed.
@@ -48,5 +50,13 @@ impl<'a> Records for After<'a> {
 
     fn get(&self, key: &RecordKey) -> Option<&Record> {
         self.draft.get(key)
+    }
+
+    fn span(&self) -> Option<Span> {
+        self.draft.span()
+    }
+
+    fn lines(&self, alloc: Global) -> Result<Vec<Name>, AllocError> {
+        self.draft.lines(alloc)
     }
 }

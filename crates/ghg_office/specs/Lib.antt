@@ -1,2 +1,4 @@
+pub mod Accepted
+pub mod Id
 pub mod Office
 pub mod Replies

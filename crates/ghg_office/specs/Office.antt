@@ -1,10 +1,9 @@
 -- The office: the data in force, the submissions that it accepted, and what it answers.
-use Rattle.std.specs.Prelude.{ℕ, ◌+◌, Bool, ◌&&◌, ◌||◌, ◌==◌, nat_le, nat_lt, if◌then◌else◌, List, [], ◌∷◌, ◌++◌, length, map, sum, Option, Some, None, Result, Ok, Err, codes, refl}
+use Rattle.std.specs.Prelude.{◌≡◌, ℕ, ◌≤◌, true, ◌+◌, nat_lt, if◌then◌else◌, List, [], ◌∷◌, ◌++◌, length, Option, Some, None, Result, Ok, Err, refl}
 use Rattle.std.specs.Option.{option_map}
-use Rattle.std.specs.List.{filter_map, list_all}
+use Rattle.std.specs.List.{filter_map}
 use Rattle.std.specs.Str.{bytes_eq}
-use Rattle.std.specs.Char.{is_ascii_alphanumeric}
-use Rattle.std.specs.Coded.{Coded, code_by, coded×, coded_list, coded_ℕ}
+use Rattle.std.specs.Coded.{Coded, code_by, coded×, coded_list}
 use Rattle.std.specs.FinMap.{code, empty}
 use Rattle.ghg_cell.specs.declared.input.Input.{Input}
 use Rattle.ghg_cell.specs.declared.input.Input.TheVariants.{Blank}
@@ -16,9 +15,14 @@ use Rattle.ghg_definitions.specs.Rules.{planned}
 use Rattle.ghg_import.specs.Body.{max_body}
 use Rattle.ghg_import.specs.Reading.{Reading, reading_of}
 use Rattle.ghg_interval.specs.declared.Over.{Over}
+use Rattle.ghg_office.specs.Accepted.{Kept, Submission, kept_bytes, kept_from, submission_code}
+use Rattle.ghg_office.specs.Id.{is_id}
 use Rattle.ghg_office.specs.declared.reply.Reply.{Reply}
-use Rattle.ghg_office.specs.declared.reply.Reply.TheVariants.{Accepted, Repeated, Refused, Table, NoTable}
+use Rattle.ghg_office.specs.declared.reply.Reply.TheVariants.{Accepted, Repeated, Refused, NoTable, Table as Shown}
 use Rattle.ghg_tables.specs.declared.cell_row.CellRow.{CellRow}
+use Rattle.ghg_tables.specs.declared.table.Table.{Table}
+use Rattle.ghg_tables.specs.declared.table.Table.TheVariants.{Cells}
+use Rattle.ghg_tables.specs.Names.{table_in}
 use Rattle.ghg_tables.specs.Texts.{cells_text}
 use Rattle.ghg_units.specs.declared.node.Node.{Node}
 use Rattle.ghg_units.specs.declared.rule.Rule.{Rule}
@@ -26,18 +30,10 @@ use Rattle.ghg_units.specs.declared.rule.Rule.TheVariants.{BadId, IdReused, Body
 
 -- ---- the state
 
--- a submission that was accepted
-pub record Submission : Type 0 where
-  pub id : List ℕ
-  pub body : List ℕ
-
 -- the data in force, and the accepted submissions in their order
 pub record State : Type 0 where
   pub content : Data
   pub accepted : List Submission
-
-abbrev pub submission_code : Coded Submission
-submission_code = code_by (List ℕ × List ℕ) (coded× (coded_list coded_ℕ) (coded_list coded_ℕ)) (λ s. (s.id, s.body)) (λ p. record { id = p.0; body = p.1 }) (λ _. refl)
 
 abbrev pub state_code : Coded RecordKey → Coded Record → Coded State
 state_code key entry =
@@ -46,29 +42,20 @@ state_code key entry =
 abbrev pub start : State
 start = record { content = empty; accepted = [] }
 
--- an accepted submission and its number, which is its place from 1
-pub record Kept : Type 0 where
-  pub seq : ℕ
-  pub body : List ℕ
-
--- the submission under an id, where the first of the list has this number
-unfoldable pub kept_from : ℕ → List ℕ → List Submission → Option Kept
-kept_from seq id [] = None
-kept_from seq id (s ∷ rest) = if bytes_eq s.id id then Some (record { seq = seq; body = s.body }) else kept_from (seq + 1) id rest
-
--- how many bytes the bodies of the accepted submissions have
-abbrev pub kept_bytes : List Submission → ℕ
-kept_bytes accepted = sum (map (λ s. length s.body) accepted)
-
 -- ---- a submission, by the first case that holds
 
--- a letter, a digit, a point, a low line or a hyphen
-abbrev pub is_id_byte : ℕ → Bool
-is_id_byte b = is_ascii_alphanumeric b || (b == 46) || (b == 95) || (b == 45)
+-- data, where no line of them is beyond the limits
+abbrev pub within_limits : Data → Option Node → Result Data Rule
+within_limits m (Some node) = Err (Overflow node)
+within_limits m None = Ok m
 
--- 1 to 40 of them
-unfoldable pub is_id : List ℕ → Bool
-is_id id = nat_lt 0 (length id) && nat_le (length id) 40 && list_all is_id_byte id
+abbrev pub compiled : Result Data Rule → Result Data Rule
+compiled (Err rule) = Err rule
+compiled (Ok m) = within_limits m (overflow m)
+
+-- the data once the rows of a body are entered, or the first rule that the rows or these data break
+unfoldable pub entered : Data → Reading → ℕ → Result Data Rule
+entered m reading kept_bytes = compiled (planned m reading.rows reading.rest kept_bytes)
 
 -- an answer, and the state after it
 pub record Answer : Type 0 where
@@ -79,24 +66,18 @@ pub record Answer : Type 0 where
 abbrev pub refused : State → Rule → Answer
 refused s rule = record { reply = Refused rule; after = s }
 
--- the data after the rows, where no line is beyond the limits
-abbrev pub within_limits : State → List ℕ → List ℕ → Data → Option Node → Answer
-within_limits s id body m (Some node) = refused s (Overflow node)
-within_limits s id body m None = record {
+abbrev pub decided : State → List ℕ → List ℕ → Result Data Rule → Answer
+decided s id body (Err rule) = refused s rule
+decided s id body (Ok m) = record {
   reply = Accepted (length s.accepted + 1);
   after = record { content = m; accepted = s.accepted ++ (record { id = id; body = body } ∷ []) };
 }
 
-abbrev pub compiled : State → List ℕ → List ℕ → Result Data Rule → Answer
-compiled s id body (Err rule) = refused s rule
-compiled s id body (Ok m) = within_limits s id body m (overflow m)
-
-abbrev pub read : State → List ℕ → List ℕ → Reading → Answer
-read s id body reading = compiled s id body (planned s.content reading.rows reading.rest (kept_bytes s.accepted + length body))
-
 -- a submission with an id that is not kept
 abbrev pub judged : State → List ℕ → List ℕ → Answer
-judged s id body = if nat_lt max_body (length body) then refused s BodyTooLong else read s id body (reading_of body)
+judged s id body =
+    if nat_lt max_body (length body) then refused s BodyTooLong
+    else decided s id body (entered s.content (reading_of body) (kept_bytes s.accepted + length body))
 
 -- the same id and body again changes nothing
 abbrev pub once : State → List ℕ → List ℕ → Option Kept → Answer
@@ -105,6 +86,12 @@ once s id body (Some kept) = if bytes_eq kept.body body then record { reply = Re
 
 unfoldable pub submitted : State → List ℕ → List ℕ → Answer
 submitted s id body = if is_id id then once s id body (kept_from 1 id s.accepted) else refused s BadId
+
+-- the submission is a new one, and its body is read
+pub record IsRead (s : State) (id body : List ℕ) : Type 0 where
+  pub id_form : is_id id ≡ true
+  pub new_id : kept_from 1 id s.accepted ≡ None
+  pub length_of_body : length body ≤ max_body
 
 -- ---- a request for a table
 
@@ -120,7 +107,10 @@ row_of m year name = option_map (λ e. record { line = name; equation = e; value
 abbrev pub cell_rows : Data → ℕ → List CellRow
 cell_rows m year = filter_map (row_of m year) (line_names m)
 
--- the table of cells, for a year of the span
+-- the table of cells is that of a year of the span
+abbrev pub asked : State → ℕ → Option Table → Reply
+asked s year None = NoTable
+asked s year (Some Cells) = if is_year_of (span s.content) year then Shown (cells_text (cell_rows s.content year)) else NoTable
+
 unfoldable pub requested : State → List ℕ → ℕ → Reply
-requested s table year =
-    if bytes_eq table (codes "cells") && is_year_of (span s.content) year then Table (cells_text (cell_rows s.content year)) else NoTable
+requested s table year = asked s year (table_in table)

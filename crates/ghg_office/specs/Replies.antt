@@ -1,6 +1,8 @@
 -- The texts of replies.
-use Rattle.std.specs.Prelude.{◌≡◌, ⊤, ℕ, List, [], ◌∷◌, ◌++◌, codes}
+use Rattle.std.specs.Prelude.{◌≡◌, ⊤, ℕ, List, [], ◌∷◌, ◌++◌, codes, Result, Ok, Err}
 use Rattle.std.specs.Fmt.{decimal}
+use Rattle.ghg_data.specs.declared.refusal.PlanRefusal.{PlanRefusal}
+use Rattle.ghg_data.specs.declared.refusal.PlanRefusal.TheVariants as refusal
 use Rattle.ghg_office.specs.declared.reply.Reply.{Reply}
 use Rattle.ghg_office.specs.declared.reply.Reply.TheVariants.{Accepted, Repeated, Refused, Table, NoTable, Memory}
 use Rattle.ghg_office.specs.Office.{Answer, State}
@@ -24,3 +26,9 @@ Answers answer reply old new = (reply ≡ answer.reply) × (new ≡ answer.after
 abbrev pub Shows : Reply → Reply → Type 0
 Shows due Memory = ⊤
 Shows due reply = reply ≡ due
+
+-- the reply to a submission that has this number, or was refused
+abbrev pub reply_of : Result ℕ PlanRefusal → Reply
+reply_of (Ok seq) = Accepted seq
+reply_of (Err (refusal.Rule rule)) = Refused rule
+reply_of (Err refusal.Memory) = Memory

@@ -1,13 +1,13 @@
 use Rattle.std.proofs.Common.{◌≡◌, ◌+◌, ◌-◌, suc, arith, refl}
 use Rattle.std.proofs.KnownBytes.{Keeps-refl, Keeps-trans}
 use Rattle.ghg.specs.Script.{most_commands}
-use Rattle.ghg.specs.Turns.{first_place}
+use Rattle.ghg.specs.Turns.{place}
 use Rattle.ghg.proofs.Turns.{begins, goes_further, over_later, cut_later, over_spent, cut_spent, cut_off_later}
-use Rattle.ghg.proofs.session.play.Goals as goal
+use Rattle.ghg.proofs.session.answer_all.Goals as goal
 
 pub commands-init : goal.commands-init
-commands-init g c = rw c.new-office.ensures record {
-  ran = begins first_place _ _ _ _ _;
+commands-init g c = record {
+  ran = begins (place most_commands 1 c.args.office.now) _ _ _ _ _;
   read = omega arith;
   kept_written = Keeps-refl _;
   wrote = omega arith;

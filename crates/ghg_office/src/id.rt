@@ -1,0 +1,62 @@
+//! Ids of submissions.
+
+ghost use Rattle.std.specs.Prelude.{◌≡◌, IsTrue, SomeIff};
+ghost use Rattle.std.specs.List.{list_all};
+ghost use Rattle.ghg_office.specs.Id.{is_id, is_id_byte};
+
+use ghg_units::ShortText;
+use std::marker::Model;
+
+/// A text of 1 to 40 bytes out of letters, digits, `.`, `_` and `-`.
+#[derive(Clone, Copy, PartialEq, Eq, Hash)]
+pub(crate) struct SubmissionId {
+    text: ShortText<40>,
+}
+
+impl Model for SubmissionId {
+    ghost use Rattle.std.specs.Prelude.{ℕ, List, IsTrue};
+    ghost use Rattle.ghg_office.specs.Id.{is_id};
+
+    ghost Value = { List ℕ };
+
+    ghost view = { λ i. i.text };
+
+    ghost invariant = { λ i. IsTrue (is_id i.text) };
+
+    ghost inverse = { λ text. record { text = text } };
+}
+
+impl SubmissionId {
+    const MAX_LEN: usize = 40;
+
+    #[tactic(auto, unfolding(crate::specs::Id::is_id))]
+    /// The id that a text is; `None` exactly where it is none.
+    pub(crate) fn new(text: &[u8]) -> Option<SubmissionId>
+        ensures { SomeIff result (IsTrue (is_id text.now)) text.now }
+    {
+        if !is_id(text) {
+            return None;
+        }
+        let text = ShortText::new(text)?;
+        Some(SubmissionId { text })
+    }
+}
+
+#[tactic(auto, unfolding(crate::specs::Id::is_id))]
+fn is_id(text: &[u8]) -> bool
+    ensures { result ≡ is_id text.now }
+{
+    !text.is_empty() && text.len() <= SubmissionId::MAX_LEN && has_id_bytes(text)
+}
+
+fn has_id_bytes(text: &[u8]) -> bool
+    ensures { result ≡ list_all is_id_byte text.now }
+{
+    text.iter().all(|b| is_id_byte(*b))
+}
+
+fn is_id_byte(b: u8) -> bool
+    ensures { result ≡ is_id_byte b }
+{
+    b.is_ascii_alphanumeric() || matches!(b, b'.' | b'_' | b'-')
+}
