@@ -2,16 +2,18 @@
 use Rattle.std.proofs.Common.{◌≡◌, ◌∙◌, ◌==◌, length, Option, Some, None, Result, Ok, Err, Bool, true, false, refl, arith}
 use Rattle.ghg_units.specs.declared.row.Act.{Act}
 use Rattle.ghg_units.specs.declared.row.Act.TheVariants.{Enter, Correct, Withdraw}
+use Rattle.ghg_units.specs.declared.row.NotationKey.{NotationKey}
 use Rattle.ghg_units.specs.Name.{plain_name_in}
 use Rattle.ghg_units.specs.Parameter.{parameter_in}
 use Rattle.ghg_units.specs.Units.{unit_in}
+use Rattle.ghg_units.specs.Words.{key_in}
 use Rattle.ghg_units.specs.Year.{year_in}
 use Rattle.ghg_import.specs.declared.fault.Fault.{Fault}
 use Rattle.ghg_import.specs.declared.fault.Fault.TheVariants.{Shape, Word, Number, Disorder}
 use Rattle.ghg_import.specs.declared.kind.Kind.{Kind}
 use Rattle.ghg_import.specs.declared.kind.Kind.TheVariants as kinds
 use Rattle.ghg_import.specs.Fault.{◌>>=◌}
-use Rattle.ghg_import.specs.Forms.{activity_in, bind_in, factor_in, form_in, is_category, known_in, line_in, named_figure_in, no_value_in, span_in}
+use Rattle.ghg_import.specs.Forms.{activity_in, amount_in, bind_in, factor_in, form_in, is_category, key_alone_in, known_in, line_in, named_figure_in, no_value_in, span_in}
 use Rattle.ghg_import.specs.Kinds.{binding_form_in}
 use Rattle.ghg_import.specs.Shape.{Texts}
 use Rattle.ghg_import.specs.Table.{column_fault, wrong_column}
@@ -49,14 +51,29 @@ span_gone row =
     tested (length row.name == 0) (λ e. rw e refl) (λ e. rw e (
     grind arith))))
 
-figure_kept : (row : Texts) → column_fault (named_figure_in Enter row) ≡ wrong_column kinds.Activity Enter row
-unfolding named_figure_in known_in
-figure_kept row =
+-- a figure that is a notation key
+key_kept : (row : Texts) (key : NotationKey) → key_in row.value ≡ Some key → column_fault (named_figure_in Enter row) ≡ wrong_column kinds.Activity Enter row
+unfolding named_figure_in key_alone_in amount_in
+key_kept row key is = rw is (
+    tested (length row.subject == 0) (λ e. rw e refl) (λ e. rw e (
+    read (plain_name_in row.name) (λ e. rw e refl) (λ name e. rw e (
+    tested (length row.low == 0) (λ e. rw (e, is) refl) (λ e. rw (e, is) (
+    tested (length row.high == 0) (λ e. rw e refl) (λ e. rw e (
+    read (unit_in row.unit) (λ e. rw e refl) (λ unit e. rw e (
+    grind arith)))))))))))
+
+-- and one that is not
+known_kept : (row : Texts) → key_in row.value ≡ None → column_fault (named_figure_in Enter row) ≡ wrong_column kinds.Activity Enter row
+unfolding named_figure_in key_alone_in amount_in known_in
+known_kept row none = rw none (
     tested (length row.subject == 0) (λ e. rw e refl) (λ e. rw e (
     read (plain_name_in row.name) (λ e. rw e refl) (λ name e. rw e (
     read (unit_in row.unit) (λ e. rw e refl) (λ unit e. rw e (
     read (year_in row.year) (λ e. rw e refl) (λ year e. rw e (
-    grind arith))))))))
+    grind arith)))))))))
+
+figure_kept : (row : Texts) → column_fault (named_figure_in Enter row) ≡ wrong_column kinds.Activity Enter row
+figure_kept row = read (key_in row.value) (known_kept row) (key_kept row)
 
 figure_gone : (row : Texts) → column_fault (named_figure_in Withdraw row) ≡ wrong_column kinds.Activity Withdraw row
 unfolding named_figure_in no_value_in

@@ -1,5 +1,5 @@
 -- What each column of a row may hold, kind by kind: the words from left to right, then the numbers from left to right.
-use Rattle.std.specs.Prelude.{ℕ, Bool, List, length, ◌==◌, ◌||◌, ◌&&◌, nat_lt, int_lt, Option, Some, None, option_and_then, Result, Ok, Err, is_err, if◌then◌else◌, codes}
+use Rattle.std.specs.Prelude.{ℕ, Bool, List, length, ◌==◌, ◌||◌, ◌&&◌, nat_lt, int_lt, Option, Some, None, option_and_then, Result, Ok, Err, is_err, is_some, if◌then◌else◌, codes}
 use Rattle.std.specs.Option.{ok_or, option_map}
 use Rattle.std.specs.Str.{bytes_eq}
 use Rattle.ghg_equations.specs.Table.{named}
@@ -9,17 +9,18 @@ use Rattle.ghg_units.specs.declared.row.Amount.{Amount}
 use Rattle.ghg_units.specs.declared.row.Amount.TheVariants as amounts
 use Rattle.ghg_units.specs.declared.row.Binding.{Binding}
 use Rattle.ghg_units.specs.declared.row.Binding.TheVariants as bound
+use Rattle.ghg_units.specs.declared.row.NotationKey.{NotationKey}
 use Rattle.ghg_units.specs.declared.row.RowForm.{RowForm}
 use Rattle.ghg_units.specs.declared.row.RowForm.TheVariants as forms
 use Rattle.ghg_units.specs.declared.rule.Column.{Column}
 use Rattle.ghg_units.specs.declared.rule.Column.TheVariants as columns
 use Rattle.ghg_units.specs.declared.unit.Unit.{Unit as UnitWord}
-use Rattle.ghg_units.specs.Decimal.{whole_decimal_in}
+use Rattle.ghg_units.specs.Decimal.{decimal_in}
 use Rattle.ghg_units.specs.Name.{plain_name_in}
 use Rattle.ghg_units.specs.Parameter.{parameter_in}
 use Rattle.ghg_units.specs.Units.{interval_in, unit_in}
 use Rattle.ghg_units.specs.WellFormed.{withdraws}
-use Rattle.ghg_units.specs.Words.{act_in}
+use Rattle.ghg_units.specs.Words.{act_in, key_in}
 use Rattle.ghg_units.specs.Year.{year_in}
 use Rattle.ghg_import.specs.declared.fault.Fault.{Fault}
 use Rattle.ghg_import.specs.declared.fault.Fault.TheVariants.{Word, Number, Disorder}
@@ -63,7 +64,7 @@ span_in act row = do
 
 -- the decimal that a text writes, where it is within the limit in the base unit
 unfoldable pub quantity_in : UnitWord → List ℕ → Option Decimal
-quantity_in u text = option_and_then (λ d. if is_err (interval_in u d) then None else Some d) (whole_decimal_in text)
+quantity_in u text = option_and_then (λ d. if is_err (interval_in u d) then None else Some d) (decimal_in text)
 
 -- a value, and its bounds: two, or none
 unfoldable pub known_in : UnitWord → Texts → Result Amount Fault
@@ -75,6 +76,23 @@ known_in u row = do
         high ← ok_or (quantity_in u row.high) (Number columns.High)
         if int_lt value.scaled low.scaled || int_lt high.scaled value.scaled then Err Disorder else Ok (amounts.Known value low high))
 
+-- a notation key, and else what the row says without one
+abbrev pub key_or : Option NotationKey → Result Amount Fault → Result Amount Fault
+key_or (Some key) known = Ok (amounts.Key key)
+key_or None known = known
+
+-- a notation key, or a value and its bounds
+unfoldable pub amount_in : UnitWord → Texts → Result Amount Fault
+amount_in u row = key_or (key_in row.value) (known_in u row)
+
+-- a notation key stands without bounds
+unfoldable pub key_alone_in : Texts → Result (Unit {0}) Fault
+key_alone_in row =
+    if is_some (key_in row.value) then (do
+      _ ← empty_at columns.Low row.low
+      empty_at columns.High row.high)
+    else Ok tt
+
 -- the name, the year and the figure of an activity or a factor
 unfoldable pub named_figure_in : Act → Texts → Result NamedFigure Fault
 named_figure_in act row = do
@@ -85,9 +103,10 @@ named_figure_in act row = do
     year ← ok_or (year_in row.year) (Number columns.Year)
     Ok (record { name = name; year = year; figure = None }))
       else (do
+        _ ← key_alone_in row
         unit ← ok_or (unit_in row.unit) (Word columns.Unit)
         year ← ok_or (year_in row.year) (Number columns.Year)
-        amount ← known_in unit row
+        amount ← amount_in unit row
         Ok (record { name = name; year = year; figure = Some (record { unit = unit; amount = amount }) }))
 
 unfoldable pub activity_in : Act → Texts → Result RowForm Fault

@@ -11,6 +11,7 @@ use Rattle.ghg_units.specs.Name.{plain_name_in}
 use Rattle.ghg_units.specs.Parameter.{parameter_in}
 use Rattle.ghg_units.specs.Units.{unit_in}
 use Rattle.ghg_units.specs.WellFormed.{withdraws}
+use Rattle.ghg_units.specs.Words.{key_in}
 use Rattle.ghg_units.specs.Year.{year_in}
 use Rattle.ghg_import.specs.declared.fault.Fault.{Fault}
 use Rattle.ghg_import.specs.declared.fault.Fault.TheVariants.{Shape, Word, Number, Disorder}
@@ -30,6 +31,7 @@ pub data Holding : Type 0 where
   Equation : Holding
   Form : Holding
   Target : Holding
+  NotationKey : Holding
   UnitWord : Holding
   Year : Holding
   Figure : Holding
@@ -48,18 +50,21 @@ pub record Holdings : Type 0 where
 abbrev pub columns_of : Holding → Holding → Holding → Holding → Holding → Holding → Holding → Holdings
 columns_of subject name year value low high unit = record { subject = subject; name = name; year = year; value = value; low = low; high = high; unit = unit }
 
--- the table: for each kind the columns of its key, which alone a row that withdraws fills, and the columns of another row
-abbrev pub holdings_of : Kind → Bool → Holdings
-holdings_of kinds.Span true = columns_of Empty Empty Empty Empty Empty Empty Empty
-holdings_of kinds.Span false = columns_of Empty Empty Year Year Year Empty Empty
-holdings_of kinds.Activity true = columns_of Empty PlainName Year Empty Empty Empty Empty
-holdings_of kinds.Activity false = columns_of Empty PlainName Year Figure Bound Bound UnitWord
-holdings_of kinds.Factor true = columns_of Empty PlainName Year Empty Empty Empty Empty
-holdings_of kinds.Factor false = columns_of Empty PlainName Year Figure Bound Bound UnitWord
-holdings_of kinds.Line true = columns_of Empty PlainName Empty Empty Empty Empty Empty
-holdings_of kinds.Line false = columns_of Category PlainName Empty Equation Empty Empty Empty
-holdings_of kinds.Bind true = columns_of PlainName Parameter Empty Empty Empty Empty Empty
-holdings_of kinds.Bind false = columns_of PlainName Parameter Empty Form Target Empty Empty
+-- the table: for each kind the columns of its key, which alone a row that withdraws fills, and the columns of another
+-- row; last, whether the value is a notation key, which has no bounds
+abbrev pub holdings_of : Kind → (withdraws is_key : Bool) → Holdings
+holdings_of kinds.Span true _ = columns_of Empty Empty Empty Empty Empty Empty Empty
+holdings_of kinds.Span false _ = columns_of Empty Empty Year Year Year Empty Empty
+holdings_of kinds.Activity true _ = columns_of Empty PlainName Year Empty Empty Empty Empty
+holdings_of kinds.Activity false true = columns_of Empty PlainName Year NotationKey Empty Empty UnitWord
+holdings_of kinds.Activity false false = columns_of Empty PlainName Year Figure Bound Bound UnitWord
+holdings_of kinds.Factor true _ = columns_of Empty PlainName Year Empty Empty Empty Empty
+holdings_of kinds.Factor false true = columns_of Empty PlainName Year NotationKey Empty Empty UnitWord
+holdings_of kinds.Factor false false = columns_of Empty PlainName Year Figure Bound Bound UnitWord
+holdings_of kinds.Line true _ = columns_of Empty PlainName Empty Empty Empty Empty Empty
+holdings_of kinds.Line false _ = columns_of Category PlainName Empty Equation Empty Empty Empty
+holdings_of kinds.Bind true _ = columns_of PlainName Parameter Empty Empty Empty Empty Empty
+holdings_of kinds.Bind false _ = columns_of PlainName Parameter Empty Form Target Empty Empty
 
 abbrev pub is_number : Holding → Bool
 is_number Year = true
@@ -86,6 +91,7 @@ is_held Parameter row text = is_some (parameter_in text)
 is_held Equation row text = is_some (named text)
 is_held Form row text = is_some (binding_form_in text)
 is_held Target row text = is_target (binding_form_in row.value) text
+is_held NotationKey row text = is_some (key_in text)
 is_held UnitWord row text = is_some (unit_in text)
 is_held Year row text = is_some (year_in text)
 is_held Figure row text = is_quantity (unit_in row.unit) text
@@ -121,8 +127,11 @@ abbrev pub wrong_number : Holdings → Texts → Option Fault
 wrong_number h row = option_map (λ p. Number p.column) (find (λ p. is_number p.holding && not (is_held p.holding row p.text)) (places h row))
 
 -- a wrong word, and else a wrong number
+abbrev pub wrong_among : Holdings → Texts → Option Fault
+wrong_among h row = option_or (wrong_word h row) (wrong_number h row)
+
 abbrev pub wrong_column : Kind → Act → Texts → Option Fault
-wrong_column kind act row = option_or (wrong_word (holdings_of kind (withdraws act)) row) (wrong_number (holdings_of kind (withdraws act)) row)
+wrong_column kind act row = wrong_among (holdings_of kind (withdraws act) (is_some (key_in row.value))) row
 
 -- the column that a reading is refused for
 abbrev pub column_fault : {A : Type 0} → Result A Fault → Option Fault

@@ -7,7 +7,7 @@ ghost use Rattle.ghg_interval.specs.Bounds.{AreBounded};
 ghost use Rattle.ghg_units.specs.Units.{converted};
 ghost use Rattle.ghg_units.specs.WellFormed.{IsAmountOf, IsBinding, IsForm, withdraws};
 ghost use Rattle.ghg_import.specs.Shape.{texts};
-ghost use Rattle.ghg_import.specs.Forms.{activity_in, bind_in, category_at, content_in, empty_at, factor_in, form_in, known_in, line_in, named_figure_in, no_value_in, quantity_in, span_in, target_in};
+ghost use Rattle.ghg_import.specs.Forms.{activity_in, amount_in, bind_in, category_at, content_in, empty_at, factor_in, form_in, key_alone_in, known_in, line_in, named_figure_in, no_value_in, quantity_in, span_in, target_in};
 
 use crate::columns::Columns;
 use crate::fault::Fault;
@@ -15,7 +15,7 @@ use crate::kind::{BindingForm, Kind, binding_form_named, kind_named};
 use ghg_equations::eq_named;
 use ghg_units::{
     Act, Amount, Binding, Column, Decimal, Figure, Name, ParamName, RowForm, Span, Unit, act_named,
-    read_whole, read_year, to_interval, unit_named,
+    key_named, read_decimal, read_year, to_interval, unit_named,
 };
 
 /// What a row says, or the first rule that it breaks.
@@ -106,11 +106,36 @@ fn named_figure(act: Act, row: Columns<'_>) -> Result<NamedFigure, Fault>
         let figure = None;
         return Ok(NamedFigure { name, year, figure });
     }
+    key_alone(row)?;
     let unit = unit_named(row.unit).ok_or(Fault::Word(Column::Unit))?;
     let year = read_year(row.year).ok_or(Fault::Number(Column::Year))?;
-    let amount = known(row, unit)?;
+    let amount = amount(row, unit)?;
     let figure = Some(Figure { unit, amount });
     Ok(NamedFigure { name, year, figure })
+}
+
+// That a notation key stands without bounds.
+#[tactic(auto, unfolding(crate::specs::Forms::key_alone_in))]
+fn key_alone(row: Columns<'_>) -> Result<(), Fault>
+    ensures { result ≡ key_alone_in (texts row.entry) }
+{
+    if key_named(row.value).is_some() {
+        empty(row.low, Column::Low)?;
+        empty(row.high, Column::High)?;
+    }
+    Ok(())
+}
+
+// A notation key, or a value and its bounds.
+#[tactic(auto, unfolding(crate::specs::Forms::amount_in))]
+fn amount(row: Columns<'_>, unit: Unit) -> Result<Amount, Fault>
+    ensures reads { result ≡ amount_in unit (texts row.entry) }
+    ensures keeps { IfOk result (IsAmountOf unit) }
+{
+    match key_named(row.value) {
+        Some(key) => Ok(Amount::Key(key)),
+        None => known(row, unit),
+    }
 }
 
 // A value, and its bounds where they are supplied.
@@ -135,13 +160,13 @@ fn known(row: Columns<'_>, unit: Unit) -> Result<Amount, Fault>
     Ok(Amount::Known { value, low, high })
 }
 
-// The decimal that a text writes, where it is within the limit in the base unit.
+// The decimal that a text writes, where it is within the limit of intervals in the base unit.
 #[tactic(auto, unfolding(crate::specs::Forms::quantity_in))]
 fn quantity(text: &[u8], unit: Unit) -> Option<Decimal>
     ensures reads { result ≡ quantity_in unit text.now }
     ensures keeps { IfSome result (λ d. AreBounded (converted unit d d)) }
 {
-    let decimal = read_whole(text)?;
+    let decimal = read_decimal(text)?;
     if to_interval(decimal, unit).is_err() {
         return None;
     }

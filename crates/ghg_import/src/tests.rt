@@ -4,7 +4,7 @@ ghost use Rattle.std.specs.Prelude.{◌≤ℤ◌, pos};
 
 use crate::{Rows, is_too_long, read_rows};
 use ghg_equations::EqId;
-use ghg_units::{Act, Amount, Binding, Decimal, RowForm, append_rule};
+use ghg_units::{Act, Amount, Binding, Decimal, NotationKey, RowForm, Unit, append_rule};
 use std::alloc::{AllocError, Global};
 use std::process::Abort;
 use std::str;
@@ -200,12 +200,16 @@ fn the_first_broken_rule_is_named_with_its_leftmost_column(rt: HostRuntime) -> R
             "6 BadNumber row 2 column value",
         ),
         (
-            "enter,activity,,A,1990,NO,,,TJ,",
-            "6 BadNumber row 2 column value",
+            "enter,factor,,P,1990,5,x,,TJ,",
+            "6 BadNumber row 2 column low",
         ),
         (
-            "enter,activity,,A,1990,1000000,,,TJ,",
-            "6 BadNumber row 2 column value",
+            "enter,factor,,P,1990,5,,x,TJ,",
+            "6 BadNumber row 2 column low",
+        ),
+        (
+            "enter,factor,,P,1990,5,5,NO,TJ,",
+            "6 BadNumber row 2 column high",
         ),
         (
             "enter,factor,,P,1990,5,,9,TJ,",
@@ -225,13 +229,139 @@ fn the_first_broken_rule_is_named_with_its_leftmost_column(rt: HostRuntime) -> R
             "7 BoundsDisorder row 2",
         ),
         ("enter,factor,,PZ,1921,5,5,4,TJ,", "7 BoundsDisorder row 2"),
+        (
+            "enter,factor,,PZ,1921,-5,-4.5,-4,TJ,",
+            "7 BoundsDisorder row 2",
+        ),
     ] {
-        let body = format!(in rt.alloc();
-            "{HEAD}\nwithdraw,line,,A,,,,,,gone\n{row}\nnine,fields,,,,,,\n"
-        )?;
-        let (rows, rule) = reading(&rt, rt.alloc(), body.as_bytes())?;
-        assert_eq!(rt; rows, 1, "at {row}");
-        assert_eq!(rt; word(&rule), want, "at {row}");
+        assert!(rt; is_second_refused(&rt, rt.alloc(), row, want)?, "at {row}");
+    }
+    Ok(())
+}
+
+// Whether a row that follows a sound one is refused with these words.
+fn is_second_refused(
+    rt: &impl Abort,
+    alloc: Global,
+    row: &str,
+    want: &str,
+) -> Result<bool, AllocError> {
+    let body = format!(in alloc; "{HEAD}\nwithdraw,line,,A,,,,,,gone\n{row}\nnine,fields,,,,,,\n")?;
+    let (rows, rule) = reading(rt, alloc, body.as_bytes())?;
+    Ok(rows == 1 && word(&rule) == want)
+}
+
+#[test]
+fn what_is_no_decimal_is_a_bad_number(rt: HostRuntime) -> Result<(), Fail> {
+    for value in [
+        "1e3",
+        "+1",
+        ".5",
+        "5.",
+        "-",
+        "",
+        " 5",
+        "5 ",
+        "\"1,000\"",
+        "123456789012345",
+        "0.1234567890123",
+        "no",
+        "C",
+        "Known",
+    ] {
+        let row = format!(in rt.alloc(); "enter,activity,,A,1990,{value},,,PJ,")?;
+        let want = "6 BadNumber row 2 column value";
+        assert!(rt; is_second_refused(&rt, rt.alloc(), &row, want)?, "at {row}");
+    }
+    Ok(())
+}
+
+// An interval's bounds are at most 10^14 in the base unit: 10^8 million cubic metres.
+#[test]
+fn what_leaves_the_limit_in_the_base_unit_is_a_bad_number(rt: HostRuntime) -> Result<(), Fail> {
+    for (figure, column) in [
+        ("99999999999999,,,Mm3", "value"),
+        ("100000000.000000000001,,,Mm3", "value"),
+        ("1,-100000000.1,1,Mm3", "low"),
+        ("1,1,100000001,Mm3", "high"),
+    ] {
+        let row = format!(in rt.alloc(); "enter,activity,,A,1990,{figure},")?;
+        let want = format!(in rt.alloc(); "6 BadNumber row 2 column {column}")?;
+        assert!(rt;
+            is_second_refused(&rt, rt.alloc(), &row, &want)?,
+            "at {row}"
+        );
+    }
+    Ok(())
+}
+
+#[test]
+fn a_notation_key_has_a_unit_and_no_bounds(rt: HostRuntime) -> Result<(), Fail> {
+    for (figure, column) in [
+        ("1990,NO,0,,TJ", "low"),
+        ("1990,NA,0,0,TJ", "low"),
+        ("199O,IE,,0,TJ", "high"),
+        ("1990,NE,5,,tj", "low"),
+        ("1990,NO,,,", "unit"),
+        ("199O,NE,,,tj", "unit"),
+    ] {
+        let row = format!(in rt.alloc(); "correct,factor,,A,{figure},")?;
+        let want = format!(in rt.alloc(); "5 UnknownWord row 2 column {column}")?;
+        assert!(rt;
+            is_second_refused(&rt, rt.alloc(), &row, &want)?,
+            "at {row}"
+        );
+    }
+    let want = "6 BadNumber row 2 column year";
+    let row = "enter,factor,,A,199O,NO,,,TJ,";
+    assert!(rt; is_second_refused(&rt, rt.alloc(), row, want)?);
+    Ok(())
+}
+
+// A value with its bounds, in 10^-12.
+fn known(value: i128, low: i128, high: i128) -> Amount {
+    Amount::Known {
+        value: Decimal { scaled: value },
+        low: Decimal { scaled: low },
+        high: Decimal { scaled: high },
+    }
+}
+
+#[test]
+fn figures_keep_their_unit_and_their_bounds(rt: HostRuntime) -> Result<(), Fail> {
+    let half = 500_000_000_000;
+    let tenth = 100_000_000_000;
+    for (figure, unit, amount) in [
+        ("0.5,,,PJ", Unit::Petajoule, known(half, half, half)),
+        (
+            "-0.5,-5.0,0.1,t/t",
+            Unit::TonnePerTonne,
+            known(-half, -10 * half, tenth),
+        ),
+        (
+            "100000000,0.000000000001,0100000000,Mm3",
+            Unit::MillionCubicMetres,
+            known(1_000_000_000 * tenth, 1, 1_000_000_000 * tenth),
+        ),
+        ("NO,,,TJ", Unit::Terajoule, Amount::Key(NotationKey::No)),
+        ("NA,,,pct", Unit::Percent, Amount::Key(NotationKey::Na)),
+        ("IE,,,head", Unit::Head, Amount::Key(NotationKey::Ie)),
+        ("NE,,,1", Unit::One, Amount::Key(NotationKey::Ne)),
+    ] {
+        let body = format!(in rt.alloc(); "{HEAD}\nenter,activity,,A,1990,{figure},\n")?;
+        assert!(rt; !is_too_long(body.as_bytes()));
+        let Rows { rows, rest } = read_rows(rt.alloc(), body.as_bytes())?;
+        assert!(rt; rest.is_none(), "at {figure}");
+        assert_eq!(rt; rows.len(), 1, "at {figure}");
+        for row in &rows {
+            match &row.form {
+                RowForm::Activity(_, 1990, Some(f)) => {
+                    assert_eq!(rt; f.unit, unit, "at {figure}");
+                    assert!(rt; f.amount == amount, "at {figure}");
+                }
+                _ => assert!(rt; false, "at {figure}"),
+            }
+        }
     }
     Ok(())
 }

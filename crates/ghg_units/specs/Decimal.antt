@@ -51,7 +51,3 @@ scaled_in text =
 -- the decimal that a text writes
 abbrev pub decimal_in : List ℕ → Option Decimal
 decimal_in text = option_map (λ z. record { scaled = z }) (scaled_in text)
-
--- the decimal that a whole number of 1 to 6 digits writes
-abbrev pub whole_decimal_in : List ℕ → Option Decimal
-whole_decimal_in text = option_map (λ n. record { scaled = pos (n * 10 ^ 12) }) (number_in 6 text)

@@ -9,7 +9,7 @@ use Rattle.ghg_units.specs.declared.unit.Unit.{Unit as UnitWord}
 use Rattle.ghg_units.specs.Decimal.{decimal_in, number_of}
 use Rattle.ghg_units.specs.Fixed.{fixed_text, sign_of}
 use Rattle.ghg_units.specs.Name.{is_digit}
-use Rattle.ghg_units.specs.Units.{converted, in_base}
+use Rattle.ghg_units.specs.Units.{converted, in_base, unit_in, word_of}
 
 -- the text is n / 10^places: a sign, digits, a point, and so many digits
 pub record Writes (text : List ℕ) (n : ℤ) (places : ℕ) : Type 0 where
@@ -23,6 +23,10 @@ pub record Writes (text : List ℕ) (n : ℤ) (places : ℕ) : Type 0 where
 
 abbrev pub FixedTextsRead : Type 0
 FixedTextsRead = (n : ℤ) (places : ℕ) → 1 ≤ places → unsigned_abs n < 10 ^ 64 → Writes (fixed_text n places) n places
+
+-- each unit is the one that its word names: no unit is missed, and no word stands for two
+abbrev pub EachWordNamesItsUnit : Type 0
+EachWordNamesItsUnit = (u : UnitWord) → unit_in (word_of u) ≡ Some u
 
 -- a printed number is a decimal of that value, where it has no more digits than decimals have
 abbrev pub PrintedDecimalsRead : Type 0

@@ -18,9 +18,11 @@ mod unit;
 mod word;
 mod year;
 
-pub use decimal::{Decimal, read_decimal, read_number, read_whole};
+pub use decimal::{Decimal, read_decimal, read_number};
 pub use fixed::write_fixed;
-pub use laws::{conversions_are_least, fixed_texts_read, printed_decimals_read};
+pub use laws::{
+    conversions_are_least, each_word_names_its_unit, fixed_texts_read, printed_decimals_read,
+};
 pub use name::Name;
 pub use names::Names;
 pub use node::Node;

@@ -1,9 +1,9 @@
 //! Words, numbers and refusals as they are written.
 
 use crate::{
-    Act, Column, Decimal, Limit, Name, Names, Node, NotationKey, ParamName, Rule, ShortText, Text,
-    Unit, act_named, append_rule, base_word, dim, key_named, ratio, read_decimal, read_whole,
-    read_year, to_interval, unit_named, write_fixed,
+    Act, Column, Limit, Name, Names, Node, NotationKey, ParamName, Rule, ShortText, Text, Unit,
+    act_named, append_rule, base_word, dim, fixed_texts_read, key_named, ratio, read_decimal,
+    read_number, read_year, to_interval, unit_named, write_fixed,
 };
 use ghg_equations::Dim;
 use std::alloc::{AllocError, Global};
@@ -17,6 +17,7 @@ fn word(text: &[u8]) -> &str {
 
 #[test]
 fn decimals_are_printed_with_their_sign_and_every_place(rt: HostRuntime) -> Result<(), Fail> {
+    fixed_texts_read();
     for (n, places, want) in [
         (0, 0, "0"),
         (0, 3, "0.000"),
@@ -54,23 +55,18 @@ fn numbers_are_read_within_their_digits(rt: HostRuntime) -> Result<(), Fail> {
         ("1.", None),
         (".5", None),
         ("+1", None),
+        ("--1", None),
         ("1e3", None),
+        ("1,000", None),
+        ("1.0.0", None),
+        (" 5", None),
+        ("5 ", None),
     ] {
         let read = read_decimal(text.as_bytes()).map(|d| d.scaled);
         assert_eq!(rt; read, want, "at {text}");
     }
-    for (text, want) in [
-        ("000000", Some(0)),
-        ("999999", Some(999_999_000_000_000_000)),
-        ("1000000", None),
-        ("0000001", None),
-        ("1.0", None),
-        ("-1", None),
-        ("", None),
-    ] {
-        let read = read_whole(text.as_bytes()).map(|d| d.scaled);
-        assert_eq!(rt; read, want, "at {text}");
-    }
+    assert_eq!(rt; read_number(b"0190", 4), Some(190));
+    assert_eq!(rt; read_number(b"01900", 4), None);
     for (text, want) in [
         ("1899", None),
         ("1900", Some(1900)),
@@ -152,17 +148,86 @@ fn words_name_what_they_stand_for(rt: HostRuntime) -> Result<(), Fail> {
     assert_eq!(rt; key_named(b"IE"), Some(NotationKey::Ie));
     assert_eq!(rt; key_named(b"NO "), None);
     assert_eq!(rt; unit_named(b"kg/TJ"), Some(Unit::KilogramPerTerajoule));
-    assert_eq!(rt; unit_named(b"ktoe"), None);
-    assert_eq!(rt; dim(Unit::Terajoule), Dim::Energy);
-    assert_eq!(rt; ratio(Unit::Terajoule), (1, 1));
+    assert_eq!(rt; unit_named(b"tj"), None);
+    assert_eq!(rt; unit_named(b""), None);
     assert_eq!(rt; base_word(Dim::EnFac), "kg/TJ");
-    let half = Decimal {
-        scaled: -500_000_000_000,
-    };
-    let converted = to_interval(half, Unit::Terajoule).expect(&rt, "half a terajoule");
-    assert_eq!(rt; converted.lo(), half.scaled);
-    assert_eq!(rt; converted.hi(), half.scaled);
     Ok(())
+}
+
+// What a decimal of a unit is in the base unit, in 10^-12; or over.
+fn converted(text: &str, unit: Unit) -> Option<(i128, i128)> {
+    let decimal = read_decimal(text.as_bytes())?;
+    let interval = to_interval(decimal, unit).ok()?;
+    Some((interval.lo(), interval.hi()))
+}
+
+// Of the ratios by hand: 1 ktoe is 41.868 TJ, 5 GWh are 18 TJ, and 0.0000001 kg is a tenth of 10^-12 Gg.
+#[test]
+fn figures_of_other_units_are_converted(rt: HostRuntime) {
+    for (text, word, measures, over, want) in [
+        (
+            "0.5",
+            "PJ",
+            Dim::Energy,
+            (1_000, 1),
+            Some((500_000_000_000_000, 500_000_000_000_000)),
+        ),
+        (
+            "1",
+            "ktoe",
+            Dim::Energy,
+            (10_467, 250),
+            Some((41_868_000_000_000, 41_868_000_000_000)),
+        ),
+        (
+            "-5",
+            "GWh",
+            Dim::Energy,
+            (18, 5),
+            Some((-18_000_000_000_000, -18_000_000_000_000)),
+        ),
+        (
+            "0.0000001",
+            "kg-gas",
+            Dim::Gas,
+            (1, 1_000_000),
+            Some((0, 1)),
+        ),
+        (
+            "-0.0000001",
+            "kg-gas",
+            Dim::Gas,
+            (1, 1_000_000),
+            Some((-1, 0)),
+        ),
+        (
+            "100000000",
+            "Mm3",
+            Dim::Volume,
+            (1_000_000, 1),
+            Some((
+                100_000_000_000_000_000_000_000_000,
+                100_000_000_000_000_000_000_000_000,
+            )),
+        ),
+        (
+            "100000000.000000000001",
+            "Mm3",
+            Dim::Volume,
+            (1_000_000, 1),
+            None,
+        ),
+        ("99999999999999", "Mm3", Dim::Volume, (1_000_000, 1), None),
+    ] {
+        match unit_named(word.as_bytes()) {
+            Some(unit) => {
+                assert_eq!(rt; dim(unit), measures, "at {word}");
+                assert_eq!(rt; ratio(unit), over, "at {word}");
+                assert_eq!(rt; converted(text, unit), want, "at {text} {word}");
+            }
+            None => assert!(rt; false, "at {word}"),
+        }
+    }
 }
 
 fn refused(alloc: Global, rule: Rule) -> Result<Vec<u8>, AllocError> {
