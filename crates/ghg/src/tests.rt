@@ -1,10 +1,12 @@
 ghost use Rattle.std.specs.Prelude.{◌≡◌, ◌<◌};
 
 use crate::run::run;
-use ghg_outer::{MemorySink, MemorySource};
+use ghg_outer::{MemorySink, MemorySource, SteadySink, SteadySource};
 use ghg_steps::Steps;
+use std::alloc::{AllocError, Global};
 use std::marker::Brand;
 use std::process::Abort;
+use std::str;
 use std::sync::ledger::{Blank, Ledger};
 use std::test::Fail;
 
@@ -59,6 +61,12 @@ fn ends_of_scripts(rt: HostRuntime) -> Result<(), Fail> {
         ("END", 3, "not a script: command 1\n"),
         ("SUBMIT a 291\nact,kind", 3, "not a script: command 1\n"),
         ("SHOW cells 199\nEND\n", 3, "not a script: command 1\n"),
+        ("SUBMIT a 0\nEND\n", 0, "refused 4 BadShape row 0\n"),
+        (
+            "SUBMIT a 52\nact,kind,subject,name,year,value,low,high,unit,note\nSUBMIT b 9\nact,kind",
+            3,
+            "accepted 1\nnot a script: command 2\n",
+        ),
     ] {
         let case = Case {
             words: "compile",
@@ -95,4 +103,206 @@ fn words_and_faults(rt: HostRuntime) -> Result<(), Fail> {
         check(&rt, &case)?;
     }
     Ok(())
+}
+
+const HEADER: &str = "act,kind,subject,name,year,value,low,high,unit,note\n";
+
+// A span, a line and its bindings.
+const PLANT: &str = "enter,span,,,1990,1991,1990,,,\n\
+    enter,line,1A1a,ELEC.GAS,,Q10,,,,\n\
+    enter,bind,ELEC.GAS,FC,,activity,GAS.TJ,,,\n\
+    enter,bind,ELEC.GAS,EF,,factor,GAS.EF,,,\n";
+
+// What a session is given: the id and the rows of a submission, which stand under the header; or a line as it is.
+#[derive(Drop)]
+enum Given {
+    Rows(&'static str, &'static [&'static str]),
+    Line(&'static str),
+}
+
+fn append_submission(
+    script: &mut Vec<u8>,
+    alloc: Global,
+    id: &str,
+    rows: &[&str],
+) -> Result<(), AllocError> {
+    let mut body = HEADER.as_bytes().to_vec(alloc)?;
+    for row in rows {
+        body.extend_from_slice(row.as_bytes())?;
+    }
+    let line = format!(in alloc; "SUBMIT {id} {}\n", body.len())?;
+    script.extend_from_slice(line.as_bytes())?;
+    script.extend_from_slice(&body)
+}
+
+fn script_of(alloc: Global, given: &[Given]) -> Result<Vec<u8>, AllocError> {
+    let mut script = Vec::new(alloc);
+    for each in given {
+        match each {
+            Given::Rows(id, rows) => append_submission(&mut script, alloc, id, rows)?,
+            Given::Line(line) => script.extend_from_slice(line.as_bytes())?,
+        }
+    }
+    script.extend_from_slice(b"END\n")?;
+    Ok(script)
+}
+
+// That a session answers this, and ends well.
+fn answers(rt: &(impl Abort + AllocGlobal), given: &[Given], output: &str) -> Result<(), Fail> {
+    let script = script_of(rt.alloc(), given)?;
+    answers_with::<Brand>(rt, Blank::new(1), script, output)
+}
+
+fn answers_with<L: Ledger>(
+    rt: &(impl Abort + AllocGlobal),
+    blank: Blank,
+    script: Vec<u8>,
+    output: &str,
+) -> Result<(), Fail>
+    requires name { blank.name ≡ L.name }
+    requires parts { blank.parts ≡ L.parts }
+    requires some { 0 < blank.parts }
+{
+    let alloc = rt.alloc();
+    let words = [String::from_str(alloc, "compile")?];
+    let mut input = SteadySource::new(script);
+    let mut out = SteadySink::new(alloc);
+    let mut steps = Steps::<L>::new(blank);
+    let status = run(alloc, &words, &mut input, &mut out, &mut steps);
+    assert_eq!(rt; str::from_utf8(out.bytes()).unwrap_or("?"), output);
+    assert_eq!(rt; status, 0);
+    Ok(())
+}
+
+const FUEL: &str = "enter,activity,,GAS.TJ,1990,1000,,,TJ,\n";
+
+const FACTOR: &str = "enter,factor,,GAS.EF,1990,56100,54300,58300,kg/TJ,\n";
+
+// The first submission acts once, and no refused one acts.
+#[test]
+fn a_submission_acts_once(rt: HostRuntime) -> Result<(), Fail> {
+    let given = [
+        Given::Rows("a", &[PLANT, FUEL, FACTOR]),
+        Given::Rows("a", &[PLANT, FUEL, FACTOR]),
+        Given::Rows("a", &[PLANT, "enter,activity,,GAS.TJ,1990,1001,,,TJ,\n", FACTOR]),
+        Given::Rows("b", &[PLANT, FUEL, FACTOR]),
+        Given::Rows("b", &["withdraw,factor,,GAS.EF,1990,,,,,\n"]),
+        Given::Line("SHOW cells 1990\nSHOW wrong 1990\nSHOW cells 1989\n"),
+    ];
+    answers(
+        &rt,
+        &given,
+        "accepted 1\nrepeated 1\nrefused 2 IdReused 1\nrefused 9 Exists row 1\n\
+        refused 10 BadBinding ELEC.GAS EF\ntable cells 1990 rows 2\n\
+        code,category,equation,gas,unit,value,low,high\n\
+        ELEC.GAS,1A1a,Q10,CO2,Gg,56.100,54.300,58.300\nno table\nno table\n",
+    )
+}
+
+// A session of one plant with these rows of figures, and the table of 1990.
+fn plant_answers(
+    rt: &(impl Abort + AllocGlobal),
+    fuel: &'static str,
+    factor: &'static str,
+    output: &str,
+) -> Result<(), Fail> {
+    let alloc = rt.alloc();
+    let mut script = Vec::new(alloc);
+    append_submission(&mut script, alloc, "a", &[PLANT, fuel, factor])?;
+    script.extend_from_slice(b"SHOW cells 1990\nEND\n")?;
+    answers_with::<Brand>(rt, Blank::new(1), script, output)
+}
+
+const CELLS: &str = "table cells 1990 rows 2\ncode,category,equation,gas,unit,value,low,high\n";
+
+// Figures in other units, negative ones, notation keys, and what is beyond the limits or malformed.
+#[test]
+fn figures_print_as_they_are_entered(rt: HostRuntime) -> Result<(), Fail> {
+    for (fuel, factor, printed) in [
+        (
+            "enter,activity,,GAS.TJ,1990,0.5,,,PJ,\n",
+            FACTOR,
+            "28.050,27.150,29.150",
+        ),
+        ("enter,activity,,GAS.TJ,1990,NO,,,TJ,\n", FACTOR, "0.000,0.000,0.000"),
+        ("enter,activity,,GAS.TJ,1990,NE,,,TJ,\n", FACTOR, "NE,NE,NE"),
+        (
+            "enter,activity,,GAS.TJ,1990,1,,,TJ,\n",
+            "enter,factor,,GAS.EF,1990,500,,,kg/TJ,\n",
+            "0.001,0.000,0.001",
+        ),
+        (
+            "enter,activity,,GAS.TJ,1990,-1,,,TJ,\n",
+            "enter,factor,,GAS.EF,1990,500,,,kg/TJ,\n",
+            "-0.001,-0.001,0.000",
+        ),
+        (FUEL, "enter,factor,,GAS.EF,1991,56100,,,kg/TJ,\n", "NE,NE,NE"),
+    ] {
+        let alloc = rt.alloc();
+        let output = format!(in alloc; "accepted 1\n{CELLS}ELEC.GAS,1A1a,Q10,CO2,Gg,{printed}\n")?;
+        plant_answers(&rt, fuel, factor, &output)?;
+    }
+    Ok(())
+}
+
+#[test]
+fn figures_are_refused_at_their_column(rt: HostRuntime) -> Result<(), Fail> {
+    for (fuel, factor, refusal) in [
+        ("enter,activity,,GAS.TJ,1990,1e3,,,TJ,\n", FACTOR, "6 BadNumber row 5 column value"),
+        ("enter,activity,,GAS.TJ,1990,1000,,,yr,\n", FACTOR, "5 UnknownWord row 5 column unit"),
+        (FUEL, "enter,factor,,GAS.EF,1990,56100,57000,58300,kg/TJ,\n", "7 BoundsDisorder row 6"),
+        (
+            "enter,activity,,GAS.TJ,1990,99999999999999,,,TJ,\n",
+            "enter,factor,,GAS.EF,1990,2,,,kg/TJ,\n",
+            "13 Overflow line:ELEC.GAS:1990",
+        ),
+        (FUEL, "enter,factor,,GAS.EF,1990,56100,,kg/TJ,\n", "4 BadShape row 6"),
+    ] {
+        let output = format!(in rt.alloc(); "refused {refusal}\nno table\n")?;
+        plant_answers(&rt, fuel, factor, &output)?;
+    }
+    Ok(())
+}
+
+// Two lines beyond the limits: the first by name is named, though its year is the later one.
+#[test]
+fn the_least_line_beyond_the_limits_is_named(rt: HostRuntime) -> Result<(), Fail> {
+    let given = [Given::Rows(
+        "a",
+        &[
+            "enter,span,,,1990,1991,1990,,,\n",
+            "enter,line,1A1a,BIG.B,,Q10,,,,\nenter,bind,BIG.B,FC,,activity,B,,,\nenter,bind,BIG.B,EF,,factor,EF,,,\n",
+            "enter,line,1A1a,BIG.A,,Q10,,,,\nenter,bind,BIG.A,FC,,activity,A,,,\nenter,bind,BIG.A,EF,,factor,EF,,,\n",
+            "enter,activity,,A,1990,1,,,TJ,\nenter,activity,,A,1991,99999999999999,,,TJ,\n",
+            "enter,activity,,B,1990,99999999999999,,,TJ,\n",
+            "enter,factor,,EF,1990,2,,,kg/TJ,\n",
+        ],
+    )];
+    answers(&rt, &given, "refused 13 Overflow line:BIG.A:1991\n")
+}
+
+// A withdrawn factor no longer gives its years their values.
+#[test]
+fn the_factor_in_force_gives_the_value(rt: HostRuntime) -> Result<(), Fail> {
+    let given = [
+        Given::Rows(
+            "a",
+            &[
+                PLANT,
+                "enter,activity,,GAS.TJ,1991,1000,,,TJ,\n",
+                "enter,factor,,GAS.EF,1990,56100,,,kg/TJ,\nenter,factor,,GAS.EF,1991,55000,,,kg/TJ,\n",
+            ],
+        ),
+        Given::Line("SHOW cells 1991\n"),
+        Given::Rows("b", &["withdraw,factor,,GAS.EF,1991,,,,,\n"]),
+        Given::Line("SHOW cells 1991\n"),
+    ];
+    answers(
+        &rt,
+        &given,
+        "accepted 1\ntable cells 1991 rows 2\ncode,category,equation,gas,unit,value,low,high\n\
+        ELEC.GAS,1A1a,Q10,CO2,Gg,55.000,55.000,55.000\naccepted 2\ntable cells 1991 rows 2\n\
+        code,category,equation,gas,unit,value,low,high\n\
+        ELEC.GAS,1A1a,Q10,CO2,Gg,56.100,56.100,56.100\n",
+    )
 }

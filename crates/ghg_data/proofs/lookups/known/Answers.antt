@@ -5,6 +5,9 @@ use Rattle.ghg_interval.specs.Bounds.{hull_of}
 use Rattle.ghg_units.proofs.Conversions.{between_bounded, hull-converted}
 use Rattle.ghg_data.proofs.lookups.known.Goals as goal
 
+pub interval-point-requires : goal.interval-point-requires
+interval-point-requires c = between_bounded c.args.unit c.args.low c.args.value c.args.high c.requires.0 c.requires.1 c.requires.2
+
 pub interval-requires : goal.interval-requires
 interval-requires c = between_bounded c.args.unit c.args.low c.args.low c.args.high (omega (arith, ints)) (omega (arith, ints)) c.requires.2
 
