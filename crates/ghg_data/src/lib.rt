@@ -19,6 +19,7 @@ mod view;
 
 pub use book::{Book, after};
 pub use edits::Edits;
+pub use lookups::input_of_key;
 pub use records::Records;
 pub use refusal::PlanRefusal;
 pub use view::After;

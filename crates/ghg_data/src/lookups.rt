@@ -94,8 +94,8 @@ fn interval(decimal: Decimal, unit: Unit) -> Interval
     to_interval(decimal, unit).unwrap()
 }
 
-// The input of a notation key: what does not occur, does not apply or is included elsewhere counts as zero.
-fn input_of_key(key: NotationKey) -> Input
+/// The input of a notation key: what does not occur, does not apply or is included elsewhere counts as zero.
+pub fn input_of_key(key: NotationKey) -> Input
     ensures { result ≡ input_of_key key }
 {
     match key {

@@ -1,15 +1,19 @@
 -- Searching the nodes of data line by line, and the years of a line one by one.
-use Rattle.std.proofs.Common.{◌≡◌, ◌+◌, ◌-◌, ◌<◌, ◌≤◌, ℕ, zero, suc, Bool, true, false, List, [], ◌∷◌, ◌++◌, map, flat_map, length, drop, drop-cons, get_or, Option, Some, None, refl, sym, ap, add-one, ◌∙◌, arith, T}
+use Rattle.std.proofs.Common.{◌≡◌, ◌+◌, ◌-◌, ◌<◌, ℕ, zero, suc, Bool, true, false, List, [], ◌∷◌, map, flat_map, length, drop, drop-cons, get_or, Option, Some, None, refl, sym, ap, subst, add-one, ◌∙◌, arith}
 use Rattle.std.proofs.lemmas.List.Concat.{flat_map-cons}
 use Rattle.std.proofs.lemmas.List.Folds.{find-append}
 use Rattle.std.specs.Option.{option_or}
 use Rattle.std.specs.List.{find}
-use Rattle.std.specs.FinMap.{empty, get-empty}
+use Rattle.std.specs.FinMap.{empty, get, get-empty}
 use Rattle.ghg_definitions.specs.declared.record.Record.{Record}
+use Rattle.ghg_definitions.specs.declared.record.Record.TheVariants as entry
 use Rattle.ghg_definitions.specs.declared.record.RecordKey.TheVariants as key
 use Rattle.ghg_definitions.specs.Compilation.{overflow, overflows, years_from, years_of}
 use Rattle.ghg_definitions.specs.Data.{Data, as_span, key_cmp, line_names, span}
+use Rattle.ghg_definitions.specs.Sound.{IsWorkbook}
 use Rattle.ghg_units.specs.declared.node.Node.TheVariants as node
+use Rattle.ghg_units.specs.declared.row.Span.{Span}
+use Rattle.ghg_units.specs.WellFormed.{IsSpan}
 
 -- a test that no year passes
 pub find-no_year : {X : Type 0} (p : X → Bool) (f : ℕ → X) → ((y : ℕ) → p (f y) ≡ false) → (first count : ℕ) → find p (map f (years_from first count)) ≡ None
@@ -45,3 +49,12 @@ overflow-empty =
     let m : Data = empty in
     let none : span m ≡ None = ap as_span (get-empty key_cmp key.Span) in
     find-nothing (overflows m) (λ name. map (λ year. node.Line name year) (years_of (span m))) (λ name. ap (λ s. map (node.Line name) (years_of s)) none) (line_names m)
+
+-- the years of a workbook
+pub span-IsSpan : (m : Data) (s : Span) → IsWorkbook m → span m ≡ Some s → IsSpan s
+span-IsSpan m s workbook e = by (get m key.Span) refl e
+  where
+    by : (r : Option Record) → get m key.Span ≡ r → as_span r ≡ Some s → IsSpan s
+    by None is e = absurd (cc)
+    by (Some (entry.Span t)) is e = let same : t ≡ s = cc in subst IsSpan same (workbook.records key.Span (entry.Span t) is)
+    by (Some _) is e = absurd (cc)

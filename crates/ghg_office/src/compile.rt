@@ -1,40 +1,28 @@
 //! The value of each line, the first that is beyond the limits, and the rows of the table of cells.
 
-ghost use Rattle.std.specs.Prelude.{◌≡◌, [], ◌∷◌, map, Some, IfOk, IfSome, IsTrue};
+ghost use Rattle.std.specs.Prelude.{◌≡◌, [], ◌∷◌, map, Some, IfOk, IsTrue};
 ghost use Rattle.std.specs.List.{find};
 ghost use Rattle.ghg_cell.specs.Values.{equation_value};
 ghost use Rattle.ghg_definitions.specs.Compilation.{bound_input, is_year_of, line_value, overflow, overflows, years_of};
 ghost use Rattle.ghg_definitions.specs.Data.{binding, line as line_of, span};
-ghost use Rattle.ghg_definitions.specs.Lookups.{input_of_key, zero_input};
 ghost use Rattle.ghg_units.specs.Parameter.{is_parameter};
-ghost use Rattle.ghg_units.specs.WellFormed.{IsSpan, IsYear};
+ghost use Rattle.ghg_units.specs.WellFormed.{IsYear};
 ghost use Rattle.ghg_office.specs.Office.{cell_rows, row_of, shown};
 
-use ghg_cell::{Figures, Input};
-use ghg_data::Records;
+use ghg_cell::Input;
+use ghg_data::{Records, input_of_key};
 use ghg_definitions::{Record, RecordKey};
 use ghg_equations::EqId;
 use ghg_interval::Over;
 use ghg_tables::CellRow;
-use ghg_units::{Binding, Name, Node, NotationKey, ParamName, Span};
+use ghg_units::{Binding, Name, Node, ParamName, Span};
 use std::alloc::{AllocError, Global};
-
-/// The years of a workbook.
-pub(crate) fn span<R: Records>(records: &R) -> Option<Span>
-    ensures reads { result ≡ span (R.content records.now) }
-    ensures keeps { IfSome result IsSpan }
-{
-    match records.get(&RecordKey::Span) {
-        Some(Record::Span(span)) => Some(*span),
-        _ => None,
-    }
-}
 
 /// Whether a year is one of a workbook's.
 pub(crate) fn has_year<R: Records>(records: &R, year: u32) -> bool
     ensures { result ≡ is_year_of (span (R.content records.now)) year }
 {
-    match span(records) {
+    match records.span() {
         Some(span) => span.first <= year && year <= span.last,
         None => false,
     }
@@ -98,26 +86,9 @@ fn bound_input<R: Records>(records: &R, binding: &Binding, year: u32) -> Input
     match binding {
         Binding::Activity(name) => records.activity(name, year),
         Binding::Factor(name) => records.factor(name, year),
-        Binding::Key(key) => key_input(*key),
+        Binding::Key(key) => input_of_key(*key),
         Binding::Line(_) | Binding::Prev(_) | Binding::Sum(_) | Binding::Decay(_) => Input::Blank,
     }
-}
-
-// What does not occur, does not apply or is included elsewhere counts as zero.
-fn key_input(key: NotationKey) -> Input
-    ensures { result ≡ input_of_key key }
-{
-    match key {
-        NotationKey::No | NotationKey::Na | NotationKey::Ie => zero(),
-        NotationKey::Ne => Input::Blank,
-    }
-}
-
-#[tactic(auto, unfolding(ghg_cell::specs::Figures::whole_of, ghg_interval::specs::Operations::whole_in))]
-fn zero() -> Input
-    ensures { result ≡ zero_input }
-{
-    Input::known(Figures::whole(0).unwrap())
 }
 
 /// The least node of a workbook that is beyond the limits, by name and then by year.
@@ -125,7 +96,7 @@ fn zero() -> Input
 pub(crate) fn overflow<R: Records>(alloc: Global, records: &R) -> Result<Option<Node>, AllocError>
     ensures { IfOk result (λ node. node ≡ overflow (R.content records.now)) }
 {
-    let Some(span) = span(records) else {
+    let Some(span) = records.span() else {
         return Ok(None);
     };
     let lines = records.lines(alloc)?;

@@ -11,28 +11,8 @@ use std::str;
 use std::sync::ledger::{Blank, Ledger};
 use std::test::Fail;
 
-const PLANT: &str = "act,kind,subject,name,year,value,low,high,unit,note\n\
-    enter,span,,,1990,1991,1990,,,\n\
-    enter,line,1A1a,ELEC.GAS,,Q10,,,,\n\
-    enter,bind,ELEC.GAS,FC,,activity,GAS.TJ,,,\n\
-    enter,bind,ELEC.GAS,EF,,factor,GAS.EF,,,\n\
-    enter,activity,,GAS.TJ,1990,1000,,,TJ,\n\
-    enter,factor,,GAS.EF,1990,56100,54300,58300,kg/TJ,\n";
-
-const OTHER_PLANT: &str = "act,kind,subject,name,year,value,low,high,unit,note\n\
-    enter,span,,,1990,1991,1990,,,\n\
-    enter,line,1A1a,ELEC.GAS,,Q10,,,,\n\
-    enter,bind,ELEC.GAS,FC,,activity,GAS.TJ,,,\n\
-    enter,bind,ELEC.GAS,EF,,factor,GAS.EF,,,\n\
-    enter,activity,,GAS.TJ,1990,1001,,,TJ,\n\
-    enter,factor,,GAS.EF,1990,56100,54300,58300,kg/TJ,\n";
-
 const NO_FACTOR: &str = "act,kind,subject,name,year,value,low,high,unit,note\n\
     withdraw,factor,,GAS.EF,1990,,,,,\n";
-
-const BEYOND: &str = "act,kind,subject,name,year,value,low,high,unit,note\n\
-    correct,activity,,GAS.TJ,1990,99999999999999,,,TJ,\n\
-    correct,factor,,GAS.EF,1990,2,,,kg/TJ,\n";
 
 const SMALL: &str = "act,kind,subject,name,year,value,low,high,unit,note\n\
     correct,activity,,GAS.TJ,1990,1,,,TJ,\n\
@@ -46,6 +26,19 @@ const OF_1991: &str = "code,category,equation,gas,unit,value,low,high\n\
 
 const SMALL_OF_1990: &str = "code,category,equation,gas,unit,value,low,high\n\
     ELEC.GAS,1A1a,Q10,CO2,Gg,0.001,0.000,0.001\n";
+
+// The submission of a power plant that burns so much gas, in TJ.
+fn plant(alloc: Global, activity: &str) -> Result<String, AllocError> {
+    format!(in alloc;
+        "act,kind,subject,name,year,value,low,high,unit,note\n\
+        enter,span,,,1990,1991,1990,,,\n\
+        enter,line,1A1a,ELEC.GAS,,Q10,,,,\n\
+        enter,bind,ELEC.GAS,FC,,activity,GAS.TJ,,,\n\
+        enter,bind,ELEC.GAS,EF,,factor,GAS.EF,,,\n\
+        enter,activity,,GAS.TJ,1990,{activity},,,TJ,\n\
+        enter,factor,,GAS.EF,1990,56100,54300,58300,kg/TJ,\n"
+    )
+}
 
 fn expect(rt: &impl Abort, alloc: Global, reply: &Reply, want: &str) -> Result<(), AllocError> {
     let mut text = Vec::new(alloc);
@@ -62,22 +55,24 @@ fn submits<L: Ledger>(rt: &impl Abort, alloc: Global, blank: Blank) -> Result<()
 {
     let mut steps = Steps::<L>::new(blank);
     let mut office = Office::new(alloc);
+    let exponent = plant(alloc, "1e3")?;
+    let first = plant(alloc, "1000")?;
+    let other = plant(alloc, "1001")?;
     for (id, body, want, table) in [
-        ("a b", PLANT, "refused 1 BadId", "no table"),
-        ("a", NO_FACTOR, "refused 9 Absent row 1", "no table"),
-        ("a", PLANT, "accepted 1", OF_1990),
-        ("a", PLANT, "repeated 1", OF_1990),
-        ("a", OTHER_PLANT, "refused 2 IdReused 1", OF_1990),
-        ("b", PLANT, "refused 9 Exists row 1", OF_1990),
-        ("b", NO_FACTOR, "refused 10 BadBinding ELEC.GAS EF", OF_1990),
+        ("a b", first.as_str(), "refused 1 BadId", "no table"),
         (
-            "b",
-            BEYOND,
-            "refused 13 Overflow line:ELEC.GAS:1990",
-            OF_1990,
+            "a",
+            exponent.as_str(),
+            "refused 6 BadNumber row 5 column value",
+            "no table",
         ),
+        ("a", first.as_str(), "accepted 1", OF_1990),
+        ("a", first.as_str(), "repeated 1", OF_1990),
+        ("a", other.as_str(), "refused 2 IdReused 1", OF_1990),
+        ("b", first.as_str(), "refused 9 Exists row 1", OF_1990),
+        ("b", NO_FACTOR, "refused 10 BadBinding ELEC.GAS EF", OF_1990),
         ("b", SMALL, "accepted 2", SMALL_OF_1990),
-        ("a", PLANT, "repeated 1", SMALL_OF_1990),
+        ("a", first.as_str(), "repeated 1", SMALL_OF_1990),
     ] {
         let reply = office.submit(alloc, id.as_bytes(), body.as_bytes(), &mut steps);
         expect(rt, alloc, &reply, want)?;
@@ -94,7 +89,8 @@ fn shows<L: Ledger>(rt: &impl Abort, alloc: Global, blank: Blank) -> Result<(), 
 {
     let mut steps = Steps::<L>::new(blank);
     let mut office = Office::new(alloc);
-    let reply = office.submit(alloc, b"a", PLANT.as_bytes(), &mut steps);
+    let body = plant(alloc, "1000")?;
+    let reply = office.submit(alloc, b"a", body.as_bytes(), &mut steps);
     expect(rt, alloc, &reply, "accepted 1")?;
     for (table, year, want) in [
         ("cells", 1990, OF_1990),

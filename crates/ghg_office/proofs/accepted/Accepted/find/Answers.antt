@@ -1,5 +1,3 @@
-use Rattle.std.proofs.Common.{◌∙◌, sym, ap, option_map}
-use Rattle.ghg_office.specs.Accepted.{Kept, kept_from}
 use Rattle.ghg_office.proofs.Kept.{find_says}
 use Rattle.ghg_office.proofs.accepted.Accepted.find.Goals as goal
 

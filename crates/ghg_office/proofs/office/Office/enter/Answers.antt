@@ -1,4 +1,4 @@
-use Rattle.std.proofs.Common.{◌∙◌, sym, ap, length, arith}
+use Rattle.std.proofs.Common.{◌∙◌, ap, length, arith}
 use Rattle.ghg_definitions.specs.Compilation.{overflow}
 use Rattle.ghg_data.specs.Changes.{applied}
 use Rattle.ghg_office.specs.Accepted.{kept_bytes}
