@@ -184,7 +184,10 @@ fn a_submission_acts_once(rt: HostRuntime) -> Result<(), Fail> {
     let given = [
         Given::Rows("a", &[PLANT, FUEL, FACTOR]),
         Given::Rows("a", &[PLANT, FUEL, FACTOR]),
-        Given::Rows("a", &[PLANT, "enter,activity,,GAS.TJ,1990,1001,,,TJ,\n", FACTOR]),
+        Given::Rows(
+            "a",
+            &[PLANT, "enter,activity,,GAS.TJ,1990,1001,,,TJ,\n", FACTOR],
+        ),
         Given::Rows("b", &[PLANT, FUEL, FACTOR]),
         Given::Rows("b", &["withdraw,factor,,GAS.EF,1990,,,,,\n"]),
         Given::Line("SHOW cells 1990\nSHOW wrong 1990\nSHOW cells 1989\n"),
@@ -224,7 +227,11 @@ fn figures_print_as_they_are_entered(rt: HostRuntime) -> Result<(), Fail> {
             FACTOR,
             "28.050,27.150,29.150",
         ),
-        ("enter,activity,,GAS.TJ,1990,NO,,,TJ,\n", FACTOR, "0.000,0.000,0.000"),
+        (
+            "enter,activity,,GAS.TJ,1990,NO,,,TJ,\n",
+            FACTOR,
+            "0.000,0.000,0.000",
+        ),
         ("enter,activity,,GAS.TJ,1990,NE,,,TJ,\n", FACTOR, "NE,NE,NE"),
         (
             "enter,activity,,GAS.TJ,1990,1,,,TJ,\n",
@@ -236,7 +243,11 @@ fn figures_print_as_they_are_entered(rt: HostRuntime) -> Result<(), Fail> {
             "enter,factor,,GAS.EF,1990,500,,,kg/TJ,\n",
             "-0.001,-0.001,0.000",
         ),
-        (FUEL, "enter,factor,,GAS.EF,1991,56100,,,kg/TJ,\n", "NE,NE,NE"),
+        (
+            FUEL,
+            "enter,factor,,GAS.EF,1991,56100,,,kg/TJ,\n",
+            "NE,NE,NE",
+        ),
     ] {
         let alloc = rt.alloc();
         let output = format!(in alloc; "accepted 1\n{CELLS}ELEC.GAS,1A1a,Q10,CO2,Gg,{printed}\n")?;
@@ -248,15 +259,31 @@ fn figures_print_as_they_are_entered(rt: HostRuntime) -> Result<(), Fail> {
 #[test]
 fn figures_are_refused_at_their_column(rt: HostRuntime) -> Result<(), Fail> {
     for (fuel, factor, refusal) in [
-        ("enter,activity,,GAS.TJ,1990,1e3,,,TJ,\n", FACTOR, "6 BadNumber row 5 column value"),
-        ("enter,activity,,GAS.TJ,1990,1000,,,yr,\n", FACTOR, "5 UnknownWord row 5 column unit"),
-        (FUEL, "enter,factor,,GAS.EF,1990,56100,57000,58300,kg/TJ,\n", "7 BoundsDisorder row 6"),
+        (
+            "enter,activity,,GAS.TJ,1990,1e3,,,TJ,\n",
+            FACTOR,
+            "6 BadNumber row 5 column value",
+        ),
+        (
+            "enter,activity,,GAS.TJ,1990,1000,,,yr,\n",
+            FACTOR,
+            "5 UnknownWord row 5 column unit",
+        ),
+        (
+            FUEL,
+            "enter,factor,,GAS.EF,1990,56100,57000,58300,kg/TJ,\n",
+            "7 BoundsDisorder row 6",
+        ),
         (
             "enter,activity,,GAS.TJ,1990,99999999999999,,,TJ,\n",
             "enter,factor,,GAS.EF,1990,2,,,kg/TJ,\n",
             "13 Overflow line:ELEC.GAS:1990",
         ),
-        (FUEL, "enter,factor,,GAS.EF,1990,56100,,kg/TJ,\n", "4 BadShape row 6"),
+        (
+            FUEL,
+            "enter,factor,,GAS.EF,1990,56100,,kg/TJ,\n",
+            "4 BadShape row 6",
+        ),
     ] {
         let output = format!(in rt.alloc(); "refused {refusal}\nno table\n")?;
         plant_answers(&rt, fuel, factor, &output)?;
