@@ -1,63 +1,91 @@
 -- A line that is read byte by byte.
-use Rattle.std.proofs.Common.{◌≡◌, ℕ, zero, suc, ◌-◌, ◌≤◌, ◌<◌, false, List, [], ◌∷◌, ◌++◌, length, append_assoc, append-nil, length-append, refl, sym, ap, ◌∙◌, arith, None, Some, nat_eq, inl, inr, Option}
+use Rattle.std.proofs.Common.{◌≡◌, ℕ, ◌+◌, ◌≤◌, ◌<◌, Bool, true, false, List, [], ◌∷◌, ◌++◌, length, drop, append_assoc, length-append, refl, sym, ap, ◌∙◌, arith, None, Some, Option, nat_eq, nat_le, nat_lt, cond, inl, inr}
 use Rattle.std.specs.Io.KnownBytes.{IsAtEnd}
-use Rattle.ghg.specs.Reader.{BeginsLine, Missing, Stopped, Took}
-use Rattle.ghg.specs.Script.{prefixed, split_line}
-use Rattle.ghg.proofs.Taken.{took_no_more}
+use Rattle.std.specs.List.{position, position_or_len}
+use Rattle.std.specs.Option.{option_and_then}
+use Rattle.std.proofs.lemmas.List.{take_at, drop_at}
+use Rattle.ghg.specs.Reader.{Found, Missing, Stopped, Took}
+use Rattle.ghg.specs.Script.{is_line_feed, line_at, line_to, longest_line}
+use Rattle.ghg.proofs.Taken.{took_more, took_no_more}
 
-prefixed_nil : (o : Option (List ℕ × List ℕ)) → prefixed [] o ≡ o
-prefixed_nil None = refl
-prefixed_nil (Some p) = refl
+-- how many bytes stand before the first line feed, or in all
+abbrev pub before_feed : List ℕ → ℕ
+before_feed bytes = position_or_len is_line_feed bytes
 
-prefixed_twice : (a b : List ℕ) (o : Option (List ℕ × List ℕ)) → prefixed a (prefixed b o) ≡ prefixed (a ++ b) o
-prefixed_twice a b None = refl
-prefixed_twice a b (Some p) = ap (λ (l : List ℕ). Some (l, p.1)) (sym (append_assoc a b p.0))
+-- bytes with no line feed
+pub record HasNoFeed (line : List ℕ) : Type 0 where
+  pub whole : before_feed line ≡ length line
 
-pub line_begins : (limit : ℕ) → BeginsLine limit []
-line_begins limit = record { each = λ rest. let whole : limit - 0 ≡ limit = omega arith in rw whole (sym (prefixed_nil (split_line limit rest))) }
+feed_step : (x : ℕ) (xs rest : List ℕ) (feed : Bool) → nat_eq x 10 ≡ feed → before_feed (x ∷ xs) ≡ length (x ∷ xs)
+    → (before_feed xs ≡ length xs → before_feed (xs ++ rest) ≡ length xs + before_feed rest) → before_feed ((x ∷ xs) ++ rest) ≡ length (x ∷ xs) + before_feed rest
+feed_step x xs rest true e h go = let none = rw e at h in absurd (omega arith)
+feed_step x xs rest false e h go =
+    let all = rw e at h in
+    let later : before_feed (xs ++ rest) ≡ length xs + before_feed rest = go (omega arith) in
+    rw e (omega (arith, later))
 
-other_byte : (m b : ℕ) (rest : List ℕ) → nat_eq b 10 ≡ false → split_line (suc m) (b ∷ rest) ≡ prefixed (b ∷ []) (split_line m rest)
-other_byte m b rest e = rw e refl
+-- bytes behind those with no line feed
+behind_line : (line rest : List ℕ) → before_feed line ≡ length line → before_feed (line ++ rest) ≡ length line + before_feed rest
+behind_line [] rest h = omega arith
+behind_line (x ∷ xs) rest h = feed_step x xs rest (nat_eq x 10) refl h (behind_line xs rest)
 
-line_grown : (limit b : ℕ) (line : List ℕ) → length line < limit → nat_eq b 10 ≡ false → BeginsLine limit line → (rest : List ℕ)
-    → split_line limit ((line ++ b ∷ []) ++ rest) ≡ prefixed (line ++ b ∷ []) (split_line (limit - length (line ++ b ∷ [])) rest)
-line_grown limit b line h e g rest =
-    let left : limit - length line ≡ suc (limit - length (line ++ b ∷ [])) = omega (arith, length-append line (b ∷ [])) in
-    rw append_assoc (g.each (b ∷ rest) ∙ ap (λ (n : ℕ). prefixed line (split_line n (b ∷ rest))) left ∙ ap (prefixed line) (other_byte _ b rest e) ∙ prefixed_twice line (b ∷ []) _)
+one_more : (b : ℕ) → nat_eq b 10 ≡ false → before_feed (b ∷ []) ≡ 1
+one_more b e = rw e refl
 
-pub line_grows : (limit b : ℕ) (line : List ℕ) → length line < limit → nat_eq b 10 ≡ false → BeginsLine limit line → BeginsLine limit (line ++ b ∷ [])
-line_grows limit b line h e g = record { each = line_grown limit b line h e g }
+pub line_begins : HasNoFeed []
+line_begins = record { whole = refl }
 
-pub line_ends : (limit : ℕ) (line : List ℕ) → length line < limit → BeginsLine limit line → (rest : List ℕ) → split_line limit ((line ++ 10 ∷ []) ++ rest) ≡ Some (line, rest)
-line_ends limit line h g rest =
-    let left : limit - length line ≡ suc (limit - length line - 1) = omega arith in
-    rw append_assoc (g.each (10 ∷ rest) ∙ ap (λ (n : ℕ). prefixed line (split_line n (10 ∷ rest))) left ∙ ap (λ (l : List ℕ). Some (l, rest)) (append-nil line))
+pub line_grows : (b : ℕ) (line : List ℕ) → nat_eq b 10 ≡ false → HasNoFeed line → HasNoFeed (line ++ b ∷ [])
+line_grows b line e h = record { whole = behind_line line (b ∷ []) h.whole ∙ ap (λ (n : ℕ). length line + n) (one_more b e) ∙ sym (length-append line (b ∷ [])) }
 
-no_bytes : (n : ℕ) → split_line n [] ≡ None
-no_bytes zero = refl
-no_bytes (suc n) = refl
+-- where the first line feed stands
+pub feed_at : (bytes : List ℕ) (at : ℕ) → before_feed bytes ≡ at → at < length bytes → position is_line_feed bytes ≡ Some at
+feed_at bytes at e h = let inside : nat_lt at (length bytes) ≡ true = grind arith in rw (e, inside) refl
 
--- nothing follows
-line_cut : (limit : ℕ) (line : List ℕ) → BeginsLine limit line → split_line limit line ≡ None
-line_cut limit line g = ap (split_line limit) (sym (append-nil line)) ∙ g.each [] ∙ ap (prefixed line) (no_bytes (limit - length line))
+no_feed_at : (bytes : List ℕ) → length bytes ≤ before_feed bytes → position is_line_feed bytes ≡ None
+no_feed_at bytes h = let outside : nat_lt (before_feed bytes) (length bytes) ≡ false = grind arith in rw outside refl
 
--- no byte more is allowed
-line_too_long : (limit : ℕ) (line : List ℕ) → limit ≤ length line → BeginsLine limit line → (rest : List ℕ) → split_line limit (line ++ rest) ≡ None
-line_too_long limit line h g rest =
-    let none : limit - length line ≡ 0 = omega arith in
-    g.each rest ∙ ap (λ (n : ℕ). prefixed line (split_line n rest)) none
+-- a line, and what follows its line feed
+pub line_ends : (line rest : List ℕ) → length line ≤ longest_line → HasNoFeed line → line_at ((line ++ 10 ∷ []) ++ rest) ≡ Some (line, rest)
+line_ends line rest short h =
+    let all : List ℕ = line ++ 10 ∷ rest in
+    let first : before_feed all ≡ length line = behind_line line (10 ∷ rest) h.whole ∙ omega arith in
+    let found : position is_line_feed all ≡ Some (length line) = feed_at all (length line) first (omega (arith, length-append line (10 ∷ rest))) in
+    let fits : nat_le (length line) longest_line ≡ true = grind arith in
+    let behind = rw append_assoc at (drop_at (line ++ 10 ∷ []) rest (length line + 1) (length-append line (10 ∷ []))) in
+    rw (append_assoc, found, fits, take_at line (10 ∷ rest) (length line) refl, behind) refl
 
 -- the input ended within the line
-pub missing_feed : {S : Type 0} (limit : ℕ) (left taken : S → Option (List ℕ)) (a b c : S) (line : List ℕ) → Took left taken a b line → BeginsLine limit line → IsAtEnd (left c) × Took left taken b c []
-    → Missing (split_line limit) left taken a c
-missing_feed limit left taken a b c line p g end =
-    record { text = line; took = took_no_more left taken a b c line p end.1; none = inl (end.0, line_cut limit line g) }
+pub line_cut : (line : List ℕ) → HasNoFeed line → line_at line ≡ None
+line_cut line h = let none : position is_line_feed line ≡ None = no_feed_at line (omega (arith, h.whole)) in rw none refl
 
-pub missing_short_line : {S : Type 0} (limit : ℕ) (left taken : S → Option (List ℕ)) (a b : S) (line : List ℕ) → Took left taken a b line → BeginsLine limit line → limit ≤ length line
-    → Missing (split_line limit) left taken a b
-missing_short_line limit left taken a b line p g h = record { text = line; took = p; none = inr (line_too_long limit line h g) }
+too_far : (at : ℕ) (within : Bool) (bytes : List ℕ) → longest_line < at → option_and_then (line_to bytes) (cond within (Some at) None) ≡ None
+too_far at true bytes h = let far : nat_le at longest_line ≡ false = grind arith in rw far refl
+too_far at false bytes h = refl
+
+-- the line has a byte too many
+pub line_too_long : (line : List ℕ) → longest_line < length line → HasNoFeed line → (rest : List ℕ) → line_at (line ++ rest) ≡ None
+line_too_long line far h rest =
+    let all : List ℕ = line ++ rest in
+    too_far (before_feed all) (nat_lt (before_feed all) (length all)) all (omega (arith, behind_line line rest h.whole))
+
+-- ---- what a source gives of a line
+
+pub missing_feed : {S : Type 0} (left taken : S → Option (List ℕ)) (a b c : S) (line : List ℕ) → Took left taken a b line → HasNoFeed line → IsAtEnd (left c) × Took left taken b c []
+    → Missing line_at left taken a c
+missing_feed left taken a b c line p h end =
+    record { text = line; took = took_no_more left taken a b c line p end.1; none = inl (end.0, line_cut line h) }
+
+pub missing_short_line : {S : Type 0} (left taken : S → Option (List ℕ)) (a b : S) (line : List ℕ) → Took left taken a b line → HasNoFeed line → longest_line < length line
+    → Missing line_at left taken a b
+missing_short_line left taken a b line p h far = record { text = line; took = p; none = inr (line_too_long line far h) }
+
+pub found_line : {S : Type 0} (left taken : S → Option (List ℕ)) (a b c : S) (line : List ℕ) → Took left taken a b line → HasNoFeed line → length line ≤ longest_line → Took left taken b c (10 ∷ [])
+    → Found line_at left taken a c line
+found_line left taken a b c line p h short q =
+    record { text = line ++ 10 ∷ []; took = took_more left taken a b c line (10 ∷ []) p q; each = λ rest. line_ends line rest short h }
 
 -- the source failed within the line
-pub stopped_in_line : {S : Type 0} (limit : ℕ) (left taken : S → Option (List ℕ)) (a b c : S) (line : List ℕ) → Took left taken a b line → BeginsLine limit line → Took left taken b c []
-    → Stopped (split_line limit) left taken a c
-stopped_in_line limit left taken a b c line p g q = record { text = line; took = took_no_more left taken a b c line p q; none = line_cut limit line g }
+pub stopped_in_line : {S : Type 0} (left taken : S → Option (List ℕ)) (a b c : S) (line : List ℕ) → Took left taken a b line → HasNoFeed line → Took left taken b c []
+    → Stopped line_at left taken a c
+stopped_in_line left taken a b c line p h q = record { text = line; took = took_no_more left taken a b c line p q; none = line_cut line h }

@@ -1,16 +1,18 @@
 -- What follows END changes nothing.
-use Rattle.std.proofs.Common.{◌≡◌, ℕ, zero, suc, ◌+◌, ◌≤◌, Bool, true, false, List, [], ◌∷◌, ◌++◌, length, take, drop, refl, sym, ap, ◌∙◌, arith, None, Some, Option, nat_le, nat_eq, length-append, append-nil}
+use Rattle.std.proofs.Common.{◌≡◌, ℕ, zero, suc, ◌+◌, ◌≤◌, ◌<◌, Bool, true, false, List, [], ◌∷◌, ◌++◌, length, take, drop, refl, sym, ap, ◌∙◌, arith, None, Some, Option, nat_le, nat_lt, nat_eq, length-append}
+use Rattle.std.specs.List.{position}
 use Rattle.std.specs.Option.{option_and_then, option_map}
 use Rattle.std.proofs.lemmas.List.{append_cancel_right, take-append-le}
 use Rattle.std.proofs.Math.Seq.{drop-append-le}
 use Rattle.ghg.specs.Laws.{IsScript, ReadsLocally, ReadsOnce}
-use Rattle.ghg.specs.Script.{Reading, after_requests, command_at, command_of, ended, form_of, longest_line, most_commands, most_kept, no_command, prefixed, reading, reading_of, split_line, with_more}
+use Rattle.ghg.specs.Script.{Reading, after_requests, command_at, command_of, ended, form_of, is_line_feed, line_at, line_to, longest_line, most_commands, most_kept, no_command, reading, reading_of, with_more}
 use Rattle.ghg.specs.declared.command.Command.{Command}
 use Rattle.ghg.specs.declared.command.Command.TheVariants as command
 use Rattle.ghg.specs.declared.command.Line.{Line}
 use Rattle.ghg.specs.declared.command.Line.TheVariants as line
 use Rattle.ghg.specs.declared.command.Request.{Request}
 use Rattle.ghg.specs.declared.command.Request.TheVariants as request
+use Rattle.ghg.proofs.Lines.{before_feed, feed_at}
 use Rattle.ghg.proofs.Readings.{reading_none, reading_end, reading_request, reading_spent}
 
 -- ---- a line
@@ -20,18 +22,37 @@ abbrev extended : List ℕ → Option (List ℕ × List ℕ) → Option (List �
 extended more None longer = Unit {0}
 extended more (Some parts) longer = longer ≡ Some (parts.0, parts.1 ++ more)
 
-extended_prefixed : (b : ℕ) (more : List ℕ) (o longer : Option (List ℕ × List ℕ)) → extended more o longer → extended more (prefixed (b ∷ []) o) (prefixed (b ∷ []) longer)
-extended_prefixed b more None longer e = tt
-extended_prefixed b more (Some parts) longer e = ap (prefixed (b ∷ [])) e
+feed_stays : (x : ℕ) (xs more : List ℕ) (feed : Bool) → nat_eq x 10 ≡ feed → before_feed (x ∷ xs) < length (x ∷ xs) → (before_feed xs < length xs → before_feed (xs ++ more) ≡ before_feed xs)
+    → before_feed ((x ∷ xs) ++ more) ≡ before_feed (x ∷ xs)
+feed_stays x xs more true e h go = rw e refl
+feed_stays x xs more false e h go =
+    let within = rw e at h in
+    let later : before_feed (xs ++ more) ≡ before_feed xs = go (omega arith) in
+    rw e (omega (arith, later))
 
-line_step : (n b : ℕ) (bytes more : List ℕ) (feed : Bool) → nat_eq b 10 ≡ feed → extended more (split_line n bytes) (split_line n (bytes ++ more)) → extended more (split_line (suc n) (b ∷ bytes)) (split_line (suc n) ((b ∷ bytes) ++ more))
-line_step n b bytes more true e h = rw e refl
-line_step n b bytes more false e h = rw e (extended_prefixed b more (split_line n bytes) (split_line n (bytes ++ more)) h)
+-- the first line feed stays the first
+first_feed : (bytes more : List ℕ) → before_feed bytes < length bytes → before_feed (bytes ++ more) ≡ before_feed bytes
+first_feed [] more h = absurd (omega arith)
+first_feed (x ∷ xs) more h = feed_stays x xs more (nat_eq x 10) refl h (first_feed xs more)
 
-line_extends : (n : ℕ) (bytes more : List ℕ) → extended more (split_line n bytes) (split_line n (bytes ++ more))
-line_extends zero bytes more = tt
-line_extends (suc n) [] more = tt
-line_extends (suc n) (b ∷ bytes) more = line_step n b bytes more (nat_eq b 10) refl (line_extends n bytes more)
+split_extends : (at : ℕ) (bytes more : List ℕ) (fits : Bool) → nat_le at longest_line ≡ fits → at < length bytes
+    → extended more (line_to bytes at) (line_to (bytes ++ more) at)
+split_extends at bytes more true e h =
+    let front : take at (bytes ++ more) ≡ take at bytes = take-append-le at bytes more (omega arith) in
+    let back : drop (at + 1) (bytes ++ more) ≡ drop (at + 1) bytes ++ more = drop-append-le (at + 1) bytes more (omega arith) in
+    rw (e, front, back) refl
+split_extends at bytes more false e h = rw e tt
+
+by_feed : (bytes more : List ℕ) (within : Bool) → nat_lt (before_feed bytes) (length bytes) ≡ within → extended more (line_at bytes) (line_at (bytes ++ more))
+by_feed bytes more false e = rw e tt
+by_feed bytes more true e =
+    let inside : before_feed bytes < length bytes = grind (arith, e) in
+    let same : position is_line_feed (bytes ++ more) ≡ Some (before_feed bytes) =
+      feed_at (bytes ++ more) (before_feed bytes) (first_feed bytes more inside) (omega (arith, length-append bytes more, inside)) in
+    rw (same, e) (split_extends (before_feed bytes) bytes more (nat_le (before_feed bytes) longest_line) refl inside)
+
+line_extends : (bytes more : List ℕ) → extended more (line_at bytes) (line_at (bytes ++ more))
+line_extends bytes more = by_feed bytes more (nat_lt (before_feed bytes) (length bytes)) refl
 
 -- ---- a command
 
@@ -72,7 +93,7 @@ at_line (Some parts) longer rest more found x e = rw x (at_form (form_of parts.0
 -- what follows a command changes nothing of it
 command_locally : (bytes rest more : List ℕ) (found : Command) → command_at bytes ≡ Some (found, rest) → command_at (bytes ++ more) ≡ Some (found, rest ++ more)
 unfolding command_at
-command_locally bytes rest more found e = at_line (split_line longest_line bytes) (split_line longest_line (bytes ++ more)) rest more found (line_extends longest_line bytes more) e
+command_locally bytes rest more found e = at_line (line_at bytes) (line_at (bytes ++ more)) rest more found (line_extends bytes more) e
 
 -- ---- a script
 

@@ -1,7 +1,7 @@
 -- What calls that read from a source take of it.
-use Rattle.std.specs.Prelude.{◌≡◌, ℕ, ◌-◌, ◌<◌, ◌⊎◌, List, ◌++◌, length, take, Option, Some, None}
+use Rattle.std.specs.Prelude.{◌≡◌, ℕ, ◌<◌, ◌⊎◌, List, ◌++◌, length, take, Option, Some, None}
 use Rattle.std.specs.Io.KnownBytes.{Appends, Consumes, IsAtEnd}
-use Rattle.ghg.specs.Script.{prefixed, split_line, most_kept}
+use Rattle.ghg.specs.Script.{most_kept}
 
 -- this text was read from the front of what was left, and nothing else
 pub record Took {S : Type 0} (left taken : S → Option (List ℕ)) (old new : S) (text : List ℕ) : Type 0 where
@@ -38,7 +38,3 @@ pub record TookFewer {S : Type 0} (left taken : S → Option (List ℕ)) (old ne
   pub text : List ℕ
   pub took : Took left taken old new text
   pub few : length text < count
-
--- so far the bytes are the front of a line, and the rest decides
-pub record BeginsLine (limit : ℕ) (line : List ℕ) : Type 0 where
-  pub each : (rest : List ℕ) → split_line limit (line ++ rest) ≡ prefixed line (split_line (limit - length line) rest)

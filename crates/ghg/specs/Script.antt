@@ -1,5 +1,5 @@
 -- The grammar of a script: which command bytes begin with, and what a whole script asks for.
-use Rattle.std.specs.Prelude.{ℕ, zero, suc, ◌+◌, ◌-◌, ◌*◌, Bool, ◌&&◌, List, [], ◌∷◌, ◌++◌, length, take, drop, Option, Some, None, ◌==◌, nat_le, if◌then◌else◌, codes, position, option_and_then, option_map}
+use Rattle.std.specs.Prelude.{ℕ, zero, suc, ◌+◌, Bool, ◌&&◌, List, [], ◌∷◌, ◌++◌, length, take, drop, Option, Some, None, ◌==◌, nat_le, if◌then◌else◌, codes, position, option_and_then, option_map}
 use Rattle.std.specs.Option.{option_map_or}
 use Rattle.std.specs.List.{list_all}
 use Rattle.std.specs.Str.{bytes_eq}
@@ -13,22 +13,20 @@ use Rattle.ghg.specs.declared.command.Request.TheVariants as request
 
 -- ---- a line
 
--- bytes in front of the first part of a pair
-abbrev pub prefixed : List ℕ → Option (List ℕ × List ℕ) → Option (List ℕ × List ℕ)
-prefixed front split = option_map (λ parts. (front ++ parts.0, parts.1)) split
+abbrev pub is_line_feed : ℕ → Bool
+is_line_feed b = b == 10
 
--- the first line, whose line feed stands within so many bytes, and what follows it
-abbrev pub split_line : ℕ → List ℕ → Option (List ℕ × List ℕ)
-split_line zero bytes = None
-split_line (suc n) [] = None
-split_line (suc n) (b ∷ bytes) = if b == 10 then Some ([], bytes) else prefixed (b ∷ []) (split_line n bytes)
-
--- a line has at most 120 bytes, and then a line feed
+-- the most bytes that a line has before its line feed
 abbrev pub longest_line : ℕ
-longest_line = 121
+longest_line = 120
 
+-- the line that a line feed at this place ends, and what follows
+abbrev pub line_to : List ℕ → ℕ → Option (List ℕ × List ℕ)
+line_to bytes at = if nat_le at longest_line then Some (take at bytes, drop (at + 1) bytes) else None
+
+-- the first line, and what follows
 abbrev pub line_at : List ℕ → Option (List ℕ × List ℕ)
-line_at bytes = split_line longest_line bytes
+line_at bytes = option_and_then (line_to bytes) (position is_line_feed bytes)
 
 -- ---- the words of a line
 

@@ -41,8 +41,8 @@ pub fn next_command<S: Source>(alloc: Global, source: &mut S) -> Result<Option<C
     }
 }
 
-/// A line has at most 120 bytes and a line feed.
-const LONGEST_LINE: usize = 121;
+/// The most bytes that a line has before its line feed.
+const LONGEST_LINE: usize = 120;
 
 // The next line without its line feed, or nothing where no line ends within its limit.
 fn read_line<S: Source>(alloc: Global, source: &mut S) -> Result<Option<Vec<u8>>, Stop>
@@ -54,7 +54,7 @@ fn read_line<S: Source>(alloc: Global, source: &mut S) -> Result<Option<Vec<u8>>
     ensures only { ReadsOnly result }
 {
     let mut line = Vec::new(alloc);
-    'bytes: while line.len() < LONGEST_LINE {
+    'bytes: while line.len() <= LONGEST_LINE {
         match next_byte(source)? {
             None => return Ok(None),
             Some(b'\n') => return Ok(Some(line)),
