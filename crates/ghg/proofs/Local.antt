@@ -48,7 +48,7 @@ by_feed bytes more false e = rw e tt
 by_feed bytes more true e =
     let inside : before_feed bytes < length bytes = grind (arith, e) in
     let same : position is_line_feed (bytes ++ more) ≡ Some (before_feed bytes) =
-      feed_at (bytes ++ more) (before_feed bytes) (first_feed bytes more inside) (omega (arith, length-append bytes more, inside)) in
+    feed_at (bytes ++ more) (before_feed bytes) (first_feed bytes more inside) (omega (arith, length-append bytes more, inside)) in
     rw (same, e) (split_extends (before_feed bytes) bytes more (nat_le (before_feed bytes) longest_line) refl inside)
 
 line_extends : (bytes more : List ℕ) → extended more (line_at bytes) (line_at (bytes ++ more))

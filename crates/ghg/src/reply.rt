@@ -1,12 +1,10 @@
 //! The lines that reply to requests.
 
-ghost use Rattle.std.specs.Prelude.{◌≡◌, ◌≢◌, ◌++◌, codes, IfOk, OnOk};
+ghost use Rattle.std.specs.Prelude.{◌≡◌, ◌≢◌, IfOk, OnOk};
 ghost use Rattle.ghg.specs.Replies.{heading, line_count, line_of, table_lines};
 ghost use Rattle.ghg_office.specs.Replies.{reply_text};
-ghost use Rattle.ghg_units.specs.Refusals.{refusal_text};
 
-use ghg_office::Reply;
-use ghg_units::{Rule, append_rule};
+use ghg_office::{Reply, append_reply};
 use std::alloc::{AllocError, Global};
 
 /// The lines that reply to a request for a table. That memory ran out is no reply.
@@ -50,34 +48,15 @@ fn line_count(text: &[u8]) -> usize
 }
 
 /// The line of a reply. That memory ran out is no reply.
-#[tactic(auto, unfolding(ghg_office::specs::Replies::reply_text))]
 pub fn reply_line(alloc: Global, reply: &Reply) -> Result<Vec<u8>, AllocError>
     ensures line { IfOk result (λ line. line.items ≡ line_of (reply_text reply.now)) }
     ensures answered { OnOk result (reply.now ≢ Reply.Memory) }
 {
-    match reply {
-        Reply::Accepted { seq } => Ok(format!(in alloc; "accepted {seq}\n")?.into_bytes()),
-        Reply::Repeated { seq } => Ok(format!(in alloc; "repeated {seq}\n")?.into_bytes()),
-        Reply::Refused(rule) => refusal_line(alloc, rule),
-        Reply::Table(text) => ended(alloc, text.as_slice()),
-        Reply::NoTable => ended(alloc, b"no table".as_slice()),
-        Reply::Memory => Err(AllocError),
+    if let Reply::Memory = reply {
+        return Err(AllocError);
     }
-}
-
-fn refusal_line(alloc: Global, rule: &Rule) -> Result<Vec<u8>, AllocError>
-    ensures { IfOk result (λ line. line.items ≡ line_of (codes "refused " ++ refusal_text rule.now)) }
-{
-    let mut line = b"refused ".to_vec(alloc)?;
-    append_rule(&mut line, rule)?;
-    line.push(b'\n')?;
-    Ok(line)
-}
-
-fn ended(alloc: Global, text: &[u8]) -> Result<Vec<u8>, AllocError>
-    ensures { IfOk result (λ line. line.items ≡ line_of text.now) }
-{
-    let mut line = text.to_vec(alloc)?;
+    let mut line = Vec::new(alloc);
+    append_reply(&mut line, reply)?;
     line.push(b'\n')?;
     Ok(line)
 }

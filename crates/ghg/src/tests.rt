@@ -67,6 +67,9 @@ fn ends_of_scripts(rt: HostRuntime) -> Result<(), Fail> {
             3,
             "accepted 1\nnot a script: command 2\n",
         ),
+        ("SUBMIT a b\nEND\n", 3, "not a script: command 1\n"),
+        ("SHOW Cells 1990\nEND\n", 3, "not a script: command 1\n"),
+        ("END\r\n", 3, "not a script: command 1\n"),
     ] {
         let case = Case {
             words: "compile",
@@ -332,4 +335,62 @@ fn the_factor_in_force_gives_the_value(rt: HostRuntime) -> Result<(), Fail> {
         code,category,equation,gas,unit,value,low,high\n\
         ELEC.GAS,1A1a,Q10,CO2,Gg,56.100,56.100,56.100\n",
     )
+}
+
+// A body as a spreadsheet program writes it: with a byte order mark, and lines that end with CRLF.
+#[test]
+fn a_spreadsheet_writes_a_body(rt: HostRuntime) -> Result<(), Fail> {
+    let script = "SUBMIT a 301\n\u{feff}act,kind,subject,name,year,value,low,high,unit,note\r\n\
+        enter,span,,,1990,1991,1990,,,\r\n\
+        enter,line,1A1a,ELEC.GAS,,Q10,,,,\r\n\
+        enter,bind,ELEC.GAS,FC,,activity,GAS.TJ,,,\r\n\
+        enter,bind,ELEC.GAS,EF,,factor,GAS.EF,,,\r\n\
+        enter,activity,,GAS.TJ,1990,1000,,,TJ,\r\n\
+        enter,factor,,GAS.EF,1990,56100,54300,58300,kg/TJ,\r\nSHOW cells 1990\n";
+    let output = format!(in rt.alloc();
+        "accepted 1\n{CELLS}ELEC.GAS,1A1a,Q10,CO2,Gg,56.100,54.300,58.300\n"
+    )?;
+    answers(&rt, &[Given::Line(script)], &output)
+}
+
+// Spans of 151 years and of 152.
+#[test]
+fn a_span_has_its_limit(rt: HostRuntime) -> Result<(), Fail> {
+    let given = [
+        Given::Rows("a", &["enter,span,,,1900,2051,1990,,,\n"]),
+        Given::Rows("b", &["enter,span,,,1900,2050,1990,,,\n"]),
+    ];
+    answers(&rt, &given, "refused 11 TooMany span\naccepted 1\n")
+}
+
+// A body of so many lines, each bound to one activity and one factor.
+fn body_of_lines(alloc: Global, count: u32) -> Result<Vec<u8>, AllocError> {
+    let mut body = HEADER.as_bytes().to_vec(alloc)?;
+    body.extend_from_slice(b"enter,activity,,A,1990,1,,,TJ,\nenter,factor,,F,1990,1,,,kg/TJ,\n")?;
+    for number in 0..count {
+        let rows = format!(in alloc;
+            "enter,line,1A1a,L{number},,Q10,,,,\n\
+            enter,bind,L{number},FC,,activity,A,,,\n\
+            enter,bind,L{number},EF,,factor,F,,,\n"
+        )?;
+        body.extend_from_slice(rows.as_bytes())?;
+    }
+    Ok(body)
+}
+
+#[test]
+fn a_workbook_has_5000_lines(rt: HostRuntime) -> Result<(), Fail> {
+    let alloc = rt.alloc();
+    for (count, output) in [
+        (5_001, "refused 11 TooMany lines\n"),
+        (5_000, "accepted 1\n"),
+    ] {
+        let body = body_of_lines(alloc, count)?;
+        let line = format!(in alloc; "SUBMIT a {}\n", body.len())?;
+        let mut script = line.as_bytes().to_vec(alloc)?;
+        script.extend_from_slice(&body)?;
+        script.extend_from_slice(b"END\n")?;
+        answers_with::<Brand>(&rt, Blank::new(1), script, output)?;
+    }
+    Ok(())
 }
