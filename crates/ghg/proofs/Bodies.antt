@@ -1,6 +1,5 @@
 -- A body that is read block by block, and of which the front is kept.
 use Rattle.std.proofs.Common.{◌≡◌, ℕ, zero, suc, ◌+◌, ◌-◌, ◌≤◌, ◌<◌, List, [], ◌∷◌, ◌++◌, refl, length, take, length-append, length-take, sym, ap, ◌∙◌, arith, Option}
-use Rattle.std.specs.Io.KnownBytes.{IsAtEnd}
 use Rattle.ghg.specs.Reader.{Took, TookBody, TookFewer}
 use Rattle.ghg.specs.Script.{most_kept}
 use Rattle.ghg.proofs.Taken.{took_more, took_no_more}

@@ -1,5 +1,5 @@
 -- A command that is read as a line, and perhaps a body.
-use Rattle.std.proofs.Common.{◌≡◌, ℕ, ◌<◌, ◌⊎◌, inl, inr, true, false, List, ◌++◌, length, take, append_assoc, length-append, refl, ap, sym, ◌∙◌, arith, None, Some, nat_le, Option}
+use Rattle.std.proofs.Common.{◌≡◌, ℕ, ◌<◌, ◌⊎◌, inl, inr, true, false, List, ◌++◌, length, take, append_assoc, length-append, refl, ◌∙◌, arith, None, Some, nat_le, Option}
 use Rattle.std.specs.Io.KnownBytes.{IsAtEnd}
 use Rattle.std.proofs.lemmas.List.{take_at, drop_at}
 use Rattle.ghg.specs.Reader.{Found, Missing, Stopped, TookBody, TookFewer}

@@ -5,7 +5,7 @@ use Rattle.std.specs.Option.{option_and_then, option_map}
 use Rattle.std.proofs.lemmas.List.{append_cancel_right, take-append-le}
 use Rattle.std.proofs.Math.Seq.{drop-append-le}
 use Rattle.ghg.specs.Laws.{IsScript, ReadsLocally, ReadsOnce}
-use Rattle.ghg.specs.Script.{Reading, after_requests, command_at, command_of, ended, form_of, is_line_feed, line_at, line_to, longest_line, most_commands, most_kept, no_command, reading, reading_of, with_more}
+use Rattle.ghg.specs.Script.{Reading, after_requests, command_at, command_of, form_of, is_line_feed, line_at, line_to, longest_line, most_commands, most_kept, reading, reading_of, with_more}
 use Rattle.ghg.specs.declared.command.Command.{Command}
 use Rattle.ghg.specs.declared.command.Command.TheVariants as command
 use Rattle.ghg.specs.declared.command.Line.{Line}

@@ -1,9 +1,9 @@
 -- What bytes read as, command by command, and what comes of a reading that goes on.
-use Rattle.std.proofs.Common.{◌≡◌, ℕ, suc, ◌+◌, List, [], ◌∷◌, ◌++◌, append_assoc, refl, sym, ap, ◌∙◌, None, Some, Option}
+use Rattle.std.proofs.Common.{◌≡◌, ℕ, suc, ◌+◌, List, [], ◌∷◌, ◌++◌, append_assoc, refl, sym, ap, ◌∙◌, None, Some}
 use Rattle.ghg_office.specs.Office.{State}
 use Rattle.ghg.specs.Replies.{reply_of, replies, state_after, state_behind}
 use Rattle.ghg.specs.Script.{Reading, after_requests, command_at, ended, no_command, reading}
-use Rattle.ghg.specs.Session.{Outcome, last_line, outcome, status_of}
+use Rattle.ghg.specs.Session.{last_line, outcome}
 use Rattle.ghg.specs.declared.command.Command.TheVariants as command
 use Rattle.ghg.specs.declared.command.Request.{Request}
 

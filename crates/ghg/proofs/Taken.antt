@@ -1,5 +1,5 @@
 -- What is read piece by piece.
-use Rattle.std.proofs.Common.{◌≡◌, ℕ, List, [], ◌++◌, append-nil, Option}
+use Rattle.std.proofs.Common.{ℕ, List, [], ◌++◌, append-nil, Option}
 use Rattle.std.proofs.KnownBytes.{Appends-nil, Appends-trans, Consumes-nil, Consumes-trans}
 use Rattle.ghg.specs.Reader.{Took}
 

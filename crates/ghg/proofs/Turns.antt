@@ -5,12 +5,11 @@ use Rattle.std.proofs.KnownBytes.{Appends-trans, Appends-nil}
 use Rattle.std.proofs.Math.Seq.{take-append-add}
 use Rattle.std.proofs.lemmas.List.{take-append-le, take_min}
 use Rattle.ghg_office.specs.Office.{State}
-use Rattle.ghg.specs.Reader.{Found, Missing, Stopped, Took}
+use Rattle.ghg.specs.Reader.{Found, Missing, Stopped}
 use Rattle.ghg.specs.Replies.{reply_of, replies, state_after, state_behind}
 use Rattle.ghg.specs.Script.{Reading, after_requests, command_at, ended, no_command, reading, with_more}
-use Rattle.ghg.specs.Session.{Outcome, end_status, outcome, status_of, wrong_line}
+use Rattle.ghg.specs.Session.{status_of, wrong_line}
 use Rattle.ghg.specs.Turns.{AppendsFront, GoesOn, IsCut, IsCutOff, IsOver, Place, place, reading_from, session_from}
-use Rattle.ghg.specs.declared.command.Command.{Command}
 use Rattle.ghg.specs.declared.command.Command.TheVariants as command
 use Rattle.ghg.specs.declared.command.Request.{Request}
 use Rattle.ghg.specs.declared.session.End.{End}

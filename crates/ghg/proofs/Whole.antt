@@ -1,12 +1,10 @@
 -- What was written whole, or in part, of what the program was to write.
-use Rattle.std.proofs.Common.{◌≡◌, ℕ, ◌⊎◌, inl, inr, List, [], ◌++◌, append-nil, length, sym, ap, subst, refl, ◌∙◌, None, Some, Option, IfSome}
-use Rattle.std.specs.Io.KnownBytes.{Appends, Consumes, IsAtEnd}
+use Rattle.std.proofs.Common.{◌≡◌, ℕ, List, length, sym, subst, None, Some, Option}
+use Rattle.std.specs.Io.KnownBytes.{Appends}
 use Rattle.std.proofs.Math.Seq.{take-length}
 use Rattle.ghg.specs.Run.{IsBegun, IsDone, bad_command_line, due}
-use Rattle.ghg.specs.Session.{session_of}
-use Rattle.ghg.specs.Turns.{AppendsFront, IsCut, first_place}
+use Rattle.ghg.specs.Turns.{AppendsFront}
 use Rattle.ghg.specs.Words.{task_in}
-use Rattle.ghg.specs.declared.words.Task.TheVariants.{Compile}
 
 front_whole : (old new : Option (List ℕ)) (text : List ℕ) → Appends old new text → AppendsFront old new text
 front_whole old new text a = (length text, subst (Appends old new) (sym (take-length text)) a)

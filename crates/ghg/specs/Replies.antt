@@ -6,7 +6,7 @@ use Rattle.ghg.specs.declared.command.Request.TheVariants.{Submit, Show}
 use Rattle.ghg_office.specs.Office.{Answer, State, submitted, requested}
 use Rattle.ghg_office.specs.Replies.{reply_text}
 use Rattle.ghg_office.specs.declared.reply.Reply.{Reply}
-use Rattle.ghg_office.specs.declared.reply.Reply.TheVariants.{Table, NoTable, Accepted, Repeated, Refused, Memory}
+use Rattle.ghg_office.specs.declared.reply.Reply.TheVariants.{Table}
 
 -- a text, and the line feed that ends it
 abbrev pub line_of : List ℕ → List ℕ

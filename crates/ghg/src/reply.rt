@@ -52,11 +52,13 @@ pub fn reply_line(alloc: Global, reply: &Reply) -> Result<Vec<u8>, AllocError>
     ensures line { IfOk result (λ line. line.items ≡ line_of (reply_text reply.now)) }
     ensures answered { OnOk result (reply.now ≢ Reply.Memory) }
 {
-    if let Reply::Memory = reply {
-        return Err(AllocError);
+    match reply {
+        Reply::Memory => Err(AllocError),
+        _ => {
+            let mut line = Vec::new(alloc);
+            append_reply(&mut line, reply)?;
+            line.push(b'\n')?;
+            Ok(line)
+        }
     }
-    let mut line = Vec::new(alloc);
-    append_reply(&mut line, reply)?;
-    line.push(b'\n')?;
-    Ok(line)
 }

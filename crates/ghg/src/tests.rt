@@ -67,9 +67,6 @@ fn ends_of_scripts(rt: HostRuntime) -> Result<(), Fail> {
             3,
             "accepted 1\nnot a script: command 2\n",
         ),
-        ("SUBMIT a b\nEND\n", 3, "not a script: command 1\n"),
-        ("SHOW Cells 1990\nEND\n", 3, "not a script: command 1\n"),
-        ("END\r\n", 3, "not a script: command 1\n"),
     ] {
         let case = Case {
             words: "compile",
@@ -153,6 +150,14 @@ fn script_of(alloc: Global, given: &[Given]) -> Result<Vec<u8>, AllocError> {
 // That a session answers this, and ends well.
 fn answers(rt: &(impl Abort + AllocGlobal), given: &[Given], output: &str) -> Result<(), Fail> {
     let script = script_of(rt.alloc(), given)?;
+    answers_script(rt, script, output)
+}
+
+fn answers_script(
+    rt: &(impl Abort + AllocGlobal),
+    script: Vec<u8>,
+    output: &str,
+) -> Result<(), Fail> {
     answers_with::<Brand>(rt, Blank::new(1), script, output)
 }
 
@@ -216,7 +221,7 @@ fn plant_answers(
     let mut script = Vec::new(alloc);
     append_submission(&mut script, alloc, "a", &[PLANT, fuel, factor])?;
     script.extend_from_slice(b"SHOW cells 1990\nEND\n")?;
-    answers_with::<Brand>(rt, Blank::new(1), script, output)
+    answers_script(rt, script, output)
 }
 
 const CELLS: &str = "table cells 1990 rows 2\ncode,category,equation,gas,unit,value,low,high\n";
@@ -319,53 +324,104 @@ fn the_factor_in_force_gives_the_value(rt: HostRuntime) -> Result<(), Fail> {
             "a",
             &[
                 PLANT,
-                "enter,activity,,GAS.TJ,1991,1000,,,TJ,\n",
-                "enter,factor,,GAS.EF,1990,56100,,,kg/TJ,\nenter,factor,,GAS.EF,1991,55000,,,kg/TJ,\n",
+                "correct,span,,,1990,2001,1990,,,\n",
+                "enter,activity,,GAS.TJ,1990,1000,,,TJ,\nenter,activity,,GAS.TJ,1999,1000,,,TJ,\n",
+                "enter,activity,,GAS.TJ,2000,1000,,,TJ,\nenter,activity,,GAS.TJ,2001,1000,,,TJ,\n",
+                "enter,factor,,GAS.EF,1990,56100,,,kg/TJ,\nenter,factor,,GAS.EF,2000,55000,,,kg/TJ,\n",
             ],
         ),
-        Given::Line("SHOW cells 1991\n"),
-        Given::Rows("b", &["withdraw,factor,,GAS.EF,1991,,,,,\n"]),
-        Given::Line("SHOW cells 1991\n"),
+        Given::Line("SHOW cells 1999\nSHOW cells 2001\n"),
+        Given::Rows("b", &["withdraw,factor,,GAS.EF,2000,,,,,\n"]),
+        Given::Line("SHOW cells 2001\n"),
     ];
     answers(
         &rt,
         &given,
-        "accepted 1\ntable cells 1991 rows 2\ncode,category,equation,gas,unit,value,low,high\n\
-        ELEC.GAS,1A1a,Q10,CO2,Gg,55.000,55.000,55.000\naccepted 2\ntable cells 1991 rows 2\n\
+        "accepted 1\ntable cells 1999 rows 2\ncode,category,equation,gas,unit,value,low,high\n\
+        ELEC.GAS,1A1a,Q10,CO2,Gg,56.100,56.100,56.100\ntable cells 2001 rows 2\n\
+        code,category,equation,gas,unit,value,low,high\n\
+        ELEC.GAS,1A1a,Q10,CO2,Gg,55.000,55.000,55.000\naccepted 2\ntable cells 2001 rows 2\n\
         code,category,equation,gas,unit,value,low,high\n\
         ELEC.GAS,1A1a,Q10,CO2,Gg,56.100,56.100,56.100\n",
     )
 }
 
-// A body as a spreadsheet program writes it: with a byte order mark, and lines that end with CRLF.
+// A body as a spreadsheet writes it: a byte order mark, and lines that end with CRLF.
 #[test]
-fn a_spreadsheet_writes_a_body(rt: HostRuntime) -> Result<(), Fail> {
-    let script = "SUBMIT a 301\n\u{feff}act,kind,subject,name,year,value,low,high,unit,note\r\n\
-        enter,span,,,1990,1991,1990,,,\r\n\
-        enter,line,1A1a,ELEC.GAS,,Q10,,,,\r\n\
-        enter,bind,ELEC.GAS,FC,,activity,GAS.TJ,,,\r\n\
-        enter,bind,ELEC.GAS,EF,,factor,GAS.EF,,,\r\n\
+fn a_spreadsheet_is_read_as_plain_text(rt: HostRuntime) -> Result<(), Fail> {
+    let given = [Given::Line(
+        "SUBMIT a 301\n\u{feff}act,kind,subject,name,year,value,low,high,unit,note\r\n\
+        enter,span,,,1990,1991,1990,,,\r\nenter,line,1A1a,ELEC.GAS,,Q10,,,,\r\n\
+        enter,bind,ELEC.GAS,FC,,activity,GAS.TJ,,,\r\nenter,bind,ELEC.GAS,EF,,factor,GAS.EF,,,\r\n\
         enter,activity,,GAS.TJ,1990,1000,,,TJ,\r\n\
-        enter,factor,,GAS.EF,1990,56100,54300,58300,kg/TJ,\r\nSHOW cells 1990\n";
-    let output = format!(in rt.alloc();
-        "accepted 1\n{CELLS}ELEC.GAS,1A1a,Q10,CO2,Gg,56.100,54.300,58.300\n"
-    )?;
-    answers(&rt, &[Given::Line(script)], &output)
+        enter,factor,,GAS.EF,1990,56100,54300,58300,kg/TJ,\r\nSHOW cells 1990\n",
+    )];
+    answers(
+        &rt,
+        &given,
+        "accepted 1\ntable cells 1990 rows 2\ncode,category,equation,gas,unit,value,low,high\n\
+        ELEC.GAS,1A1a,Q10,CO2,Gg,56.100,54.300,58.300\n",
+    )
 }
 
-// Spans of 151 years and of 152.
+// An id with another byte, a row of nine fields behind a good one, and a span of 152 years.
 #[test]
-fn a_span_has_its_limit(rt: HostRuntime) -> Result<(), Fail> {
+fn rules_name_what_breaks_them(rt: HostRuntime) -> Result<(), Fail> {
     let given = [
-        Given::Rows("a", &["enter,span,,,1900,2051,1990,,,\n"]),
-        Given::Rows("b", &["enter,span,,,1900,2050,1990,,,\n"]),
+        Given::Rows("a!", &[PLANT]),
+        Given::Rows("a", &[PLANT, "enter,activity,,GAS.TJ,1990,1000,,,TJ\n"]),
+        Given::Rows("a", &["enter,span,,,1900,2051,1900,,,\n"]),
+        Given::Rows("a", &[]),
     ];
-    answers(&rt, &given, "refused 11 TooMany span\naccepted 1\n")
+    answers(
+        &rt,
+        &given,
+        "refused 1 BadId\nrefused 4 BadShape row 5\nrefused 11 TooMany span\naccepted 1\n",
+    )
+}
+
+// The reading of a body and of a line fails, and the writing of a second reply.
+#[test]
+fn a_fault_ends_the_session(rt: HostRuntime) -> Result<(), Fail> {
+    for (failing_read, failing_write, status, output) in [
+        (13, 0, 4, ""),
+        (20, 0, 4, "accepted 1\n"),
+        (0, 2, 5, "accepted 1\n"),
+    ] {
+        let case = Case {
+            words: "compile",
+            input: "SUBMIT a 52\nact,kind,subject,name,year,value,low,high,unit,note\nSHOW cells 1990\nEND\n",
+            failing_read,
+            failing_write,
+            status,
+            output,
+        };
+        check(&rt, &case)?;
+    }
+    Ok(())
+}
+
+// Bodies of 4,194,304 bytes and of more: of these the rest is read past.
+#[test]
+fn a_body_has_its_limit(rt: HostRuntime) -> Result<(), Fail> {
+    let alloc = rt.alloc();
+    for (length, output) in [
+        (4_194_304, "refused 4 BadShape row 0\n"),
+        (4_194_305, "refused 3 BodyTooLong\n"),
+        (4_200_000, "refused 3 BodyTooLong\n"),
+    ] {
+        let mut script = format!(in alloc; "SUBMIT a {length}\n")?.into_bytes();
+        let body = vec![in alloc; b'x'; length]?;
+        script.extend_from_slice(&body)?;
+        script.extend_from_slice(b"END\n")?;
+        answers_script(&rt, script, output)?;
+    }
+    Ok(())
 }
 
 // A body of so many lines, each bound to one activity and one factor.
-fn body_of_lines(alloc: Global, count: u32) -> Result<Vec<u8>, AllocError> {
-    let mut body = HEADER.as_bytes().to_vec(alloc)?;
+fn append_lines(body: &mut Vec<u8>, alloc: Global, count: u32) -> Result<(), AllocError> {
+    body.extend_from_slice(HEADER.as_bytes())?;
     body.extend_from_slice(b"enter,activity,,A,1990,1,,,TJ,\nenter,factor,,F,1990,1,,,kg/TJ,\n")?;
     for number in 0..count {
         let rows = format!(in alloc;
@@ -375,22 +431,22 @@ fn body_of_lines(alloc: Global, count: u32) -> Result<Vec<u8>, AllocError> {
         )?;
         body.extend_from_slice(rows.as_bytes())?;
     }
-    Ok(body)
+    Ok(())
 }
 
 #[test]
-fn a_workbook_has_5000_lines(rt: HostRuntime) -> Result<(), Fail> {
+fn a_workbook_has_its_limit_of_lines(rt: HostRuntime) -> Result<(), Fail> {
     let alloc = rt.alloc();
     for (count, output) in [
         (5_001, "refused 11 TooMany lines\n"),
         (5_000, "accepted 1\n"),
     ] {
-        let body = body_of_lines(alloc, count)?;
-        let line = format!(in alloc; "SUBMIT a {}\n", body.len())?;
-        let mut script = line.as_bytes().to_vec(alloc)?;
+        let mut body = Vec::new(alloc);
+        append_lines(&mut body, alloc, count)?;
+        let mut script = format!(in alloc; "SUBMIT a {}\n", body.len())?.into_bytes();
         script.extend_from_slice(&body)?;
         script.extend_from_slice(b"END\n")?;
-        answers_with::<Brand>(&rt, Blank::new(1), script, output)?;
+        answers_script(&rt, script, output)?;
     }
     Ok(())
 }

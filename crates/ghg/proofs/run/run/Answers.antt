@@ -1,8 +1,7 @@
-use Rattle.std.proofs.Common.{rules, ◌≡◌, map, None, Some}
+use Rattle.std.proofs.Common.{rules, ◌≡◌, map, None}
 use Rattle.std.specs.String.{string_bytes}
 use Rattle.ghg.specs.Run.{IsDone}
 use Rattle.ghg.specs.Words.{task_in}
-use Rattle.ghg.specs.declared.words.Task.TheVariants.{Compile}
 use Rattle.ghg.proofs.Whole.{done_begun, usage_begun, usage_whole}
 use Rattle.ghg.proofs.run.run.Goals as goal
 
