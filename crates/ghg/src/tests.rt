@@ -6,7 +6,6 @@ use ghg_steps::Steps;
 use std::alloc::{AllocError, Global};
 use std::marker::Brand;
 use std::process::Abort;
-use std::str;
 use std::sync::ledger::{Blank, Ledger};
 use std::test::Fail;
 
@@ -158,14 +157,14 @@ fn answers_script(
     script: Vec<u8>,
     output: &str,
 ) -> Result<(), Fail> {
-    answers_with::<Brand>(rt, Blank::new(1), script, output)
+    answers_with::<Brand>(rt, Blank::new(1), script, output.as_bytes())
 }
 
 fn answers_with<L: Ledger>(
     rt: &(impl Abort + AllocGlobal),
     blank: Blank,
     script: Vec<u8>,
-    output: &str,
+    output: &[u8],
 ) -> Result<(), Fail>
     requires name { blank.name ≡ L.name }
     requires parts { blank.parts ≡ L.parts }
@@ -177,7 +176,7 @@ fn answers_with<L: Ledger>(
     let mut out = SteadySink::new(alloc);
     let mut steps = Steps::<L>::new(blank);
     let status = run(alloc, &words, &mut input, &mut out, &mut steps);
-    assert_eq!(rt; str::from_utf8(out.bytes()).unwrap_or("?"), output);
+    assert_eq!(rt; out.bytes(), output);
     assert_eq!(rt; status, 0);
     Ok(())
 }
