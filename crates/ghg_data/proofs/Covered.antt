@@ -41,7 +41,7 @@ changed_or_kept m cs k = by (find_key key_cmp k cs) refl
     by None e = inr (get-applied m cs k ∙ ap (λ o. over o (get m k)) e)
     by (Some c) e = inl (found_change k cs c e)
 
-found_key : (q : RecordKey) (ks : List RecordKey) → list_any (eq_by_cmp key_cmp q) ks ≡ true → IsAmong q ks
+pub found_key : (q : RecordKey) (ks : List RecordKey) → list_any (eq_by_cmp key_cmp q) ks ≡ true → IsAmong q ks
 found_key q [] e = absurd (cc)
 found_key q (k ∷ ks) e = by (eq_by_cmp key_cmp q k) refl e (found_key q ks)
   where
@@ -53,7 +53,7 @@ among_more : (l : Name) (o : Option Name) (xs : List Name) → IsAmong l xs → 
 among_more l None xs h = h
 among_more l (Some x) xs h = inr h
 
-line_named : (l : Name) (ks : List RecordKey) → IsAmong (key.Line l) ks → IsAmong l (filter_map line_name ks)
+pub line_named : (l : Name) (ks : List RecordKey) → IsAmong (key.Line l) ks → IsAmong l (filter_map line_name ks)
 line_named l [] h = absurd h
 line_named l (k ∷ ks) h = elim h [
   | inl e ↦ subst (λ x. IsAmong l (cons_option (line_name x) (filter_map line_name ks))) e (inl refl)
