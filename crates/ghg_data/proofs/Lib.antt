@@ -12,3 +12,4 @@ pub mod Counts
 pub mod LineCounts
 pub mod InTurn
 pub mod Order
+pub mod Settled
