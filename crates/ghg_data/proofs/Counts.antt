@@ -17,7 +17,7 @@ use Rattle.ghg_definitions.proofs.Keys.{keys_total}
 use Rattle.ghg_data.specs.Counts.{count_after}
 
 -- a form has a record exactly where its row does not withdraw
-shape : (away : Bool) (form : RowForm) → IsForm away form → is_some (record_of form) ≡ not away
+pub shape : (away : Bool) (form : RowForm) → IsForm away form → is_some (record_of form) ≡ not away
 shape away (forms.Span None) h = ap not (sym h)
 shape away (forms.Span (Some s)) h = ap not (sym h.0)
 shape away (forms.Activity name year None) h = ap not (sym h.0)
@@ -44,7 +44,10 @@ no_unit : (b : Bool) (w : Rule) (rest : Option Rule) → (if b then Some w else 
 no_unit true w rest e = absurd (cc)
 no_unit false w rest e = e
 
-pub row_counted : (m : Data) (row : Row) → IsWellFormed row → row_fault m row ≡ None → len (after_row m row) ≡ count_after row.act (len m)
+pub keeps_presence : (m : Data) (row : Row) → row_fault m row ≡ None → presence_fault row.number row.act (is_some (get m (key_of row.form))) ≡ None
 unfolding row_fault
+keeps_presence m row e = no_unit (breaks_unit m row.form) _ _ e
+
+pub row_counted : (m : Data) (row : Row) → IsWellFormed row → row_fault m row ≡ None → len (after_row m row) ≡ count_after row.act (len m)
 row_counted m row well e =
-    counted m (key_of row.form) (record_of row.form) row.number row.act (is_some (get m (key_of row.form))) refl (no_unit (breaks_unit m row.form) _ _ e) (shape (withdraws row.act) row.form well)
+    counted m (key_of row.form) (record_of row.form) row.number row.act (is_some (get m (key_of row.form))) refl (keeps_presence m row e) (shape (withdraws row.act) row.form well)

@@ -41,7 +41,7 @@ changed_or_kept m cs k = by (find_key key_cmp k cs) refl
     by None e = inr (get-applied m cs k ∙ ap (λ o. over o (get m k)) e)
     by (Some c) e = inl (found_change k cs c e)
 
-found_key : (q : RecordKey) (ks : List RecordKey) → list_any (eq_by_cmp key_cmp q) ks ≡ true → IsAmong q ks
+pub found_key : (q : RecordKey) (ks : List RecordKey) → list_any (eq_by_cmp key_cmp q) ks ≡ true → IsAmong q ks
 found_key q [] e = absurd (cc)
 found_key q (k ∷ ks) e = by (eq_by_cmp key_cmp q k) refl e (found_key q ks)
   where
@@ -53,7 +53,7 @@ among_more : (l : Name) (o : Option Name) (xs : List Name) → IsAmong l xs → 
 among_more l None xs h = h
 among_more l (Some x) xs h = inr h
 
-line_named : (l : Name) (ks : List RecordKey) → IsAmong (key.Line l) ks → IsAmong l (filter_map line_name ks)
+pub line_named : (l : Name) (ks : List RecordKey) → IsAmong (key.Line l) ks → IsAmong l (filter_map line_name ks)
 line_named l [] h = absurd h
 line_named l (k ∷ ks) h = elim h [
   | inl e ↦ subst (λ x. IsAmong l (cons_option (line_name x) (filter_map line_name ks))) e (inl refl)
@@ -95,9 +95,6 @@ pub sound_before : {m : Data} → IsWorkbook m → (p : Place) → is_place m p 
 sound_before {m} w p h = no_fault (is_place m p) (is_sound m p) (subst (IsLeastFault m) w.bindings (least_fault (workbook_consistent w)) p) h
 
 module _ (m : Data) (w : IsWorkbook m) (cs : List Change) where
-  looked_at : List Place
-  looked_at = flat_map (line_places m) (line_names m) ++ flat_map (key_places (applied m cs)) (map (λ d. d.0) cs)
-
   by_line : (p : Place) (e : EqId) → line m p.line ≡ Some e → takes e p.parameter ≡ true → IsAmong p (flat_map (line_places m) (line_names m) ++ flat_map (key_places (applied m cs)) (map (λ d. d.0) cs))
   by_line p e at taken =
       among_left p _ (flat_map (key_places (applied m cs)) (map (λ d. d.0) cs)) (among_flat (line_places m) p.line p (line_names m) (line_among m p.line e at)
@@ -106,7 +103,7 @@ module _ (m : Data) (w : IsWorkbook m) (cs : List Change) where
   by_key : (p : Place) (k : RecordKey) → IsAmong k (map (λ d. d.0) cs) → IsAmong p (key_places (applied m cs) k) → IsAmong p (flat_map (line_places m) (line_names m) ++ flat_map (key_places (applied m cs)) (map (λ d. d.0) cs))
   by_key p k i h = among_right p (flat_map (line_places m) (line_names m)) _ (among_flat (key_places (applied m cs)) k p (map (λ d. d.0) cs) i h)
 
-  covered : (p : Place) → is_fault (applied m cs) p ≡ true → IsAmong p (flat_map (line_places m) (line_names m) ++ flat_map (key_places (applied m cs)) (map (λ d. d.0) cs))
+  pub covered : (p : Place) → is_fault (applied m cs) p ≡ true → IsAmong p (flat_map (line_places m) (line_names m) ++ flat_map (key_places (applied m cs)) (map (λ d. d.0) cs))
   covered p h = elim (either (is_some (binding (applied m cs) p.line p.parameter)) _ (first_so (is_place (applied m cs) p) _ h)) [
     | inl bound ↦ elim (changed_or_kept m cs (key.Bind p.line p.parameter)) [
       | inl changed ↦ by_key p (key.Bind p.line p.parameter) changed (inl refl)
@@ -121,8 +118,3 @@ module _ (m : Data) (w : IsWorkbook m) (cs : List Change) where
           | inr kept ↦ by_line p e.0 (ap as_line (sym kept) ∙ e.1) e.2
         ]
   ]
-
-  -- the least fault of the new data, from the old lines and then the changed keys
-  pub least_of_both : IsConsistent (applied m cs)
-      → fold (considered (applied m cs)) (fold (considered (applied m cs)) None (flat_map (line_places m) (line_names m))) (flat_map (key_places (applied m cs)) (map (λ d. d.0) cs)) ≡ unsound_place (applied m cs)
-  least_of_both is = sym (fold-append (considered (applied m cs)) None (flat_map (line_places m) (line_names m)) _) ∙ unsound_found is _ covered

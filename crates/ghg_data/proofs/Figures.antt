@@ -162,6 +162,19 @@ module _ {m : Data} (is : IsConsistent m) (k : RecordKey) (unyeared : year_of k 
       entry_any keys_total keys_same (λ (e : Entry). is_some (of_name k e)) m q r.0 r.1
       (ap (λ b. is_some (if b then as_figure (Some r.0) else None)) (other_alike k q o) ∙ ap is_some (sym (ap as_figure r.1) ∙ e))))
 
+  pub figures_found : (d : Dim) → are_of d (figures m k) ≡ true → (q : RecordKey) × (g : Figure) × (figure m q ≡ Some g) × (is_other_year k q ≡ true) × (same_dim d (dim_of g.unit) ≡ true)
+  figures_found d all = by (list_any (λ (e : Entry). is_some (of_name k e)) (entries m)) refl
+    where
+      by : (b : Bool) → list_any (λ (e : Entry). is_some (of_name k e)) (entries m) ≡ b → (q : RecordKey) × (g : Figure) × (figure m q ≡ Some g) × (is_other_year k q ≡ true) × (same_dim d (dim_of g.unit) ≡ true)
+      by true h =
+          let found = any_entry keys_total keys_same (λ (e : Entry). is_some (of_name k e)) m h in
+          let g = some_figure (of_name k (found.0, found.1)) found.3 in
+          let parts = alike_figure (is_alike k found.0) (as_figure (Some found.1)) g.0 g.1 in
+          let at : figure m found.0 ≡ Some g.0 = ap as_figure found.2 ∙ parts.1 in
+          let other = of_other_year found.0 g.0 at parts.0 in
+          (found.0, g.0, at, other, sym (figures_some d found.0 g.0 at other) ∙ all)
+      by false h = absurd (met _ (ap (are_of d) (none_left (of_name k) (entries m) h)) all)
+
 pub activities_none : {m : Data} → IsConsistent m → (name : Name) (d : Dim) → ((q : RecordKey) → is_other_year (key.Activity name 0) q ≡ true → figure m q ≡ None) → are_of d (activities m name) ≡ false
 activities_none {m} is name d none = ap (are_of d) (activities_are m name) ∙ figures_none is (key.Activity name 0) refl d none
 
@@ -173,3 +186,20 @@ factors_none {m} is name d none = ap (are_of d) (factors_are m name) ∙ figures
 
 pub factors_some : {m : Data} → IsConsistent m → (name : Name) (d : Dim) (q : RecordKey) (f : Figure) → figure m q ≡ Some f → is_other_year (key.Factor name 0) q ≡ true → are_of d (factors m name) ≡ same_dim d (dim_of f.unit)
 factors_some {m} is name d q f e o = ap (are_of d) (factors_are m name) ∙ figures_some is (key.Factor name 0) refl d q f e o
+
+-- each figure of the one has its like in the other, of the same dimension
+abbrev pub AreKept : Data → Data → Type 0
+AreKept m n = (q : RecordKey) (g : Figure) → figure m q ≡ Some g → (h : Figure) × (figure n q ≡ Some h) × (dim_of g.unit ≡ dim_of h.unit)
+
+module _ {m n : Data} (before : IsConsistent m) (now : IsConsistent n) (kept : AreKept m n) (d : Dim) (name : Name) where
+  figures_kept : (k : RecordKey) → year_of k ≡ 0 → are_of d (figures m k) ≡ true → are_of d (figures n k) ≡ true
+  figures_kept k unyeared all =
+      let found = figures_found before k unyeared d all in
+      let here = kept found.0 found.1 found.2 in
+      figures_some now k unyeared d found.0 here.0 here.1 found.3 ∙ ap (same_dim d) (sym here.2) ∙ found.4
+
+  pub activities_kept : are_of d (activities m name) ≡ true → are_of d (activities n name) ≡ true
+  activities_kept all = ap (are_of d) (activities_are n name) ∙ figures_kept (key.Activity name 0) refl (sym (ap (are_of d) (activities_are m name)) ∙ all)
+
+  pub factors_kept : are_of d (factors m name) ≡ true → are_of d (factors n name) ≡ true
+  factors_kept all = ap (are_of d) (factors_are n name) ∙ figures_kept (key.Factor name 0) refl (sym (ap (are_of d) (factors_are m name)) ∙ all)

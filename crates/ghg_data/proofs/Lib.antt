@@ -9,4 +9,7 @@ pub mod Figures
 pub mod InForce
 pub mod Parameters
 pub mod Counts
+pub mod LineCounts
+pub mod InTurn
 pub mod Order
+pub mod Settled

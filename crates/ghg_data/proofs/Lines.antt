@@ -126,7 +126,7 @@ line_names-with_record m (key.Bind l p) None = taken_names m (key.Bind l p) _ (t
 same_some : {A : Type 0} (a b : A) → Some a ≡ Some b → a ≡ b
 same_some a b e = cc
 
-drop_at : {A : Type 0} (xs : List A) (i : ℕ) (x : A) → slice_get xs i ≡ Some x → drop i xs ≡ x ∷ drop (suc i) xs
+pub drop_at : {A : Type 0} (xs : List A) (i : ℕ) (x : A) → slice_get xs i ≡ Some x → drop i xs ≡ x ∷ drop (suc i) xs
 drop_at [] i x e = absurd (cc)
 drop_at (y ∷ ys) zero x e = ap (λ z. z ∷ ys) (same_some y x e)
 drop_at (y ∷ ys) (suc i) x e = drop_at ys i x e

@@ -51,11 +51,11 @@ found (x ∷ xs) n (suc i) h l at =
     let below : name_cmp x n ≡ Less = sym (alike_right total (get_or xs i x) n x (at x)) ∙ all_at (λ y. name_cmp x y ≡ Less) xs i x h.0 (omega arith) in
     ap (λ o. placed o n x xs (with_name n xs)) (greater x n below) ∙ ap (λ ys. x ∷ ys) (found xs n i h.1 (omega arith) at)
 
-none_taken : (xs : List Name) (n : Name) → AllByRecursion (λ y. eq_by_cmp name_cmp n y ≡ false) xs → without_name n xs ≡ xs
+pub none_taken : (xs : List Name) (n : Name) → AllByRecursion (λ y. eq_by_cmp name_cmp n y ≡ false) xs → without_name n xs ≡ xs
 none_taken [] n h = refl
 none_taken (x ∷ xs) n h = ap (λ b. cond (not b) (x ∷ without_name n xs) (without_name n xs)) h.0 ∙ ap (λ ys. x ∷ ys) (none_taken xs n h.1)
 
-above : (x n : Name) (xs : List Name) → name_cmp x n ≡ Equal → AllByRecursion (λ y. name_cmp x y ≡ Less) xs → AllByRecursion (λ y. eq_by_cmp name_cmp n y ≡ false) xs
+pub above : (x n : Name) (xs : List Name) → name_cmp x n ≡ Equal → AllByRecursion (λ y. name_cmp x y ≡ Less) xs → AllByRecursion (λ y. eq_by_cmp name_cmp n y ≡ false) xs
 above x n [] e h = tt
 above x n (y ∷ ys) e h = (ap is_eq (sym (total.congr x n y e) ∙ h.0), above x n ys e h.1)
 

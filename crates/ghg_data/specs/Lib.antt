@@ -5,3 +5,4 @@ pub mod Refusal
 pub mod Names
 pub mod Faults
 pub mod Counts
+pub mod Settling

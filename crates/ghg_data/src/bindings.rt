@@ -11,10 +11,12 @@ ghost use Rattle.ghg_definitions.specs.Rules.{activities, are_of, binds_paramete
 ghost use Rattle.ghg_definitions.specs.Sound.{IsConsistent, IsWorkbook};
 ghost use Rattle.ghg_data.specs.Changes.{applied};
 ghost use Rattle.ghg_data.specs.Faults.{considered, is_place, key_places, line_places};
+ghost use Rattle.ghg_data.specs.Settling.{unsettled_places};
 
 use crate::draft::{Draft, equation_in};
 use crate::edits::Edits;
 use crate::holdings::Holdings;
+use crate::unsettled::unsettles;
 use ghg_definitions::{Place, RecordKey};
 use ghg_equations::{Dim, EqId, Output, Param, equation};
 use ghg_units::{Binding, Name, ParamName};
@@ -230,6 +232,20 @@ fn consider_lines(draft: &Draft<'_>, least: &mut Option<Place>, holdings: &Holdi
     }
 }
 
+// Looks at each parameter of the lines before the edits, unless what no edit is about stays sound.
+fn consider_unsettled(
+    draft: &Draft<'_>,
+    least: &mut Option<Place>,
+    holdings: &Holdings,
+    edits: &Edits,
+)
+    ensures { least.new ≡ fold (considered draft.now) least.old (unsettled_places holdings.now.content edits.now) }
+{
+    if unsettles(holdings, edits) {
+        consider_lines(draft, least, holdings);
+    }
+}
+
 // Looks at the places that changed keys are about.
 fn consider_keys(draft: &Draft<'_>, least: &mut Option<Place>, keys: &[RecordKey])
     ensures { least.new ≡ fold (considered draft.now) least.old (flat_map (key_places draft.now) keys.now) }
@@ -247,7 +263,7 @@ pub(crate) fn unsound_place(holdings: &Holdings, edits: &Edits) -> Option<Place>
 {
     let draft = Draft::of(holdings, edits);
     let mut least = None;
-    consider_lines(&draft, &mut least, holdings);
+    consider_unsettled(&draft, &mut least, holdings, edits);
     consider_keys(&draft, &mut least, edits.keys());
     least
 }

@@ -15,6 +15,7 @@ mod refusal;
 mod rows;
 #[cfg(test)]
 mod tests;
+mod unsettled;
 mod view;
 
 pub use book::{Book, after};

@@ -1,7 +1,8 @@
-use Rattle.std.proofs.Common.{◌≡◌, ◌+◌, ◌^◌, ◌<◌, drop}
+use Rattle.std.proofs.Common.{◌≡◌, ◌+◌, ◌^◌, ◌<◌, drop, length}
 use Rattle.std.specs.FinMap.{len}
 use Rattle.std.specs.List.{AllByRecursion}
 use Rattle.ghg_units.specs.WellFormed.{IsWellFormed}
+use Rattle.ghg_definitions.specs.Data.{line_names}
 use Rattle.ghg_definitions.specs.Rules.{rows_applied}
 use Rattle.ghg_definitions.specs.Sound.{IsConsistent}
 use Rattle.ghg_data.specs.Changes.{applied}
@@ -12,5 +13,7 @@ invariant-loop-row l =
     IsConsistent (applied l.holdings.content l.progress.edits)
     × (l.progress.records ≡ len (applied l.holdings.content l.progress.edits))
     × (l.progress.records < 2 ^ 63 + l.row-index)
+    × (l.progress.lines ≡ length (line_names (applied l.holdings.content l.progress.edits)))
+    × (l.progress.lines < 2 ^ 63 + l.row-index)
     × AllByRecursion IsWellFormed (drop l.row-index l.rows)
     × (rows_applied l.holdings.content l.rows ≡ rows_applied (applied l.holdings.content l.progress.edits) (drop l.row-index l.rows))
