@@ -9,7 +9,7 @@ use ghg_definitions::RecordKey;
 use ghg_equations::EqId;
 use ghg_units::{
     Act, Amount, Binding, Column, Decimal, Figure, Limit, Name, ParamName, Row, RowForm, Rule,
-    Span, Unit,
+    Span, Unit, to_interval,
 };
 use std::alloc::{AllocError, Global};
 use std::process::Abort;
@@ -26,12 +26,13 @@ fn parameter(rt: &impl Abort, text: &[u8]) -> ParamName {
 }
 
 // A whole number of units without bounds.
-fn figure(whole: u32, unit: Unit) -> Figure
+fn figure(rt: &impl Abort, whole: u32, unit: Unit) -> Figure
     ensures { IsFigure result }
 {
     let value = Decimal {
         scaled: i128::from(whole) * 1_000_000_000_000,
     };
+    to_interval(value, unit).ok().expect(rt, "a figure within the limit");
     Figure {
         unit,
         amount: Amount::Known {
@@ -68,14 +69,14 @@ fn burnt_gas(rt: &impl Abort, alloc: Global, factor_year: u32) -> Result<Vec<Row
     rows.push(entered(4, RowForm::Bind(line, parameter(rt, b"EF"), Some(factor))))?;
     rows.push(entered(
         5,
-        RowForm::Activity(gas, 1990, Some(figure(1000, Unit::Terajoule))),
+        RowForm::Activity(gas, 1990, Some(figure(rt, 1000, Unit::Terajoule))),
     ))?;
     rows.push(entered(
         6,
         RowForm::Factor(
             content,
             factor_year,
-            Some(figure(56100, Unit::KilogramPerTerajoule)),
+            Some(figure(rt, 56100, Unit::KilogramPerTerajoule)),
         ),
     ))?;
     Ok(rows)
@@ -170,10 +171,10 @@ fn the_first_broken_rule_is_named(rt: HostRuntime) -> Result<(), Fail> {
         refusal(alloc, &mut book, &away, None, 1000)
             == Some(Rule::BadBinding(line, parameter(&rt, b"EF")))
     );
-    let joules = Some(figure(1001, Unit::Terajoule));
+    let joules = Some(figure(&rt, 1001, Unit::Terajoule));
     let absent = one_row(1, Act::Correct, RowForm::Activity(gas, 1991, joules));
     assert!(rt; refusal(alloc, &mut book, &absent, None, 1000) == Some(Rule::Absent(1)));
-    let content_of_fuel = Some(figure(1001, Unit::KilogramPerTerajoule));
+    let content_of_fuel = Some(figure(&rt, 1001, Unit::KilogramPerTerajoule));
     let unit = one_row(
         3,
         Act::Correct,
