@@ -1,11 +1,10 @@
 -- Where the old data are sound, each fault of the new stands at an old line's parameter or under a changed key.
-use Rattle.std.proofs.Common.{◌≡◌, ◌⊎◌, inl, inr, Bool, true, false, cond, not, ◌&&◌, ◌||◌, List, [], ◌∷◌, ◌++◌, map, flat_map, fold, Option, Some, None, is_some, refl, sym, ap, ◌∙◌, subst}
+use Rattle.std.proofs.Common.{◌≡◌, ◌⊎◌, inl, inr, Bool, true, false, cond, not, ◌&&◌, ◌||◌, List, [], ◌∷◌, ◌++◌, map, flat_map, Option, Some, None, is_some, refl, sym, ap, ◌∙◌, subst}
 use Rattle.std.specs.Ordering.{eq_by_cmp}
 use Rattle.std.specs.FinMap.{contains_key-keys, find as find_key, get, keys}
 use Rattle.std.specs.List.{cons_option, filter_map, find, list_any}
 use Rattle.std.specs.Option.{option_map_or}
 use Rattle.std.specs.Str.{bytes_eq}
-use Rattle.std.proofs.lemmas.Grind.{fold-append}
 use Rattle.ghg_equations.specs.declared.eq_id.EqId.{EqId}
 use Rattle.ghg_equations.specs.Table.{Quantity, parameters}
 use Rattle.ghg_definitions.specs.declared.place.Place.{Place}
@@ -13,15 +12,15 @@ use Rattle.ghg_definitions.specs.declared.record.Record.{Record}
 use Rattle.ghg_definitions.specs.declared.record.RecordKey.{RecordKey}
 use Rattle.ghg_definitions.specs.declared.record.RecordKey.TheVariants as key
 use Rattle.ghg_definitions.specs.Data.{Data, Name, as_binding, as_line, binding, key_cmp, line, line_name, line_names}
-use Rattle.ghg_definitions.specs.Rules.{is_bound, is_sound, places_in, unsound_place}
-use Rattle.ghg_definitions.specs.Sound.{IsConsistent, IsWorkbook}
+use Rattle.ghg_definitions.specs.Rules.{is_bound, is_sound, places_in}
+use Rattle.ghg_definitions.specs.Sound.{IsWorkbook}
 use Rattle.ghg_definitions.proofs.Alike.{first_so}
 use Rattle.ghg_definitions.proofs.Consistent.{workbook_consistent}
 use Rattle.ghg_definitions.proofs.Keys.{equal_by, keys_same}
 use Rattle.ghg_data.specs.Changes.{Change, applied}
-use Rattle.ghg_data.specs.Faults.{considered, is_fault, is_place, key_places, line_places, takes}
+use Rattle.ghg_data.specs.Faults.{is_fault, is_place, key_places, line_places, takes}
 use Rattle.ghg_data.proofs.Applied.{get-applied, over}
-use Rattle.ghg_data.proofs.Faults.{IsAmong, IsLeastFault, among_flat, among_left, among_right, either, held_line, least_fault, or_left, takes_among, unsound_found, with_equation}
+use Rattle.ghg_data.proofs.Faults.{IsAmong, IsLeastFault, among_flat, among_left, among_right, either, held_line, least_fault, or_left, takes_among, with_equation}
 
 -- ---- keys
 

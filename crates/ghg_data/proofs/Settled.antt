@@ -1,8 +1,8 @@
 -- Where no change unsettles the data, what no change is about stays sound.
-use Rattle.std.proofs.Common.{◌≡◌, ◌⊎◌, inl, inr, ℕ, suc, ◌+◌, drop, slice_get, arith, Bool, true, false, cond, not, ◌&&◌, ◌||◌, List, [], ◌∷◌, ◌++◌, map, flat_map, fold, Option, Some, None, is_some, refl, sym, ap, ◌∙◌, subst, if◌then◌else◌}
+use Rattle.std.proofs.Common.{◌≡◌, ◌⊎◌, inl, inr, ℕ, suc, ◌+◌, drop, slice_get, arith, Bool, true, false, cond, not, ◌||◌, List, [], ◌∷◌, ◌++◌, map, flat_map, fold, Option, Some, None, is_some, refl, sym, ap, ◌∙◌, subst, if◌then◌else◌}
 use Rattle.std.specs.Ordering.{eq_by_cmp}
 use Rattle.std.specs.FinMap.{find as find_key, get}
-use Rattle.std.specs.List.{find, list_all, list_any}
+use Rattle.std.specs.List.{find, list_all}
 use Rattle.std.specs.Option.{option_map_or}
 use Rattle.std.specs.Str.{bytes_eq}
 use Rattle.std.proofs.lemmas.Grind.{fold-append}
@@ -20,7 +20,7 @@ use Rattle.ghg_definitions.specs.declared.record.Record.{Record}
 use Rattle.ghg_definitions.specs.declared.record.Record.TheVariants as entry
 use Rattle.ghg_definitions.specs.declared.record.RecordKey.{RecordKey}
 use Rattle.ghg_definitions.specs.declared.record.RecordKey.TheVariants as key
-use Rattle.ghg_definitions.specs.Data.{Data, Name, as_binding, as_figure, as_line, binding, figure, key_cmp, line, line_names}
+use Rattle.ghg_definitions.specs.Data.{Data, Name, as_binding, as_figure, as_line, binding, key_cmp, line, line_names}
 use Rattle.ghg_definitions.specs.Rules.{binds_parameter, dim_of_output, gives_decay, gives_dimension, has_dimension, is_bound, is_line_of, is_sound, places_in, unsound_place}
 use Rattle.ghg_definitions.specs.Sound.{IsConsistent, IsWorkbook}
 use Rattle.ghg_definitions.proofs.Alike.{both, first_so, met, second_so}

@@ -1,4 +1,4 @@
-use Rattle.std.proofs.Common.{◌≡◌, ◌+◌, ◌||◌, drop, sym, ap, ◌∙◌}
+use Rattle.std.proofs.Common.{◌+◌, ◌||◌, drop, sym, ap, ◌∙◌}
 use Rattle.ghg_data.specs.Settling.{unsettles, unsettles_record}
 use Rattle.ghg_data.proofs.Settled.{unsettled_at}
 use Rattle.ghg_data.proofs.unsettled.unsettles.Goals as goal
