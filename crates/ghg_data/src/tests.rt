@@ -32,7 +32,9 @@ fn figure(rt: &impl Abort, whole: u32, unit: Unit) -> Figure
     let value = Decimal {
         scaled: i128::from(whole) * 1_000_000_000_000,
     };
-    to_interval(value, unit).ok().expect(rt, "a figure within the limit");
+    to_interval(value, unit)
+        .ok()
+        .expect(rt, "a figure within the limit");
     Figure {
         unit,
         amount: Amount::Known {
