@@ -14,3 +14,6 @@ pub use laws::each_code_names_itself;
 pub use quantity::{Dim, Gas, Output};
 pub use row::{Equation, Param};
 pub use table::{eq_named, equation};
+
+#[cfg(test)]
+mod tests;

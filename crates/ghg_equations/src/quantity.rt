@@ -1,5 +1,8 @@
 //! Gases, dimensions, and what an equation gives.
 
+ghost use Rattle.std.specs.Prelude.{◌≡◌};
+ghost use Rattle.ghg_equations.specs.Quantity.{gas_of, word_of};
+
 /// A greenhouse gas, in the order in which tables list gases.
 #[derive(Clone, Copy, Debug, PartialEq, Eq, PartialOrd, Ord, Drop)]
 pub enum Gas {
@@ -8,6 +11,21 @@ pub enum Gas {
     N2o,
     Cf4,
     C2f6,
+}
+
+impl Gas {
+    /// The gas as tables and the names of warming potentials write it.
+    pub fn word(self) -> &'static str
+        ensures { result.now ≡ word_of self }
+    {
+        match self {
+            Gas::Co2 => "CO2",
+            Gas::Ch4 => "CH4",
+            Gas::N2o => "N2O",
+            Gas::Cf4 => "CF4",
+            Gas::C2f6 => "C2F6",
+        }
+    }
 }
 
 /// What a quantity measures. Its base unit stands behind each.
@@ -80,4 +98,16 @@ pub enum Dim {
 pub enum Output {
     Emission(Gas),
     Aux(Dim),
+}
+
+impl Output {
+    /// The gas of an emission; `None` exactly where the output is none.
+    pub fn gas(self) -> Option<Gas>
+        ensures { result ≡ gas_of self }
+    {
+        match self {
+            Output::Emission(gas) => Some(gas),
+            Output::Aux(_) => None,
+        }
+    }
 }
