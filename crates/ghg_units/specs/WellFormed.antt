@@ -2,6 +2,8 @@
 use Rattle.std.specs.Prelude.{◌≡◌, ◌≤◌, ◌≤ℤ◌, ◌&&◌, ℕ, Bool, true, false, not, List, [], ◌∷◌, length, nat_eq, Some, None, ⊤}
 use lib.Pointwise.{pointwise}
 use Rattle.std.specs.List.{AllByRecursion, list_any}
+use Rattle.ghg_categories.specs.declared.category.Category.{Category}
+use Rattle.ghg_categories.specs.Tree.{is_leaf_of}
 use Rattle.ghg_interval.specs.Bounds.{AreBounded}
 use Rattle.ghg_units.specs.declared.row.Act.{Act}
 use Rattle.ghg_units.specs.declared.row.Act.TheVariants.{Enter, Correct, Withdraw}
@@ -15,7 +17,7 @@ use Rattle.ghg_units.specs.declared.row.RowForm.{RowForm}
 use Rattle.ghg_units.specs.declared.row.RowForm.TheVariants as forms
 use Rattle.ghg_units.specs.declared.row.Span.{Span}
 use Rattle.ghg_units.specs.declared.unit.Unit.{Unit as UnitWord}
-use Rattle.ghg_units.specs.Name.{plain_name_in}
+use Rattle.ghg_units.specs.Name.{factor_name_in, plain_name_in}
 use Rattle.ghg_units.specs.Units.{converted}
 
 abbrev pub withdraws : Act → Bool
@@ -28,6 +30,12 @@ IsYear year = (1900 ≤ year) × (year ≤ 2100)
 
 abbrev pub IsPlainName : List ℕ → Type 0
 IsPlainName name = plain_name_in name ≡ Some name
+
+abbrev pub IsFactorName : List ℕ → Type 0
+IsFactorName name = factor_name_in name ≡ Some name
+
+abbrev pub IsLeaf : Category → Type 0
+IsLeaf category = is_leaf_of category ≡ true
 
 abbrev pub IsSpan : Span → Type 0
 IsSpan span = IsYear span.first × IsYear span.last × (span.first ≤ span.base) × (span.base ≤ span.last)
@@ -53,14 +61,15 @@ are_different (name ∷ names) = not (is_among name names) && are_different name
 abbrev pub IsSum : List (List ℕ) → Type 0
 IsSum names = (1 ≤ length names) × (length names ≤ 400) × AllByRecursion IsPlainName names × (are_different names ≡ true)
 
+-- no row binds a parameter to a line, a half-life or a notation key yet
 abbrev pub IsBinding : Binding → Type 0
 IsBinding (bound.Activity name) = IsPlainName name
 IsBinding (bound.Factor name) = IsPlainName name
-IsBinding (bound.Line name) = IsPlainName name
-IsBinding (bound.Prev name) = IsPlainName name
-IsBinding (bound.Sum names) = IsSum names
-IsBinding (bound.Decay name) = IsPlainName name
-IsBinding (bound.Key key) = ⊤
+IsBinding (bound.Line name) = ⊥
+IsBinding (bound.Prev name) = ⊥
+IsBinding (bound.Sum names) = ⊥
+IsBinding (bound.Decay name) = ⊥
+IsBinding (bound.Key key) = ⊥
 
 -- a form in a row that withdraws, or in one that does not
 abbrev pub IsForm : Bool → RowForm → Type 0
@@ -68,10 +77,10 @@ IsForm away (forms.Span None) = away ≡ true
 IsForm away (forms.Span (Some span)) = (away ≡ false) × IsSpan span
 IsForm away (forms.Activity name year None) = (away ≡ true) × IsPlainName name × IsYear year
 IsForm away (forms.Activity name year (Some figure)) = (away ≡ false) × IsPlainName name × IsYear year × IsFigure figure
-IsForm away (forms.Factor name year None) = (away ≡ true) × IsPlainName name × IsYear year
-IsForm away (forms.Factor name year (Some figure)) = (away ≡ false) × IsPlainName name × IsYear year × IsFigure figure
+IsForm away (forms.Factor name year None) = (away ≡ true) × IsFactorName name × IsYear year
+IsForm away (forms.Factor name year (Some figure)) = (away ≡ false) × IsFactorName name × IsYear year × IsFigure figure
 IsForm away (forms.Line name None) = (away ≡ true) × IsPlainName name
-IsForm away (forms.Line name (Some equation)) = (away ≡ false) × IsPlainName name
+IsForm away (forms.Line name (Some (category, equation))) = (away ≡ false) × IsPlainName name × IsLeaf category
 IsForm away (forms.Bind line parameter None) = (away ≡ true) × IsPlainName line
 IsForm away (forms.Bind line parameter (Some binding)) = (away ≡ false) × IsPlainName line × IsBinding binding
 

@@ -23,7 +23,7 @@ pub use fixed::write_fixed;
 pub use laws::{
     conversions_are_least, each_word_names_its_unit, fixed_texts_read, printed_decimals_read,
 };
-pub use name::Name;
+pub use name::{Name, is_potential_name};
 pub use names::Names;
 pub use node::Node;
 pub use parameter::ParamName;

@@ -5,6 +5,7 @@ use crate::name::Name;
 use crate::names::Names;
 use crate::parameter::ParamName;
 use crate::unit::Unit;
+use ghg_categories::Category;
 use ghg_equations::EqId;
 
 /// What a row does with the record of its key.
@@ -89,8 +90,8 @@ pub enum RowForm {
     Activity(Name, u32, Option<Figure>),
     /// A name and the first year in which the factor is in force.
     Factor(Name, u32, Option<Figure>),
-    /// A line and its equation.
-    Line(Name, Option<EqId>),
+    /// A line, the leaf category at which it stands, and its equation.
+    Line(Name, Option<(Category, EqId)>),
     /// A line and a parameter of its equation.
     Bind(Name, ParamName, Option<Binding>),
 }
