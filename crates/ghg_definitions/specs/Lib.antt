@@ -3,5 +3,10 @@ pub mod Rows
 pub mod Rules
 pub mod Sound
 pub mod Lookups
+pub mod Formulas
+pub mod Trials
+pub mod Nodes
 pub mod Compilation
+pub mod Rings
+pub mod Choices
 pub mod Laws

@@ -1,5 +1,5 @@
 -- The rules that rows and the data after them keep, from the first on that sees the data, and which is broken first.
-use Rattle.std.specs.Prelude.{ℕ, ◌-◌, Bool, true, false, not, ◌&&◌, ◌==◌, nat_lt, is_some, if◌then◌else◌, List, [], ◌∷◌, map, length, Option, Some, None, Result, Ok, Err}
+use Rattle.std.specs.Prelude.{ℕ, ◌-◌, Bool, true, false, not, ◌&&◌, ◌||◌, ◌==◌, nat_lt, is_some, if◌then◌else◌, List, [], ◌∷◌, map, length, Option, Some, None, Result, Ok, Err}
 use Rattle.std.specs.Option.{option_map_or}
 use Rattle.std.specs.List.{filter, filter_map, find, flat_map, list_all, list_any}
 use Rattle.std.specs.Str.{bytes_eq}
@@ -20,12 +20,14 @@ use Rattle.ghg_units.specs.declared.row.Binding.TheVariants as bound
 use Rattle.ghg_units.specs.declared.row.Figure.{Figure}
 use Rattle.ghg_units.specs.declared.row.Row.{Row}
 use Rattle.ghg_units.specs.declared.row.RowForm.{RowForm}
+use Rattle.ghg_units.specs.declared.row.RowForm.TheVariants as forms
 use Rattle.ghg_units.specs.declared.row.Span.{Span}
 use Rattle.ghg_units.specs.declared.rule.Limit.{Limit}
 use Rattle.ghg_units.specs.declared.rule.Limit.TheVariants.{Lines, Records, Bytes}
 use Rattle.ghg_units.specs.declared.rule.Limit.TheVariants as limits
 use Rattle.ghg_units.specs.declared.rule.Rule.{Rule}
 use Rattle.ghg_units.specs.declared.rule.Rule.TheVariants.{WrongUnit, Exists, Absent, BadBinding, TooMany}
+use Rattle.ghg_units.specs.Name.{is_potential_name}
 use Rattle.ghg_units.specs.Units.{dim_of}
 use Rattle.ghg_definitions.specs.declared.place.Place.{Place}
 use Rattle.ghg_definitions.specs.declared.record.Record.{Record}
@@ -51,8 +53,13 @@ has_dimension d f = same_dim d (dim_of f.unit)
 unfoldable pub meets_other_dimension : Data → RecordKey → Dim → Bool
 meets_other_dimension m k d = list_any (λ e. is_other_year k e.0 && option_map_or (λ f. not (has_dimension d f)) (as_figure (Some e.1)) false) (entries m)
 
+-- a global warming potential is a ratio
+abbrev pub breaks_potential : RowForm → Bool
+breaks_potential (forms.Factor name start (Some f)) = is_potential_name name && not (has_dimension dims.Ratio f)
+breaks_potential _ = false
+
 abbrev pub breaks_unit : Data → RowForm → Bool
-breaks_unit m form = option_map_or (λ f. meets_other_dimension m (key_of form) (dim_of f.unit)) (as_figure (record_of form)) false
+breaks_unit m form = breaks_potential form || option_map_or (λ f. meets_other_dimension m (key_of form) (dim_of f.unit)) (as_figure (record_of form)) false
 
 -- ---- presence: a record is entered where there is none, and corrected or withdrawn where there is one
 

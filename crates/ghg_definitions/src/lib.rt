@@ -7,6 +7,10 @@ mod laws;
 mod place;
 mod record;
 
-pub use laws::inputs_hold_their_figures;
+pub use laws::{
+    choices_have_valuations, compilations_contain, have_one_trial, inputs_hold_their_figures,
+    overflows_are_least, overflows_break, plans_keep_workbooks, points_lie_within,
+    valuations_are_equal, workbooks_are_acyclic,
+};
 pub use place::Place;
 pub use record::{Record, RecordKey};

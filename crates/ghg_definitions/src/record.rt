@@ -1,5 +1,6 @@
 //! Records, and what they are found by.
 
+use ghg_categories::Category;
 use ghg_equations::EqId;
 use ghg_units::{Binding, Figure, Name, ParamName, Span};
 
@@ -23,6 +24,7 @@ pub enum Record {
     Span(Span),
     Activity(Figure),
     Factor(Figure),
-    Line(EqId),
+    /// The leaf category at which the line stands, and its equation.
+    Line(Category, EqId),
     Bind(Binding),
 }
