@@ -1,7 +1,8 @@
 -- What each column of a row may hold, kind by kind: the words from left to right, then the numbers from left to right.
-use Rattle.std.specs.Prelude.{ℕ, Bool, List, length, ◌==◌, ◌||◌, ◌&&◌, nat_lt, int_lt, Option, Some, None, option_and_then, Result, Ok, Err, is_err, is_some, if◌then◌else◌, codes}
+use Rattle.std.specs.Prelude.{◌≡◌, ℕ, Bool, true, false, List, length, ◌==◌, ◌||◌, ◌&&◌, nat_lt, int_lt, Option, Some, None, option_and_then, Result, Ok, Err, is_err, is_some, if◌then◌else◌}
 use Rattle.std.specs.Option.{ok_or, option_map}
-use Rattle.std.specs.Str.{bytes_eq}
+use Rattle.ghg_categories.specs.declared.category.Category.{Category}
+use Rattle.ghg_categories.specs.Tree.{is_leaf_of, named_in}
 use Rattle.ghg_equations.specs.Table.{named}
 use Rattle.ghg_units.specs.declared.decimal.Decimal.{Decimal}
 use Rattle.ghg_units.specs.declared.row.Act.{Act}
@@ -9,6 +10,7 @@ use Rattle.ghg_units.specs.declared.row.Amount.{Amount}
 use Rattle.ghg_units.specs.declared.row.Amount.TheVariants as amounts
 use Rattle.ghg_units.specs.declared.row.Binding.{Binding}
 use Rattle.ghg_units.specs.declared.row.Binding.TheVariants as bound
+use Rattle.ghg_units.specs.declared.row.Figure.{Figure}
 use Rattle.ghg_units.specs.declared.row.NotationKey.{NotationKey}
 use Rattle.ghg_units.specs.declared.row.RowForm.{RowForm}
 use Rattle.ghg_units.specs.declared.row.RowForm.TheVariants as forms
@@ -16,15 +18,15 @@ use Rattle.ghg_units.specs.declared.rule.Column.{Column}
 use Rattle.ghg_units.specs.declared.rule.Column.TheVariants as columns
 use Rattle.ghg_units.specs.declared.unit.Unit.{Unit as UnitWord}
 use Rattle.ghg_units.specs.Decimal.{decimal_in}
-use Rattle.ghg_units.specs.Name.{plain_name_in}
+use Rattle.ghg_units.specs.Name.{factor_name_in, plain_name_in}
 use Rattle.ghg_units.specs.Parameter.{parameter_in}
 use Rattle.ghg_units.specs.Units.{interval_in, unit_in}
-use Rattle.ghg_units.specs.WellFormed.{withdraws}
+use Rattle.ghg_units.specs.WellFormed.{IsFigure, IsYear, withdraws}
 use Rattle.ghg_units.specs.Words.{act_in, key_in}
 use Rattle.ghg_units.specs.Year.{year_in}
 use Rattle.ghg_import.specs.declared.fault.Fault.{Fault}
 use Rattle.ghg_import.specs.declared.fault.Fault.TheVariants.{Word, Number, Disorder}
-use Rattle.ghg_import.specs.declared.form.NamedFigure.{NamedFigure}
+use Rattle.ghg_import.specs.declared.form.DatedFigure.{DatedFigure}
 use Rattle.ghg_import.specs.declared.kind.BindingForm.{BindingForm}
 use Rattle.ghg_import.specs.declared.kind.BindingForm.TheVariants as targets
 use Rattle.ghg_import.specs.declared.kind.Kind.{Kind}
@@ -93,41 +95,45 @@ key_alone_in row =
       empty_at columns.High row.high)
     else Ok tt
 
--- the name, the year and the figure of an activity or a factor
-unfoldable pub named_figure_in : Act → Texts → Result NamedFigure Fault
-named_figure_in act row = do
-  _ ← empty_at columns.Subject row.subject
-  name ← ok_or (plain_name_in row.name) (Word columns.Name)
-  if withdraws act then (do
-    _ ← no_value_in row
-    year ← ok_or (year_in row.year) (Number columns.Year)
-    Ok (record { name = name; year = year; figure = None }))
-      else (do
-        _ ← key_alone_in row
-        unit ← ok_or (unit_in row.unit) (Word columns.Unit)
-        year ← ok_or (year_in row.year) (Number columns.Year)
-        amount ← amount_in unit row
-        Ok (record { name = name; year = year; figure = Some (record { unit = unit; amount = amount }) }))
+-- the year and the figure of an activity or a factor
+unfoldable pub dated_figure_in : Act → Texts → Result DatedFigure Fault
+dated_figure_in act row =
+    if withdraws act then (do
+      _ ← no_value_in row
+      year ← ok_or (year_in row.year) (Number columns.Year)
+      Ok (record { year = year; figure = None }))
+    else (do
+      _ ← key_alone_in row
+      unit ← ok_or (unit_in row.unit) (Word columns.Unit)
+      year ← ok_or (year_in row.year) (Number columns.Year)
+      amount ← amount_in unit row
+      Ok (record { year = year; figure = Some (record { unit = unit; amount = amount }) }))
+
+-- a year, and a figure just where the row does not withdraw
+abbrev pub IsDated : Bool → ℕ → Option Figure → Type 0
+IsDated away year None = (away ≡ true) × IsYear year
+IsDated away year (Some figure) = (away ≡ false) × IsYear year × IsFigure figure
 
 unfoldable pub activity_in : Act → Texts → Result RowForm Fault
 activity_in act row = do
-  f ← named_figure_in act row
-  Ok (forms.Activity f.name f.year f.figure)
+  _ ← empty_at columns.Subject row.subject
+  name ← ok_or (plain_name_in row.name) (Word columns.Name)
+  f ← dated_figure_in act row
+  Ok (forms.Activity name f.year f.figure)
 
--- the year is the first in which the factor is in force
+-- The name may be that of a gas's warming potential; the year is the first in which the factor is in force.
 unfoldable pub factor_in : Act → Texts → Result RowForm Fault
 factor_in act row = do
-  f ← named_figure_in act row
-  Ok (forms.Factor f.name f.year f.figure)
+  _ ← empty_at columns.Subject row.subject
+  name ← ok_or (factor_name_in row.name) (Word columns.Name)
+  f ← dated_figure_in act row
+  Ok (forms.Factor name f.year f.figure)
 
--- the code of the category at which lines stand: main activity electricity and heat production
-abbrev pub is_category : List ℕ → Bool
-is_category text = bytes_eq text (codes "1A1a")
+-- the category that a text is the code of, where it has no children
+unfoldable pub leaf_in : List ℕ → Option Category
+leaf_in text = option_and_then (λ c. if is_leaf_of c then Some c else None) (named_in text)
 
-abbrev pub category_at : Column → List ℕ → Result (Unit {0}) Fault
-category_at column text = if is_category text then Ok tt else Err (Word column)
-
--- a category, a name and an equation
+-- a leaf category, a name and an equation
 unfoldable pub line_in : Act → Texts → Result RowForm Fault
 line_in act row =
     if withdraws act then (do
@@ -137,14 +143,14 @@ line_in act row =
       _ ← no_value_in row
       Ok (forms.Line name None))
     else (do
-      _ ← category_at columns.Subject row.subject
+      category ← ok_or (leaf_in row.subject) (Word columns.Subject)
       name ← ok_or (plain_name_in row.name) (Word columns.Name)
       _ ← empty_at columns.Year row.year
       equation ← ok_or (named row.value) (Word columns.Value)
       _ ← empty_at columns.Low row.low
       _ ← empty_at columns.High row.high
       _ ← empty_at columns.Unit row.unit
-      Ok (forms.Line name (Some equation)))
+      Ok (forms.Line name (Some (category, equation))))
 
 -- what a text names as the target of a binding
 unfoldable pub target_in : BindingForm → List ℕ → Option Binding

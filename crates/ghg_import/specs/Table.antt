@@ -7,7 +7,7 @@ use Rattle.ghg_units.specs.declared.row.Act.{Act}
 use Rattle.ghg_units.specs.declared.rule.Column.{Column}
 use Rattle.ghg_units.specs.declared.rule.Column.TheVariants as columns
 use Rattle.ghg_units.specs.declared.unit.Unit as measures
-use Rattle.ghg_units.specs.Name.{plain_name_in}
+use Rattle.ghg_units.specs.Name.{factor_name_in, plain_name_in}
 use Rattle.ghg_units.specs.Parameter.{parameter_in}
 use Rattle.ghg_units.specs.Units.{unit_in}
 use Rattle.ghg_units.specs.WellFormed.{withdraws}
@@ -18,15 +18,16 @@ use Rattle.ghg_import.specs.declared.fault.Fault.TheVariants.{Shape, Word, Numbe
 use Rattle.ghg_import.specs.declared.kind.BindingForm.{BindingForm}
 use Rattle.ghg_import.specs.declared.kind.Kind.{Kind}
 use Rattle.ghg_import.specs.declared.kind.Kind.TheVariants as kinds
-use Rattle.ghg_import.specs.Forms.{is_category, quantity_in, target_in}
+use Rattle.ghg_import.specs.Forms.{leaf_in, quantity_in, target_in}
 use Rattle.ghg_import.specs.Kinds.{binding_form_in}
 use Rattle.ghg_import.specs.Shape.{Texts}
 
 -- what a column may hold: nothing, a word, or a number
 pub data Holding : Type 0 where
   Empty : Holding
-  Category : Holding
+  LeafCategory : Holding
   PlainName : Holding
+  FactorName : Holding
   Parameter : Holding
   Equation : Holding
   Form : Holding
@@ -58,11 +59,11 @@ holdings_of kinds.Span false _ = columns_of Empty Empty Year Year Year Empty Emp
 holdings_of kinds.Activity true _ = columns_of Empty PlainName Year Empty Empty Empty Empty
 holdings_of kinds.Activity false true = columns_of Empty PlainName Year NotationKey Empty Empty UnitWord
 holdings_of kinds.Activity false false = columns_of Empty PlainName Year Figure Bound Bound UnitWord
-holdings_of kinds.Factor true _ = columns_of Empty PlainName Year Empty Empty Empty Empty
-holdings_of kinds.Factor false true = columns_of Empty PlainName Year NotationKey Empty Empty UnitWord
-holdings_of kinds.Factor false false = columns_of Empty PlainName Year Figure Bound Bound UnitWord
+holdings_of kinds.Factor true _ = columns_of Empty FactorName Year Empty Empty Empty Empty
+holdings_of kinds.Factor false true = columns_of Empty FactorName Year NotationKey Empty Empty UnitWord
+holdings_of kinds.Factor false false = columns_of Empty FactorName Year Figure Bound Bound UnitWord
 holdings_of kinds.Line true _ = columns_of Empty PlainName Empty Empty Empty Empty Empty
-holdings_of kinds.Line false _ = columns_of Category PlainName Empty Equation Empty Empty Empty
+holdings_of kinds.Line false _ = columns_of LeafCategory PlainName Empty Equation Empty Empty Empty
 holdings_of kinds.Bind true _ = columns_of PlainName Parameter Empty Empty Empty Empty Empty
 holdings_of kinds.Bind false _ = columns_of PlainName Parameter Empty Form Target Empty Empty
 
@@ -85,8 +86,9 @@ is_quantity (Some u) text = is_some (quantity_in u text)
 -- whether a text is what a column may hold in its row
 abbrev pub is_held : Holding → Texts → List ℕ → Bool
 is_held Empty row text = length text == 0
-is_held Category row text = is_category text
+is_held LeafCategory row text = is_some (leaf_in text)
 is_held PlainName row text = is_some (plain_name_in text)
+is_held FactorName row text = is_some (factor_name_in text)
 is_held Parameter row text = is_some (parameter_in text)
 is_held Equation row text = is_some (named text)
 is_held Form row text = is_some (binding_form_in text)
@@ -119,19 +121,19 @@ places h row =
     ∷ []
 
 -- the leftmost column that should be empty or hold a word, and does not
-abbrev pub wrong_word : Holdings → Texts → Option Fault
-wrong_word h row = option_map (λ p. Word p.column) (find (λ p. not (is_number p.holding) && not (is_held p.holding row p.text)) (places h row))
+abbrev pub wrong_word : Texts → List Place → Option Fault
+wrong_word row ps = option_map (λ p. Word p.column) (find (λ p. not (is_number p.holding) && not (is_held p.holding row p.text)) ps)
 
 -- the leftmost column that should hold a number, and does not
-abbrev pub wrong_number : Holdings → Texts → Option Fault
-wrong_number h row = option_map (λ p. Number p.column) (find (λ p. is_number p.holding && not (is_held p.holding row p.text)) (places h row))
+abbrev pub wrong_number : Texts → List Place → Option Fault
+wrong_number row ps = option_map (λ p. Number p.column) (find (λ p. is_number p.holding && not (is_held p.holding row p.text)) ps)
 
 -- a wrong word, and else a wrong number
-abbrev pub wrong_among : Holdings → Texts → Option Fault
-wrong_among h row = option_or (wrong_word h row) (wrong_number h row)
+abbrev pub wrong_among : Texts → List Place → Option Fault
+wrong_among row ps = option_or (wrong_word row ps) (wrong_number row ps)
 
 abbrev pub wrong_column : Kind → Act → Texts → Option Fault
-wrong_column kind act row = wrong_among (holdings_of kind (withdraws act) (is_some (key_in row.value))) row
+wrong_column kind act row = wrong_among row (places (holdings_of kind (withdraws act) (is_some (key_in row.value))) row)
 
 -- the column that a reading is refused for
 abbrev pub column_fault : {A : Type 0} → Result A Fault → Option Fault

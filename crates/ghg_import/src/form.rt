@@ -5,13 +5,14 @@
 ghost use Rattle.std.specs.Prelude.{◌≡◌, IfOk, IfSome};
 ghost use Rattle.ghg_interval.specs.Bounds.{AreBounded};
 ghost use Rattle.ghg_units.specs.Units.{converted};
-ghost use Rattle.ghg_units.specs.WellFormed.{IsAmountOf, IsBinding, IsForm, withdraws};
+ghost use Rattle.ghg_units.specs.WellFormed.{IsAmountOf, IsBinding, IsForm, IsLeaf, withdraws};
 ghost use Rattle.ghg_import.specs.Shape.{texts};
-ghost use Rattle.ghg_import.specs.Forms.{activity_in, amount_in, bind_in, category_at, content_in, empty_at, factor_in, form_in, key_alone_in, known_in, line_in, named_figure_in, no_value_in, quantity_in, span_in, target_in};
+ghost use Rattle.ghg_import.specs.Forms.{IsDated, activity_in, amount_in, bind_in, content_in, dated_figure_in, empty_at, factor_in, form_in, key_alone_in, known_in, leaf_in, line_in, no_value_in, quantity_in, span_in, target_in};
 
 use crate::columns::Columns;
 use crate::fault::Fault;
 use crate::kind::{BindingForm, Kind, binding_form_named, kind_named};
+use ghg_categories::{Category, is_leaf};
 use ghg_equations::eq_named;
 use ghg_units::{
     Act, Amount, Binding, Column, Decimal, Figure, Name, ParamName, RowForm, Span, Unit, act_named,
@@ -72,8 +73,10 @@ fn activity(act: Act, row: Columns<'_>) -> Result<RowForm, Fault>
     ensures reads { result ≡ activity_in act (texts row.entry) }
     ensures keeps { IfOk result (IsForm (withdraws act)) }
 {
-    let f = named_figure(act, row)?;
-    Ok(RowForm::Activity(f.name, f.year, f.figure))
+    empty(row.subject, Column::Subject)?;
+    let name = Name::plain(row.name).ok_or(Fault::Word(Column::Name))?;
+    let f = dated_figure(act, row)?;
+    Ok(RowForm::Activity(name, f.year, f.figure))
 }
 
 #[tactic(auto, unfolding(crate::specs::Forms::factor_in))]
@@ -81,37 +84,37 @@ fn factor(act: Act, row: Columns<'_>) -> Result<RowForm, Fault>
     ensures reads { result ≡ factor_in act (texts row.entry) }
     ensures keeps { IfOk result (IsForm (withdraws act)) }
 {
-    let f = named_figure(act, row)?;
-    Ok(RowForm::Factor(f.name, f.year, f.figure))
+    empty(row.subject, Column::Subject)?;
+    let name = Name::of_factor(row.name).ok_or(Fault::Word(Column::Name))?;
+    let f = dated_figure(act, row)?;
+    Ok(RowForm::Factor(name, f.year, f.figure))
 }
 
-/// What an activity and a factor have.
+/// What an activity and a factor have beside their names.
 #[derive(Clone, Copy, Drop)]
-struct NamedFigure {
-    name: Name,
+struct DatedFigure {
     year: u32,
+    /// Empty exactly in a row that withdraws.
     figure: Option<Figure>,
 }
 
-#[tactic(auto, unfolding(crate::specs::Forms::named_figure_in))]
-fn named_figure(act: Act, row: Columns<'_>) -> Result<NamedFigure, Fault>
-    ensures reads { result ≡ named_figure_in act (texts row.entry) }
-    ensures keeps { IfOk result (λ f. IsForm (withdraws act) (RowForm.Activity f.name f.year f.figure)) }
+#[tactic(auto, unfolding(crate::specs::Forms::dated_figure_in))]
+fn dated_figure(act: Act, row: Columns<'_>) -> Result<DatedFigure, Fault>
+    ensures reads { result ≡ dated_figure_in act (texts row.entry) }
+    ensures keeps { IfOk result (λ f. IsDated (withdraws act) f.year f.figure) }
 {
-    empty(row.subject, Column::Subject)?;
-    let name = Name::plain(row.name).ok_or(Fault::Word(Column::Name))?;
     if act == Act::Withdraw {
         no_value(row)?;
         let year = read_year(row.year).ok_or(Fault::Number(Column::Year))?;
         let figure = None;
-        return Ok(NamedFigure { name, year, figure });
+        return Ok(DatedFigure { year, figure });
     }
     key_alone(row)?;
     let unit = unit_named(row.unit).ok_or(Fault::Word(Column::Unit))?;
     let year = read_year(row.year).ok_or(Fault::Number(Column::Year))?;
     let amount = amount(row, unit)?;
     let figure = Some(Figure { unit, amount });
-    Ok(NamedFigure { name, year, figure })
+    Ok(DatedFigure { year, figure })
 }
 
 // That a notation key stands without bounds.
@@ -180,19 +183,19 @@ fn line(act: Act, row: Columns<'_>) -> Result<RowForm, Fault>
 {
     if act == Act::Withdraw {
         empty(row.subject, Column::Subject)?;
-        let name = Name::plain(row.name).ok_or(Fault::Word(Column::Name))?;
+        let line = Name::plain(row.name).ok_or(Fault::Word(Column::Name))?;
         empty(row.year, Column::Year)?;
         no_value(row)?;
-        return Ok(RowForm::Line(name, None));
+        return Ok(RowForm::Line(line, None));
     }
-    category(row.subject, Column::Subject)?;
-    let name = Name::plain(row.name).ok_or(Fault::Word(Column::Name))?;
+    let category = leaf_named(row.subject).ok_or(Fault::Word(Column::Subject))?;
+    let line = Name::plain(row.name).ok_or(Fault::Word(Column::Name))?;
     empty(row.year, Column::Year)?;
     let equation = eq_named(row.value).ok_or(Fault::Word(Column::Value))?;
     empty(row.low, Column::Low)?;
     empty(row.high, Column::High)?;
     empty(row.unit, Column::Unit)?;
-    Ok(RowForm::Line(name, Some(equation)))
+    Ok(RowForm::Line(line, Some((category, equation))))
 }
 
 #[tactic(auto, unfolding(crate::specs::Forms::bind_in))]
@@ -237,14 +240,17 @@ fn no_value(row: Columns<'_>) -> Result<(), Fault>
     empty(row.unit, Column::Unit)
 }
 
-// That a column names the category at which lines stand.
-fn category(text: &[u8], column: Column) -> Result<(), Fault>
-    ensures { result ≡ category_at column text.now }
+// The category that a text is the code of, where it has no children: lines stand at leaves alone.
+#[tactic(auto, unfolding(crate::specs::Forms::leaf_in))]
+fn leaf_named(text: &[u8]) -> Option<Category>
+    ensures reads { result ≡ leaf_in text.now }
+    ensures keeps { IfSome result IsLeaf }
 {
-    if text == b"1A1a".as_slice() {
-        Ok(())
+    let category = ghg_categories::named(text)?;
+    if is_leaf(category) {
+        Some(category)
     } else {
-        Err(Fault::Word(column))
+        None
     }
 }
 

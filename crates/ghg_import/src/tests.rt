@@ -3,6 +3,7 @@
 ghost use Rattle.std.specs.Prelude.{◌≤ℤ◌, pos};
 
 use crate::{Rows, is_too_long, read_rows};
+use ghg_categories::Category;
 use ghg_equations::EqId;
 use ghg_units::{Act, Amount, Binding, Decimal, NotationKey, RowForm, Unit, append_rule};
 use std::alloc::{AllocError, Global};
@@ -63,8 +64,11 @@ fn a_power_plant_is_read_row_by_row(rt: HostRuntime) -> Result<(), Fail> {
     for row in &rows {
         let (name, says) = match &row.form {
             RowForm::Span(Some(span)) => ("", span.first == 1990 && span.last == 1991),
-            RowForm::Line(name, Some(equation)) => {
-                (word(name.as_bytes()), *equation == EqId::Q10)
+            RowForm::Line(name, Some((category, equation))) => {
+                (
+                    word(name.as_bytes()),
+                    *category == Category::C1A1a && *equation == EqId::Q10,
+                )
             }
             RowForm::Bind(_, parameter, Some(Binding::Activity(name))) => {
                 (word(name.as_bytes()), word(parameter.as_bytes()) == "FC")
@@ -140,7 +144,7 @@ fn the_first_broken_rule_is_named_with_its_leftmost_column(rt: HostRuntime) -> R
             "5 UnknownWord row 2 column kind",
         ),
         (
-            "enter,line,2A1,B.,,Q10,,,,",
+            "enter,line,1A1,B.,,Q10,,,,",
             "5 UnknownWord row 2 column subject",
         ),
         (
@@ -180,7 +184,7 @@ fn the_first_broken_rule_is_named_with_its_leftmost_column(rt: HostRuntime) -> R
             "5 UnknownWord row 2 column value",
         ),
         (
-            "withdraw,factor,,GWP.N2O,1901,,,,,",
+            "withdraw,activity,,GWP.N2O,1901,,,,,",
             "5 UnknownWord row 2 column name",
         ),
         (
@@ -235,6 +239,111 @@ fn the_first_broken_rule_is_named_with_its_leftmost_column(rt: HostRuntime) -> R
         ),
     ] {
         assert!(rt; is_second_refused(&rt, rt.alloc(), row, want)?, "at {row}");
+    }
+    Ok(())
+}
+
+// Codes with children, codes that the tree has not, and what is no code at all.
+#[test]
+fn a_line_stands_at_no_other_code_than_a_leaf(rt: HostRuntime) -> Result<(), Fail> {
+    for code in [
+        "", "0", "1", "1A", "1A1", "1A3", "1A4", "1B", "2C", "3B", "4C", "5", "1A1d", "1A2a",
+        "2B4", "2C2", "2E", "6", "1a1a", "1A1A", "1A1a ", " 1A2", "1.A.2", "M", "MA", "mb", "MBC",
+    ] {
+        let row = format!(in rt.alloc(); "correct,line,{code},A,199O,Q10,5,,TJ,")?;
+        let want = "5 UnknownWord row 2 column subject";
+        assert!(rt; is_second_refused(&rt, rt.alloc(), &row, want)?, "at {row}");
+    }
+    Ok(())
+}
+
+#[test]
+fn a_line_stands_at_a_leaf_or_a_memo_code(rt: HostRuntime) -> Result<(), Fail> {
+    for (code, at) in [
+        ("1A1a", Category::C1A1a),
+        ("1A2", Category::C1A2),
+        ("1A3e", Category::C1A3e),
+        ("1C", Category::C1C),
+        ("2C3", Category::C2C3),
+        ("3B1", Category::C3B1),
+        ("3C8", Category::C3C8),
+        ("4A", Category::C4A),
+        ("4D2", Category::C4D2),
+        ("5B", Category::C5B),
+        ("MB", Category::MB),
+        ("MC", Category::MC),
+        ("RA", Category::RA),
+    ] {
+        let body = format!(in rt.alloc(); "{HEAD}\nenter,line,{code},A,,Q10,,,,\n")?;
+        assert!(rt; !is_too_long(body.as_bytes()));
+        let Rows { rows, rest } = read_rows(rt.alloc(), body.as_bytes())?;
+        assert!(rt; rest.is_none(), "at {code}");
+        assert_eq!(rt; rows.len(), 1, "at {code}");
+        for row in &rows {
+            match &row.form {
+                RowForm::Line(_, Some((category, EqId::Q10))) => {
+                    assert!(rt; *category == at, "at {code}");
+                }
+                _ => assert!(rt; false, "at {code}"),
+            }
+        }
+    }
+    Ok(())
+}
+
+#[test]
+fn a_factor_may_have_the_name_of_a_warming_potential(rt: HostRuntime) -> Result<(), Fail> {
+    for name in [
+        "GWP.CO2",
+        "GWP.CH4",
+        "GWP.N2O",
+        "GWP.CF4",
+        "GWP.C2F6",
+        "GWP",
+        "GWP-CO2",
+        "A.GWP.CO2",
+    ] {
+        let body = format!(in rt.alloc();
+            "{HEAD}\nenter,factor,,{name},1990,25,,,1,\nwithdraw,factor,,{name},1990,,,,,\n"
+        )?;
+        assert!(rt; !is_too_long(body.as_bytes()));
+        let Rows { rows, rest } = read_rows(rt.alloc(), body.as_bytes())?;
+        assert!(rt; rest.is_none(), "at {name}");
+        assert_eq!(rt; rows.len(), 2, "at {name}");
+        for row in &rows {
+            match &row.form {
+                RowForm::Factor(read, 1990, figure) => {
+                    assert_eq!(rt; word(read.as_bytes()), name);
+                    assert!(rt; figure.is_some() == (row.act == Act::Enter), "at {name}");
+                }
+                _ => assert!(rt; false, "at {name}"),
+            }
+        }
+    }
+    Ok(())
+}
+
+#[test]
+fn names_of_warming_potentials_stand_nowhere_else(rt: HostRuntime) -> Result<(), Fail> {
+    for (row, column) in [
+        ("enter,factor,,GWP.,1990,25,,,1,", "name"),
+        ("enter,factor,,GWP.SF6,1990,25,,,1,", "name"),
+        ("enter,factor,,GWP.CO,1990,25,,,1,", "name"),
+        ("enter,factor,,GWP.CO2E,1990,25,,,1,", "name"),
+        ("enter,factor,,GWP.co2,1990,25,,,1,", "name"),
+        ("withdraw,factor,,GWP.SF6,1990,,,,,", "name"),
+        ("enter,factor,GWP.CO2,GWP.CO2,1990,25,,,1,", "subject"),
+        ("enter,activity,,GWP.CO2,1990,25,,,1,", "name"),
+        ("enter,activity,,GWP.X,1990,25,,,1,", "name"),
+        ("enter,line,1A2,GWP.CH4,,Q10,,,,", "name"),
+        ("withdraw,line,,GWP.CH4,,,,,,", "name"),
+        ("enter,bind,GWP.CF4,EF,,factor,A,,,", "subject"),
+        ("enter,bind,A,EF,,activity,GWP.N2O,,,", "low"),
+        ("enter,bind,A,EF,,factor,GWP.CO2,,,", "low"),
+        ("enter,bind,A,EF,,factor,GWP.A,,,", "low"),
+    ] {
+        let want = format!(in rt.alloc(); "5 UnknownWord row 2 column {column}")?;
+        assert!(rt; is_second_refused(&rt, rt.alloc(), row, &want)?, "at {row}");
     }
     Ok(())
 }
