@@ -1,5 +1,5 @@
 -- Data without records are a workbook.
-use Rattle.std.proofs.Common.{◌≡◌, ◌∷◌, nat_lt, not, filter, length, [], List, refl, sym, ap, ◌∙◌, Option, None, Some, if◌then◌else◌, arith, map, flat_map}
+use Rattle.std.proofs.Common.{◌≡◌, ◌∷◌, ℕ, Bool, true, false, ◌&&◌, is_some, nat_lt, not, filter, length, [], List, refl, sym, ap, ◌∙◌, Option, None, Some, if◌then◌else◌, arith, map, flat_map}
 use Rattle.std.specs.FinMap.{empty, get, get-empty, entries, len, len-empty, len-entries}
 use Rattle.std.specs.List.{filter_map}
 use Rattle.ghg_definitions.specs.declared.record.Record.{Record}
@@ -8,6 +8,9 @@ use Rattle.ghg_definitions.specs.declared.record.RecordKey.TheVariants as key
 use Rattle.ghg_definitions.specs.Data.{Data, as_figure, as_span, figure, first_name, key_cmp, line, line_name, line_names, span}
 use Rattle.ghg_definitions.specs.Rules.{is_long, is_sound, least_place, most_lines, most_records, passed_limit, places_in, unsound_place}
 use Rattle.ghg_definitions.specs.Sound.{IsWorkbook}
+use Rattle.ghg_data.specs.declared.calendar.Series.{Series}
+use Rattle.ghg_data.specs.Calendar.{dated}
+use Rattle.ghg_data.specs.YearSet.{is_year}
 use Rattle.ghg_units.specs.declared.row.Figure.{Figure}
 use Rattle.ghg_units.specs.declared.rule.Limit.TheVariants.{Lines, Records}
 use Rattle.ghg_units.specs.declared.rule.Limit.TheVariants as limits
@@ -44,6 +47,13 @@ no_figure k f e = absurd (apart (sym (ap as_figure (get-empty key_cmp k)) ∙ e)
 pub no_lines : line_names (empty {X = Record} {R = key_cmp}) ≡ []
 unfolding none
 no_lines = ap (λ es. filter_map line_name (map (λ e. e.0) es)) no_entries
+
+pub no_dates : (s : Series) (y : ℕ) → is_year y && is_some (get (empty {X = Record} {R = key_cmp}) (dated s y)) ≡ false
+no_dates s y = ap (λ o. is_year y && is_some o) (get-empty key_cmp (dated s y)) ∙ by (is_year y)
+  where
+    by : (b : Bool) → b && false ≡ false
+    by true = refl
+    by false = refl
 
 sound : unsound_place none ≡ None
 unfolding unsound_place

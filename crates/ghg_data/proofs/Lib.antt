@@ -13,3 +13,6 @@ pub mod LineCounts
 pub mod InTurn
 pub mod Order
 pub mod Settled
+pub mod YearBits
+pub mod Dates
+pub mod Calendars

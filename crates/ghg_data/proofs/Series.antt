@@ -1,5 +1,5 @@
 -- The records of one kind and name, by their years.
-use Rattle.std.proofs.Common.{◌≡◌, ℕ, Bool, true, false, not, Option, Some, None, refl, sym, ap, ◌∙◌, arith, eq-eqb}
+use Rattle.std.proofs.Common.{◌≡◌, ℕ, ◌≤◌, Bool, true, false, cond, not, ◌&&◌, ◌==◌, Option, Some, None, IfSome, IfNone, is_some, refl, sym, ap, ◌∙◌, arith, eqb-true, eq-eqb}
 use Rattle.ghg_units.specs.declared.row.Figure.{Figure}
 use Rattle.ghg_equations.specs.declared.quantity.Dim.{Dim}
 use Rattle.ghg_equations.specs.Quantity.{same_dim}
@@ -8,44 +8,127 @@ use Rattle.ghg_units.specs.WellFormed.{IsYear}
 use Rattle.ghg_definitions.proofs.Dims.{same_dim-itself}
 use Rattle.ghg_definitions.specs.declared.record.RecordKey.{RecordKey}
 use Rattle.ghg_definitions.specs.declared.record.RecordKey.TheVariants as key
-use Rattle.ghg_definitions.specs.Data.{Data, figure, first_name, kind, year_of}
+use Rattle.ghg_definitions.specs.Data.{Data, as_figure, figure, first_name, kind, year_of}
 use Rattle.ghg_definitions.specs.Rules.{is_alike, is_other_year, meets_other_dimension}
-use Rattle.ghg_definitions.specs.Sound.{IsConsistent}
-use Rattle.ghg_definitions.proofs.Alike.{alike_back, alike_joined, alike_of_parts, alike_parts, meets_false, meets_true, met, not_so, one_dimension, other_alike, second_so, so_not}
+use Rattle.ghg_definitions.specs.Sound.{IsConsistent, IsRecord}
+use Rattle.ghg_definitions.proofs.Alike.{alike_back, alike_joined, alike_of_parts, alike_parts, both, meets_false, meets_true, met, not_so, one_dimension, other_alike, second_so, so_not}
 use Rattle.ghg_definitions.proofs.Consistent.{figure_dated}
-use Rattle.ghg_definitions.proofs.Keys.{equal_by, key_eq, key_ties, keys_same}
-use Rattle.ghg_data.specs.Years.{in_year}
+use Rattle.ghg_definitions.specs.declared.record.Record.{Record}
+use Rattle.ghg_definitions.specs.declared.record.Record.TheVariants as entry
+use Rattle.std.specs.FinMap.{get}
+use Rattle.std.proofs.lemmas.Bool.{and_from, and_parts, le-leb}
+use Rattle.ghg_data.specs.declared.calendar.Series.{Series}
+use Rattle.ghg_data.specs.declared.calendar.Series.TheVariants as series
+use Rattle.ghg_data.specs.Calendar.{date_of, dated}
+use Rattle.ghg_data.specs.YearSet.{is_year}
+use Rattle.ghg_data.proofs.Dates.{key_of_date}
 
-in_year_alike : (k : RecordKey) (y : ℕ) → is_alike k (in_year k y) ≡ true
-in_year_alike k y = by k
+-- ---- figures of other years
+
+turned : (y z : ℕ) → (z == y) ≡ false → (y == z) ≡ false
+turned y z e = by (y == z) refl
   where
-    by : (k : RecordKey) → is_alike k (in_year k y) ≡ true
-    by key.Span = refl
-    by (key.Activity name year) = alike_of_parts (key.Activity name year) (key.Activity name y) refl refl
-    by (key.Factor name start) = alike_of_parts (key.Factor name start) (key.Factor name y) refl refl
-    by (key.Line name) = alike_of_parts (key.Line name) (key.Line name) refl refl
-    by (key.Bind line parameter) = alike_of_parts (key.Bind line parameter) (key.Bind line parameter) refl refl
-
--- another year is another key
-pub not_itself : (k : RecordKey) (y : ℕ) → is_other_year k (in_year k y) ≡ true → key_eq (in_year k y) k ≡ true → ⊥
-not_itself k y o e =
-    let one : in_year k y ≡ k = keys_same _ _ (equal_by _ (sym (key_ties (in_year k y) k) ∙ e)) in
-    met _ (not_so _ (second_so (is_alike k (in_year k y)) _ o)) (eq-eqb (year_of k) (year_of (in_year k y)) (ap year_of (sym one)))
+    by : (b : Bool) → (y == z) ≡ b → (y == z) ≡ false
+    by true is = absurd (met _ e (eq-eqb z y (sym (eqb-true _ _ is))))
+    by false is = is
 
 no_year : {P : Type 0} → IsYear 0 → P
 no_year h = absurd (omega arith)
 
--- each figure of the name for another year stands under the key of its year, within the years that there are
-pub in_its_year : {m : Data} → IsConsistent m → (k q : RecordKey) (f : Figure) → figure m q ≡ Some f → is_other_year k q ≡ true → (q ≡ in_year k (year_of q)) × IsYear (year_of q)
-in_its_year {m} is k q f e o = (by k q (figure_dated is q f e).0 (alike_parts k q (other_alike k q o)), (figure_dated is q f e).0)
+-- each figure of the name for another year stands at a date of the name's, within the years that there are
+pub of_series : {m : Data} → IsConsistent m → (k q : RecordKey) (f : Figure) → figure m q ≡ Some f → is_other_year k q ≡ true
+    → (t : Series) × (date_of k ≡ Some (t, year_of k)) × (q ≡ dated t (year_of q)) × IsYear (year_of q)
+of_series {m} is k q f e o = by k q (figure_dated is q f e).0 (alike_parts k q (other_alike k q o))
   where
-    by : (k q : RecordKey) → IsYear (year_of q) → (kind k ≡ kind q) × (first_name k ≡ first_name q) → q ≡ in_year k (year_of q)
+    by : (k q : RecordKey) → IsYear (year_of q) → (kind k ≡ kind q) × (first_name k ≡ first_name q) → (t : Series) × (date_of k ≡ Some (t, year_of k)) × (q ≡ dated t (year_of q)) × IsYear (year_of q)
     by k key.Span h parts = no_year h
     by k (key.Line name) h parts = no_year h
     by k (key.Bind line parameter) h parts = no_year h
-    by (key.Activity a y) (key.Activity b z) h parts = ap (λ n. key.Activity n z) (sym parts.1)
-    by (key.Factor a y) (key.Factor b z) h parts = ap (λ n. key.Factor n z) (sym parts.1)
+    by (key.Activity a y) (key.Activity b z) h parts = (series.Activity a, refl, ap (λ n. key.Activity n z) (sym parts.1), h)
+    by (key.Factor a y) (key.Factor b z) h parts = (series.Factor a, refl, ap (λ n. key.Factor n z) (sym parts.1), h)
     by _ _ h parts = absurd (omega arith)
+
+in_time : (y : ℕ) → IsYear y → is_year y ≡ true
+in_time y h = and_from _ _ (le-leb 1900 y h.0) (le-leb y 2100 h.1)
+
+-- a figure's key has a record
+filled : (o : Option Record) (f : Figure) → as_figure o ≡ Some f → is_some o ≡ true
+filled None f e = absurd (cc)
+filled (Some r) f e = refl
+
+date_figured : (t : Series) (y : ℕ) (r : Record) → IsRecord (dated t y) r → is_some (as_figure (Some r)) ≡ true
+date_figured (series.Activity name) y (entry.Activity f) h = refl
+date_figured (series.Factor name) y (entry.Factor f) h = refl
+date_figured (series.Activity name) y _ h = absurd h
+date_figured (series.Factor name) y _ h = absurd h
+
+-- a record of a date has a figure
+figured : {m : Data} → IsConsistent m → (t : Series) (y : ℕ) → is_some (get m (dated t y)) ≡ true → is_some (figure m (dated t y)) ≡ true
+figured {m} is t y e = by (get m (dated t y)) refl e
+  where
+    by : (o : Option Record) → get m (dated t y) ≡ o → is_some o ≡ true → is_some (as_figure o) ≡ true
+    by None at e = absurd (cc)
+    by (Some r) at e = date_figured t y r (is.records (dated t y) r at)
+
+dates_other : (t : Series) (y z : ℕ) → (z == y) ≡ false → is_other_year (dated t y) (dated t z) ≡ true
+dates_other (series.Activity name) y z e = both _ _ (alike_of_parts (key.Activity name y) (key.Activity name z) refl refl) (so_not (y == z) (turned y z e))
+dates_other (series.Factor name) y z e = both _ _ (alike_of_parts (key.Factor name y) (key.Factor name z) refl refl) (so_not (y == z) (turned y z e))
+
+-- ---- the greatest of the other years, and none
+
+same_date : (p q : Series × ℕ) → Some p ≡ Some q → p ≡ q
+same_date p q e = cc
+
+no_figure : (o : Option Figure) → ((f : Figure) → o ≡ Some f → ⊥) → o ≡ None
+no_figure None h = refl
+no_figure (Some f) h = absurd (h f refl)
+
+module _ {m : Data} (is : IsConsistent m) (k : RecordKey) (t : Series) (year : ℕ) (at : date_of k ≡ Some (t, year)) (years : ℕ → Bool)
+    (others : (y : ℕ) → years y ≡ cond (is_year year && (y == year)) false (is_year y && is_some (get m (dated t y)))) where
+  -- where the series has no other year
+  pub no_other : ((y : ℕ) → y ≤ 2100 → years y ≡ false) → (q : RecordKey) → is_other_year k q ≡ true → figure m q ≡ None
+  no_other none q o = no_figure (figure m q) (λ f e.
+      let found = of_series is k q f e o in
+      let dates : (found.0, year_of k) ≡ (t, year) = same_date _ _ (sym found.1 ∙ at) in
+      let z = year_of q in
+      let key_is : q ≡ dated t z = found.2 ∙ ap (λ p. dated p.0 z) dates in
+      let other : (z == year) ≡ false = turned z year (ap (λ p. p.1 == z) (sym dates) ∙ not_so _ (second_so (is_alike k q) _ o)) in
+      let stands : is_year z && is_some (get m (dated t z)) ≡ true = both _ _ (in_time z found.3) (ap (λ x. is_some (get m x)) (sym key_is) ∙ filled (get m q) f e) in
+      met _ (none z found.3.1) (others z ∙ ap (λ b. cond (is_year year && b) false (is_year z && is_some (get m (dated t z)))) other ∙ kept (is_year year) _ ∙ stands))
+    where
+      kept : (b c : Bool) → cond (b && false) false c ≡ c
+      kept true c = refl
+      kept false c = refl
+
+  -- where it has one
+  pub some_other : (z : ℕ) → years z ≡ true → (is_some (figure m (dated t z)) ≡ true) × (is_other_year k (dated t z) ≡ true)
+  some_other z e =
+      let parts = stands (is_year year && (z == year)) _ (sym (others z) ∙ e) in
+      let in_years = and_parts _ _ parts.1 in
+      (figured is t z in_years.1, ap (λ x. is_other_year x (dated t z)) (key_of_date k t year at) ∙ dates_other t year z (other (z == year) refl parts.0 in_years.0))
+    where
+      stands : (b c : Bool) → cond b false c ≡ true → (b ≡ false) × (c ≡ true)
+      stands true c e = absurd (cc)
+      stands false c e = (refl, e)
+
+      other : (b : Bool) → (z == year) ≡ b → is_year year && (z == year) ≡ false → is_year z ≡ true → (z == year) ≡ false
+      other false is apart timely = is
+      other true is apart timely = absurd (met _ apart (both _ _ (ap is_year (sym (eqb-true _ _ is)) ∙ timely) is))
+
+module _ (m : Data) (k q : RecordKey) (o : Option Figure) (e : o ≡ figure m q) (stands : is_some (figure m q) ≡ true) where
+  pub answers : is_other_year k q ≡ true → IfSome o (λ f. (x : RecordKey) × (figure m x ≡ Some f) × (is_other_year k x ≡ true))
+  answers other = by o e
+    where
+      by : (o : Option Figure) → o ≡ figure m q → IfSome o (λ f. (x : RecordKey) × (figure m x ≡ Some f) × (is_other_year k x ≡ true))
+      by None e = tt
+      by (Some f) e = (q, sym e, other)
+
+  pub never_none : (P : Type 0) → IfNone o P
+  never_none P = by o e
+    where
+      by : (o : Option Figure) → o ≡ figure m q → IfNone o P
+      by None e = absurd (met _ (ap is_some (sym e)) stands)
+      by (Some f) e = tt
 
 -- one figure of the name tells of all
 pub meets_some : {m : Data} → IsConsistent m → (k q : RecordKey) (f : Figure) (d : Dim) → figure m q ≡ Some f → is_other_year k q ≡ true → meets_other_dimension m k d ≡ not (same_dim d (dim_of f.unit))

@@ -68,7 +68,7 @@ module _ (m : Data) (cs : List Change) (settled : unsettles m cs ≡ false) wher
   line_settled (Some (entry.Span s)) r e h u = absurd (cc)
   line_settled (Some (entry.Activity f)) r e h u = absurd (cc)
   line_settled (Some (entry.Factor f)) r e h u = absurd (cc)
-  line_settled (Some (entry.Line q)) r e h u = absurd (cc)
+  line_settled (Some (entry.Line c q)) r e h u = absurd (cc)
   line_settled (Some (entry.Bind b)) r e h u = absurd (cc)
 
   -- a line that was there has its equation
@@ -91,7 +91,7 @@ module _ (m : Data) (cs : List Change) (settled : unsettles m cs ≡ false) wher
   figure_settled (Some (entry.Span s)) r g e u = absurd (cc)
   figure_settled (Some (entry.Activity f)) r g e u = like g (as_figure r) (ap (λ (x : Figure). not (keeps_dimension x r)) (sym (same_figure f g e)) ∙ u)
   figure_settled (Some (entry.Factor f)) r g e u = like g (as_figure r) (ap (λ (x : Figure). not (keeps_dimension x r)) (sym (same_figure f g e)) ∙ u)
-  figure_settled (Some (entry.Line q)) r g e u = absurd (cc)
+  figure_settled (Some (entry.Line c q)) r g e u = absurd (cc)
   figure_settled (Some (entry.Bind b)) r g e u = absurd (cc)
 
   figures_stand : AreKept m (applied m cs)

@@ -23,7 +23,7 @@ unsettles_record None c = false
 unsettles_record (Some (entry.Span s)) c = false
 unsettles_record (Some (entry.Activity f)) c = not (keeps_dimension f c)
 unsettles_record (Some (entry.Factor f)) c = not (keeps_dimension f c)
-unsettles_record (Some (entry.Line e)) c = true
+unsettles_record (Some (entry.Line category e)) c = true
 unsettles_record (Some (entry.Bind b)) c = false
 
 -- some change does so to what its key had

@@ -10,6 +10,7 @@ ghost use Rattle.ghg_data.specs.Refusal.{IfRule};
 ghost use Rattle.ghg_data.specs.Changes.{applied};
 ghost use Rattle.ghg_data.specs.Shelf.{IsPlanned};
 
+use crate::calendar::Series;
 use crate::draft::span_in;
 use crate::edits::Edits;
 use crate::holdings::Holdings;
@@ -59,6 +60,11 @@ impl Records for Book {
 
     fn span(&self) -> Option<Span> {
         span_in(self.holdings.get(&RecordKey::Span))
+    }
+
+    fn start_year(&self, name: &Name, year: u32) -> Option<u32> {
+        let years = self.holdings.years(&Series::Factor(*name));
+        years.last_until(year)
     }
 
     fn lines(&self, alloc: Global) -> Result<Vec<Name>, AllocError> {

@@ -1,26 +1,24 @@
 //! Records with edits applied, in the midst of planning.
 
-ghost use Rattle.std.specs.Prelude.{◌≡◌, true, None, option_copied, IfOk, IfSome, IfNone};
+ghost use Rattle.std.specs.Prelude.{◌≡◌, ℕ, true, ◌&&◌, None, is_some, option_copied, IfOk, IfSome, IfNone};
 ghost use Rattle.std.specs.FinMap as finite;
 ghost use Rattle.ghg_definitions.specs.Data.{as_line, as_span, binding, figure, line, line_names, span};
 ghost use Rattle.ghg_definitions.specs.Rules.{is_other_year};
 ghost use Rattle.ghg_definitions.specs.Sound.{IsConsistent};
+ghost use Rattle.ghg_data.specs.Calendar.{dated};
 ghost use Rattle.ghg_data.specs.Changes.{applied};
-ghost use Rattle.ghg_data.specs.Years.{in_year};
+ghost use Rattle.ghg_data.specs.YearSet.{has_year, is_year};
 
+use crate::calendar::{Series, date_of};
 use crate::edits::Edits;
 use crate::holdings::Holdings;
 use crate::names::lines_after;
+use crate::year_set::{LAST_YEAR, YearSet};
 use ghg_definitions::{Record, RecordKey};
 use ghg_equations::EqId;
 use ghg_units::{Binding, Figure, Name, ParamName, Span};
 use std::alloc::{AllocError, Global};
 use std::marker::Model;
-
-// The years that a record may be of.
-const FIRST_YEAR: u32 = 1900;
-
-const LAST_YEAR: u32 = 2100;
 
 // Records as the edits so far leave them.
 #[derive(Drop)]
@@ -102,6 +100,15 @@ impl<'a> Draft<'a> {
         }
     }
 
+    // The years of the records of a series.
+    pub(crate) fn years(&self, series: &Series) -> YearSet
+        ensures { (y : ℕ) → has_year result y ≡ is_year y && is_some (finite.get self.now (dated series.now y)) }
+    {
+        let put = self.edits.years_put(series);
+        let taken = self.edits.years_taken(series);
+        self.holdings.years(series).changed(&put, &taken)
+    }
+
     // The figure of some record of the same kind and name for another year.
     pub(crate) fn other_year(&self, key: &RecordKey) -> Option<Figure>
         ensures found { IfSome result (λ f. (q : RecordKey) × (figure self.now q ≡ Some f) × (is_other_year key.now q ≡ true)) }
@@ -110,16 +117,13 @@ impl<'a> Draft<'a> {
     {
         // The proof learns the type's invariant where a field is named.
         let _ = &self.holdings;
-        for year in FIRST_YEAR..LAST_YEAR + 1 {
-            let other = in_year(key, year);
-            if other != *key {
-                let figure = self.figure(&other);
-                if figure.is_some() {
-                    return figure;
-                }
-            }
+        let Some((series, year)) = date_of(key) else {
+            return None;
+        };
+        match self.years(&series).with(year, false).last_until(LAST_YEAR) {
+            Some(other) => self.figure(&series.dated(other)),
+            None => None,
         }
-        None
     }
 }
 
@@ -138,18 +142,7 @@ pub(crate) fn equation_in(entry: Option<&Record>) -> Option<EqId>
     ensures { result ≡ as_line (option_copied entry.entry) }
 {
     match entry {
-        Some(Record::Line(equation)) => Some(*equation),
+        Some(Record::Line(_, equation)) => Some(*equation),
         _ => None,
-    }
-}
-
-// The key of the same kind and name for a year.
-fn in_year(key: &RecordKey, year: u32) -> RecordKey
-    ensures { result ≡ in_year key.now year }
-{
-    match key {
-        RecordKey::Activity(name, _) => RecordKey::Activity(*name, year),
-        RecordKey::Factor(name, _) => RecordKey::Factor(*name, year),
-        other => *other,
     }
 }

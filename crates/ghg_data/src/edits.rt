@@ -1,11 +1,15 @@
 //! Edits of a book.
 
-ghost use Rattle.std.specs.Prelude.{◌≡◌, ◌^◌, ◌<◌, [], ◌∷◌, ◌++◌, Some, length, map, slice_get, option_copied, MatchOption, OnOk, OnErr};
+ghost use Rattle.std.specs.Prelude.{◌≡◌, ℕ, ◌^◌, ◌<◌, ◌&&◌, [], Some, length, map, slice_get, option_copied, OnOk, OnErr};
 ghost use Rattle.std.specs.FinMap.{find};
 ghost use Rattle.ghg_definitions.specs.Data.{Data, key_cmp};
 ghost use Rattle.ghg_definitions.specs.Rows.{with_record};
+ghost use Rattle.ghg_data.specs.Calendar.{dated, is_put, is_taken};
 ghost use Rattle.ghg_data.specs.Changes.{applied};
+ghost use Rattle.ghg_data.specs.YearSet.{has_year, is_year};
 
+use crate::calendar::{Calendar, Series};
+use crate::year_set::YearSet;
 use ghg_definitions::{Record, RecordKey};
 use indexmap::IndexMap;
 use std::alloc::{AllocError, Global};
@@ -15,15 +19,23 @@ use std::marker::Model;
 #[derive(Drop)]
 pub struct Edits {
     changes: IndexMap<RecordKey, Option<Record>>,
+    // The dates that are set, and those that are removed.
+    put: Calendar,
+    taken: Calendar,
 }
 
 impl Model for Edits {
     ghost use Rattle.std.specs.Prelude.{List};
+    ghost use Rattle.std.specs.FinMap.{find};
+    ghost use Rattle.ghg_definitions.specs.Data.{key_cmp};
+    ghost use Rattle.ghg_data.specs.Calendar.{IsCalendarOf, is_put, is_taken};
     ghost use Rattle.ghg_data.specs.Changes.{Change};
 
     ghost Value = { List Change };
 
     ghost view = { λ e. e.changes.entries };
+
+    ghost invariant = { λ e. IsCalendarOf (λ k. is_put (find key_cmp k e.changes.entries)) e.put × IsCalendarOf (λ k. is_taken (find key_cmp k e.changes.entries)) e.taken };
 }
 
 impl Edits {
@@ -32,6 +44,8 @@ impl Edits {
     {
         Edits {
             changes: IndexMap::new(alloc),
+            put: Calendar::new(alloc),
+            taken: Calendar::new(alloc),
         }
     }
 
@@ -69,14 +83,34 @@ impl Edits {
         ensures ok { OnOk result ((m : Data) → applied m self.new ≡ with_record (applied m self.old) key change) }
         ensures err { OnErr result (self.new ≡ self.old) }
     {
-        drop(self.changes.insert(key, change)?);
+        self.changes.reserve(1)?;
+        self.put.reserve(1)?;
+        self.taken.reserve(1)?;
+        self.put.note(&key, change.is_some());
+        self.taken.note(&key, change.is_none());
+        drop(self.changes.insert(key, change).unwrap());
         Ok(())
     }
 
-    // Takes the last change out.
-    pub(crate) fn pop(&mut self) -> Option<(RecordKey, Option<Record>)>
-        ensures { MatchOption result (self.old ≡ []) (λ c. self.old ≡ self.new ++ (c ∷ [])) }
+    // The years of a series for which a record is set.
+    pub(crate) fn years_put(&self, series: &Series) -> YearSet
+        ensures { (y : ℕ) → has_year result y ≡ is_year y && is_put (find key_cmp (dated series.now y) self.now) }
     {
-        self.changes.pop()
+        self.put.years(series)
+    }
+
+    // The years of a series for which the record is removed.
+    pub(crate) fn years_taken(&self, series: &Series) -> YearSet
+        ensures { (y : ℕ) → has_year result y ≡ is_year y && is_taken (find key_cmp (dated series.now y) self.now) }
+    {
+        self.taken.years(series)
+    }
+
+    // The changes themselves.
+    pub(crate) fn into_changes(self) -> IndexMap<RecordKey, Option<Record>>
+        ensures { result.entries ≡ self }
+    {
+        let Edits { changes, .. } = self;
+        changes
     }
 }

@@ -1,43 +1,50 @@
 //! Records by their keys.
 
-ghost use Rattle.std.specs.Prelude.{◌≡◌, ◌+◌, ◌^◌, ◌≤◌, ◌<◌, OnOk, option_copied, length};
+ghost use Rattle.std.specs.Prelude.{◌≡◌, ℕ, ◌+◌, ◌^◌, ◌≤◌, ◌<◌, ◌&&◌, OnOk, is_some, option_copied, length};
 ghost use Rattle.std.specs.FinMap as finite;
 ghost use Rattle.std.specs.FinMap.{from_entries};
 ghost use Rattle.indexmap.specs.IndexMap.{spare};
 ghost use Rattle.ghg_definitions.specs.Data.{line_names};
 ghost use Rattle.ghg_definitions.specs.Rows.{with_record};
+ghost use Rattle.ghg_data.specs.Calendar.{dated};
 ghost use Rattle.ghg_data.specs.Changes.{applied};
+ghost use Rattle.ghg_data.specs.YearSet.{has_year, is_year};
 
+use crate::calendar::{Calendar, Series};
 use crate::edits::Edits;
 use crate::names::change_names;
+use crate::year_set::YearSet;
 use ghg_definitions::{Record, RecordKey};
 use ghg_units::Name;
 use indexmap::IndexMap;
 use std::alloc::{AllocError, Global};
 use std::marker::Model;
 
-// Records by their keys with the names of the lines in order, and room for more.
+// Records by their keys with the names of the lines in order and the years of each activity and factor, and room for
+// more.
 #[derive(Drop)]
 pub(crate) struct Holdings {
     records: IndexMap<RecordKey, Record>,
     lines: Vec<Name>,
+    calendar: Calendar,
 }
 
 impl Model for Holdings {
-    ghost use Rattle.std.specs.Prelude.{◌≡◌, ◌-◌, min, vec_len, vec_capacity};
-    ghost use Rattle.std.specs.FinMap.{from_entries};
+    ghost use Rattle.std.specs.Prelude.{◌≡◌, ◌-◌, is_some, min, vec_len, vec_capacity};
+    ghost use Rattle.std.specs.FinMap.{from_entries, get};
     ghost use Rattle.std.specs.Coded.{codes};
     ghost use Rattle.indexmap.specs.IndexMap.{spare};
-    ghost use Rattle.ghg_definitions.specs.Data.{line_names};
+    ghost use Rattle.ghg_definitions.specs.Data.{key_cmp, line_names};
+    ghost use Rattle.ghg_data.specs.Calendar.{IsCalendarOf};
     ghost use Rattle.ghg_data.specs.Shelf.{Shelf, shelf_code};
 
     ghost Value = { Shelf };
 
     ghost coded = { shelf_code (Prim.hlevel codes) (Prim.hlevel codes) };
 
-    ghost view = { λ h. record { content = from_entries h.records.entries; spare = min (spare h.records) (vec_capacity h.lines - vec_len h.lines) } };
+    ghost view = { λ h. record { content = from_entries h.records.entries; spare = min (spare h.records) (min (vec_capacity h.lines - vec_len h.lines) (spare h.calendar.years)) } };
 
-    ghost invariant = { λ h. h.lines.items ≡ line_names (from_entries h.records.entries) };
+    ghost invariant = { λ h. (h.lines.items ≡ line_names (from_entries h.records.entries)) × IsCalendarOf (λ k. is_some (get {R = key_cmp} (from_entries h.records.entries) k)) h.calendar };
 }
 
 impl Holdings {
@@ -47,6 +54,7 @@ impl Holdings {
         Holdings {
             records: IndexMap::new(alloc),
             lines: Vec::new(alloc),
+            calendar: Calendar::new(alloc),
         }
     }
 
@@ -71,6 +79,13 @@ impl Holdings {
         &self.lines
     }
 
+    // The years of the records of a series.
+    pub(crate) fn years(&self, series: &Series) -> YearSet
+        ensures { (y : ℕ) → has_year result y ≡ is_year y && is_some (finite.get self.now.content (dated series.now y)) }
+    {
+        self.calendar.years(series)
+    }
+
     // Makes room for so many more changes.
     pub(crate) fn reserve(&mut self, additional: usize) -> Result<(), AllocError>
         ensures content { self.new.content ≡ self.old.content }
@@ -78,6 +93,7 @@ impl Holdings {
     {
         self.records.reserve(additional)?;
         self.lines.reserve(additional)?;
+        self.calendar.reserve(additional)?;
         Ok(())
     }
 
@@ -87,15 +103,17 @@ impl Holdings {
         ensures room { self.old.spare ≤ self.new.spare + 1 }
     {
         change_names(&mut self.lines, &key, change.is_some());
+        self.calendar.note(&key, change.is_some());
         drop(change_record(&mut self.records, key, change));
     }
 
     // Makes the changes. It takes no memory.
-    pub(crate) fn apply(&mut self, mut edits: Edits)
+    pub(crate) fn apply(&mut self, edits: Edits)
         requires { length edits ≤ self.old.spare }
         ensures { self.new.content ≡ applied self.old.content edits }
     {
-        while let Some((key, change)) = edits.pop() {
+        let mut changes = edits.into_changes();
+        while let Some((key, change)) = changes.pop() {
             self.change(key, change);
         }
     }

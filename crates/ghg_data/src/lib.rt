@@ -3,6 +3,7 @@
 
 mod bindings;
 mod book;
+mod calendar;
 mod draft;
 mod edits;
 mod holdings;
@@ -17,6 +18,7 @@ mod rows;
 mod tests;
 mod unsettled;
 mod view;
+mod year_set;
 
 pub use book::{Book, after};
 pub use edits::Edits;

@@ -2,7 +2,7 @@
 
 ghost use Rattle.std.specs.Prelude.{◌≡◌, IfSome, option_copied};
 ghost use Rattle.ghg_definitions.specs.Data.{figure};
-ghost use Rattle.ghg_definitions.specs.Lookups.{activity_input, factor_figure_at, factor_input, input_of_amount, input_of_figure, input_of_key, zero_input};
+ghost use Rattle.ghg_definitions.specs.Lookups.{activity_input, factor_input, input_of_amount, input_of_figure, input_of_key, zero_input};
 ghost use Rattle.ghg_definitions.specs.Sound.{IsWorkbook};
 ghost use Rattle.ghg_interval.specs.Bounds.{AreBounded};
 ghost use Rattle.ghg_units.specs.Units.{converted};
@@ -13,11 +13,6 @@ use ghg_cell::Input;
 use ghg_definitions::{Record, RecordKey};
 use ghg_interval::Interval;
 use ghg_units::{Amount, Decimal, Figure, Name, NotationKey, Unit, to_interval};
-
-/// The first and the last year in which a record may begin.
-const FIRST_YEAR: u32 = 1900;
-
-const LAST_YEAR: u32 = 2100;
 
 /// What an activity's record of the year gives.
 pub(crate) fn activity<R: Records>(records: &R, name: &Name, year: u32) -> Input
@@ -30,22 +25,9 @@ pub(crate) fn activity<R: Records>(records: &R, name: &Name, year: u32) -> Input
 pub(crate) fn factor<R: Records>(records: &R, name: &Name, year: u32) -> Input
     ensures { result ≡ factor_input (R.content records.now) name.now year }
 {
-    input(figure_in_force(records, name, year))
-}
-
-// The figure of a factor's record with the greatest start year that is not after the year. No record begins before
-// the first year or after the last one.
-fn figure_in_force<'a, R: Records>(records: &'a R, name: &Name, year: u32) -> Option<&'a Figure>
-    ensures figure { option_copied result ≡ factor_figure_at (R.content records.now) name.now year }
-    ensures keeps { IfSome result (λ f. IsFigure f.now) }
-{
-    let mut start = year.min(LAST_YEAR);
-    'years: loop {
-        match figure(records, &RecordKey::Factor(*name, start)) {
-            Some(figure) => return Some(figure),
-            None if start <= FIRST_YEAR => return None,
-            None => start -= 1,
-        }
+    match records.start_year(name, year) {
+        Some(start) => input(figure(records, &RecordKey::Factor(*name, start))),
+        None => Input::Blank,
     }
 }
 

@@ -2,15 +2,19 @@
 
 ghost use Rattle.std.specs.Prelude.{◌≡◌, IfOk, option_copied};
 ghost use Rattle.std.specs.FinMap.{get};
+ghost use Rattle.std.specs.Option.{option_map};
 ghost use Rattle.std.specs.List.Sorted.{IsStrictlySortedBy};
-ghost use Rattle.ghg_definitions.specs.Data.{Data, line_names, name_cmp, span};
-ghost use Rattle.ghg_definitions.specs.Lookups.{activity_input, factor_input};
+ghost use Rattle.ghg_definitions.specs.declared.record.RecordKey.TheVariants as key;
+ghost use Rattle.ghg_definitions.specs.Data.{Data, binding, category, line, line_names, name_cmp, span};
+ghost use Rattle.ghg_definitions.specs.Lookups.{activity_input, factor_input, factor_key};
 ghost use Rattle.ghg_definitions.specs.Sound.{IsWorkbook};
 
 use crate::lookups;
+use ghg_categories::Category;
 use ghg_cell::Input;
 use ghg_definitions::{Record, RecordKey};
-use ghg_units::{Name, Span};
+use ghg_equations::EqId;
+use ghg_units::{Binding, Name, ParamName, Span};
 use std::alloc::{AllocError, Global};
 
 /// A workbook's records: those of a book, or those that it will have once its edits are committed.
@@ -32,6 +36,33 @@ pub trait Records {
         ensures names { IfOk result (λ names. names.items ≡ line_names (content self.now)) }
         ensures order { IfOk result (λ names. IsStrictlySortedBy name_cmp names.items) }
         ensures workbook { IsWorkbook (content self.now) };
+
+    /// The start year of a factor's record that is in force in a year, which is the greatest that is not after the
+    /// year; `None` exactly where there is none.
+    fn start_year(&self, name: &Name, year: u32) -> Option<u32>
+        ensures start { option_map (λ start. key.Factor name.now start) result ≡ factor_key (content self.now) name.now year }
+        ensures workbook { IsWorkbook (content self.now) };
+
+    /// The category at which a line stands, and its equation; `None` exactly where the line is not present.
+    final fn line(&self, name: &Name) -> Option<(Category, EqId)>
+        ensures category { option_map (λ l. l.0) result ≡ category (content self.now) name.now }
+        ensures equation { option_map (λ l. l.1) result ≡ line (content self.now) name.now }
+    {
+        match self.get(&RecordKey::Line(*name)) {
+            Some(Record::Line(category, equation)) => Some((*category, *equation)),
+            _ => None,
+        }
+    }
+
+    /// What a parameter of a line is bound to; `None` exactly where nothing binds it.
+    final fn binding(&self, line: &Name, parameter: &ParamName) -> Option<&Binding>
+        ensures { option_copied result ≡ binding (content self.now) line.now parameter.now }
+    {
+        match self.get(&RecordKey::Bind(*line, *parameter)) {
+            Some(Record::Bind(binding)) => Some(binding),
+            _ => None,
+        }
+    }
 
     /// What an activity gives in a year: the figures of the year's record in the base unit. Blank where there is no
     /// record, or where it is not estimated.

@@ -1,13 +1,16 @@
 //! Rows: the record that a row changes, and the rules on units and presence.
 
-ghost use Rattle.std.specs.Prelude.{◌≡◌, IfOk};
+ghost use Rattle.std.specs.Prelude.{◌≡◌, false, IfOk};
+ghost use Rattle.std.specs.Option.{option_map_or};
+ghost use Rattle.ghg_units.specs.Units.{dim_of};
+ghost use Rattle.ghg_definitions.specs.Data.{as_figure};
 ghost use Rattle.ghg_definitions.specs.Rows.{key_of, record_of};
-ghost use Rattle.ghg_definitions.specs.Rules.{breaks_unit, meets_other_dimension, presence_fault, row_fault};
+ghost use Rattle.ghg_definitions.specs.Rules.{breaks_potential, breaks_unit, meets_other_dimension, presence_fault, row_fault};
 
 use crate::draft::Draft;
 use ghg_definitions::{Record, RecordKey};
 use ghg_equations::Dim;
-use ghg_units::{Act, Binding, Names, Row, RowForm, Rule};
+use ghg_units::{Act, Binding, Names, Row, RowForm, Rule, is_potential_name};
 use std::alloc::{AllocError, Global};
 
 // The key of the record that a row is about.
@@ -31,7 +34,9 @@ pub(crate) fn record_of(alloc: Global, form: &RowForm) -> Result<Option<Record>,
         RowForm::Span(Some(span)) => Ok(Some(Record::Span(*span))),
         RowForm::Activity(_, _, Some(figure)) => Ok(Some(Record::Activity(*figure))),
         RowForm::Factor(_, _, Some(figure)) => Ok(Some(Record::Factor(*figure))),
-        RowForm::Line(_, Some(equation)) => Ok(Some(Record::Line(*equation))),
+        RowForm::Line(_, Some((category, equation))) => Ok(Some(Record::Line(
+            *category, *equation,
+        ))),
         RowForm::Bind(_, _, Some(binding)) => Ok(Some(Record::Bind(copied(alloc, binding)?))),
         _ => Ok(None),
     }
@@ -68,8 +73,27 @@ pub(crate) fn row_fault(draft: &Draft<'_>, row: &Row) -> Option<Rule>
     presence_fault(row.number, row.act, draft.get(&key_of(&row.form)).is_some())
 }
 
+// A global warming potential is a ratio.
+fn breaks_potential(form: &RowForm) -> bool
+    ensures { result ≡ breaks_potential form.now }
+{
+    match form {
+        RowForm::Factor(name, _, Some(figure)) => {
+            is_potential_name(name.as_bytes()) && Dim::Ratio != ghg_units::dim(figure.unit)
+        }
+        _ => false,
+    }
+}
+
 fn breaks_unit(draft: &Draft<'_>, form: &RowForm) -> bool
     ensures { result ≡ breaks_unit draft.now form.now }
+{
+    breaks_potential(form) || meets_other_figure(draft, form)
+}
+
+// Whether the row's figure meets a record of another dimension.
+fn meets_other_figure(draft: &Draft<'_>, form: &RowForm) -> bool
+    ensures { result ≡ option_map_or (λ f. meets_other_dimension draft.now (key_of form.now) (dim_of f.unit)) (as_figure (record_of form.now)) false }
 {
     match form {
         RowForm::Activity(_, _, Some(figure)) | RowForm::Factor(_, _, Some(figure)) => {

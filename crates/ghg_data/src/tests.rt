@@ -2,11 +2,14 @@
 
 ghost use Rattle.std.specs.Prelude.{◌≡◌, ◌≤◌, false, true, IfOk};
 ghost use Rattle.std.specs.List.{AllByRecursion};
-ghost use Rattle.ghg_units.specs.WellFormed.{IsFigure, IsForm, IsPlainName, IsWellFormed, IsYear};
+ghost use Rattle.ghg_units.specs.WellFormed.{IsFactorName, IsFigure, IsForm, IsPlainName, IsWellFormed, IsYear};
 
 use crate::{Book, PlanRefusal, Records, after};
+use ghg_categories::Category;
+use ghg_cell::Input;
 use ghg_definitions::RecordKey;
 use ghg_equations::EqId;
+use ghg_interval::Interval;
 use ghg_units::{
     Act, Amount, Binding, Column, Decimal, Figure, Limit, Name, ParamName, Row, RowForm, Rule,
     Span, Unit, to_interval,
@@ -66,7 +69,7 @@ fn burnt_gas(rt: &impl Abort, alloc: Global, factor_year: u32) -> Result<Vec<Row
     };
     let mut rows = Vec::with_capacity(alloc, 6)?;
     rows.push(entered(1, RowForm::Span(Some(span))))?;
-    rows.push(entered(2, RowForm::Line(line, Some(EqId::Q10))))?;
+    rows.push(entered(2, RowForm::Line(line, Some((Category::C1A1a, EqId::Q10)))))?;
     rows.push(entered(3, RowForm::Bind(line, parameter(rt, b"FC"), Some(fuel))))?;
     rows.push(entered(4, RowForm::Bind(line, parameter(rt, b"EF"), Some(factor))))?;
     rows.push(entered(
@@ -215,5 +218,108 @@ fn a_factor_may_begin_after_the_first_year(rt: HostRuntime) -> Result<(), Fail> 
         book.get(&RecordKey::Factor(name(&rt, b"GAS.EF"), 1991))
             .is_some()
     );
+    Ok(())
+}
+
+fn factor_name(rt: &impl Abort, text: &[u8]) -> Name
+    ensures { IsFactorName result }
+{
+    Name::of_factor(text).expect(rt, "a name of a factor")
+}
+
+// The rows are planned, and the plan is committed.
+fn submit(rt: &impl Abort, alloc: Global, book: &mut Book, rows: &[Row])
+    requires { AllByRecursion IsWellFormed rows.now }
+{
+    match book.plan(alloc, rows, None, 1000) {
+        Ok(edits) => book.commit(edits),
+        Err(_) => panic!(rt; "refused"),
+    }
+}
+
+// What a figure of so many base units without bounds gives.
+fn whole(rt: &impl Abort, units: u32) -> Input {
+    let point = Interval::exact(i128::from(units) * 1_000_000_000_000).expect(
+        rt,
+        "within the limit",
+    );
+    Input::Known {
+        point,
+        range: point,
+    }
+}
+
+#[test]
+fn a_warming_potential_is_a_ratio(rt: HostRuntime) -> Result<(), Fail> {
+    let alloc = rt.alloc();
+    let methane = factor_name(&rt, b"GWP.CH4");
+    let mut book = Book::new(alloc);
+    let mass = Some(figure(&rt, 28, Unit::Kilogram));
+    let wrong = one_row(4, Act::Enter, RowForm::Factor(methane, 1990, mass));
+    assert!(rt; refusal(alloc, &mut book, &wrong, None, 1000) == Some(Rule::WrongUnit(4)));
+    let ratio = Some(figure(&rt, 28, Unit::One));
+    let right = one_row(4, Act::Enter, RowForm::Factor(methane, 1990, ratio));
+    submit(&rt, alloc, &mut book, &right);
+    assert_eq!(rt; book.factor(&methane, 1989), Input::Blank);
+    assert_eq!(rt; book.factor(&methane, 2100), whole(&rt, 28));
+    Ok(())
+}
+
+fn factor_of(rt: &impl Abort, content: Name, start: u32, units: u32) -> RowForm
+    requires name { IsPlainName content }
+    requires year { IsYear start }
+    ensures { IsForm false result }
+{
+    RowForm::Factor(
+        content,
+        start,
+        Some(figure(rt, units, Unit::KilogramPerTerajoule)),
+    )
+}
+
+#[test]
+fn the_latest_start_year_is_in_force(rt: HostRuntime) -> Result<(), Fail> {
+    let alloc = rt.alloc();
+    let content = name(&rt, b"GAS.EF");
+    let starts = [
+        entered(1, factor_of(&rt, content, 1990, 10)),
+        entered(2, factor_of(&rt, content, 2010, 30)),
+        entered(3, factor_of(&rt, content, 2000, 20)),
+    ];
+    let mut book = Book::new(alloc);
+    submit(&rt, alloc, &mut book, &starts);
+    assert_eq!(rt; book.factor(&content, 1989), Input::Blank);
+    assert_eq!(rt; book.factor(&content, 1999), whole(&rt, 10));
+    assert_eq!(rt; book.factor(&content, 2000), whole(&rt, 20));
+    assert_eq!(rt; book.factor(&content, 2100), whole(&rt, 30));
+    let away = one_row(1, Act::Withdraw, RowForm::Factor(content, 2000, None));
+    let edits = match book.plan(alloc, &away, None, 1000) {
+        Ok(edits) => edits,
+        Err(_) => return Err("refused".into()),
+    };
+    let planned = after(&book, &edits);
+    assert_eq!(rt; planned.factor(&content, 2009), whole(&rt, 10));
+    assert_eq!(rt; planned.factor(&content, 2010), whole(&rt, 30));
+    assert_eq!(rt; book.factor(&content, 2009), whole(&rt, 20));
+    book.commit(edits);
+    assert_eq!(rt; book.factor(&content, 2009), whole(&rt, 10));
+    assert!(rt; book.start_year(&content, 2009) == Some(1990));
+    Ok(())
+}
+
+#[test]
+fn lines_and_bindings_are_read(rt: HostRuntime) -> Result<(), Fail> {
+    let line = name(&rt, b"ELEC.GAS");
+    let book = plant(&rt, rt.alloc(), 1990)?;
+    let (category, equation) = book.line(&line).expect(&rt, "a line");
+    assert!(rt; category == Category::C1A1a && equation == EqId::Q10);
+    assert!(rt; book.line(&name(&rt, b"GAS.TJ")).is_none());
+    assert!(rt;
+        matches!(
+            book.binding(&line, &parameter(&rt, b"FC")),
+            Some(Binding::Activity(_))
+        )
+    );
+    assert!(rt; book.binding(&line, &parameter(&rt, b"OX")).is_none());
     Ok(())
 }

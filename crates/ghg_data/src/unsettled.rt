@@ -26,7 +26,7 @@ fn unsettles_record(entry: Option<&Record>, change: &Option<Record>) -> bool
 {
     match entry {
         Some(Record::Activity(figure) | Record::Factor(figure)) => !keeps_dimension(figure, change),
-        Some(Record::Line(_)) => true,
+        Some(Record::Line(_, _)) => true,
         _ => false,
     }
 }

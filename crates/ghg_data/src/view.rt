@@ -5,6 +5,7 @@ ghost use Rattle.ghg_data.specs.Changes.{applied};
 ghost use Rattle.ghg_data.specs.Shelf.{IsPlanned};
 
 use crate::book::Book;
+use crate::calendar::Series;
 use crate::draft::Draft;
 use crate::edits::Edits;
 use crate::records::Records;
@@ -54,6 +55,11 @@ impl<'a> Records for After<'a> {
 
     fn span(&self) -> Option<Span> {
         self.draft.span()
+    }
+
+    fn start_year(&self, name: &Name, year: u32) -> Option<u32> {
+        let years = self.draft.years(&Series::Factor(*name));
+        years.last_until(year)
     }
 
     fn lines(&self, alloc: Global) -> Result<Vec<Name>, AllocError> {

@@ -1,0 +1,105 @@
+-- The dates of a calendar, after a change.
+use Rattle.std.proofs.Common.{◌≡◌, ℕ, Bool, true, false, cond, ◌&&◌, ◌==◌, List, [], ◌∷◌, Option, Some, None, refl, sym, ap, ap₂, ◌∙◌, eqb-true}
+use Rattle.std.specs.Cmp.{eq_by_cmp_equiv}
+use Rattle.std.specs.Cmp.Lexicographic.{texts_ties}
+use Rattle.std.specs.Map.{lookup}
+use Rattle.std.specs.Ordering.{eq_by_cmp}
+use Rattle.std.specs.Str.{bytes_eq}
+use Rattle.ghg_definitions.specs.declared.record.RecordKey.{RecordKey}
+use Rattle.ghg_definitions.specs.declared.record.RecordKey.TheVariants as key
+use Rattle.ghg_definitions.specs.Data.{Name, key_cmp}
+use Rattle.ghg_definitions.proofs.Keys.{equal_by, key_eq, key_ties, keys_total, names_same}
+use Rattle.ghg_data.specs.contracts.calendar.SeriesPartialEq.TheImpl as derived
+use Rattle.ghg_data.specs.declared.calendar.Calendar.{Calendar}
+use Rattle.ghg_data.specs.declared.calendar.Series.{Series}
+use Rattle.ghg_data.specs.declared.calendar.Series.TheVariants as series
+use Rattle.ghg_data.specs.declared.year_set.YearSet.{YearSet}
+use Rattle.ghg_data.specs.Calendar.{date_of, dated, has_date, holds_year, same_series}
+use Rattle.ghg_data.specs.YearSet.{has_year, is_year}
+
+-- the equality that the code has
+abbrev pub series_eq : Series → Series → Bool
+series_eq = (derived.ghosts).eq
+
+series_ties : (s t : Series) → series_eq s t ≡ same_series s t
+series_ties (series.Activity a) (series.Activity b) = refl
+series_ties (series.Activity a) (series.Factor b) = refl
+series_ties (series.Factor a) (series.Activity b) = refl
+series_ties (series.Factor a) (series.Factor b) = refl
+
+one_name : (a b : Name) → bytes_eq a b ≡ true → a ≡ b
+one_name a b e = names_same a b (equal_by _ (sym (texts_ties a b) ∙ e))
+
+pub series_same : (s t : Series) → same_series s t ≡ true → s ≡ t
+series_same (series.Activity a) (series.Activity b) e = ap series.Activity (one_name a b e)
+series_same (series.Activity a) (series.Factor b) e = absurd (cc)
+series_same (series.Factor a) (series.Activity b) e = absurd (cc)
+series_same (series.Factor a) (series.Factor b) e = ap series.Factor (one_name a b e)
+
+found : (s : Series) (es : List (Series × YearSet)) → lookup (series_eq s) es ≡ lookup (same_series s) es
+found s [] = refl
+found s (e ∷ es) = ap₂ (λ (b : Bool) (r : Option YearSet). cond b (Some e.1) r) (series_ties s e.0) (found s es)
+
+-- ---- a series is given years
+
+module _ (old new : List (Series × YearSet)) (k : Series) (years : YearSet) where
+  pub put_years : ((q : Series) → lookup (series_eq q) new ≡ cond (series_eq k q) (Some years) (lookup (series_eq q) old)) → (s : Series) (y : ℕ)
+      → holds_year (lookup (same_series s) new) y ≡ cond (same_series k s) (has_year years y) (holds_year (lookup (same_series s) old) y)
+  put_years h s y = ap (λ o. holds_year o y) (sym (found s new) ∙ h s ∙ ap₂ (λ (b : Bool) (o : Option YearSet). cond b (Some years) o) (series_ties k s) (found s old)) ∙ by (same_series k s) (lookup (same_series s) old)
+    where
+      by : (b : Bool) (o : Option YearSet) → holds_year (cond b (Some years) o) y ≡ cond b (has_year years y) (holds_year o y)
+      by true o = refl
+      by false o = refl
+
+  pub put_none : ((y : ℕ) → has_year years y ≡ false) → ((q : Series) → lookup (series_eq q) new ≡ cond (series_eq k q) None (lookup (series_eq q) old)) → (s : Series) (y : ℕ)
+      → holds_year (lookup (same_series s) new) y ≡ cond (same_series k s) (has_year years y) (holds_year (lookup (same_series s) old) y)
+  put_none empty h s y = ap (λ o. holds_year o y) (sym (found s new) ∙ h s ∙ ap₂ (λ (b : Bool) (o : Option YearSet). cond b None o) (series_ties k s) (found s old)) ∙ by (same_series k s) (lookup (same_series s) old)
+    where
+      by : (b : Bool) (o : Option YearSet) → holds_year (cond b None o) y ≡ cond b (has_year years y) (holds_year o y)
+      by true o = sym (empty y)
+      by false o = refl
+
+-- ---- a key is noted
+
+same_date : (p q : Series × ℕ) → Some p ≡ Some q → p ≡ q
+same_date p q e = cc
+
+pub key_of_date : (k : RecordKey) (t : Series) (z : ℕ) → date_of k ≡ Some (t, z) → k ≡ dated t z
+key_of_date key.Span t z e = absurd (cc)
+key_of_date (key.Activity name year) t z e = ap (λ p. dated p.0 p.1) (same_date (series.Activity name, year) (t, z) e)
+key_of_date (key.Factor name start) t z e = ap (λ p. dated p.0 p.1) (same_date (series.Factor name, start) (t, z) e)
+key_of_date (key.Line name) t z e = absurd (cc)
+key_of_date (key.Bind line parameter) t z e = absurd (cc)
+
+dates_tie : (t s : Series) (z y : ℕ) → key_eq (dated t z) (dated s y) ≡ same_series t s && (z == y)
+dates_tie (series.Activity a) (series.Activity b) z y = refl
+dates_tie (series.Activity a) (series.Factor b) z y = refl
+dates_tie (series.Factor a) (series.Activity b) z y = refl
+dates_tie (series.Factor a) (series.Factor b) z y = refl
+
+date_tied : (k : RecordKey) (t : Series) (z : ℕ) → date_of k ≡ Some (t, z) → (s : Series) (y : ℕ) → eq_by_cmp key_cmp (dated s y) k ≡ same_series t s && (z == y)
+date_tied k t z e s y = ap (eq_by_cmp key_cmp (dated s y)) (key_of_date k t z e) ∙ (eq_by_cmp_equiv keys_total).symm (dated s y) (dated t z) ∙ sym (key_ties (dated t z) (dated s y)) ∙ dates_tie t s z y
+
+never : (b : Bool) → b && false ≡ false
+never true = refl
+never false = refl
+
+same_year : (y z : ℕ) → is_year z && (y == z) ≡ is_year y && (z == y)
+same_year y z = by (y == z) refl
+  where
+    by : (b : Bool) → (y == z) ≡ b → is_year z && (y == z) ≡ is_year y && (z == y)
+    by true e = let q : y ≡ z = eqb-true _ _ e in ap (λ x. is_year x && (y == x)) (sym q) ∙ ap (λ x. is_year y && (x == y)) q
+    by false e = by_other (z == y) refl
+      where
+        by_other : (b : Bool) → (z == y) ≡ b → is_year z && (y == z) ≡ is_year y && (z == y)
+        by_other true f = let q : z ≡ y = eqb-true _ _ f in ap (λ x. is_year x && (y == x)) q ∙ ap (λ x. is_year y && (x == y)) (sym q)
+        by_other false f = ap (λ b. is_year z && b) e ∙ never (is_year z) ∙ sym (ap (λ b. is_year y && b) f ∙ never (is_year y))
+
+module _ (old : Calendar) (k : RecordKey) (present : Bool) where
+  pub noted : (t : Series) (z : ℕ) → date_of k ≡ Some (t, z) → (s : Series) (y : ℕ)
+      → cond (same_series t s) (cond (is_year z && (y == z)) present (has_date old t y)) (has_date old s y) ≡ cond (is_year y && eq_by_cmp key_cmp (dated s y) k) present (has_date old s y)
+  noted t z e s y = by (same_series t s) refl ∙ ap (λ b. cond (is_year y && b) present (has_date old s y)) (sym (date_tied k t z e s y))
+    where
+      by : (b : Bool) → same_series t s ≡ b → cond b (cond (is_year z && (y == z)) present (has_date old t y)) (has_date old s y) ≡ cond (is_year y && (b && (z == y))) present (has_date old s y)
+      by true is = ap (λ x. cond (is_year z && (y == z)) present (has_date old x y)) (series_same t s is) ∙ ap (λ b. cond b present (has_date old s y)) (same_year y z)
+      by false is = ap (λ b. cond b present (has_date old s y)) (sym (never (is_year y)))

@@ -1,0 +1,104 @@
+//! The years of the records of each activity and factor.
+
+ghost use Rattle.std.specs.Prelude.{◌≡◌, ℕ, ◌+◌, ◌≤◌, ◌<◌, false, cond, ◌&&◌, OnOk};
+ghost use Rattle.std.specs.Ordering.{eq_by_cmp};
+ghost use Rattle.indexmap.specs.IndexMap.{spare};
+ghost use Rattle.ghg_definitions.specs.Data.{key_cmp};
+ghost use Rattle.ghg_data.specs.declared.calendar.Series.{Series};
+ghost use Rattle.ghg_data.specs.Calendar.{date_of, dated, has_date, same_series};
+ghost use Rattle.ghg_data.specs.YearSet.{has_year, is_year};
+
+use crate::year_set::YearSet;
+use ghg_definitions::RecordKey;
+use ghg_units::Name;
+use indexmap::IndexMap;
+use std::alloc::{AllocError, Global};
+
+// What has a record for each of several years.
+#[derive(Clone, Copy, PartialEq, Eq, Hash, Drop)]
+pub(crate) enum Series {
+    Activity(Name),
+    Factor(Name),
+}
+
+impl Series {
+    // The key of its record of a year.
+    pub(crate) fn dated(&self, year: u32) -> RecordKey
+        ensures { result ≡ dated self.now year }
+    {
+        match self {
+            Series::Activity(name) => RecordKey::Activity(*name, year),
+            Series::Factor(name) => RecordKey::Factor(*name, year),
+        }
+    }
+}
+
+// The series and the year that a key is of.
+pub(crate) fn date_of(key: &RecordKey) -> Option<(Series, u32)>
+    ensures { result ≡ date_of key.now }
+{
+    match key {
+        RecordKey::Activity(name, year) => Some((Series::Activity(*name), *year)),
+        RecordKey::Factor(name, start) => Some((Series::Factor(*name), *start)),
+        _ => None,
+    }
+}
+
+// The years of each series that has any, and room for more series.
+#[derive(Drop)]
+pub(crate) struct Calendar {
+    years: IndexMap<Series, YearSet>,
+}
+
+impl Calendar {
+    pub(crate) fn new(alloc: Global) -> Calendar
+        ensures { (s : Series) (y : ℕ) → has_date result s y ≡ false }
+    {
+        Calendar {
+            years: IndexMap::new(alloc),
+        }
+    }
+
+    // Makes room for so many more series.
+    pub(crate) fn reserve(&mut self, additional: usize) -> Result<(), AllocError>
+        ensures dates { (s : Series) (y : ℕ) → has_date self.new s y ≡ has_date self.old s y }
+        ensures room { OnOk result (additional ≤ spare self.new.years) }
+    {
+        self.years.reserve(additional)
+    }
+
+    // The years of a series.
+    pub(crate) fn years(&self, series: &Series) -> YearSet
+        ensures { (y : ℕ) → has_year result y ≡ has_date self.now series.now y }
+    {
+        match self.years.get(series) {
+            Some(years) => *years,
+            None => YearSet::empty(),
+        }
+    }
+
+    // Notes that a key has a record, or has none. It takes no memory.
+    pub(crate) fn note(&mut self, key: &RecordKey, present: bool)
+        requires { 0 < spare self.old.years }
+        ensures dates { (s : Series) (y : ℕ) → has_date self.new s y ≡ cond (is_year y && eq_by_cmp key_cmp (dated s y) key.now) present (has_date self.old s y) }
+        ensures room { spare self.old.years ≤ spare self.new.years + 1 }
+    {
+        if let Some((series, year)) = date_of(key) {
+            let years = self.years(&series).with(year, present);
+            self.put(series, years);
+        }
+    }
+
+    // Gives a series these years.
+    fn put(&mut self, series: Series, years: YearSet)
+        requires { 0 < spare self.old.years }
+        ensures dates { (s : Series) (y : ℕ) → has_date self.new s y ≡ cond (same_series series s) (has_year years y) (has_date self.old s y) }
+        ensures room { spare self.old.years ≤ spare self.new.years + 1 }
+    {
+        if years.is_empty() {
+            self.years.swap_remove(&series);
+        } else {
+            self.years.insert(series, years).unwrap();
+        }
+    }
+}

@@ -1,0 +1,122 @@
+//! Sets of years.
+
+ghost use Rattle.std.specs.Prelude.{◌≡◌, ℕ, ◌≤◌, ◌<◌, Bool, true, false, cond, not, ◌&&◌, ◌||◌, ◌==◌, MatchOption};
+ghost use Rattle.std.specs.Bool.{OnTrue};
+ghost use Rattle.ghg_data.specs.YearSet.{has_bit, has_place, has_year, is_year};
+
+// The first year that a record may be of.
+const FIRST_YEAR: u32 = 1900;
+
+// The last year that a record may be of.
+pub(crate) const LAST_YEAR: u32 = 2100;
+
+// How many years a word holds.
+const WORD: u32 = 128;
+
+// Years up to the last one, each as a bit. The lowest bit is for the last year.
+#[derive(Clone, Copy, Drop)]
+pub(crate) struct YearSet {
+    late: u128,
+    early: u128,
+}
+
+impl YearSet {
+    pub(crate) fn empty() -> YearSet
+        ensures { (y : ℕ) → has_year result y ≡ false }
+    {
+        YearSet { late: 0, early: 0 }
+    }
+
+    pub(crate) fn is_empty(&self) -> bool
+        ensures { OnTrue result ((y : ℕ) → has_year self.now y ≡ false) }
+    {
+        self.late == 0 && self.early == 0
+    }
+
+    // The set with this year, or without it. A year that no record may be of changes nothing.
+    pub(crate) fn with(&self, year: u32, present: bool) -> YearSet
+        ensures { (y : ℕ) → has_year result y ≡ cond (is_year year && (y == year)) present (has_year self.now y) }
+    {
+        if year < FIRST_YEAR || year > LAST_YEAR {
+            return *self;
+        }
+        let place = LAST_YEAR - year;
+        if place < WORD {
+            YearSet {
+                late: with_bit(self.late, place, present),
+                early: self.early,
+            }
+        } else {
+            YearSet {
+                late: self.late,
+                early: with_bit(self.early, place - WORD, present),
+            }
+        }
+    }
+
+    // The set once some years are put in and others are taken out.
+    pub(crate) fn changed(&self, put: &YearSet, taken: &YearSet) -> YearSet
+        ensures { (y : ℕ) → has_year result y ≡ has_year put.now y || (has_year self.now y && not (has_year taken.now y)) }
+    {
+        YearSet {
+            late: changed_word(self.late, put.late, taken.late),
+            early: changed_word(self.early, put.early, taken.early),
+        }
+    }
+
+    // The greatest year that is not after this one.
+    pub(crate) fn last_until(&self, year: u32) -> Option<u32>
+        ensures { MatchOption result ((y : ℕ) → y ≤ year → has_year self.now y ≡ false) (λ s. (s ≤ year) × (has_year self.now s ≡ true) × ((y : ℕ) → s < y → y ≤ year → has_year self.now y ≡ false)) }
+    {
+        match self.next_place(LAST_YEAR.saturating_sub(year)) {
+            Some(place) => Some(LAST_YEAR - place),
+            None => None,
+        }
+    }
+
+    // The first place from this one on that is taken.
+    fn next_place(&self, from: u32) -> Option<u32>
+        ensures { MatchOption result ((i : ℕ) → from ≤ i → has_place self.now i ≡ false) (λ p. (from ≤ p) × (p < 256) × (has_place self.now p ≡ true) × ((i : ℕ) → from ≤ i → i < p → has_place self.now i ≡ false)) }
+    {
+        if let Some(place) = next_bit(self.late, from) {
+            return Some(place);
+        }
+        match next_bit(self.early, from.saturating_sub(WORD)) {
+            Some(place) => Some(WORD + place),
+            None => None,
+        }
+    }
+}
+
+// The word with this bit set, or cleared.
+fn with_bit(word: u128, place: u32, present: bool) -> u128
+    requires { place < 128 }
+    ensures { (i : ℕ) → has_bit result i ≡ cond (i == place) present (has_bit word i) }
+{
+    if present {
+        word | (1 << place)
+    } else {
+        word & !(1 << place)
+    }
+}
+
+// The word once some bits are set and others are cleared.
+fn changed_word(word: u128, put: u128, taken: u128) -> u128
+    ensures { (i : ℕ) → has_bit result i ≡ has_bit put i || (has_bit word i && not (has_bit taken i)) }
+{
+    put | (word & !taken)
+}
+
+// The place of the first bit from this one on that is set.
+fn next_bit(word: u128, from: u32) -> Option<u32>
+    ensures { MatchOption result ((i : ℕ) → from ≤ i → has_bit word i ≡ false) (λ p. (from ≤ p) × (p < 128) × (has_bit word p ≡ true) × ((i : ℕ) → from ≤ i → i < p → has_bit word i ≡ false)) }
+{
+    if from >= WORD {
+        return None;
+    }
+    let rest = word >> from;
+    if rest == 0 {
+        return None;
+    }
+    Some(from + rest.trailing_zeros())
+}
