@@ -1,0 +1,74 @@
+-- What workbooks are known to keep.
+use Rattle.std.proofs.Common.{◌≡◌, ◌≤◌, Bool, true, false, nat_lt, List, [], ◌∷◌, length, filter, Option, Some, None, if◌then◌else◌, refl, subst, arith, ltb-false}
+use Rattle.std.specs.FinMap.{get}
+use Rattle.std.specs.Option.{option_map_or}
+use Rattle.ghg_categories.specs.declared.category.Category.{Category}
+use Rattle.ghg_units.specs.declared.row.Binding.{Binding}
+use Rattle.ghg_units.specs.declared.row.Binding.TheVariants as bound
+use Rattle.ghg_units.specs.declared.row.Span.{Span}
+use Rattle.ghg_units.specs.declared.rule.Limit.{Limit}
+use Rattle.ghg_units.specs.declared.rule.Limit.TheVariants.{Lines}
+use Rattle.ghg_units.specs.WellFormed.{IsBinding, IsSpan}
+use Rattle.ghg_definitions.specs.declared.record.Record.{Record}
+use Rattle.ghg_definitions.specs.declared.record.Record.TheVariants as entry
+use Rattle.ghg_definitions.specs.declared.record.RecordKey.TheVariants as key
+use Rattle.ghg_definitions.specs.Compilation.{emits, gas_lines, gas_lines_at}
+use Rattle.ghg_definitions.specs.Data.{Data, Name, as_binding, as_span, binding, category, line_names, span}
+use Rattle.ghg_definitions.specs.Rules.{most_lines, passed_limit}
+use Rattle.ghg_definitions.specs.Sound.{IsWorkbook}
+use Rattle.ghg_engine.specs.Evaluation.{IsNoSum}
+
+-- the years of a workbook
+pub span_is : (m : Data) (s : Span) → IsWorkbook m → span m ≡ Some s → IsSpan s
+span_is m s workbook e = by (get m key.Span) refl e
+  where
+    by : (r : Option Record) → get m key.Span ≡ r → as_span r ≡ Some s → IsSpan s
+    by None is e = absurd (cc)
+    by (Some (entry.Span t)) is e = let same : t ≡ s = cc in subst IsSpan same (workbook.records key.Span (entry.Span t) is)
+    by (Some _) is e = absurd (cc)
+
+-- what a parameter is bound to
+pub binding_is : (m : Data) (line parameter : Name) (b : Binding) → IsWorkbook m → binding m line parameter ≡ Some b → IsBinding b
+binding_is m line parameter b workbook e = by (get m (key.Bind line parameter)) refl e
+  where
+    by : (r : Option Record) → get m (key.Bind line parameter) ≡ r → as_binding r ≡ Some b → IsBinding b
+    by None is e = absurd (cc)
+    by (Some (entry.Bind c)) is e = let same : c ≡ b = cc in subst IsBinding same (workbook.records (key.Bind line parameter) (entry.Bind c) is).1
+    by (Some _) is e = absurd (cc)
+
+no_sum : (b : Binding) → IsBinding b → IsNoSum b
+no_sum (bound.Activity name) is = tt
+no_sum (bound.Factor name) is = tt
+no_sum (bound.Line name) is = tt
+no_sum (bound.Prev name) is = tt
+no_sum (bound.Sum names) is = absurd is
+no_sum (bound.Decay name) is = tt
+no_sum (bound.Key notation) is = tt
+
+pub bound_no_sum : (m : Data) (line parameter : Name) (b : Binding) → IsWorkbook m → binding m line parameter ≡ Some b → IsNoSum b
+bound_no_sum m line parameter b workbook e = no_sum b (binding_is m line parameter b workbook e)
+
+-- ---- how many lines there are
+
+few_lines : (m : Data) → passed_limit m ≡ None → length (line_names m) ≤ most_lines
+unfolding passed_limit
+few_lines m e = by _ (nat_lt most_lines (length (line_names m))) refl e
+  where
+    by : (rest : Option Limit) (b : Bool) → nat_lt most_lines (length (line_names m)) ≡ b → (if b then Some Lines else rest) ≡ None → length (line_names m) ≤ most_lines
+    by rest true t f = absurd (cc)
+    by rest false t f = ltb-false most_lines (length (line_names m)) t
+
+fewer : {A : Type 0} (p : A → Bool) (xs : List A) → length (filter p xs) ≤ length xs
+fewer p [] = omega arith
+fewer p (x ∷ xs) = by (p x) (fewer p xs)
+  where
+    by : (b : Bool) → length (filter p xs) ≤ length xs → length (if b then x ∷ filter p xs else filter p xs) ≤ length (x ∷ xs)
+    by true h = omega arith
+    by false h = omega arith
+
+pub few_at : (m : Data) (test : Category → Bool) → IsWorkbook m → length (gas_lines_at test m) ≤ 5000
+few_at m test workbook =
+    let all = few_lines m workbook.limits in
+    let some = fewer (emits m) (line_names m) in
+    let at = fewer (λ name. option_map_or test (category m name) false) (gas_lines m) in
+    omega (arith, all, some, at)

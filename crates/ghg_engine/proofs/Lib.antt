@@ -1,0 +1,9 @@
+pub mod NodeKeys
+pub mod InOrder
+pub mod Compiled
+pub mod Gathered
+pub mod Facts
+pub mod LineOutcomes
+pub mod Grouped
+pub mod ByYear
+pub mod Nothing

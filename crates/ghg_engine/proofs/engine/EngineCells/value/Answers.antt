@@ -1,0 +1,14 @@
+use Rattle.std.proofs.Common.{ap, subst}
+use Rattle.ghg_definitions.specs.Compilation.{compilation, sheet_of}
+use Rattle.ghg_definitions.specs.Data.{Data}
+use Rattle.ghg_definitions.specs.Trials.{IsCompilation}
+use Rattle.ghg_engine.proofs.engine.EngineCells.value.Goals as goal
+
+abbrev IsFit : Data → Type 0
+IsFit m = IsCompilation (sheet_of m) (compilation m)
+
+pub returns-in-Some-Ok-clause-compiled : goal.returns-in-Some-Ok-clause-compiled
+returns-in-Some-Ok-clause-compiled c = subst IsFit (ap (λ s. s.content) c.self.view_is) c.self.invariant.fits
+
+pub returns-in_default-clause-compiled : goal.returns-in_default-clause-compiled
+returns-in_default-clause-compiled c = subst IsFit (ap (λ s. s.content) c.self.view_is) c.self.invariant.fits

@@ -1,0 +1,6 @@
+pub mod Orders
+pub mod Breaking
+pub mod Years
+pub mod Grouping
+pub mod Evaluation
+pub mod Proposals

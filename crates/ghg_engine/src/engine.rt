@@ -1,0 +1,119 @@
+//! A book with its cells.
+
+ghost use Rattle.std.specs.Prelude.{◌≡◌, Ok, Err, Some, IfOk, MatchResult, option_copied};
+ghost use Rattle.std.specs.FinMap as finite;
+ghost use Rattle.std.specs.List.{AllByRecursion};
+ghost use Rattle.ghg_units.specs.WellFormed.{IsWellFormed};
+ghost use Rattle.ghg_definitions.specs.Compilation.{compilation, overflow, sheet_of};
+ghost use Rattle.ghg_definitions.specs.Rows.{after};
+ghost use Rattle.ghg_definitions.specs.Rules.{planned};
+ghost use Rattle.ghg_definitions.specs.Trials.{IsCompilation, value_of};
+ghost use Rattle.ghg_data.specs.Changes.{applied};
+ghost use Rattle.ghg_data.specs.Refusal.{IfRule};
+ghost use Rattle.ghg_data.specs.Shelf.{IsPlanned};
+ghost use Rattle.ghg_engine.specs.Proposals.{IfOverflow, IsProposed};
+
+use crate::cells::Cells;
+use crate::evaluation::compile;
+use crate::refusal::EngineRefusal;
+use ghg_cell::Input;
+use ghg_data::{Book, Edits, PlanRefusal, after};
+use ghg_units::{Node, Row, Rule};
+use std::alloc::Global;
+use std::marker::Model;
+
+/// The records of a workbook and their compilation, in which nothing is over. Contracts see what they see of its book.
+#[derive(Drop)]
+pub struct Engine {
+    book: Book,
+    cells: Cells,
+}
+
+impl Model for Engine {
+    ghost use Rattle.std.specs.Coded.{codes};
+    ghost use Rattle.ghg_data.specs.Shelf.{Shelf, shelf_code};
+    ghost use Rattle.ghg_engine.specs.Proposals.{IsCompiled};
+
+    ghost Value = { Shelf };
+
+    ghost coded = { shelf_code (Prim.hlevel codes) (Prim.hlevel codes) };
+
+    ghost view = { λ e. e.book };
+
+    ghost invariant = { λ e. IsCompiled e.book.content e.cells };
+}
+
+/// Edits, and the cells that the book will have with them.
+#[derive(Drop)]
+pub struct Proposal {
+    edits: Edits,
+    cells: Cells,
+}
+
+impl ghg_graph::Cells for Engine {
+    ghost content = { λ e. e.content };
+
+    fn book(&self) -> &Book {
+        &self.book
+    }
+
+    fn value(&self, node: &Node) -> Option<&Input> {
+        match self.cells.get(node) {
+            Some(Ok(input)) => Some(input),
+            _ => None,
+        }
+    }
+}
+
+impl Engine {
+    /// A workbook without records. It takes no memory.
+    pub fn new(alloc: Global) -> Engine
+        ensures { result.content ≡ finite.empty }
+    {
+        Engine {
+            book: Book::new(alloc),
+            cells: Cells::new(alloc),
+        }
+    }
+
+    /// What the rows of a submission make of the book: the edits, with room made for them, where no rule is broken.
+    ///
+    /// `rest` is the rule that stopped the reading of the rows, and `kept_bytes` how many bytes all kept bodies have with this one.
+    /// The first rule that is broken is answered: that of the first row that breaks one on units or presence, `rest`,
+    /// the least unsound binding, and the first limit. The records stay with every answer.
+    pub fn plan(
+        &mut self,
+        alloc: Global,
+        rows: &[Row],
+        rest: Option<Rule>,
+        kept_bytes: u64,
+    ) -> Result<Edits, PlanRefusal>
+        requires { AllByRecursion IsWellFormed rows.now }
+        ensures kept { self.new.content ≡ self.old.content }
+        ensures planned { MatchResult result (λ edits. planned self.old.content rows.now rest kept_bytes ≡ Ok (applied self.old.content edits)) (IfRule (λ rule. planned self.old.content rows.now rest kept_bytes ≡ Err rule)) }
+        ensures after { IfOk result (λ edits. applied self.old.content edits ≡ after self.old.content rows.now) }
+        ensures ready { IfOk result (IsPlanned self.new) }
+    {
+        self.book.plan(alloc, rows, rest, kept_bytes)
+    }
+
+    /// The compilation of the book with edits that were planned on it as it stands; or the least node that is beyond
+    /// the limits, while none of its inputs is.
+    pub fn propose(&self, alloc: Global, edits: Edits) -> Result<Proposal, EngineRefusal>
+        requires { IsPlanned self.now edits }
+        ensures { MatchResult result (λ p. (p.edits ≡ edits) × IsProposed self.now p) (IfOverflow (λ n. overflow (applied self.now.content edits) ≡ Some n)) }
+    {
+        let cells = compile(alloc, &after(&self.book, &edits))?;
+        Ok(Proposal { edits, cells })
+    }
+
+    /// Makes the edits of a proposal that was made on this engine as it stands. It takes no memory.
+    pub fn accept(&mut self, proposal: Proposal)
+        requires { IsProposed self.old proposal }
+        ensures { self.new.content ≡ applied self.old.content proposal.edits }
+    {
+        let Proposal { edits, cells } = proposal;
+        self.book.commit(edits);
+        self.cells = cells;
+    }
+}

@@ -1,0 +1,17 @@
+//! The compilation of a workbook: the value of each line, equivalent and total in each year.
+#![tactic(auto)]
+
+mod cells;
+mod engine;
+mod equations;
+mod evaluated;
+mod evaluation;
+mod groups;
+mod inputs;
+mod order;
+mod refusal;
+#[cfg(test)]
+mod tests;
+
+pub use engine::{Engine, Proposal};
+pub use refusal::EngineRefusal;
