@@ -1,2 +1,5 @@
 pub mod Bounds
+pub mod Few
 pub mod Nearest
+pub mod Printed
+pub mod Years

@@ -1,24 +1,59 @@
 -- What is said of the definitions alone.
-use Rattle.std.specs.Prelude.{◌≡◌, ◌≤◌, ◌<◌, ℕ, ◌*◌, ℤ, pos, negsuc, ◌-ℤ◌, ◌*ℤ◌, ◌≤ℤ◌, unsigned_abs, [], ◌∷◌, codes, List, Option, Some, None, Result, Ok, Err}
+use Rattle.std.specs.Prelude.{◌≡◌, ◌≤◌, ◌<◌, ℕ, ◌*◌, ◌^◌, ℤ, pos, negsuc, ◌-ℤ◌, ◌*ℤ◌, ◌≤ℤ◌, unsigned_abs, [], ◌∷◌, ◌++◌, codes, List, Option, Some, None, Result, Ok, Err}
+use Rattle.ghg_categories.specs.declared.category.Category.TheVariants.{C1A1a}
+use Rattle.ghg_equations.specs.declared.eq_id.EqId.{EqId}
 use Rattle.ghg_equations.specs.declared.eq_id.EqId.TheVariants.{Q10}
+use Rattle.ghg_equations.specs.Table.{output}
 use Rattle.ghg_interval.specs.declared.Over.{Over}
 use Rattle.ghg_interval.specs.Bounds.{Bounds, Inside, exactly}
 use Rattle.ghg_interval.specs.Fractions.{Fraction}
 use Rattle.ghg_cell.specs.declared.input.Input.{Input}
 use Rattle.ghg_cell.specs.declared.input.Input.TheVariants.{Known}
 use Rattle.ghg_cell.specs.Values.{equation_value}
+use Rattle.ghg_units.specs.declared.node.Node.{Node}
+use Rattle.ghg_units.specs.Fixed.{fixed_text}
+use Rattle.ghg_units.specs.declared.node.Node.TheVariants as node
+use Rattle.ghg_definitions.specs.declared.record.RecordKey.{RecordKey}
+use Rattle.ghg_definitions.specs.Choices.{IsChoice}
+use Rattle.ghg_definitions.specs.Compilation.{compilation}
+use Rattle.ghg_definitions.specs.Data.{Data, line}
+use Rattle.ghg_definitions.specs.Laws.{IsValuation}
 use Rattle.ghg_tables.specs.declared.precision.Precision.{Precision}
 use Rattle.ghg_tables.specs.declared.precision.Precision.TheVariants.{Thousandths}
-use Rattle.ghg_tables.specs.Rounding.{low_of, high_of, parts_of, nearest}
-use Rattle.ghg_tables.specs.Texts.{cell_text, figures_text}
+use Rattle.ghg_tables.specs.Rounding.{places_of, precision_of, nearest, reported}
+use Rattle.ghg_tables.specs.Texts.{cell_text, field, figures_text}
 
--- low / parts ≤ f ≤ high / parts
-pub record Holds (low high : ℤ) (parts : ℕ) (f : Fraction) : Type 0 where
-  pub above : (low *ℤ pos f.denominator) ≤ℤ (f.numerator *ℤ pos parts)
-  pub below : (f.numerator *ℤ pos parts) ≤ℤ (high *ℤ pos f.denominator)
+-- low / 10^places ≤ f ≤ high / 10^places
+pub record Holds (low high : ℤ) (places : ℕ) (f : Fraction) : Type 0 where
+  pub above : (low *ℤ pos f.denominator) ≤ℤ (f.numerator *ℤ pos (10 ^ places))
+  pub below : (f.numerator *ℤ pos (10 ^ places)) ≤ℤ (high *ℤ pos f.denominator)
+
+-- the three decimals that are printed of a known value, of which the last two hold the fraction
+pub record PrintHolds (p : Precision) (point range : Bounds) (f : Fraction) : Type 0 where
+  pub low : ℤ
+  pub high : ℤ
+  pub text : figures_text p (Known point range) ≡ field (fixed_text (reported p point) (places_of p)) ++ field (fixed_text low (places_of p)) ++ fixed_text high (places_of p)
+  pub holds : Holds low high (places_of p) f
 
 abbrev pub BoundsHold : Type 0
-BoundsHold = (p : Precision) (range : Bounds) (f : Fraction) → Inside range f → Holds (low_of p range) (high_of p range) (parts_of p) f
+BoundsHold = (p : Precision) (point range : Bounds) (f : Fraction) → Inside range f → PrintHolds p point range f
+
+-- how finely a line is printed
+abbrev pub line_precision : Option EqId → Precision
+line_precision None = Thousandths
+line_precision (Some e) = precision_of (output e)
+
+-- how finely a node is printed
+abbrev pub node_precision : Data → Node → Precision
+node_precision m (node.Line name year) = line_precision (line m name)
+node_precision m (node.Equiv name year) = Thousandths
+node_precision m (node.Total c year) = Thousandths
+node_precision m (node.Gross year) = Thousandths
+
+-- Wherever the inputs are within their supplied bounds, the exact value of each known node is within its printed ones.
+abbrev pub PrintedBoundsHold : Data → Type 0
+PrintedBoundsHold m = (choice : RecordKey → Fraction) → IsChoice m choice → (fractions : Node → Fraction) → IsValuation m choice fractions →
+    (n : Node) (point range : Bounds) → compilation m n ≡ Some (Ok (Known point range)) → PrintHolds (node_precision m n) point range (fractions n)
 
 -- n is off z / d by no more than half, and where it is off by half it is the one farther from zero
 pub record IsNearest (d : ℕ) (z n : ℤ) : Type 0 where
@@ -37,7 +72,7 @@ factor = Known (exactly (pos 56100000000000000)) (record { lo = pos 543000000000
 
 -- the text of the row of a line with such a value
 abbrev pub row_text : Result Input Over → Option (List ℕ)
-row_text (Ok value) = Some (cell_text (record { line = codes "ELEC.GAS"; equation = Q10; value = value }))
+row_text (Ok value) = Some (cell_text (codes "ELEC.GAS") C1A1a Q10 value)
 row_text (Err over) = None
 
 abbrev pub PowerPlantPrints : Type 0

@@ -1,4 +1,5 @@
 pub mod Rounding
 pub mod Texts
+pub mod Tables
 pub mod Names
 pub mod Laws

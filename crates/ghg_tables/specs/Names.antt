@@ -1,9 +1,17 @@
 -- The names of tables.
-use Rattle.std.specs.Prelude.{ℕ, List, codes, Option, Some, None, if◌then◌else◌}
+use Rattle.std.specs.Prelude.{ℕ, List, [], ◌∷◌, codes, find, Option}
 use Rattle.std.specs.Str.{bytes_eq}
 use Rattle.ghg_tables.specs.declared.table.Table.{Table}
-use Rattle.ghg_tables.specs.declared.table.Table.TheVariants.{Cells}
+use Rattle.ghg_tables.specs.declared.table.Table.TheVariants.{Cells, Summary, Series}
+
+abbrev pub name_of : Table → List ℕ
+name_of Cells = codes "cells"
+name_of Summary = codes "summary"
+name_of Series = codes "series"
+
+abbrev pub tables : List Table
+tables = Cells ∷ Summary ∷ Series ∷ []
 
 -- the table that a text names
 abbrev pub table_in : List ℕ → Option Table
-table_in text = if bytes_eq text (codes "cells") then Some Cells else None
+table_in text = find (λ table. bytes_eq (name_of table) text) tables

@@ -1,19 +1,23 @@
--- The text of the table of cells, as a function of its rows.
-use Rattle.std.specs.Prelude.{ℕ, List, [], ◌∷◌, ◌++◌, codes, ℤ}
-use Rattle.std.specs.List.{flat_map}
-use Rattle.ghg_equations.specs.declared.quantity.Gas.TheVariants.{Co2, Ch4, N2o, Cf4, C2f6}
+-- The rows of the tables, as functions of what stands in them.
+use Rattle.std.specs.Prelude.{ℕ, List, [], ◌∷◌, ◌++◌, codes, decimal, ℤ}
+use Rattle.ghg_categories.specs.declared.category.Category.{Category}
+use Rattle.ghg_categories.specs.Tree.{code_of}
+use Rattle.ghg_equations.specs.declared.eq_id.EqId.{EqId}
 use Rattle.ghg_equations.specs.declared.quantity.Output.{Output}
 use Rattle.ghg_equations.specs.declared.quantity.Output.TheVariants.{Emission, Aux}
-use Rattle.ghg_equations.specs.Table as equations
-use Rattle.ghg_equations.specs.Table.{output}
+use Rattle.ghg_equations.specs.Quantity.{word_of}
+use Rattle.ghg_equations.specs.Table.{code, output}
 use Rattle.ghg_units.specs.Fixed.{fixed_text}
 use Rattle.ghg_units.specs.Units.{base_word_of}
 use Rattle.ghg_cell.specs.declared.input.Input.{Input}
 use Rattle.ghg_cell.specs.declared.input.Input.TheVariants.{Blank, Known}
 use Rattle.ghg_interval.specs.Bounds.{Bounds}
-use Rattle.ghg_tables.specs.declared.cell_row.CellRow.{CellRow}
+use Rattle.ghg_definitions.specs.Data.{Name}
 use Rattle.ghg_tables.specs.declared.precision.Precision.{Precision}
+use Rattle.ghg_tables.specs.declared.precision.Precision.TheVariants.{Thousandths}
 use Rattle.ghg_tables.specs.Rounding.{reported, low_of, high_of, places_of, precision_of}
+
+-- ---- pieces of a row
 
 -- a text and a comma
 unfoldable pub field : List ℕ → List ℕ
@@ -32,11 +36,7 @@ figures_text p (Known point range) = known_text p point range
 
 -- the gas of an emission
 abbrev pub gas_word_of : Output → List ℕ
-gas_word_of (Emission Co2) = codes "CO2"
-gas_word_of (Emission Ch4) = codes "CH4"
-gas_word_of (Emission N2o) = codes "N2O"
-gas_word_of (Emission Cf4) = codes "CF4"
-gas_word_of (Emission C2f6) = codes "C2F6"
+gas_word_of (Emission gas) = word_of gas
 gas_word_of (Aux dim) = codes "-"
 
 -- emissions are printed in Gg, and other quantities in the base unit
@@ -44,19 +44,22 @@ abbrev pub unit_word_of : Output → List ℕ
 unit_word_of (Emission gas) = codes "Gg"
 unit_word_of (Aux dim) = base_word_of dim
 
--- the category at which each line stands
-abbrev pub category_text : List ℕ
-category_text = codes "1A1a"
+-- ---- rows
 
 -- the words of a line that no year changes, but for its gas
-unfoldable pub identity_text : CellRow → List ℕ
-identity_text row = field row.line ++ field category_text ++ field (equations.code row.equation)
+unfoldable pub identity_text : Name → Category → EqId → List ℕ
+identity_text name c e = field name ++ field (code_of c) ++ field (code e)
 
-unfoldable pub cell_text : CellRow → List ℕ
-cell_text row =
-    identity_text row ++ field (gas_word_of (output row.equation)) ++ field (unit_word_of (output row.equation))
-    ++ figures_text (precision_of (output row.equation)) row.value ++ 10 ∷ []
+-- a line and its value
+unfoldable pub cell_text : Name → Category → EqId → Input → List ℕ
+cell_text name c e value =
+    identity_text name c e ++ field (gas_word_of (output e)) ++ field (unit_word_of (output e))
+    ++ figures_text (precision_of (output e)) value ++ 10 ∷ []
 
--- a header, and a line of text for each row
-unfoldable pub cells_text : List CellRow → List ℕ
-cells_text rows = codes "code,category,equation,gas,unit,value,low,high\n" ++ flat_map cell_text rows
+-- a total by its name
+unfoldable pub total_text : List ℕ → Input → List ℕ
+total_text name total = field name ++ figures_text Thousandths total ++ 10 ∷ []
+
+-- a year with its national and its gross total
+unfoldable pub year_text : ℕ → Input → Input → List ℕ
+year_text year total gross = field (decimal year) ++ field (figures_text Thousandths total) ++ figures_text Thousandths gross ++ 10 ∷ []

@@ -1,20 +1,19 @@
-//! The texts of tables: printed figures, and the table of cells.
+//! The texts of tables: printed figures, their rows, and the tables of a year.
 #![tactic(auto)]
 
-mod cell_row;
 mod figures;
 mod laws;
 mod precision;
 mod printing;
 mod rounding;
+mod rows;
 mod table;
 #[cfg(test)]
 mod tests;
 
-pub use cell_row::CellRow;
 pub use figures::reported;
 pub use laws::{bounds_hold, near_is_nearest, power_plant_prints, smallest_prints};
 pub use precision::{Precision, precision_for};
-pub use printing::print_cells;
+pub use printing::print;
 pub use rounding::near;
 pub use table::{Table, table_named};

@@ -1,76 +1,158 @@
-//! The table of cells.
+//! The tables of a year.
 
-ghost use Rattle.std.specs.Prelude.{◌≡◌, ◌++◌, OnOk, IfOk};
-ghost use Rattle.ghg_tables.specs.Texts.{identity_text, cell_text, cells_text, category_text, gas_word_of, unit_word_of};
+ghost use Rattle.std.specs.Prelude.{◌≡◌, ◌≤◌, ◌++◌, IfOk, OnOk, true};
+ghost use Rattle.ghg_definitions.specs.Compilation.{compilation, is_year_of};
+ghost use Rattle.ghg_definitions.specs.Data.{span};
+ghost use Rattle.ghg_tables.specs.Laws.{PrintedBoundsHold};
+ghost use Rattle.ghg_tables.specs.Tables.{category_row, cells_text, gross_row, line_row, series_text, shown, summary_text, table_text, year_row};
 
-use crate::cell_row::CellRow;
-use crate::figures::{append_field, append_figures};
-use crate::precision::precision_for;
-use ghg_equations::{Gas, Output, equation};
-use ghg_units::{Text, base_word};
+use crate::rows::{append_cell, append_total, append_year};
+use crate::table::Table;
+use ghg_categories::{Category, all, code};
+use ghg_cell::Input;
+use ghg_data::Records;
+use ghg_graph::Cells;
+use ghg_units::{Name, Node, Text};
 use std::alloc::{AllocError, Global};
 
-/// The category at which each line stands.
-const CATEGORY: &str = "1A1a";
+// Room for a row. None is longer: each of three figures takes at most 23 bytes, and with the commas between them 71.
 
-/// Room for a row. None is longer: the words and their commas take at most 53 bytes, and each of the three figures 23.
-const LONGEST_ROW: usize = 128;
+/// With the words of a line and their commas, which take at most 53.
+const LONGEST_CELL: usize = 128;
 
-/// The table of cells: its header, and a line of text for each row, in the order of the rows.
-#[tactic(auto, unfolding(crate::specs::Texts::cells_text))]
-pub fn print_cells(alloc: Global, rows: &[CellRow]) -> Result<Text, AllocError>
-    ensures { IfOk result (λ text. text ≡ cells_text rows.now) }
+/// With the name of a total.
+const LONGEST_TOTAL: usize = 80;
+
+/// Of a year with both its totals.
+const LONGEST_YEAR: usize = 160;
+
+/// The text of a table for a year of the span.
+///
+/// Wherever the inputs are within their supplied bounds, the exact value of each node is within the bounds that are
+/// printed of it. Want of memory is the only error.
+pub fn print<C: Cells>(
+    alloc: Global,
+    table: Table,
+    year: u32,
+    cells: &C,
+) -> Result<Text, AllocError>
+    requires { is_year_of (span (C.content cells.now)) year ≡ true }
+    ensures text { IfOk result (λ text. text ≡ table_text table (C.content cells.now) (compilation (C.content cells.now)) year) }
+    ensures bounds { PrintedBoundsHold (C.content cells.now) }
+{
+    let first = cells.book().span().unwrap().first;
+    match table {
+        Table::Cells => print_cells(alloc, year, cells),
+        Table::Summary => print_summary(alloc, year, cells),
+        Table::Series => print_series(alloc, first, year, cells),
+    }
+}
+
+// The value of each line, by name.
+#[tactic(auto, unfolding(crate::specs::Tables::cells_text))]
+fn print_cells<C: Cells>(alloc: Global, year: u32, cells: &C) -> Result<Text, AllocError>
+    ensures { IfOk result (λ text. text ≡ cells_text (C.content cells.now) (compilation (C.content cells.now)) year) }
 {
     let header = b"code,category,equation,gas,unit,value,low,high\n";
-    let mut out = Vec::with_capacity(alloc, header.len() + rows.len() * LONGEST_ROW)?;
+    let names = cells.book().lines(alloc)?;
+    let mut out = Vec::with_capacity(alloc, header.len() + names.len() * LONGEST_CELL)?;
     out.extend_from_slice(header)?;
-    for row in rows {
-        append_cell(&mut out, row)?;
+    for name in &names {
+        append_line(&mut out, cells, name, year)?;
     }
     Ok(Text::new(out))
 }
 
-#[tactic(auto, unfolding(crate::specs::Texts::cell_text))]
-fn append_cell(out: &mut Vec<u8>, row: &CellRow) -> Result<(), AllocError>
-    ensures { OnOk result (out.new.items ≡ out.old.items ++ cell_text row.now) }
+#[tactic(auto, unfolding(crate::specs::Tables::line_row))]
+fn append_line<C: Cells>(
+    out: &mut Vec<u8>,
+    cells: &C,
+    name: &Name,
+    year: u32,
+) -> Result<(), AllocError>
+    ensures { OnOk result (out.new.items ≡ out.old.items ++ line_row (C.content cells.now) (compilation (C.content cells.now)) year name.now) }
 {
-    let output = equation(row.equation).output;
-    append_identity(out, row)?;
-    append_field(out, gas_word(output).as_bytes())?;
-    append_field(out, unit_word(output).as_bytes())?;
-    append_figures(out, &row.value, precision_for(output))?;
-    out.push(b'\n')?;
-    Ok(())
-}
-
-// The words of a line that no year changes, but for its gas.
-#[tactic(auto, unfolding(crate::specs::Texts::identity_text))]
-fn append_identity(out: &mut Vec<u8>, row: &CellRow) -> Result<(), AllocError>
-    ensures { OnOk result (out.new.items ≡ out.old.items ++ identity_text row.now) }
-{
-    append_field(out, row.line.as_bytes())?;
-    append_field(out, CATEGORY.as_bytes())?;
-    append_field(out, equation(row.equation).name.as_bytes())
-}
-
-fn gas_word(output: Output) -> &'static str
-    ensures { result.now ≡ gas_word_of output }
-{
-    match output {
-        Output::Emission(Gas::Co2) => "CO2",
-        Output::Emission(Gas::Ch4) => "CH4",
-        Output::Emission(Gas::N2o) => "N2O",
-        Output::Emission(Gas::Cf4) => "CF4",
-        Output::Emission(Gas::C2f6) => "C2F6",
-        Output::Aux(_) => "-",
+    match cells.book().line(name) {
+        Some((category, id)) => {
+            let value = shown(cells, &Node::Line(*name, year));
+            append_cell(out, name, category, id, &value)
+        }
+        None => Ok(()),
     }
 }
 
-fn unit_word(output: Output) -> &'static str
-    ensures { result.now ≡ unit_word_of output }
+// The total of each category, and then the gross total.
+#[tactic(auto, unfolding(crate::specs::Tables::summary_text))]
+fn print_summary<C: Cells>(alloc: Global, year: u32, cells: &C) -> Result<Text, AllocError>
+    ensures { IfOk result (λ text. text ≡ summary_text (compilation (C.content cells.now)) year) }
 {
-    match output {
-        Output::Emission(_) => "Gg",
-        Output::Aux(dim) => base_word(dim),
+    let header = b"category,value,low,high\n";
+    let rows = all().len() + 1;
+    let mut out = Vec::with_capacity(alloc, header.len() + rows * LONGEST_TOTAL)?;
+    out.extend_from_slice(header)?;
+    for category in all() {
+        append_category(&mut out, cells, *category, year)?;
+    }
+    append_gross(&mut out, cells, year)?;
+    Ok(Text::new(out))
+}
+
+#[tactic(auto, unfolding(crate::specs::Tables::category_row))]
+fn append_category<C: Cells>(
+    out: &mut Vec<u8>,
+    cells: &C,
+    category: Category,
+    year: u32,
+) -> Result<(), AllocError>
+    ensures { OnOk result (out.new.items ≡ out.old.items ++ category_row (compilation (C.content cells.now)) year category) }
+{
+    let total = shown(cells, &Node::Total(category, year));
+    append_total(out, code(category).as_bytes(), &total)
+}
+
+#[tactic(auto, unfolding(crate::specs::Tables::gross_row))]
+fn append_gross<C: Cells>(out: &mut Vec<u8>, cells: &C, year: u32) -> Result<(), AllocError>
+    ensures { OnOk result (out.new.items ≡ out.old.items ++ gross_row (compilation (C.content cells.now)) year) }
+{
+    append_total(out, b"gross", &shown(cells, &Node::Gross(year)))
+}
+
+// The totals of each year from the first to this one.
+#[tactic(auto, unfolding(crate::specs::Tables::series_text))]
+fn print_series<C: Cells>(
+    alloc: Global,
+    first: u32,
+    year: u32,
+    cells: &C,
+) -> Result<Text, AllocError>
+    requires { first ≤ year }
+    ensures { IfOk result (λ text. text ≡ series_text first (compilation (C.content cells.now)) year) }
+{
+    let header = b"year,total,total_low,total_high,gross,gross_low,gross_high\n";
+    let years = (year - first) as usize + 1;
+    let mut out = Vec::with_capacity(alloc, header.len() + years * LONGEST_YEAR)?;
+    out.extend_from_slice(header)?;
+    for each in first..=year {
+        append_totals(&mut out, cells, each)?;
+    }
+    Ok(Text::new(out))
+}
+
+#[tactic(auto, unfolding(crate::specs::Tables::year_row))]
+fn append_totals<C: Cells>(out: &mut Vec<u8>, cells: &C, year: u32) -> Result<(), AllocError>
+    ensures { OnOk result (out.new.items ≡ out.old.items ++ year_row (compilation (C.content cells.now)) year) }
+{
+    let total = shown(cells, &Node::Total(Category::National, year));
+    let gross = shown(cells, &Node::Gross(year));
+    append_year(out, year, &total, &gross)
+}
+
+// What is known of a node; nothing where it is no node.
+fn shown<C: Cells>(cells: &C, node: &Node) -> Input
+    ensures { result ≡ shown (compilation (C.content cells.now)) node.now }
+{
+    match cells.value(node) {
+        Some(value) => *value,
+        None => Input::Blank,
     }
 }

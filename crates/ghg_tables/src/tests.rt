@@ -1,36 +1,66 @@
-use crate::{CellRow, Precision, Table, near, precision_for, print_cells, reported, table_named};
+use crate::figures::append_figures;
+use crate::rows::{append_cell, append_total, append_year};
+use crate::{Precision, Table, near, precision_for, reported, table_named};
+use ghg_categories::Category;
 use ghg_cell::Input;
 use ghg_equations::{Dim, EqId, Gas, Output};
 use ghg_interval::Interval;
 use ghg_units::Name;
+use std::process::Abort;
 use std::test::Fail;
 
-// 56.1 Gg, from 54.3 to 58.3.
-fn burnt() -> Option<Input> {
-    let point = Interval::new(56_100_000_000_000, 56_100_000_000_000)?;
-    let range = Interval::new(54_300_000_000_000, 58_300_000_000_000)?;
-    Some(Input::Known { point, range })
+// A value and its bounds, in parts of 10^-12.
+fn known(rt: &impl Abort, value: i128, low: i128, high: i128) -> Input {
+    Input::Known {
+        point: Interval::exact(value).expect(rt, "within the limit"),
+        range: Interval::new(low, high).expect(rt, "bounds in order"),
+    }
 }
 
-fn row(line: &[u8], value: Input) -> Option<CellRow> {
-    let line = Name::new(line)?;
-    Some(CellRow {
-        line,
-        equation: EqId::Q10,
-        value,
-    })
+// 56.1 Gg, from 54.3 to 58.3.
+fn burnt(rt: &impl Abort) -> Input {
+    known(
+        rt,
+        56_100_000_000_000,
+        54_300_000_000_000,
+        58_300_000_000_000,
+    )
 }
 
 #[test]
-fn prints_a_known_row_and_a_blank_one(rt: HostRuntime) -> Result<(), Fail> {
-    let burnt = burnt().expect(&rt, "bounds in order");
-    let known = row(b"ELEC.GAS", burnt).expect(&rt, "a name");
-    let blank = row(b"ELEC.OIL", Input::Blank).expect(&rt, "a name");
-    let text = print_cells(rt.alloc(), &[known, blank])?;
+fn writes_the_rows_of_lines(rt: HostRuntime) -> Result<(), Fail> {
+    let mut text = Vec::new(rt.alloc());
+    let gas = Name::new(b"ELEC.GAS").expect(&rt, "a name");
+    let oil = Name::new(b"ELEC.OIL").expect(&rt, "a name");
+    append_cell(&mut text, &gas, Category::C1A1a, EqId::Q10, &burnt(&rt))?;
+    append_cell(&mut text, &oil, Category::MB, EqId::Q10, &Input::Blank)?;
     assert_eq!(rt;
         text.as_slice(),
-        b"code,category,equation,gas,unit,value,low,high\nELEC.GAS,1A1a,Q10,CO2,Gg,56.100,54.300,58.300\nELEC.OIL,1A1a,Q10,CO2,Gg,NE,NE,NE\n".as_slice()
+        b"ELEC.GAS,1A1a,Q10,CO2,Gg,56.100,54.300,58.300\nELEC.OIL,MB,Q10,CO2,Gg,NE,NE,NE\n".as_slice()
     );
+    Ok(())
+}
+
+#[test]
+fn writes_the_rows_of_totals(rt: HostRuntime) -> Result<(), Fail> {
+    let mut text = Vec::new(rt.alloc());
+    let land = known(&rt, -1_000_000_000, -1_000_000_001, -999_999_999);
+    append_total(&mut text, b"3B", &land)?;
+    append_total(&mut text, b"gross", &Input::Blank)?;
+    append_year(&mut text, 1990, &land, &burnt(&rt))?;
+    assert_eq!(rt;
+        text.as_slice(),
+        b"3B,-0.001,-0.002,0.000\ngross,NE,NE,NE\n1990,-0.001,-0.002,0.000,56.100,54.300,58.300\n".as_slice()
+    );
+    Ok(())
+}
+
+#[test]
+fn other_quantities_have_six_decimals(rt: HostRuntime) -> Result<(), Fail> {
+    let mut text = Vec::new(rt.alloc());
+    let energy = known(&rt, 1_500_000, -1, 1_000_000_000_001);
+    append_figures(&mut text, &energy, Precision::Millionths)?;
+    assert_eq!(rt; text.as_slice(), b"0.000002,-0.000001,1.000001".as_slice());
     Ok(())
 }
 
@@ -60,7 +90,10 @@ fn reports_the_middle_of_a_point(rt: HostRuntime) {
 }
 
 #[test]
-fn names_the_table_of_cells(rt: HostRuntime) {
+fn names_three_tables(rt: HostRuntime) {
     assert_eq!(rt; table_named(b"cells"), Some(Table::Cells));
+    assert_eq!(rt; table_named(b"summary"), Some(Table::Summary));
+    assert_eq!(rt; table_named(b"series"), Some(Table::Series));
     assert_eq!(rt; table_named(b"Cells"), None);
+    assert_eq!(rt; table_named(b""), None);
 }
