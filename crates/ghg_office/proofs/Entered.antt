@@ -1,5 +1,5 @@
 -- What data keep once rows are entered.
-use Rattle.std.proofs.Common.{◌≡◌, ◌≤◌, ℕ, Bool, true, false, nat_lt, Option, Some, None, Result, Ok, Err, if◌then◌else◌, refl, sym, ap, ◌∙◌}
+use Rattle.std.proofs.Common.{◌≡◌, ◌≤◌, ◌+◌, ℕ, Bool, true, false, nat_lt, List, [], ◌∷◌, ◌++◌, length, Option, Some, None, Result, Ok, Err, if◌then◌else◌, refl, sym, ap, ap₂, ◌∙◌}
 use Rattle.std.proofs.lemmas.Bool.{ltb-false}
 use Rattle.ghg_definitions.specs.Compilation.{overflow}
 use Rattle.ghg_definitions.specs.Data.{Data}
@@ -10,7 +10,9 @@ use Rattle.ghg_units.specs.declared.node.Node.{Node}
 use Rattle.ghg_units.specs.declared.rule.Limit.TheVariants.{Bytes}
 use Rattle.ghg_units.specs.declared.rule.Rule.{Rule}
 use Rattle.ghg_units.specs.declared.rule.Rule.TheVariants.{TooMany}
-use Rattle.ghg_office.specs.Office.{compiled, entered, within_limits}
+use Rattle.ghg_office.specs.declared.reply.Reply.TheVariants.{Accepted}
+use Rattle.ghg_office.specs.Accepted.{Submission}
+use Rattle.ghg_office.specs.Office.{State, compiled, decided, entered, within_limits}
 
 -- no line is beyond the limits
 pub entered-overflow : (m n : Data) (reading : Reading) (bytes : ℕ) → entered m reading bytes ≡ Ok n → overflow n ≡ None
@@ -47,3 +49,12 @@ entered-bytes m n reading bytes e = by (rows_applied m reading.rows) reading.res
     by (Err rule) rest e = absurd (cc)
     by (Ok k) (Some rule) e = absurd (cc)
     by (Ok k) None e = bound (binding_fault (unsound_place k)) k e
+
+-- what is answered where nothing is broken, and the state after it
+pub accepted_decided : (s : State) (id body : List ℕ) (r : Result Data Rule) (m n : Data) (seq : ℕ) (list : List Submission)
+    → r ≡ Ok m → n ≡ m → seq ≡ length s.accepted + 1 → list ≡ s.accepted ++ (record { id = id; body = body } ∷ [])
+    → (Accepted seq ≡ (decided s id body r).reply) × (◌≡◌ {A = State} (record { content = n; accepted = list }) (decided s id body r).after)
+accepted_decided s id body (Err rule) m n seq list e f g h = absurd (cc)
+accepted_decided s id body (Ok k) m n seq list e f g h =
+    let same : k ≡ m = cc in
+    (ap Accepted g, ap₂ (λ (c : Data) (l : List Submission). record { content = c; accepted = l }) (f ∙ sym same) h)

@@ -1,3 +1,3 @@
 pub mod Entered
 pub mod Kept
-pub mod Overflow
+pub mod InForce

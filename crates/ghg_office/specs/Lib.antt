@@ -2,3 +2,4 @@ pub mod Accepted
 pub mod Id
 pub mod Office
 pub mod Replies
+pub mod Laws

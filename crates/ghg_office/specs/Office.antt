@@ -1,29 +1,22 @@
 -- The office: the data in force, the submissions that it accepted, and what it answers.
 use Rattle.std.specs.Prelude.{◌≡◌, ℕ, ◌≤◌, true, ◌+◌, nat_lt, if◌then◌else◌, List, [], ◌∷◌, ◌++◌, length, Option, Some, None, Result, Ok, Err, refl}
-use Rattle.std.specs.Option.{option_map}
-use Rattle.std.specs.List.{filter_map}
 use Rattle.std.specs.Str.{bytes_eq}
 use Rattle.std.specs.Coded.{Coded, code_by, coded×, coded_list}
 use Rattle.std.specs.FinMap.{code, empty}
-use Rattle.ghg_cell.specs.declared.input.Input.{Input}
-use Rattle.ghg_cell.specs.declared.input.Input.TheVariants.{Blank}
 use Rattle.ghg_definitions.specs.declared.record.Record.{Record}
 use Rattle.ghg_definitions.specs.declared.record.RecordKey.{RecordKey}
-use Rattle.ghg_definitions.specs.Compilation.{is_year_of, line_value, overflow}
-use Rattle.ghg_definitions.specs.Data.{Data, Name, line, line_names, span}
+use Rattle.ghg_definitions.specs.Compilation.{compilation, is_year_of, overflow}
+use Rattle.ghg_definitions.specs.Data.{Data, span}
 use Rattle.ghg_definitions.specs.Rules.{planned}
 use Rattle.ghg_import.specs.Body.{max_body}
 use Rattle.ghg_import.specs.Reading.{Reading, reading_of}
-use Rattle.ghg_interval.specs.declared.Over.{Over}
 use Rattle.ghg_office.specs.Accepted.{Kept, Submission, kept_bytes, kept_from, submission_code}
 use Rattle.ghg_office.specs.Id.{is_id}
 use Rattle.ghg_office.specs.declared.reply.Reply.{Reply}
 use Rattle.ghg_office.specs.declared.reply.Reply.TheVariants.{Accepted, Repeated, Refused, NoTable, Table as Shown}
-use Rattle.ghg_tables.specs.declared.cell_row.CellRow.{CellRow}
 use Rattle.ghg_tables.specs.declared.table.Table.{Table}
-use Rattle.ghg_tables.specs.declared.table.Table.TheVariants.{Cells}
 use Rattle.ghg_tables.specs.Names.{table_in}
-use Rattle.ghg_tables.specs.Texts.{cells_text}
+use Rattle.ghg_tables.specs.Tables.{table_text}
 use Rattle.ghg_units.specs.declared.node.Node.{Node}
 use Rattle.ghg_units.specs.declared.rule.Rule.{Rule}
 use Rattle.ghg_units.specs.declared.rule.Rule.TheVariants.{BadId, IdReused, BodyTooLong, Overflow}
@@ -44,7 +37,7 @@ start = record { content = empty; accepted = [] }
 
 -- ---- a submission, by the first case that holds
 
--- data, where no line of them is beyond the limits
+-- data, where no node of them is beyond the limits
 abbrev pub within_limits : Data → Option Node → Result Data Rule
 within_limits m (Some node) = Err (Overflow node)
 within_limits m None = Ok m
@@ -95,22 +88,10 @@ pub record IsRead (s : State) (id body : List ℕ) : Type 0 where
 
 -- ---- a request for a table
 
--- no line that is in force is beyond the limits
-abbrev pub shown : Result Input Over → Input
-shown (Ok value) = value
-shown (Err over) = Blank
-
-abbrev pub row_of : Data → ℕ → Name → Option CellRow
-row_of m year name = option_map (λ e. record { line = name; equation = e; value = shown (line_value m name e year) }) (line m name)
-
--- a row for each line, by name
-abbrev pub cell_rows : Data → ℕ → List CellRow
-cell_rows m year = filter_map (row_of m year) (line_names m)
-
--- the table of cells is that of a year of the span
+-- the text of a table of a year of the span, printed from the compilation of the data in force
 abbrev pub asked : State → ℕ → Option Table → Reply
 asked s year None = NoTable
-asked s year (Some Cells) = if is_year_of (span s.content) year then Shown (cells_text (cell_rows s.content year)) else NoTable
+asked s year (Some table) = if is_year_of (span s.content) year then Shown (table_text table s.content (compilation s.content) year) else NoTable
 
 unfoldable pub requested : State → List ℕ → ℕ → Reply
 requested s table year = asked s year (table_in table)

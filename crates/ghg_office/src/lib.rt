@@ -2,12 +2,13 @@
 #![tactic(auto)]
 
 mod accepted;
-mod compile;
 mod id;
+mod laws;
 mod office;
 mod reply;
 #[cfg(test)]
 mod tests;
 
+pub use laws::{bounds_hold_in_force, states_stay_in_force};
 pub use office::Office;
 pub use reply::{Reply, append_reply};

@@ -4,41 +4,40 @@ ghost use Rattle.std.specs.Prelude.{◌≡◌, ◌≢◌, ◌≤◌, ◌+◌, Ok
 ghost use Rattle.std.specs.FinMap as finite;
 ghost use Rattle.std.specs.List.{AllByRecursion};
 ghost use Rattle.ghg_units.specs.WellFormed.{IsWellFormed};
-ghost use Rattle.ghg_definitions.specs.Compilation.{is_year_of, overflow};
+ghost use Rattle.ghg_definitions.specs.Compilation.{is_year_of};
 ghost use Rattle.ghg_definitions.specs.Data.{span};
 ghost use Rattle.ghg_data.specs.Changes.{applied};
 ghost use Rattle.ghg_data.specs.Refusal.{IfRule};
-ghost use Rattle.ghg_data.specs.Shelf.{IsPlanned};
 ghost use Rattle.ghg_import.specs.Body.{max_body};
 ghost use Rattle.ghg_import.specs.Reading.{reading_of};
-ghost use Rattle.ghg_tables.specs.Texts.{cells_text};
+ghost use Rattle.ghg_engine.specs.Proposals.{IsProposed};
+ghost use Rattle.ghg_tables.specs.Laws.{PrintedBoundsHold};
 ghost use Rattle.ghg_office.specs.Accepted.{kept_bytes, kept_from};
-ghost use Rattle.ghg_office.specs.Office.{IsRead, cell_rows, decided, entered, requested, start, submitted};
+ghost use Rattle.ghg_office.specs.Office.{IsRead, decided, entered, requested, start, submitted};
 ghost use Rattle.ghg_office.specs.Replies.{Answers, Shows, reply_of};
 
 use crate::accepted::Accepted;
-use crate::compile;
 use crate::id::SubmissionId;
 use crate::reply::Reply;
-use ghg_data::{Book, Edits, PlanRefusal, after};
+use ghg_data::{Book, PlanRefusal, Records};
+use ghg_engine::{Engine, EngineRefusal, Proposal};
+use ghg_graph::Cells;
 use ghg_import::{Rows, is_too_long, read_rows};
 use ghg_steps::Steps;
-use ghg_tables::{Table, print_cells, table_named};
+use ghg_tables::{print, table_named};
 use ghg_units::{Rule, Text};
-use std::alloc::{AllocError, Global};
+use std::alloc::Global;
 use std::marker::Model;
 use std::sync::ledger::Ledger;
 
 /// The workbook in force and the submissions that were accepted. Contracts see the two.
 #[derive(Drop)]
 pub struct Office {
-    book: Book,
+    engine: Engine,
     accepted: Accepted,
 }
 
 impl Model for Office {
-    ghost use Rattle.std.specs.Prelude.{◌≡◌, None};
-    ghost use Rattle.ghg_definitions.specs.Compilation.{overflow};
     ghost use Rattle.ghg_office.specs.Office.{State, state_code};
     ghost use Rattle.std.specs.Coded.{codes};
 
@@ -46,10 +45,7 @@ impl Model for Office {
 
     ghost coded = { state_code (Prim.hlevel codes) (Prim.hlevel codes) };
 
-    ghost view = { λ o. record { content = o.book.content; accepted = o.accepted.list } };
-
-    // No line that is in force is beyond the limits.
-    ghost invariant = { λ o. overflow o.book.content ≡ None };
+    ghost view = { λ o. record { content = o.engine.content; accepted = o.accepted.list } };
 }
 
 impl Office {
@@ -58,7 +54,7 @@ impl Office {
         ensures { result ≡ start }
     {
         Office {
-            book: Book::new(alloc),
+            engine: Engine::new(alloc),
             accepted: Accepted::new(alloc),
         }
     }
@@ -101,60 +97,61 @@ impl Office {
     {
         let rows = read_rows(alloc, body)?;
         let kept_bytes = self.accepted.kept_bytes() + body.len() as u64;
-        let edits = propose(&mut self.book, alloc, rows, kept_bytes)?;
+        let proposal = propose(&mut self.engine, alloc, rows, kept_bytes)?;
         let body = Text::new(Vec::from_slice(alloc, body)?);
         self.accepted.reserve()?;
-        self.book.commit(edits);
+        self.engine.accept(proposal);
         Ok(self.accepted.push(id, body))
     }
 
-    /// Answers a request for a table of a year.
+    /// Answers a request for a table of a year, printed from the compilation of the data in force.
     #[tactic(auto, unfolding(crate::specs::Office::requested))]
     pub fn show(&self, alloc: Global, table: &[u8], year: u32) -> Reply
         ensures table { Shows (requested self.now table.now year) result }
         // Only a table that there is takes memory.
         ensures memory { result ≡ Reply.Memory → requested self.now table.now year ≢ Reply.NoTable }
-        // No value of the table is beyond the limits.
-        ensures limits { overflow self.now.content ≡ None }
     {
-        if !compile::has_year(&self.book, year) {
+        if !has_year(self.engine.book(), year) {
             return Reply::NoTable;
         }
-        let Some(Table::Cells) = table_named(table) else {
+        let Some(table) = table_named(table) else {
             return Reply::NoTable;
         };
-        match self.cells(alloc, year) {
+        match print(alloc, table, year, &self.engine) {
             Ok(text) => Reply::Table(text),
             Err(_) => Reply::Memory,
         }
     }
+}
 
-    fn cells(&self, alloc: Global, year: u32) -> Result<Text, AllocError>
-        ensures { IfOk result (λ text. text ≡ cells_text (cell_rows self.now.content year)) }
-    {
-        let rows = compile::cell_rows(alloc, &self.book, year)?;
-        print_cells(alloc, &rows)
+// Whether a year is one of a workbook's.
+fn has_year(book: &Book, year: u32) -> bool
+    ensures { result ≡ is_year_of (span book.now.content) year }
+{
+    match book.span() {
+        Some(span) => span.first <= year && year <= span.last,
+        None => false,
     }
 }
 
-// The edits that the rows of a body ask for, or the first rule that is broken. The records stay.
+// The proposal that the rows of a body ask for, or the first rule that is broken. The records stay.
 #[tactic(auto, unfolding(crate::specs::Office::entered))]
 fn propose(
-    book: &mut Book,
+    engine: &mut Engine,
     alloc: Global,
     rows: Rows,
     kept_bytes: u64,
-) -> Result<Edits, PlanRefusal>
+) -> Result<Proposal, PlanRefusal>
     requires { AllByRecursion IsWellFormed rows.rows.items }
-    ensures kept { book.new.content ≡ book.old.content }
-    ensures planned { IfOk result (λ edits. IsPlanned book.new edits) }
-    ensures entered { MatchResult result (λ edits. entered book.old.content (record { rows = rows.rows.items; rest = rows.rest }) kept_bytes ≡ Ok (applied book.old.content edits)) (IfRule (λ rule. entered book.old.content (record { rows = rows.rows.items; rest = rows.rest }) kept_bytes ≡ Err rule)) }
+    ensures kept { engine.new.content ≡ engine.old.content }
+    ensures proposed { IfOk result (IsProposed engine.new) }
+    ensures entered { MatchResult result (λ p. entered engine.old.content (record { rows = rows.rows.items; rest = rows.rest }) kept_bytes ≡ Ok (applied engine.old.content p.edits)) (IfRule (λ rule. entered engine.old.content (record { rows = rows.rows.items; rest = rows.rest }) kept_bytes ≡ Err rule)) }
 {
-    let edits = book.plan(alloc, &rows.rows, rows.rest, kept_bytes)?;
-    let over = compile::overflow(alloc, &after(book, &edits))?;
-    match over {
-        Some(node) => Err(PlanRefusal::Rule(Rule::Overflow(node))),
-        None => Ok(edits),
+    let edits = engine.plan(alloc, &rows.rows, rows.rest, kept_bytes)?;
+    match engine.propose(alloc, edits) {
+        Ok(proposal) => Ok(proposal),
+        Err(EngineRefusal::Overflow(node)) => Err(PlanRefusal::Rule(Rule::Overflow(node))),
+        Err(EngineRefusal::Memory) => Err(PlanRefusal::Memory),
     }
 }
 
