@@ -6,3 +6,4 @@ mod Taken
 mod Turns
 mod Readings
 mod Whole
+pub mod Held

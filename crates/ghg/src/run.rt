@@ -3,6 +3,7 @@
 ghost use Rattle.std.specs.Prelude.{◌≡◌, ◌≢◌, true, Some, None, map, OnErr, OnOk};
 ghost use Rattle.std.specs.Io.KnownBytes.{Appends, Keeps};
 ghost use Rattle.std.specs.String.{string_bytes};
+ghost use Rattle.ghg.specs.Bounds.{SessionHolds};
 ghost use Rattle.ghg.specs.Calls.{Writes, WritesOnly};
 ghost use Rattle.ghg.specs.Run.{IsBegun, IsDone, IsLeftBehind, IsNoScript, bad_command_line, is_end, is_status};
 ghost use Rattle.ghg.specs.Turns.{AppendsFront, IsCutOff, first_place};
@@ -30,6 +31,7 @@ use std::sync::ledger::Ledger;
 /// | 4 | the input failed |
 /// | 5 | the output failed |
 /// | 8 | memory ran out |
+#[tactic(auto, using(crate::proofs::Held::session_holds))]
 pub fn run<S: Source, W: Sink, L: Ledger>(
     alloc: Global,
     words: &[String],
@@ -70,6 +72,10 @@ pub fn run<S: Source, W: Sink, L: Ledger>(
     ensures output_left { Keeps (W.left out.old) (W.left out.new) }
     ensures output_taken { Keeps (W.taken out.old) (W.taken out.new) }
     ensures steps { steps.new ≡ steps.old }
+
+    // At each request for a table in the bytes that were left: wherever the inputs are within their supplied bounds,
+    // the exact value of each known node of the data then in force is within the bounds that are printed of it.
+    ensures bounds { SessionHolds (S.left input.old) }
 
     // There is no other status.
     ensures status { is_status result ≡ true }

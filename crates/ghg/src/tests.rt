@@ -315,6 +315,229 @@ fn the_least_line_beyond_the_limits_is_named(rt: HostRuntime) -> Result<(), Fail
     answers(&rt, &given, "refused 13 Overflow line:BIG.A:1991\n")
 }
 
+const POTENTIAL: &str = "enter,factor,,GWP.CO2,1990,1,,,1,\n";
+
+// The codes of the tree, in the order of their bytes.
+const CODES: &str =
+    "0 1 1A 1A1 1A1a 1A1b 1A1c 1A2 1A3 1A3a 1A3b 1A3c 1A3d 1A3e 1A4 1A4a 1A4b 1A4c 1A5 \
+    1B 1B1 1B2 1B3 1C 2 2A 2A1 2A2 2A3 2A4 2B 2B1 2B2 2B3 2C 2C1 2C3 2D 2D1 2D2 \
+    3 3A 3A1 3A2 3B 3B1 3B2 3B3 3B4 3B5 3B6 3C 3C1 3C2 3C3 3C4 3C5 3C6 3C7 3C8 3D 3D1 3D2 \
+    4 4A 4B 4C 4C1 4C2 4D 4D1 4D2 4E 5 5A 5B";
+
+// The figures of a code, which are zero where it is not among those that have a value.
+fn total_of(code: &str, totals: &[(&'static str, &'static str)]) -> &'static str {
+    for (name, total) in totals {
+        if *name == code {
+            return total;
+        }
+    }
+    "0.000,0.000,0.000"
+}
+
+// The table of totals of 1990, in which these have a value and the others are zero.
+fn summary(
+    alloc: Global,
+    totals: &[(&'static str, &'static str)],
+    gross: &str,
+) -> Result<String, AllocError> {
+    let mut text = String::from_str(
+        alloc,
+        "table summary 1990 rows 78\ncategory,value,low,high\n",
+    )?;
+    for code in CODES.split_whitespace() {
+        let total = total_of(code, totals);
+        text.push_str(&format!(in alloc; "{code},{total}\n")?)?;
+    }
+    text.push_str(&format!(in alloc; "gross,{gross}\n")?)?;
+    Ok(text)
+}
+
+// A plant's equivalent is part of the total of its category and of each above it, in each year of the series.
+#[test]
+fn equivalents_add_up_to_the_national_total(rt: HostRuntime) -> Result<(), Fail> {
+    let alloc = rt.alloc();
+    let given = [
+        Given::Rows("a", &[PLANT, FUEL, FACTOR]),
+        Given::Rows("b", &[POTENTIAL]),
+        Given::Line("SHOW series 1991\nSHOW summary 1990\n"),
+    ];
+    let plant = "56.100,54.300,58.300";
+    let totals = summary(
+        alloc,
+        &[
+            ("0", plant),
+            ("1", plant),
+            ("1A", plant),
+            ("1A1", plant),
+            ("1A1a", plant),
+        ],
+        plant,
+    )?;
+    let output = format!(in alloc;
+        "accepted 1\naccepted 2\ntable series 1991 rows 3\n\
+        year,total,total_low,total_high,gross,gross_low,gross_high\n\
+        1990,{plant},{plant}\n1991,0.000,0.000,0.000,0.000,0.000,0.000\n{totals}"
+    )?;
+    answers(&rt, &given, &output)
+}
+
+// Three lines that emit 56.1 Gg each: land is no part of the gross total, and bunkers are part of no total. A blank
+// counts as zero.
+#[test]
+fn land_and_bunkers_stand_apart(rt: HostRuntime) -> Result<(), Fail> {
+    let alloc = rt.alloc();
+    let given = [
+        Given::Rows(
+            "a",
+            &[
+                PLANT,
+                FUEL,
+                FACTOR,
+                POTENTIAL,
+                "enter,line,3B1,FOREST,,Q10,,,,\nenter,bind,FOREST,FC,,activity,GAS.TJ,,,\nenter,bind,FOREST,EF,,factor,GAS.EF,,,\n",
+                "enter,line,MB,SHIPS,,Q10,,,,\nenter,bind,SHIPS,FC,,activity,GAS.TJ,,,\nenter,bind,SHIPS,EF,,factor,GAS.EF,,,\n",
+                "enter,line,1A2,MILL,,Q10,,,,\nenter,bind,MILL,FC,,activity,OIL.TJ,,,\nenter,bind,MILL,EF,,factor,GAS.EF,,,\n",
+                "enter,activity,,OIL.TJ,1990,NE,,,TJ,\n",
+            ],
+        ),
+        Given::Line("SHOW cells 1990\nSHOW summary 1990\n"),
+    ];
+    let each = "56.100,54.300,58.300";
+    let totals = summary(
+        alloc,
+        &[
+            ("0", "112.200,108.600,116.600"),
+            ("1", each),
+            ("1A", each),
+            ("1A1", each),
+            ("1A1a", each),
+            ("3", each),
+            ("3B", each),
+            ("3B1", each),
+        ],
+        each,
+    )?;
+    let output = format!(in alloc;
+        "accepted 1\ntable cells 1990 rows 5\ncode,category,equation,gas,unit,value,low,high\n\
+        ELEC.GAS,1A1a,Q10,CO2,Gg,{each}\nFOREST,3B1,Q10,CO2,Gg,{each}\n\
+        MILL,1A2,Q10,CO2,Gg,NE,NE,NE\nSHIPS,MB,Q10,CO2,Gg,{each}\n{totals}"
+    )?;
+    answers(&rt, &given, &output)
+}
+
+// A line of 10^6 Gg is within the limits, and its equivalent at a potential of 2000 is not.
+#[test]
+fn an_equivalent_beyond_the_limits_is_named(rt: HostRuntime) -> Result<(), Fail> {
+    let given = [
+        Given::Rows(
+            "a",
+            &[
+                PLANT,
+                "enter,activity,,GAS.TJ,1990,10000000,,,TJ,\n",
+                "enter,factor,,GAS.EF,1990,100000,,,kg/TJ,\n",
+                "enter,factor,,GWP.CO2,1990,2000,,,1,\n",
+            ],
+        ),
+        Given::Line("SHOW summary 1990\n"),
+    ];
+    answers(
+        &rt,
+        &given,
+        "refused 13 Overflow equiv:ELEC.GAS:1990\nno table\n",
+    )
+}
+
+// Two lines, each with an activity in TJ of its own at 100000 kg/TJ, and a potential of 6.
+const TWO_LINES: &str = "enter,span,,,1990,1990,1990,,,\n\
+    enter,line,1A2,MILL,,Q10,,,,\nenter,bind,MILL,FC,,activity,MILL,,,\nenter,bind,MILL,EF,,factor,EF,,,\n\
+    enter,line,2A1,KILN,,Q10,,,,\nenter,bind,KILN,FC,,activity,KILN,,,\nenter,bind,KILN,EF,,factor,EF,,,\n\
+    enter,factor,,EF,1990,100000,,,kg/TJ,\nenter,factor,,GWP.CO2,1990,6,,,1,\n\
+    enter,activity,,KILN,1990,1000000000,,,TJ,\n";
+
+const MILL: &str = "enter,activity,,MILL,1990,1000000000,,,TJ,\n";
+
+// A line in land that takes up as much as the kiln emits.
+const SINK: &str = "enter,line,3B1,FOREST,,Q10,,,,\nenter,bind,FOREST,FC,,activity,FOREST,,,\n\
+    enter,bind,FOREST,EF,,factor,EF,,,\nenter,activity,,FOREST,1990,-1000000000,,,TJ,\n";
+
+// A line whose product is beyond the limits in the second year.
+const OTHER: &str =
+    "enter,line,5A,OTHER,,Q10,,,,\nenter,bind,OTHER,FC,,activity,OTHER,,,\nenter,bind,OTHER,EF,,factor,EF,,,\n\
+    correct,span,,,1990,1991,1990,,,\nenter,activity,,OTHER,1991,10000000000,,,TJ,\n";
+
+// Equivalents of 6 times 10^8 Gg are within the limits, and the sum of two is not: the national total is, among the totals
+// and the gross total that are beyond them, the least. A sink of as much in land brings the national total back, and
+// leaves the gross total.
+#[test]
+fn a_total_beyond_the_limits_is_named(rt: HostRuntime) -> Result<(), Fail> {
+    let given = [
+        Given::Rows("a", &[TWO_LINES, MILL]),
+        Given::Rows("b", &[TWO_LINES, MILL, SINK]),
+    ];
+    answers(
+        &rt,
+        &given,
+        "refused 13 Overflow total:0:1990\nrefused 13 Overflow gross:1990\n",
+    )
+}
+
+// Where a line and a total are beyond the limits, the line is named, though another line's total is met earlier.
+#[test]
+fn a_line_is_named_before_a_total(rt: HostRuntime) -> Result<(), Fail> {
+    let given = [Given::Rows("a", &[TWO_LINES, MILL, OTHER])];
+    answers(&rt, &given, "refused 13 Overflow line:OTHER:1991\n")
+}
+
+// Rows about categories and warming potentials, and why each is refused.
+const REFUSED_ROWS: [(&str, &str); 8] = [
+    (
+        "enter,line,1A1,A,,Q10,,,,\n",
+        "5 UnknownWord row 1 column subject",
+    ),
+    (
+        "enter,line,0,A,,Q10,,,,\n",
+        "5 UnknownWord row 1 column subject",
+    ),
+    (
+        "enter,line,1A1d,A,,Q10,,,,\n",
+        "5 UnknownWord row 1 column subject",
+    ),
+    (
+        "enter,line,1A1a,GWP.CO2,,Q10,,,,\n",
+        "5 UnknownWord row 1 column name",
+    ),
+    (
+        "enter,activity,,GWP.CO2,1990,1,,,1,\n",
+        "5 UnknownWord row 1 column name",
+    ),
+    (
+        "enter,factor,,GWP.SF6,1990,1,,,1,\n",
+        "5 UnknownWord row 1 column name",
+    ),
+    (
+        "enter,bind,A,EF,,factor,GWP.CO2,,,\n",
+        "5 UnknownWord row 1 column low",
+    ),
+    (
+        "enter,factor,,GWP.CO2,1990,1,,,kg/TJ,\n",
+        "8 WrongUnit row 1",
+    ),
+];
+
+// Categories with children and unknown codes, and names of warming potentials where none may stand.
+#[test]
+fn categories_and_potentials_are_refused(rt: HostRuntime) -> Result<(), Fail> {
+    for (row, refusal) in REFUSED_ROWS {
+        let alloc = rt.alloc();
+        let mut script = Vec::new(alloc);
+        append_submission(&mut script, alloc, "a", &[row])?;
+        script.extend_from_slice(b"END\n")?;
+        let output = format!(in alloc; "refused {refusal}\n")?;
+        answers_script(&rt, script, &output)?;
+    }
+    Ok(())
+}
+
 // A withdrawn factor no longer gives its years their values.
 #[test]
 fn the_factor_in_force_gives_the_value(rt: HostRuntime) -> Result<(), Fail> {
