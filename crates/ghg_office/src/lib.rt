@@ -6,8 +6,6 @@ mod id;
 mod laws;
 mod office;
 mod reply;
-#[cfg(test)]
-mod tests;
 
 pub use laws::{bounds_hold_in_force, states_stay_in_force};
 pub use office::Office;
