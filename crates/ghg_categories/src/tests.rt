@@ -1,4 +1,4 @@
-//! The tree as the Guidelines print it.
+//! The tree, its order and its memo codes.
 
 use crate::{
     Category, all, code, codes_are_ordered, each_code_names_itself, is_leaf, is_under, named,
