@@ -7,12 +7,14 @@ mod eq_id;
 mod laws;
 mod quantity;
 mod row;
+mod sector;
 mod table;
 
 pub use eq_id::EqId;
 pub use laws::each_code_names_itself;
 pub use quantity::{Dim, Gas, Output};
 pub use row::{Equation, Param};
+pub use sector::Sector;
 pub use table::{eq_named, equation};
 
 #[cfg(test)]
