@@ -1,0 +1,20 @@
+//! The equations of energy: 2006 IPCC Guidelines, Volume 2.
+//!
+//! Each call is one row of the table of equations, and each takes the inputs of a node in the order of its parameters,
+//! in the base units of their dimensions. It gives the value of the row's expression, on points and on ranges: blank
+//! where an input is, and `Over` exactly where a result on the way is beyond the limit of intervals. Inputs are within
+//! that limit by their type, so that the value is also the outcome of a formula, which tests them.
+#![tactic(auto)]
+
+mod combustion;
+mod dispatch;
+mod fugitive;
+mod reference;
+
+pub use combustion::{q10, q11, q12, q13};
+pub use dispatch::evaluate;
+pub use fugitive::{q14, q15, q16, q17};
+pub use reference::{q20, q21, q22, q23, q24, q25, q26};
+
+#[cfg(test)]
+mod tests;

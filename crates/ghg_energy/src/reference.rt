@@ -1,0 +1,137 @@
+//! The reference approach: Volume 2, chapter 6.
+
+ghost use Rattle.std.specs.Prelude.{◌≡◌, [], ◌∷◌};
+ghost use Rattle.ghg_equations.specs.declared.eq_id.EqId.TheVariants as EqId;
+ghost use Rattle.ghg_cell.specs.Totals.{equation_outcome};
+ghost use Rattle.ghg_cell.specs.Values.{equation_value};
+
+use ghg_cell::{Input, Ticket, Value};
+use ghg_interval::Over;
+
+/// Apparent consumption of a primary fuel, in t: production `pr` and imports `im`, less exports `ex`, international
+/// bunkers `ib` and the change of stocks `sc`, each in t (Equation 6.2).
+pub fn q20(
+    ticket: Ticket,
+    pr: &Input,
+    im: &Input,
+    ex: &Input,
+    ib: &Input,
+    sc: &Input,
+) -> Result<Value, Over>
+    ensures value { result ≡ equation_value EqId.Q20 (pr.now ∷ im.now ∷ ex.now ∷ ib.now ∷ sc.now ∷ []) }
+    ensures outcome { result ≡ equation_outcome EqId.Q20 (pr.now ∷ im.now ∷ ex.now ∷ ib.now ∷ sc.now ∷ []) }
+{
+    let (Some(pr), Some(im), Some(ex), Some(ib), Some(sc)) = (
+        pr.figures(),
+        im.figures(),
+        ex.figures(),
+        ib.figures(),
+        sc.figures(),
+    ) else {
+        return Ok(Value::blank(ticket));
+    };
+    let value = pr.add(&im)?.sub(&ex)?.sub(&ib)?.sub(&sc)?;
+    Ok(Value::known(ticket, value))
+}
+
+/// Apparent consumption of a secondary fuel, in t: imports `im`, less exports `ex`, international bunkers `ib` and the
+/// change of stocks `sc`, each in t (Equation 6.3).
+pub fn q21(ticket: Ticket, im: &Input, ex: &Input, ib: &Input, sc: &Input) -> Result<Value, Over>
+    ensures value { result ≡ equation_value EqId.Q21 (im.now ∷ ex.now ∷ ib.now ∷ sc.now ∷ []) }
+    ensures outcome { result ≡ equation_outcome EqId.Q21 (im.now ∷ ex.now ∷ ib.now ∷ sc.now ∷ []) }
+{
+    let (Some(im), Some(ex), Some(ib), Some(sc)) = (
+        im.figures(),
+        ex.figures(),
+        ib.figures(),
+        sc.figures(),
+    ) else {
+        return Ok(Value::blank(ticket));
+    };
+    let value = im.sub(&ex)?.sub(&ib)?.sub(&sc)?;
+    Ok(Value::known(ticket, value))
+}
+
+/// Apparent consumption of a primary fuel, in TJ, of the same parameters as `q20`, each in TJ (Equation 6.2).
+pub fn q22(
+    ticket: Ticket,
+    pr: &Input,
+    im: &Input,
+    ex: &Input,
+    ib: &Input,
+    sc: &Input,
+) -> Result<Value, Over>
+    ensures value { result ≡ equation_value EqId.Q22 (pr.now ∷ im.now ∷ ex.now ∷ ib.now ∷ sc.now ∷ []) }
+    ensures outcome { result ≡ equation_outcome EqId.Q22 (pr.now ∷ im.now ∷ ex.now ∷ ib.now ∷ sc.now ∷ []) }
+{
+    q20(ticket, pr, im, ex, ib, sc)
+}
+
+/// Apparent consumption of a secondary fuel, in TJ, of the same parameters as `q21`, each in TJ (Equation 6.3).
+pub fn q23(ticket: Ticket, im: &Input, ex: &Input, ib: &Input, sc: &Input) -> Result<Value, Over>
+    ensures value { result ≡ equation_value EqId.Q23 (im.now ∷ ex.now ∷ ib.now ∷ sc.now ∷ []) }
+    ensures outcome { result ≡ equation_outcome EqId.Q23 (im.now ∷ ex.now ∷ ib.now ∷ sc.now ∷ []) }
+{
+    q21(ticket, im, ex, ib, sc)
+}
+
+/// Carbon excluded from fuel combustion, in GgC: the fuel `a` in TJ times its carbon content `cc` in tC/TJ
+/// (Equation 6.4).
+pub fn q24(ticket: Ticket, a: &Input, cc: &Input) -> Result<Value, Over>
+    ensures value { result ≡ equation_value EqId.Q24 (a.now ∷ cc.now ∷ []) }
+    ensures outcome { result ≡ equation_outcome EqId.Q24 (a.now ∷ cc.now ∷ []) }
+{
+    let (Some(a), Some(cc)) = (a.figures(), cc.figures()) else {
+        return Ok(Value::blank(ticket));
+    };
+    let value = a.mul(&cc)?.scale(1, 1_000)?;
+    Ok(Value::known(ticket, value))
+}
+
+/// CO2 of a fuel by the reference approach, in Gg: the carbon of the apparent consumption `ac` in t, by the conversion
+/// factor `conv` in TJ/Gg and the carbon content `cc` in tC/TJ, less the excluded carbon `xc` in GgC, times the fraction
+/// oxidised `cof`, from carbon to CO2 (Equation 6.1).
+pub fn q25(
+    ticket: Ticket,
+    ac: &Input,
+    conv: &Input,
+    cc: &Input,
+    xc: &Input,
+    cof: &Input,
+) -> Result<Value, Over>
+    ensures value { result ≡ equation_value EqId.Q25 (ac.now ∷ conv.now ∷ cc.now ∷ xc.now ∷ cof.now ∷ []) }
+    ensures outcome { result ≡ equation_outcome EqId.Q25 (ac.now ∷ conv.now ∷ cc.now ∷ xc.now ∷ cof.now ∷ []) }
+{
+    let (Some(ac), Some(conv), Some(cc), Some(xc), Some(cof)) = (
+        ac.figures(),
+        conv.figures(),
+        cc.figures(),
+        xc.figures(),
+        cof.figures(),
+    ) else {
+        return Ok(Value::blank(ticket));
+    };
+    let energy = ac.scale(1, 1_000)?.mul(&conv)?;
+    let carbon = energy.mul(&cc)?.scale(1, 1_000)?.sub(&xc)?;
+    let value = carbon.mul(&cof)?.scale(44, 12)?;
+    Ok(Value::known(ticket, value))
+}
+
+/// CO2 of a fuel by the reference approach, in Gg, where the apparent consumption `ac` is in TJ, and the other parameters
+/// are those of `q25` (Equation 6.1).
+pub fn q26(ticket: Ticket, ac: &Input, cc: &Input, xc: &Input, cof: &Input) -> Result<Value, Over>
+    ensures value { result ≡ equation_value EqId.Q26 (ac.now ∷ cc.now ∷ xc.now ∷ cof.now ∷ []) }
+    ensures outcome { result ≡ equation_outcome EqId.Q26 (ac.now ∷ cc.now ∷ xc.now ∷ cof.now ∷ []) }
+{
+    let (Some(ac), Some(cc), Some(xc), Some(cof)) = (
+        ac.figures(),
+        cc.figures(),
+        xc.figures(),
+        cof.figures(),
+    ) else {
+        return Ok(Value::blank(ticket));
+    };
+    let carbon = ac.mul(&cc)?.scale(1, 1_000)?.sub(&xc)?;
+    let value = carbon.mul(&cof)?.scale(44, 12)?;
+    Ok(Value::known(ticket, value))
+}
