@@ -1,0 +1,22 @@
+//! The equations of industry: 2006 IPCC Guidelines, Volume 3.
+//!
+//! Each call is one row of the table of equations, and each takes the inputs of a node in the order of its parameters,
+//! in the base units of their dimensions. It gives the value of the row's expression, on points and on ranges: blank
+//! where an input is, and `Over` exactly where a result on the way is beyond the limit of intervals. Inputs are within
+//! that limit by their type, so that the value is also the outcome of a formula, which tests them.
+#![tactic(auto)]
+
+mod chemicals;
+mod dispatch;
+mod metals;
+mod minerals;
+mod products;
+
+pub use chemicals::{q37, q38, q39};
+pub use dispatch::evaluate;
+pub use metals::{q40, q41, q42, q44, q45};
+pub use minerals::{q30, q31, q32, q33, q34, q35, q36};
+pub use products::q46;
+
+#[cfg(test)]
+mod tests;
