@@ -1,0 +1,18 @@
+//! The equations of livestock: 2006 IPCC Guidelines, Volume 4, chapter 10.
+//!
+//! Each call is one row of the table of equations, and each takes the inputs of a node in the order of its parameters,
+//! in the base units of their dimensions. It gives the value of the row's expression, on points and on ranges: blank
+//! where an input is, and `Over` exactly where a result on the way is beyond the limit of intervals. Inputs are within
+//! that limit by their type, so that the value is also the outcome of a formula, which tests them.
+#![tactic(auto)]
+
+mod dispatch;
+mod methane;
+mod nitrogen;
+
+pub use dispatch::evaluate;
+pub use methane::{q55, q56, q57, q58};
+pub use nitrogen::{q59, q60, q61, q62, q63, q64};
+
+#[cfg(test)]
+mod tests;
