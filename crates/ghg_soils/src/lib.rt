@@ -1,0 +1,20 @@
+//! The equations of managed soils: 2006 IPCC Guidelines, Volume 4, chapters 5 and 11.
+//!
+//! Each call is one row of the table of equations, and each takes the inputs of a node in the order of its parameters,
+//! in the base units of their dimensions. It gives the value of the row's expression, on points and on ranges: blank
+//! where an input is, and `Over` exactly where a result on the way is beyond the limit of intervals. Inputs are within
+//! that limit by their type, so that the value is also the outcome of a formula, which tests them.
+#![tactic(auto)]
+
+mod carbonates;
+mod dispatch;
+mod nitrogen;
+mod rice;
+
+pub use carbonates::{q74, q75};
+pub use dispatch::evaluate;
+pub use nitrogen::{q67, q68, q69, q70, q71, q72, q73};
+pub use rice::{q76, q77};
+
+#[cfg(test)]
+mod tests;
