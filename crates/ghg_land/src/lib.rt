@@ -1,0 +1,20 @@
+//! The equations of land: 2006 IPCC Guidelines, Volume 4, chapter 2.
+//!
+//! Each call is one row of the table of equations, and each takes the inputs of a node in the order of its parameters,
+//! in the base units of their dimensions. It gives the value of the row's expression, on points and on ranges: blank
+//! where an input is, and `Over` exactly where a result on the way is beyond the limit of intervals. Inputs are within
+//! that limit by their type, so that the value is also the outcome of a formula, which tests them.
+#![tactic(auto)]
+
+mod biomass;
+mod dispatch;
+mod fire;
+mod stocks;
+
+pub use biomass::{q78, q79, q80, q81, q82};
+pub use dispatch::evaluate;
+pub use fire::{q88, q89};
+pub use stocks::{q83, q84, q85, q86, q87};
+
+#[cfg(test)]
+mod tests;
