@@ -3,7 +3,8 @@ use mathlib.Core.WellFounded.{Acc}
 use Rattle.std.proofs.Common.{◌≡◌, ◌⊎◌, ℕ, zero, suc, ◌≤◌, List, [], ◌∷◌, ◌++◌, length, refl, sym, subst, inl, inr, arith}
 use Prim.{Dec, yes, no}
 use Rattle.ghg_definitions.specs.Rings.{IsRing, Leads}
-use Rattle.ghg_definitions.proofs.Listed.{IsListed, Without, listed_left, listed_right, take_out}
+use Rattle.ghg_definitions.specs.Listed.{IsListed}
+use Rattle.ghg_definitions.proofs.Listed.{Without, listed_left, listed_right, take_out}
 
 pub decide_listed : {A : Type 0} → ((x y : A) → Dec (x ≡ y)) → (x : A) (xs : List A) → Dec (IsListed x xs)
 decide_listed dec x [] = no (λ h. h)

@@ -23,7 +23,8 @@ use Rattle.ghg_definitions.specs.Sound.{IsRecord}
 use Rattle.ghg_definitions.proofs.Alike.{both, first_so, second_so}
 use Rattle.ghg_definitions.proofs.Grounded.{line_listed}
 use Rattle.ghg_definitions.proofs.Keys.{keys_total}
-use Rattle.ghg_definitions.proofs.Listed.{IsListed, contained, from_any, from_filter, from_filter_map, from_flat, from_map, in_either, listed, listed_any, listed_filter, listed_flat, listed_left, listed_map, listed_right}
+use Rattle.ghg_definitions.specs.Listed.{IsListed}
+use Rattle.ghg_definitions.proofs.Listed.{contained, from_any, from_filter, from_filter_map, from_flat, from_map, in_either, listed, listed_any, listed_filter, listed_flat, listed_left, listed_map, listed_right}
 
 -- ---- years
 

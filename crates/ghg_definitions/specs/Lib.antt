@@ -1,5 +1,8 @@
+pub mod Listed
+pub mod Least
 pub mod Data
 pub mod Rows
+pub mod Rings
 pub mod Rules
 pub mod Sound
 pub mod Lookups
@@ -7,6 +10,6 @@ pub mod Formulas
 pub mod Trials
 pub mod Nodes
 pub mod Compilation
-pub mod Rings
 pub mod Choices
+pub mod Containment
 pub mod Laws
