@@ -15,7 +15,7 @@ use Rattle.ghg_data.specs.declared.calendar.Calendar.{Calendar}
 use Rattle.ghg_data.specs.declared.calendar.Series.{Series}
 use Rattle.ghg_data.specs.Calendar.{IsCalendarOf, dated, has_date, is_put, is_taken}
 use Rattle.ghg_data.specs.Changes.{Change, applied}
-use Rattle.ghg_data.specs.YearSet.{is_year}
+use Rattle.ghg_units.specs.Year.{is_year}
 use Rattle.ghg_data.proofs.Applied.{get-applied, get-with_record, over}
 
 over_note : {A : Type 0} (passes : A → Bool) (in_time here : Bool) (x f : A) (present old : Bool) → present ≡ passes x → old ≡ in_time && passes f → cond (in_time && here) present old ≡ in_time && passes (cond here x f)

@@ -24,7 +24,7 @@ use Rattle.ghg_data.proofs.Faults.{IsAmong, IsLeastFault, among_flat, among_left
 
 -- ---- keys
 
-found_change : (k : RecordKey) (cs : List Change) (c : Option Record) → find_key key_cmp k cs ≡ Some c → IsAmong k (map (λ d. d.0) cs)
+pub found_change : (k : RecordKey) (cs : List Change) (c : Option Record) → find_key key_cmp k cs ≡ Some c → IsAmong k (map (λ d. d.0) cs)
 found_change k [] c e = absurd (cc)
 found_change k (d ∷ cs) c e = by (eq_by_cmp key_cmp k d.0) refl e (λ f. found_change k cs c f)
   where

@@ -15,7 +15,8 @@ use Rattle.ghg_data.specs.declared.calendar.Series.{Series}
 use Rattle.ghg_data.specs.declared.calendar.Series.TheVariants as series
 use Rattle.ghg_data.specs.declared.year_set.YearSet.{YearSet}
 use Rattle.ghg_data.specs.Calendar.{date_of, dated, has_date, holds_year, same_series}
-use Rattle.ghg_data.specs.YearSet.{has_year, is_year}
+use Rattle.ghg_units.specs.Year.{is_year}
+use Rattle.ghg_data.specs.YearSet.{has_year}
 
 -- the equality that the code has
 abbrev pub series_eq : Series → Series → Bool

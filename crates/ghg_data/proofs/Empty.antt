@@ -1,16 +1,18 @@
 -- Data without records are a workbook.
-use Rattle.std.proofs.Common.{◌≡◌, ◌∷◌, ℕ, Bool, true, false, ◌&&◌, is_some, nat_lt, not, filter, length, [], List, refl, sym, ap, ◌∙◌, Option, None, Some, if◌then◌else◌, arith, map, flat_map}
+use Rattle.std.proofs.Common.{◌≡◌, ◌∷◌, ℕ, Bool, true, false, ◌&&◌, is_some, nat_lt, not, filter, length, [], List, inl, refl, sym, ap, ◌∙◌, Option, None, Some, if◌then◌else◌, arith, map, flat_map}
 use Rattle.std.specs.FinMap.{empty, get, get-empty, entries, len, len-empty, len-entries}
 use Rattle.std.specs.List.{filter_map}
 use Rattle.ghg_definitions.specs.declared.record.Record.{Record}
 use Rattle.ghg_definitions.specs.declared.record.RecordKey.{RecordKey}
 use Rattle.ghg_definitions.specs.declared.record.RecordKey.TheVariants as key
-use Rattle.ghg_definitions.specs.Data.{Data, as_figure, as_span, figure, first_name, key_cmp, line, line_name, line_names, span}
+use Rattle.ghg_definitions.specs.Data.{Data, Name, as_figure, as_line, as_span, figure, first_name, key_cmp, line, line_name, line_names, span}
+use Rattle.ghg_definitions.specs.Rings.{IsAcyclic, Takes}
 use Rattle.ghg_definitions.specs.Rules.{is_long, is_sound, least_place, most_lines, most_records, passed_limit, places_in, unsound_place}
 use Rattle.ghg_definitions.specs.Sound.{IsWorkbook}
+use Rattle.ghg_definitions.proofs.Chains.{leading}
 use Rattle.ghg_data.specs.declared.calendar.Series.{Series}
 use Rattle.ghg_data.specs.Calendar.{dated}
-use Rattle.ghg_data.specs.YearSet.{is_year}
+use Rattle.ghg_units.specs.Year.{is_year}
 use Rattle.ghg_units.specs.declared.row.Figure.{Figure}
 use Rattle.ghg_units.specs.declared.rule.Limit.TheVariants.{Lines, Records}
 use Rattle.ghg_units.specs.declared.rule.Limit.TheVariants as limits
@@ -74,3 +76,16 @@ is_workbook = record {
   bindings = sound;
   limits = within;
 }
+
+no_line : (k : Name) → is_some (line none k) ≡ true → ⊥
+unfolding none
+no_line k e = clash (sym (ap (λ o. is_some (as_line o)) (get-empty key_cmp (key.Line k))) ∙ e)
+  where
+    clash : ◌≡◌ {A = Bool} false true → ⊥
+    clash h = cc
+
+-- and have no ring
+pub is_acyclic : IsAcyclic (empty {X = Record} {R = key_cmp})
+unfolding none
+is_acyclic [] ring = ring
+is_acyclic (k ∷ names) ring = let taken = leading (Takes none) (k ∷ names) k k ring (inl refl) in no_line k taken.1.present

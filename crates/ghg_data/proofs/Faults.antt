@@ -39,7 +39,7 @@ pub among_right : {A : Type 0} (x : A) (xs ys : List A) → IsAmong x ys → IsA
 among_right x [] ys h = h
 among_right x (z ∷ zs) ys h = inr (among_right x zs ys h)
 
-among_either : {A : Type 0} (x : A) (xs ys : List A) → IsAmong x (xs ++ ys) → IsAmong x xs ⊎ IsAmong x ys
+pub among_either : {A : Type 0} (x : A) (xs ys : List A) → IsAmong x (xs ++ ys) → IsAmong x xs ⊎ IsAmong x ys
 among_either x [] ys h = inr h
 among_either x (z ∷ zs) ys (inl e) = inl (inl e)
 among_either x (z ∷ zs) ys (inr h) = elim (among_either x zs ys h) [ inl i ↦ inl (inr i) | inr j ↦ inr j ]
@@ -56,7 +56,7 @@ flat_among f y (x ∷ xs) h = elim (among_either y (f x) (flat_map f xs) h) [
   | inr there ↦ let rest = flat_among f y xs there in (rest.0, inr rest.1, rest.2)
 ]
 
-filter_among : {A : Type 0} (test : A → Bool) (x : A) (xs : List A) → IsAmong x xs → test x ≡ true → IsAmong x (filter test xs)
+pub filter_among : {A : Type 0} (test : A → Bool) (x : A) (xs : List A) → IsAmong x xs → test x ≡ true → IsAmong x (filter test xs)
 filter_among test x [] h e = absurd h
 filter_among test x (y ∷ ys) h e = step (test y) refl h (λ i. filter_among test x ys i e)
   where
@@ -66,7 +66,7 @@ filter_among test x (y ∷ ys) h e = step (test y) refl h (λ i. filter_among te
     step false t (inl is) rest = absurd (met (test y) t (ap test (sym is) ∙ e))
     step false t (inr i) rest = rest i
 
-among_filter : {A : Type 0} (test : A → Bool) (x : A) (xs : List A) → IsAmong x (filter test xs) → IsAmong x xs × (test x ≡ true)
+pub among_filter : {A : Type 0} (test : A → Bool) (x : A) (xs : List A) → IsAmong x (filter test xs) → IsAmong x xs × (test x ≡ true)
 among_filter test x [] h = absurd h
 among_filter test x (y ∷ ys) h = step (test y) refl h (λ i. among_filter test x ys i)
   where

@@ -7,11 +7,12 @@ pub mod Faults
 pub mod Covered
 pub mod Figures
 pub mod InForce
-pub mod Parameters
+pub mod EquationParameters
 pub mod Counts
 pub mod LineCounts
 pub mod InTurn
 pub mod Order
+pub mod NamedLines
 pub mod Settled
 pub mod YearBits
 pub mod Dates

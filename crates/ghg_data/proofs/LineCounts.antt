@@ -34,7 +34,7 @@ total = nat_list_cmp_total
 
 -- ---- among names in order
 
-later : (P : Name → Type 0) (n : Name) (xs : List Name) → AllByRecursion P xs → IsAmong n xs → P n
+pub later : (P : Name → Type 0) (n : Name) (xs : List Name) → AllByRecursion P xs → IsAmong n xs → P n
 later P n [] h i = absurd i
 later P n (x ∷ xs) h (inl e) = subst P (sym e) h.0
 later P n (x ∷ xs) h (inr i) = later P n xs h.1 i
@@ -76,7 +76,7 @@ among_any q [] h = absurd h
 among_any q (k ∷ ks) (inl e) = or_left _ _ (subst (λ x. is_eq (key_cmp q x) ≡ true) e (ap is_eq (tied_itself keys_total q)))
 among_any q (k ∷ ks) (inr i) = or_right (eq_by_cmp key_cmp q k) _ (among_any q ks i)
 
-named_line : (l : Name) (ks : List RecordKey) → IsAmong l (filter_map line_name ks) → IsAmong (key.Line l) ks
+pub named_line : (l : Name) (ks : List RecordKey) → IsAmong l (filter_map line_name ks) → IsAmong (key.Line l) ks
 named_line l [] h = absurd h
 named_line l (k ∷ ks) h = by k h (named_line l ks)
   where

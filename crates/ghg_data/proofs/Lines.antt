@@ -11,7 +11,6 @@ use Rattle.ghg_definitions.specs.Data.{Data, Name, key_cmp, line_name, line_name
 use Rattle.ghg_definitions.specs.Rows.{with_record}
 use Rattle.ghg_definitions.proofs.Keys.{equal_by, keys_same, keys_total}
 use Rattle.ghg_definitions.proofs.Members.{entries-remove}
-use Rattle.ghg_data.specs.Changes.{Change, applied}
 use Rattle.ghg_data.specs.Names.{names_after, placed, with_name, without_name}
 
 abbrev Entries : Type 0
@@ -121,7 +120,7 @@ line_names-with_record m (key.Factor n y) None = taken_names m (key.Factor n y) 
 line_names-with_record m (key.Bind l p) (Some r) = put_names m (key.Bind l p) r _ (put_other (key.Bind l p) r (entries m) refl)
 line_names-with_record m (key.Bind l p) None = taken_names m (key.Bind l p) _ (taken_other (key.Bind l p) (entries m) refl)
 
--- ---- change by change, from the last
+-- ---- a change by its number
 
 same_some : {A : Type 0} (a b : A) → Some a ≡ Some b → a ≡ b
 same_some a b e = cc
@@ -130,7 +129,3 @@ pub drop_at : {A : Type 0} (xs : List A) (i : ℕ) (x : A) → slice_get xs i �
 drop_at [] i x e = absurd (cc)
 drop_at (y ∷ ys) zero x e = ap (λ z. z ∷ ys) (same_some y x e)
 drop_at (y ∷ ys) (suc i) x e = drop_at ys i x e
-
-pub lines_step : (m : Data) (cs : List Change) (i : ℕ) (c : Change) (xs : List Name) → slice_get cs i ≡ Some c → xs ≡ line_names (applied m (drop (suc i) cs)) → names_after c.0 (is_some c.1) xs ≡ line_names (applied m (drop i cs))
-lines_step m cs i c xs at so_far =
-    ap (names_after c.0 (is_some c.1)) so_far ∙ sym (ap (λ ds. line_names (applied m ds)) (drop_at cs i c at) ∙ line_names-with_record (applied m (drop (suc i) cs)) c.0 c.1)

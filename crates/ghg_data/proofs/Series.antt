@@ -20,7 +20,7 @@ use Rattle.std.proofs.lemmas.Bool.{and_from, and_parts, le-leb}
 use Rattle.ghg_data.specs.declared.calendar.Series.{Series}
 use Rattle.ghg_data.specs.declared.calendar.Series.TheVariants as series
 use Rattle.ghg_data.specs.Calendar.{date_of, dated}
-use Rattle.ghg_data.specs.YearSet.{is_year}
+use Rattle.ghg_units.specs.Year.{is_year}
 use Rattle.ghg_data.proofs.Dates.{key_of_date}
 
 -- ---- figures of other years

@@ -9,7 +9,8 @@ use Rattle.ghg_data.specs.declared.calendar.Calendar.{Calendar}
 use Rattle.ghg_data.specs.declared.calendar.Series.{Series}
 use Rattle.ghg_data.specs.declared.calendar.Series.TheVariants as series
 use Rattle.ghg_data.specs.declared.year_set.YearSet.{YearSet}
-use Rattle.ghg_data.specs.YearSet.{has_year, is_year}
+use Rattle.ghg_units.specs.Year.{is_year}
+use Rattle.ghg_data.specs.YearSet.{has_year}
 
 abbrev pub same_series : Series → Series → Bool
 same_series (series.Activity a) (series.Activity b) = bytes_eq a b

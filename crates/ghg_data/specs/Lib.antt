@@ -2,6 +2,7 @@ pub mod Changes
 pub mod Shelf
 pub mod Refusal
 pub mod Names
+pub mod Parameters
 pub mod Faults
 pub mod Counts
 pub mod Settling

@@ -1,11 +1,8 @@
 -- Sets of years as bits: bit 0 is for the last year, bit 1 for the year before it, and so on.
 use Rattle.std.specs.Prelude.{ℕ, ◌-◌, Bool, ◌&&◌, ◌==◌, nat_le, nat_lt, if◌then◌else◌}
 use Rattle.std.specs.Int.{bit_at}
+use Rattle.ghg_units.specs.Year.{latest_year}
 use Rattle.ghg_data.specs.declared.year_set.YearSet.{YearSet}
-
--- a year that records may be of
-abbrev pub is_year : ℕ → Bool
-is_year year = nat_le 1900 year && nat_le year 2100
 
 abbrev pub has_bit : ℕ → ℕ → Bool
 has_bit word place = bit_at word place == 1
@@ -15,4 +12,4 @@ has_place set place = if nat_lt place 128 then has_bit set.late place else has_b
 
 -- the year is in the set
 abbrev pub has_year : YearSet → ℕ → Bool
-has_year set year = nat_le year 2100 && has_place set (2100 - year)
+has_year set year = nat_le year latest_year && has_place set (latest_year - year)

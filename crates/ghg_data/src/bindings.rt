@@ -16,6 +16,7 @@ ghost use Rattle.ghg_data.specs.Settling.{unsettled_places};
 use crate::draft::{Draft, equation_in};
 use crate::edits::Edits;
 use crate::holdings::Holdings;
+use crate::parameters::{name_of, params_of};
 use crate::unsettled::unsettles;
 use ghg_definitions::{Place, RecordKey};
 use ghg_equations::{Dim, EqId, Output, Param, equation};
@@ -108,7 +109,7 @@ fn is_bound(draft: &Draft<'_>, dim: Dim, binding: Option<&Binding>) -> bool
 fn dim_of_parameter(id: EqId, parameter: &ParamName) -> Option<Dim>
     ensures { result ≡ option_map (λ q. q.dim) (find (λ q. bytes_eq q.name parameter.now) (parameters id)) }
 {
-    dim_in(equation(id).params, parameter)
+    dim_in(params_of(id), parameter)
 }
 
 fn dim_in(params: &[Param], parameter: &ParamName) -> Option<Dim>
@@ -116,8 +117,8 @@ fn dim_in(params: &[Param], parameter: &ParamName) -> Option<Dim>
 {
     params
         .iter()
-        .find(|q| q.name.as_bytes() == parameter.as_bytes())
-        .map(|q| q.dim)
+        .find(|param| param.name.as_bytes() == parameter.as_bytes())
+        .map(|param| param.dim)
 }
 
 // The parameter is one of the equation's, and is bound.
@@ -179,7 +180,7 @@ fn consider(draft: &Draft<'_>, least: &mut Option<Place>, place: &Place)
 fn consider_parameters(draft: &Draft<'_>, least: &mut Option<Place>, line: &Name, id: EqId)
     ensures { least.new ≡ fold (considered draft.now) least.old (map (λ q. record { line = line.now; parameter = q.name }) (parameters id)) }
 {
-    consider_params(draft, least, line, equation(id).params);
+    consider_params(draft, least, line, params_of(id));
 }
 
 fn consider_params(draft: &Draft<'_>, least: &mut Option<Place>, line: &Name, params: &[Param])
@@ -187,13 +188,12 @@ fn consider_params(draft: &Draft<'_>, least: &mut Option<Place>, line: &Name, pa
     ensures { least.new ≡ fold (considered draft.now) least.old (map (λ q. record { line = line.now; parameter = q.name.now }) params.now) }
 {
     for param in params {
-        let parameter = ParamName::new(param.name.as_bytes()).unwrap();
         consider(
             draft,
             least,
             &Place {
                 line: *line,
-                parameter,
+                parameter: name_of(param),
             },
         );
     }

@@ -1,12 +1,12 @@
 //! A workbook's records.
 
-ghost use Rattle.std.specs.Prelude.{◌≡◌, Ok, Err, IfOk, MatchResult};
+ghost use Rattle.std.specs.Prelude.{◌≡◌, IfOk};
 ghost use Rattle.std.specs.FinMap as finite;
 ghost use Rattle.std.specs.List.{AllByRecursion};
 ghost use Rattle.ghg_units.specs.WellFormed.{IsWellFormed};
 ghost use Rattle.ghg_definitions.specs.Rows.{after};
 ghost use Rattle.ghg_definitions.specs.Rules.{planned};
-ghost use Rattle.ghg_data.specs.Refusal.{IfRule};
+ghost use Rattle.ghg_data.specs.Refusal.{IsPlanOf};
 ghost use Rattle.ghg_data.specs.Changes.{applied};
 ghost use Rattle.ghg_data.specs.Shelf.{IsPlanned};
 
@@ -96,7 +96,7 @@ impl Book {
     ) -> Result<Edits, PlanRefusal>
         requires { AllByRecursion IsWellFormed rows.now }
         ensures kept { self.new.content ≡ self.old.content }
-        ensures planned { MatchResult result (λ edits. planned self.old.content rows.now rest kept_bytes ≡ Ok (applied self.old.content edits)) (IfRule (λ rule. planned self.old.content rows.now rest kept_bytes ≡ Err rule)) }
+        ensures planned { IsPlanOf (planned self.old.content rows.now rest kept_bytes) self.old.content result }
         ensures after { IfOk result (λ edits. applied self.old.content edits ≡ after self.old.content rows.now) }
         ensures ready { IfOk result (IsPlanned self.new) }
     {

@@ -6,7 +6,8 @@ ghost use Rattle.indexmap.specs.IndexMap.{spare};
 ghost use Rattle.ghg_definitions.specs.Data.{key_cmp};
 ghost use Rattle.ghg_data.specs.declared.calendar.Series.{Series};
 ghost use Rattle.ghg_data.specs.Calendar.{date_of, dated, has_date, same_series};
-ghost use Rattle.ghg_data.specs.YearSet.{has_year, is_year};
+ghost use Rattle.ghg_units.specs.Year.{is_year};
+ghost use Rattle.ghg_data.specs.YearSet.{has_year};
 
 use crate::year_set::YearSet;
 use ghg_definitions::RecordKey;

@@ -7,7 +7,8 @@ ghost use Rattle.ghg_definitions.specs.Rules.{is_other_year};
 ghost use Rattle.ghg_definitions.specs.Sound.{IsConsistent};
 ghost use Rattle.ghg_data.specs.Calendar.{dated};
 ghost use Rattle.ghg_data.specs.Changes.{applied};
-ghost use Rattle.ghg_data.specs.YearSet.{has_year, is_year};
+ghost use Rattle.ghg_units.specs.Year.{is_year};
+ghost use Rattle.ghg_data.specs.YearSet.{has_year};
 
 use crate::calendar::{Series, date_of};
 use crate::edits::Edits;

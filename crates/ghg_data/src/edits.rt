@@ -2,15 +2,20 @@
 
 ghost use Rattle.std.specs.Prelude.{◌≡◌, ℕ, ◌^◌, ◌<◌, ◌&&◌, [], Some, length, map, slice_get, option_copied, OnOk, OnErr};
 ghost use Rattle.std.specs.FinMap.{find};
+ghost use Rattle.std.specs.List.{IsDistinct};
+ghost use Rattle.std.specs.Ordering.{eq_by_cmp};
+ghost use Rattle.ghg_definitions.specs.declared.record.RecordKey.TheVariants as key;
 ghost use Rattle.ghg_definitions.specs.Data.{Data, key_cmp};
 ghost use Rattle.ghg_definitions.specs.Rows.{with_record};
 ghost use Rattle.ghg_data.specs.Calendar.{dated, is_put, is_taken};
 ghost use Rattle.ghg_data.specs.Changes.{applied};
-ghost use Rattle.ghg_data.specs.YearSet.{has_year, is_year};
+ghost use Rattle.ghg_units.specs.Year.{is_year};
+ghost use Rattle.ghg_data.specs.YearSet.{has_year};
 
 use crate::calendar::{Calendar, Series};
 use crate::year_set::YearSet;
 use ghg_definitions::{Record, RecordKey};
+use ghg_units::Name;
 use indexmap::IndexMap;
 use std::alloc::{AllocError, Global};
 use std::marker::Model;
@@ -49,9 +54,10 @@ impl Edits {
         }
     }
 
-    /// The keys that are set or removed.
+    /// The keys that are set or removed, each once.
     pub fn keys(&self) -> &[RecordKey]
-        ensures { result.now ≡ map (λ c. c.0) self.now }
+        ensures keys { result.now ≡ map (λ c. c.0) self.now }
+        ensures differ { IsDistinct (eq_by_cmp key_cmp) result.now }
     {
         self.changes.keys().as_slice()
     }
@@ -76,6 +82,16 @@ impl Edits {
         ensures { option_copied result ≡ find key_cmp key.now self.now }
     {
         self.changes.get(key)
+    }
+
+    // A line's record is removed.
+    pub(crate) fn withdraws_line(&self, name: &Name) -> bool
+        ensures { result ≡ is_taken (find key_cmp (key.Line name.now) self.now) }
+    {
+        match self.get(&RecordKey::Line(*name)) {
+            Some(change) => change.is_none(),
+            None => false,
+        }
     }
 
     // Makes one more change.

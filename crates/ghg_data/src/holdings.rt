@@ -4,11 +4,12 @@ ghost use Rattle.std.specs.Prelude.{◌≡◌, ℕ, ◌+◌, ◌^◌, ◌≤◌,
 ghost use Rattle.std.specs.FinMap as finite;
 ghost use Rattle.std.specs.FinMap.{from_entries};
 ghost use Rattle.indexmap.specs.IndexMap.{spare};
-ghost use Rattle.ghg_definitions.specs.Data.{line_names};
+ghost use Rattle.ghg_definitions.specs.Data.{key_cmp, line_names};
 ghost use Rattle.ghg_definitions.specs.Rows.{with_record};
-ghost use Rattle.ghg_data.specs.Calendar.{dated};
+ghost use Rattle.ghg_data.specs.Calendar.{IsCalendarOf, dated};
 ghost use Rattle.ghg_data.specs.Changes.{applied};
-ghost use Rattle.ghg_data.specs.YearSet.{has_year, is_year};
+ghost use Rattle.ghg_units.specs.Year.{is_year};
+ghost use Rattle.ghg_data.specs.YearSet.{has_year};
 
 use crate::calendar::{Calendar, Series};
 use crate::edits::Edits;
@@ -97,25 +98,31 @@ impl Holdings {
         Ok(())
     }
 
-    fn change(&mut self, key: RecordKey, change: Option<Record>)
-        requires { 0 < self.old.spare }
-        ensures content { self.new.content ≡ with_record self.old.content key change }
-        ensures room { self.old.spare ≤ self.new.spare + 1 }
-    {
-        change_names(&mut self.lines, &key, change.is_some());
-        self.calendar.note(&key, change.is_some());
-        drop(change_record(&mut self.records, key, change));
-    }
-
     // Makes the changes. It takes no memory.
     pub(crate) fn apply(&mut self, edits: Edits)
         requires { length edits ≤ self.old.spare }
         ensures { self.new.content ≡ applied self.old.content edits }
     {
-        let mut changes = edits.into_changes();
-        while let Some((key, change)) = changes.pop() {
-            self.change(key, change);
-        }
+        change_names(&mut self.lines, &edits);
+        change_records(&mut self.records, &mut self.calendar, edits.into_changes());
+    }
+}
+
+// Makes the changes of records, and notes their years. It takes no memory.
+fn change_records(
+    records: &mut IndexMap<RecordKey, Record>,
+    calendar: &mut Calendar,
+    mut changes: IndexMap<RecordKey, Option<Record>>,
+)
+    requires room { length changes.entries ≤ spare records.old }
+    requires years_room { length changes.entries ≤ spare calendar.old.years }
+    requires years { IsCalendarOf (λ k. is_some (finite.get {R = key_cmp} (from_entries records.old.entries) k)) calendar.old }
+    ensures content { from_entries records.new.entries ≡ applied (from_entries records.old.entries) changes.entries }
+    ensures years { IsCalendarOf (λ k. is_some (finite.get {R = key_cmp} (from_entries records.new.entries) k)) calendar.new }
+{
+    while let Some((key, change)) = changes.pop() {
+        calendar.note(&key, change.is_some());
+        drop(change_record(records, key, change));
     }
 }
 

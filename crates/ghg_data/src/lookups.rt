@@ -16,14 +16,16 @@ use ghg_units::{Amount, Decimal, Figure, Name, NotationKey, Unit, to_interval};
 
 /// What an activity's record of the year gives.
 pub(crate) fn activity<R: Records>(records: &R, name: &Name, year: u32) -> Input
-    ensures { result ≡ activity_input (R.content records.now) name.now year }
+    ensures input { result ≡ activity_input (R.content records.now) name.now year }
+    ensures workbook { IsWorkbook (R.content records.now) }
 {
     input(figure(records, &RecordKey::Activity(*name, year)))
 }
 
 /// What a factor's record with the greatest start year that is not after the year gives.
 pub(crate) fn factor<R: Records>(records: &R, name: &Name, year: u32) -> Input
-    ensures { result ≡ factor_input (R.content records.now) name.now year }
+    ensures input { result ≡ factor_input (R.content records.now) name.now year }
+    ensures workbook { IsWorkbook (R.content records.now) }
 {
     match records.start_year(name, year) {
         Some(start) => input(figure(records, &RecordKey::Factor(*name, start))),

@@ -1,10 +1,8 @@
 //! The names of lines, each once and in order.
 
-ghost use Rattle.std.specs.Prelude.{◌≡◌, ◌+◌, ◌≤◌, ◌<◌, IfOk, vec_len, vec_capacity};
-ghost use Rattle.std.specs.List.Sorted.{IsStrictlySortedBy};
-ghost use Rattle.ghg_definitions.specs.Data.{line_names, name_cmp};
+ghost use Rattle.std.specs.Prelude.{◌≡◌, ◌+◌, ◌≤◌, ◌++◌, IfOk, length, filter_map, vec_len, vec_capacity};
+ghost use Rattle.ghg_definitions.specs.Data.{Data, line_name, line_names};
 ghost use Rattle.ghg_data.specs.Changes.{applied};
-ghost use Rattle.ghg_data.specs.Names.{names_after, with_name, without_name};
 
 use crate::edits::Edits;
 use crate::holdings::Holdings;
@@ -23,49 +21,31 @@ pub(crate) fn lines_after(
     let before = holdings.lines();
     let mut lines = Vec::with_capacity(alloc, before.len() + edits.len())?;
     lines.extend_from_slice(before)?;
-    for i in (0..edits.len()).rev() {
-        let (key, change) = edits.at(i);
-        change_names(&mut lines, key, change.is_some());
-    }
+    change_names(&mut lines, edits);
     Ok(lines)
 }
 
-// Makes the names those of the lines once the key has a record, or has none. It takes no memory.
-pub(crate) fn change_names(names: &mut Vec<Name>, key: &RecordKey, present: bool)
-    requires order { IsStrictlySortedBy name_cmp names.old.items }
-    requires room { vec_len names.old < vec_capacity names.old }
-    ensures items { names.new.items ≡ names_after key.now present names.old.items }
-    ensures len { vec_len names.new ≤ vec_len names.old + 1 }
+// Makes the names of the lines those once the edits are made. It sorts them once, and takes no memory.
+pub(crate) fn change_names(names: &mut Vec<Name>, edits: &Edits)
+    requires { vec_len names.old + length edits.now ≤ vec_capacity names.old }
+    ensures items { (m : Data) → names.old.items ≡ line_names m → names.new.items ≡ line_names (applied m edits.now) }
     ensures capacity { vec_capacity names.new ≡ vec_capacity names.old }
 {
-    if let RecordKey::Line(name) = key {
-        if present {
-            put_name(names, name);
-        } else {
-            take_name(names, name);
+    add_lines(names, edits.keys());
+    names.retain(|name| !edits.withdraws_line(name));
+    names.sort_unstable();
+    names.dedup();
+}
+
+// Adds the names of the lines that the keys are about. It takes no memory.
+fn add_lines(names: &mut Vec<Name>, keys: &[RecordKey])
+    requires { vec_len names.old + length keys.now ≤ vec_capacity names.old }
+    ensures items { names.new.items ≡ names.old.items ++ filter_map line_name keys.now }
+    ensures capacity { vec_capacity names.new ≡ vec_capacity names.old }
+{
+    for key in keys {
+        if let RecordKey::Line(name) = key {
+            names.push_reserved(*name);
         }
-    }
-}
-
-fn put_name(names: &mut Vec<Name>, name: &Name)
-    requires order { IsStrictlySortedBy name_cmp names.old.items }
-    requires room { vec_len names.old < vec_capacity names.old }
-    ensures items { names.new.items ≡ with_name name.now names.old.items }
-    ensures len { vec_len names.new ≤ vec_len names.old + 1 }
-    ensures capacity { vec_capacity names.new ≡ vec_capacity names.old }
-{
-    if let Err(place) = names.binary_search(name) {
-        names.insert(place, *name).unwrap();
-    }
-}
-
-fn take_name(names: &mut Vec<Name>, name: &Name)
-    requires order { IsStrictlySortedBy name_cmp names.old.items }
-    ensures items { names.new.items ≡ without_name name.now names.old.items }
-    ensures len { vec_len names.new ≤ vec_len names.old }
-    ensures capacity { vec_capacity names.new ≡ vec_capacity names.old }
-{
-    if let Ok(place) = names.binary_search(name) {
-        names.remove(place);
     }
 }

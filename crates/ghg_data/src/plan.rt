@@ -10,7 +10,7 @@ ghost use Rattle.ghg_definitions.specs.Rules.{judged, planned, row_fault, rows_a
 ghost use Rattle.ghg_definitions.specs.Sound.{IsConsistent, IsWorkbook};
 ghost use Rattle.ghg_data.specs.Changes.{applied};
 ghost use Rattle.ghg_data.specs.Counts.{count_after, line_count_after};
-ghost use Rattle.ghg_data.specs.Refusal.{IfRule};
+ghost use Rattle.ghg_data.specs.Refusal.{IfRule, IsPlanOf};
 
 use crate::bindings::unsound_place;
 use crate::draft::Draft;
@@ -41,7 +41,7 @@ pub(crate) fn planned_edits(
 ) -> Result<Edits, PlanRefusal>
     requires workbook { IsWorkbook holdings.now.content }
     requires well_formed { AllByRecursion IsWellFormed rows.now }
-    ensures planned { MatchResult result (λ edits. planned holdings.now.content rows.now rest kept_bytes ≡ Ok (applied holdings.now.content edits)) (IfRule (λ rule. planned holdings.now.content rows.now rest kept_bytes ≡ Err rule)) }
+    ensures planned { IsPlanOf (planned holdings.now.content rows.now rest kept_bytes) holdings.now.content result }
     ensures after { IfOk result (λ edits. applied holdings.now.content edits ≡ after holdings.now.content rows.now) }
     ensures workbook { IfOk result (λ edits. IsWorkbook (applied holdings.now.content edits)) }
 {

@@ -1,19 +1,22 @@
 //! What reads as the records of a workbook.
 
-ghost use Rattle.std.specs.Prelude.{◌≡◌, IfOk, option_copied};
+ghost use Rattle.std.specs.Prelude.{◌≡◌, true, IfOk, option_copied};
 ghost use Rattle.std.specs.FinMap.{get};
 ghost use Rattle.std.specs.Option.{option_map};
 ghost use Rattle.std.specs.List.Sorted.{IsStrictlySortedBy};
+ghost use Rattle.ghg_units.specs.Parameter.{is_parameter};
 ghost use Rattle.ghg_definitions.specs.declared.record.RecordKey.TheVariants as key;
+ghost use Rattle.ghg_definitions.specs.Choices.{HoldsSource};
 ghost use Rattle.ghg_definitions.specs.Data.{Data, binding, category, line, line_names, name_cmp, span};
-ghost use Rattle.ghg_definitions.specs.Lookups.{activity_input, factor_input, factor_key};
+ghost use Rattle.ghg_definitions.specs.Lookups.{activity, activity_input, factor, factor_input, factor_key};
 ghost use Rattle.ghg_definitions.specs.Sound.{IsWorkbook};
 
 use crate::lookups;
+use crate::parameters::name_of;
 use ghg_categories::Category;
 use ghg_cell::Input;
 use ghg_definitions::{Record, RecordKey};
-use ghg_equations::EqId;
+use ghg_equations::{EqId, Param};
 use ghg_units::{Binding, Name, ParamName, Span};
 use std::alloc::{AllocError, Global};
 
@@ -64,18 +67,29 @@ pub trait Records {
         }
     }
 
-    /// What an activity gives in a year: the figures of the year's record in the base unit. Blank where there is no
-    /// record, or where it is not estimated.
+    /// What a parameter of a line's equation is bound to; `None` exactly where nothing binds it.
+    final fn bound(&self, line: &Name, param: &Param) -> Option<&Binding>
+        requires { is_parameter param.now.name.now ≡ true }
+        ensures { option_copied result ≡ binding (content self.now) line.now param.now.name.now }
+    {
+        self.binding(line, &name_of(param))
+    }
+
+    /// What an activity gives in a year: the figures of the year's record in the base unit, so that at every choice
+    /// within the supplied bounds what is chosen is inside the range. Blank where there is no record, or where it is not
+    /// estimated.
     final fn activity(&self, name: &Name, year: u32) -> Input
-        ensures { result ≡ activity_input (content self.now) name.now year }
+        ensures input { result ≡ activity_input (content self.now) name.now year }
+        ensures holds { HoldsSource (content self.now) (activity (content self.now) name.now year) result }
     {
         lookups::activity(self, name, year)
     }
 
     /// What a factor gives in a year: the figures in the base unit of the record with the greatest start year that
-    /// is not after the year. Blank where there is none, or where it is not estimated.
+    /// is not after the year, which hold what is chosen likewise. Blank where there is none, or where it is not estimated.
     final fn factor(&self, name: &Name, year: u32) -> Input
-        ensures { result ≡ factor_input (content self.now) name.now year }
+        ensures input { result ≡ factor_input (content self.now) name.now year }
+        ensures holds { HoldsSource (content self.now) (factor (content self.now) name.now year) result }
     {
         lookups::factor(self, name, year)
     }

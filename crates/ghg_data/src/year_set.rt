@@ -2,7 +2,8 @@
 
 ghost use Rattle.std.specs.Prelude.{◌≡◌, ℕ, ◌≤◌, ◌<◌, Bool, true, false, cond, not, ◌&&◌, ◌||◌, ◌==◌, MatchOption};
 ghost use Rattle.std.specs.Bool.{OnTrue};
-ghost use Rattle.ghg_data.specs.YearSet.{has_bit, has_place, has_year, is_year};
+ghost use Rattle.ghg_units.specs.Year.{is_year};
+ghost use Rattle.ghg_data.specs.YearSet.{has_bit, has_place, has_year};
 
 // The first year that a record may be of.
 const FIRST_YEAR: u32 = 1900;

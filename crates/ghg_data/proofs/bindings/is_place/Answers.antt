@@ -2,7 +2,7 @@ use Rattle.std.proofs.Common.{◌≡◌, false, ◌||◌, Bor, Option, None, Som
 use Rattle.std.specs.Option.{option_map_or}
 use Rattle.ghg_definitions.specs.Data.{binding, line}
 use Rattle.ghg_data.specs.Faults.{takes}
-use Rattle.ghg_data.proofs.Parameters.{takes_found}
+use Rattle.ghg_data.proofs.EquationParameters.{takes_found}
 use Rattle.ghg_data.proofs.bindings.is_place.Goals as goal
 
 copied_some : {X : Type 0} (o : Option (Bor X)) → is_some (option_copied o) ≡ is_some o

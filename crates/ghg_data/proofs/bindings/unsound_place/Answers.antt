@@ -12,6 +12,6 @@ returns c =
     let draft = c.of-draft.result in
     c.consider_keys.ensures
     ∙ ap (λ least. fold (considered draft) least (flat_map (key_places draft) c.keys.result.now)) c.consider_unsettled.ensures
-    ∙ ap (λ ks. fold (considered draft) (fold (considered draft) None (unsettled_places m cs)) (flat_map (key_places draft) ks)) c.keys.ensures
+    ∙ ap (λ ks. fold (considered draft) (fold (considered draft) None (unsettled_places m cs)) (flat_map (key_places draft) ks)) c.keys.ensures.keys
     ∙ ap (λ (n : Data). fold (considered n) (fold (considered n) None (unsettled_places m cs)) (flat_map (key_places n) (map (λ d. d.0) cs))) c.of-draft.ensures
     ∙ least_of_both m c.requires.workbook cs c.requires.consistent

@@ -4,7 +4,7 @@ use Rattle.ghg_definitions.specs.Data.{key_cmp}
 use Rattle.ghg_definitions.specs.Rows.{with_record}
 use Rattle.ghg_data.specs.Calendar.{dated, has_date}
 use Rattle.ghg_data.specs.Changes.{applied}
-use Rattle.ghg_data.specs.YearSet.{is_year}
+use Rattle.ghg_units.specs.Year.{is_year}
 use Rattle.ghg_data.proofs.Applied.{applied-put, on_ok}
 use Rattle.ghg_data.proofs.Calendars.{changed_at, opposite, put_noted, taken_noted}
 use Rattle.ghg_data.proofs.edits.Edits.put.Goals as goal

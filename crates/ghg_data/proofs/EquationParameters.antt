@@ -1,6 +1,6 @@
 -- The parameters of equations, as the code has them and as the table names them.
-use Rattle.std.proofs.Common.{◌≡◌, Bool, true, false, cond, ◌||◌, List, [], ◌∷◌, map, Option, Some, None, is_some, refl, sym, ap, subst}
-use Rattle.std.specs.List.{AllByRecursion, find, list_any}
+use Rattle.std.proofs.Common.{◌≡◌, Bool, true, false, cond, ◌||◌, ◌&&◌, List, [], ◌∷◌, map, Option, Some, None, is_some, refl, sym, ap, subst}
+use Rattle.std.specs.List.{AllByRecursion, find, list_all, list_any}
 use Rattle.std.specs.Option.{option_map, option_map_or}
 use Rattle.std.specs.Str.{bytes_eq}
 use Rattle.ghg_equations.specs.declared.eq_id.EqId.{EqId}
@@ -8,13 +8,11 @@ use Rattle.ghg_equations.specs.declared.eq_id.EqId.TheVariants.{Q10}
 use Rattle.ghg_equations.specs.declared.quantity.Dim.{Dim}
 use Rattle.ghg_equations.specs.declared.row.Equation.{Equation}
 use Rattle.ghg_equations.specs.declared.row.Param.{Param}
-use Rattle.ghg_equations.specs.Table.{Quantity, ◌of◌, parameters, row, seen}
+use Rattle.ghg_equations.specs.Table.{Quantity, parameters, row, seen}
 use Rattle.ghg_units.specs.Parameter.{is_parameter}
 use Rattle.ghg_definitions.specs.Data.{Name}
 use Rattle.ghg_data.specs.Faults.{takes}
-
-abbrev quantity : Param → Quantity
-quantity p = p.name.now of p.dim
+use Rattle.ghg_data.specs.Parameters.{quantity}
 
 pub parameters_seen : (e : Equation) (id : EqId) → seen e ≡ row id → map quantity e.params.now ≡ parameters id
 parameters_seen e id is = ap (λ r. r.parameters) is
@@ -47,9 +45,25 @@ by_dim f (Some q) d e = ap f (same d q.dim e)
     same : (a b : Dim) → Some a ≡ Some b → a ≡ b
     same a b e = cc
 
--- each parameter's name is one
+pub by_none : (f : Dim → Bool) (o : Option Quantity) → None ≡ option_map (λ (q : Quantity). q.dim) o → false ≡ option_map_or (λ q. f q.dim) o false
+by_none f None e = refl
+by_none f (Some q) e = absurd (cc)
+
+-- each parameter's name is one, by computation, each code in a case of its own
+named_parameters : (id : EqId) → list_all (λ q. is_parameter q.name) (parameters id) ≡ true
+named_parameters Q10 = refl
+named_parameters _ = refl
+
+each_passes : {X : Type 0} (p : X → Bool) (xs : List X) → list_all p xs ≡ true → AllByRecursion (λ x. p x ≡ true) xs
+each_passes p [] e = tt
+each_passes p (x ∷ xs) e = ((two (p x) (list_all p xs) e).0, each_passes p xs (two (p x) (list_all p xs) e).1)
+  where
+    two : (a b : Bool) → a && b ≡ true → (a ≡ true) × (b ≡ true)
+    two true b e = (refl, e)
+    two false b e = absurd (cc)
+
 are_parameters : (id : EqId) → AllByRecursion (λ q. is_parameter q.name ≡ true) (parameters id)
-are_parameters Q10 = (refl, (refl, tt))
+are_parameters id = each_passes (λ q. is_parameter q.name) (parameters id) (named_parameters id)
 
 all_seen : (ps : List Param) → AllByRecursion (λ q. is_parameter q.name ≡ true) (map quantity ps) → AllByRecursion (λ (q : Param). is_parameter q.name.now ≡ true) ps
 all_seen [] h = tt
