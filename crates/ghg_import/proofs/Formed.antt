@@ -27,7 +27,7 @@ use Rattle.ghg_units.specs.Decimal.{decimal_in, number_of}
 use Rattle.ghg_units.specs.Name.{factor_name_in, is_digit, is_name, is_potential_name, name_in, plain_name_in}
 use Rattle.ghg_units.specs.Parameter.{parameter_in}
 use Rattle.ghg_units.specs.Units.{converted, interval_in, unit_in}
-use Rattle.ghg_units.specs.WellFormed.{IsAmountOf, IsBinding, IsFactorName, IsForm, IsLeaf, IsPlainName, IsWellFormed, IsYear, withdraws}
+use Rattle.ghg_units.specs.WellFormed.{IsAmountOf, IsBinding, IsFactorName, IsForm, IsLeaf, IsPlainName, IsSum, IsWellFormed, IsYear, withdraws}
 use Rattle.ghg_units.specs.Words.{act_in, key_in}
 use Rattle.ghg_units.specs.Year.{year_in}
 use Rattle.ghg_import.specs.declared.fault.Fault.{Fault}
@@ -38,11 +38,12 @@ use Rattle.ghg_import.specs.declared.kind.BindingForm.TheVariants as targets
 use Rattle.ghg_import.specs.declared.kind.Kind.{Kind}
 use Rattle.ghg_import.specs.declared.kind.Kind.TheVariants as kinds
 use Rattle.ghg_import.specs.Fault.{◌>>=◌}
-use Rattle.ghg_import.specs.Forms.{IsDated, activity_in, amount_in, bind_in, content_in, dated_figure_in, empty_at, factor_in, form_in, key_alone_in, key_or, known_in, leaf_in, line_in, no_value_in, quantity_in, span_in, target_in}
+use Rattle.ghg_import.specs.Forms.{IsDated, activity_in, amount_in, bind_in, content_in, dated_figure_in, empty_at, factor_in, form_in, key_alone_in, key_or, known_in, is_sum, leaf_in, line_in, names_in, no_value_in, parts_of, quantity_in, span_in, target_in}
 use Rattle.ghg_import.specs.Body.{records_of}
 use Rattle.ghg_import.specs.Kinds.{binding_form_in, kind_in}
 use Rattle.ghg_import.specs.Reading.{Reading, is_header, no_header, numbered, reading_of, row_content, row_in, rows_from, then_rows, under_header}
 use Rattle.ghg_import.specs.Shape.{Texts, columns_in}
+use Rattle.ghg_import.proofs.Sums.{sum_formed}
 
 -- ---- steps
 
@@ -242,18 +243,23 @@ line_formed act row =
     step (empty_at columns.Low row.low) _ P (λ _ _. step (empty_at columns.High row.high) _ P (λ _ _. step (empty_at columns.Unit row.unit) _ P (λ _ _.
     (here, plain_name row.name name n, leaf row.subject c l)))))))))
 
+-- a binding to what was read
+bound_to : {A : Type 0} (f : A → Binding) (o : Option A) (b : Binding) → option_map f o ≡ Some b → (x : A) × (o ≡ Some x) × (f x ≡ b)
+bound_to f None b e = absurd (cc)
+bound_to f (Some x) b e = (x, refl, cc)
+
+sum_named : (text : List ℕ) (names : List (List ℕ)) → names_in text ≡ Some names → IsSum names
+unfolding names_in
+sum_named text names e = let test = chosen (is_sum (parts_of text)) (parts_of text) names e in subst IsSum test.1 (sum_formed (parts_of text) test.0)
+
 target_formed : (form : BindingForm) (text : List ℕ) (b : Binding) → target_in form text ≡ Some b → IsBinding b
 unfolding target_in
-target_formed targets.Activity text b e = by (plain_name_in text) refl e
-  where
-    by : (o : Option (List ℕ)) → plain_name_in text ≡ o → option_map bound.Activity o ≡ Some b → IsBinding b
-    by None n e = absurd (cc)
-    by (Some name) n e = let same : bound.Activity name ≡ b = cc in subst IsBinding same (plain_name text name n)
-target_formed targets.Factor text b e = by (plain_name_in text) refl e
-  where
-    by : (o : Option (List ℕ)) → plain_name_in text ≡ o → option_map bound.Factor o ≡ Some b → IsBinding b
-    by None n e = absurd (cc)
-    by (Some name) n e = let same : bound.Factor name ≡ b = cc in subst IsBinding same (plain_name text name n)
+target_formed targets.Activity text b e = let to = bound_to bound.Activity (plain_name_in text) b e in subst IsBinding to.2 (plain_name text to.0 to.1)
+target_formed targets.Factor text b e = let to = bound_to bound.Factor (plain_name_in text) b e in subst IsBinding to.2 (plain_name text to.0 to.1)
+target_formed targets.Line text b e = let to = bound_to bound.Line (plain_name_in text) b e in subst IsBinding to.2 (plain_name text to.0 to.1)
+target_formed targets.Prev text b e = let to = bound_to bound.Prev (plain_name_in text) b e in subst IsBinding to.2 (plain_name text to.0 to.1)
+target_formed targets.Sum text b e = let to = bound_to bound.Sum (names_in text) b e in subst IsBinding to.2 (sum_named text to.0 to.1)
+target_formed targets.Key text b e = let to = bound_to bound.Key (key_in text) b e in subst IsBinding to.2 tt
 
 bind_formed : (act : Act) (row : Texts) → IfOk (bind_in act row) (IsForm (withdraws act))
 unfolding bind_in

@@ -1,5 +1,6 @@
 -- What each column of a row may hold, kind by kind: the words from left to right, then the numbers from left to right.
-use Rattle.std.specs.Prelude.{◌≡◌, ℕ, Bool, true, false, List, length, ◌==◌, ◌||◌, ◌&&◌, nat_lt, int_lt, Option, Some, None, option_and_then, Result, Ok, Err, is_err, is_some, if◌then◌else◌}
+use Rattle.std.specs.Prelude.{◌≡◌, ℕ, Bool, true, false, List, length, ◌==◌, ◌||◌, ◌&&◌, nat_le, nat_lt, int_lt, Option, Some, None, option_and_then, Result, Ok, Err, is_err, is_some, if◌then◌else◌}
+use Rattle.std.specs.List.{list_all, slice_split}
 use Rattle.std.specs.Option.{ok_or, option_map}
 use Rattle.ghg_categories.specs.declared.category.Category.{Category}
 use Rattle.ghg_categories.specs.Tree.{is_leaf_of, named_in}
@@ -21,7 +22,7 @@ use Rattle.ghg_units.specs.Decimal.{decimal_in}
 use Rattle.ghg_units.specs.Name.{factor_name_in, plain_name_in}
 use Rattle.ghg_units.specs.Parameter.{parameter_in}
 use Rattle.ghg_units.specs.Units.{interval_in, unit_in}
-use Rattle.ghg_units.specs.WellFormed.{IsFigure, IsYear, withdraws}
+use Rattle.ghg_units.specs.WellFormed.{IsFigure, IsYear, are_different, most_parts, withdraws}
 use Rattle.ghg_units.specs.Words.{act_in, key_in}
 use Rattle.ghg_units.specs.Year.{year_in}
 use Rattle.ghg_import.specs.declared.fault.Fault.{Fault}
@@ -152,10 +153,26 @@ line_in act row =
       _ ← empty_at columns.Unit row.unit
       Ok (forms.Line name (Some (category, equation))))
 
+-- 1 to 400 different plain names
+abbrev pub is_sum : List (List ℕ) → Bool
+is_sum names = nat_le 1 (length names) && nat_le (length names) most_parts && list_all (λ name. is_some (plain_name_in name)) names && are_different names
+
+-- the texts between the spaces of a text: with exactly one space between two names, none of them is empty
+abbrev pub parts_of : List ℕ → List (List ℕ)
+parts_of text = slice_split (λ b. b == 32) text
+
+-- the lines that a text names for a sum
+unfoldable pub names_in : List ℕ → Option (List (List ℕ))
+names_in text = if is_sum (parts_of text) then Some (parts_of text) else None
+
 -- what a text names as the target of a binding
 unfoldable pub target_in : BindingForm → List ℕ → Option Binding
 target_in targets.Activity text = option_map bound.Activity (plain_name_in text)
 target_in targets.Factor text = option_map bound.Factor (plain_name_in text)
+target_in targets.Line text = option_map bound.Line (plain_name_in text)
+target_in targets.Prev text = option_map bound.Prev (plain_name_in text)
+target_in targets.Sum text = option_map bound.Sum (names_in text)
+target_in targets.Key text = option_map bound.Key (key_in text)
 
 -- a line, a parameter, the form of its binding and the target
 unfoldable pub bind_in : Act → Texts → Result RowForm Fault

@@ -21,4 +21,8 @@ abbrev pub binding_form_in : List ℕ → Option BindingForm
 binding_form_in text =
     if bytes_eq text (codes "activity") then Some targets.Activity
     else if bytes_eq text (codes "factor") then Some targets.Factor
+    else if bytes_eq text (codes "line") then Some targets.Line
+    else if bytes_eq text (codes "prev") then Some targets.Prev
+    else if bytes_eq text (codes "sum") then Some targets.Sum
+    else if bytes_eq text (codes "key") then Some targets.Key
     else None

@@ -6,42 +6,45 @@ ghost use Rattle.std.specs.Prelude.{◌≡◌, IfOk, IfSome};
 ghost use Rattle.ghg_interval.specs.Bounds.{AreBounded};
 ghost use Rattle.ghg_units.specs.Units.{converted};
 ghost use Rattle.ghg_units.specs.WellFormed.{IsAmountOf, IsBinding, IsForm, IsLeaf, withdraws};
+ghost use Rattle.ghg_import.specs.Fault.{Gives};
 ghost use Rattle.ghg_import.specs.Shape.{texts};
 ghost use Rattle.ghg_import.specs.Forms.{IsDated, activity_in, amount_in, bind_in, content_in, dated_figure_in, empty_at, factor_in, form_in, key_alone_in, known_in, leaf_in, line_in, no_value_in, quantity_in, span_in, target_in};
 
 use crate::columns::Columns;
-use crate::fault::Fault;
+use crate::fault::{Fault, ReadError};
 use crate::kind::{BindingForm, Kind, binding_form_named, kind_named};
+use crate::sum::names_named;
 use ghg_categories::{Category, is_leaf};
 use ghg_equations::eq_named;
 use ghg_units::{
     Act, Amount, Binding, Column, Decimal, Figure, Name, ParamName, RowForm, Span, Unit, act_named,
     key_named, read_decimal, read_year, to_interval, unit_named,
 };
+use std::alloc::{AllocError, Global};
 
 /// What a row says, or the first rule that it breaks.
 #[tactic(auto, unfolding(crate::specs::Forms::content_in))]
-pub(crate) fn content(row: Columns<'_>) -> Result<(Act, RowForm), Fault>
-    ensures reads { result ≡ content_in (texts row.entry) }
+pub(crate) fn content(alloc: Global, row: Columns<'_>) -> Result<(Act, RowForm), ReadError>
+    ensures reads { Gives result (content_in (texts row.entry)) }
     ensures keeps { IfOk result (λ content. IsForm (withdraws content.0) content.1) }
 {
     let act = act_named(row.act).ok_or(Fault::Word(Column::Act))?;
     let kind = kind_named(row.kind).ok_or(Fault::Word(Column::Kind))?;
-    let form = form(kind, act, row)?;
+    let form = form(alloc, kind, act, row)?;
     Ok((act, form))
 }
 
 #[tactic(auto, unfolding(crate::specs::Forms::form_in))]
-fn form(kind: Kind, act: Act, row: Columns<'_>) -> Result<RowForm, Fault>
-    ensures reads { result ≡ form_in kind act (texts row.entry) }
+fn form(alloc: Global, kind: Kind, act: Act, row: Columns<'_>) -> Result<RowForm, ReadError>
+    ensures reads { Gives result (form_in kind act (texts row.entry)) }
     ensures keeps { IfOk result (IsForm (withdraws act)) }
 {
     match kind {
-        Kind::Span => span(act, row),
-        Kind::Activity => activity(act, row),
-        Kind::Factor => factor(act, row),
-        Kind::Line => line(act, row),
-        Kind::Bind => bind(act, row),
+        Kind::Span => Ok(span(act, row)?),
+        Kind::Activity => Ok(activity(act, row)?),
+        Kind::Factor => Ok(factor(act, row)?),
+        Kind::Line => Ok(line(act, row)?),
+        Kind::Bind => bind(alloc, act, row),
     }
 }
 
@@ -199,8 +202,8 @@ fn line(act: Act, row: Columns<'_>) -> Result<RowForm, Fault>
 }
 
 #[tactic(auto, unfolding(crate::specs::Forms::bind_in))]
-fn bind(act: Act, row: Columns<'_>) -> Result<RowForm, Fault>
-    ensures reads { result ≡ bind_in act (texts row.entry) }
+fn bind(alloc: Global, act: Act, row: Columns<'_>) -> Result<RowForm, ReadError>
+    ensures reads { Gives result (bind_in act (texts row.entry)) }
     ensures keeps { IfOk result (IsForm (withdraws act)) }
 {
     let line = Name::plain(row.subject).ok_or(Fault::Word(Column::Subject))?;
@@ -211,7 +214,7 @@ fn bind(act: Act, row: Columns<'_>) -> Result<RowForm, Fault>
         return Ok(RowForm::Bind(line, parameter, None));
     }
     let form = binding_form_named(row.value).ok_or(Fault::Word(Column::Value))?;
-    let binding = target(form, row.low).ok_or(Fault::Word(Column::Low))?;
+    let binding = target(alloc, form, row.low)?.ok_or(Fault::Word(Column::Low))?;
     empty(row.high, Column::High)?;
     empty(row.unit, Column::Unit)?;
     Ok(RowForm::Bind(line, parameter, Some(binding)))
@@ -219,13 +222,17 @@ fn bind(act: Act, row: Columns<'_>) -> Result<RowForm, Fault>
 
 // What a text names as the target of a binding.
 #[tactic(auto, unfolding(crate::specs::Forms::target_in))]
-fn target(form: BindingForm, text: &[u8]) -> Option<Binding>
-    ensures reads { result ≡ target_in form text.now }
-    ensures keeps { IfSome result IsBinding }
+fn target(alloc: Global, form: BindingForm, text: &[u8]) -> Result<Option<Binding>, AllocError>
+    ensures reads { IfOk result (λ binding. binding ≡ target_in form text.now) }
+    ensures keeps { IfOk result (λ binding. IfSome binding IsBinding) }
 {
     match form {
-        BindingForm::Activity => Some(Binding::Activity(Name::plain(text)?)),
-        BindingForm::Factor => Some(Binding::Factor(Name::plain(text)?)),
+        BindingForm::Activity => Ok(Name::plain(text).map(|name| Binding::Activity(name))),
+        BindingForm::Factor => Ok(Name::plain(text).map(|name| Binding::Factor(name))),
+        BindingForm::Line => Ok(Name::plain(text).map(|name| Binding::Line(name))),
+        BindingForm::Prev => Ok(Name::plain(text).map(|name| Binding::Prev(name))),
+        BindingForm::Sum => Ok(names_named(alloc, text)?.map(|names| Binding::Sum(names))),
+        BindingForm::Key => Ok(key_named(text).map(|key| Binding::Key(key))),
     }
 }
 

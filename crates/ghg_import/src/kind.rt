@@ -37,6 +37,10 @@ pub(crate) fn kind_named(text: &[u8]) -> Option<Kind>
 pub(crate) enum BindingForm {
     Activity,
     Factor,
+    Line,
+    Prev,
+    Sum,
+    Key,
 }
 
 /// The form of a binding that a word names.
@@ -47,6 +51,14 @@ pub(crate) fn binding_form_named(text: &[u8]) -> Option<BindingForm>
         Some(BindingForm::Activity)
     } else if text == b"factor".as_slice() {
         Some(BindingForm::Factor)
+    } else if text == b"line".as_slice() {
+        Some(BindingForm::Line)
+    } else if text == b"prev".as_slice() {
+        Some(BindingForm::Prev)
+    } else if text == b"sum".as_slice() {
+        Some(BindingForm::Sum)
+    } else if text == b"key".as_slice() {
+        Some(BindingForm::Key)
     } else {
         None
     }

@@ -8,6 +8,7 @@ mod kind;
 mod laws;
 mod reader;
 mod rows;
+mod sum;
 
 pub use laws::{each_form_is_its_row_of_the_table, rows_are_well_formed};
 pub use rows::{MAX_BODY, Rows, is_too_long, read_rows};

@@ -5,11 +5,12 @@ ghost use Rattle.std.specs.List.{AllByRecursion};
 ghost use Rattle.csv.specs.Records.{fields_of};
 ghost use Rattle.ghg_units.specs.WellFormed.{IsForm, IsWellFormed, withdraws};
 ghost use Rattle.ghg_import.specs.Body.{max_body};
+ghost use Rattle.ghg_import.specs.Fault.{Gives};
 ghost use Rattle.ghg_import.specs.Reading.{no_header, reading_of, row_content, rows_from, under_header};
 ghost use Rattle.ghg_import.specs.Told.{Tells};
 
 use crate::columns::{columns_of, is_header};
-use crate::fault::Fault;
+use crate::fault::{Fault, ReadError};
 use crate::form::content;
 use crate::reader::RecordReader;
 use csv::ByteRecord;
@@ -82,9 +83,10 @@ fn rows_under_header(
     let mut rows = Vec::new(alloc);
     let mut number = 1;
     'records: while records.next(&mut fields)? {
-        match row_content(&fields) {
+        match row_content(alloc, &fields) {
             Ok((act, form)) => rows.push(Row { number, act, form })?,
-            Err(fault) => {
+            Err(ReadError::Memory) => return Err(AllocError),
+            Err(ReadError::Fault(fault)) => {
                 let rest = Some(fault.at(number));
                 return Ok(Rows { rows, rest });
             }
@@ -96,10 +98,10 @@ fn rows_under_header(
 
 // What a record says, or the first rule that it breaks.
 #[tactic(auto, unfolding(crate::specs::Reading::row_content))]
-fn row_content(fields: &ByteRecord) -> Result<(Act, RowForm), Fault>
-    ensures reads { result ≡ row_content (fields_of fields.now) }
+fn row_content(alloc: Global, fields: &ByteRecord) -> Result<(Act, RowForm), ReadError>
+    ensures reads { Gives result (row_content (fields_of fields.now)) }
     ensures keeps { IfOk result (λ content. IsForm (withdraws content.0) content.1) }
 {
     let columns = columns_of(fields).ok_or(Fault::Shape)?;
-    content(columns)
+    content(alloc, columns)
 }

@@ -5,7 +5,7 @@ ghost use Rattle.std.specs.Prelude.{◌≤ℤ◌, pos};
 use crate::{Rows, is_too_long, read_rows};
 use ghg_categories::Category;
 use ghg_equations::EqId;
-use ghg_units::{Act, Amount, Binding, Decimal, NotationKey, RowForm, Unit, append_rule};
+use ghg_units::{Act, Amount, Binding, Decimal, Name, NotationKey, RowForm, Unit, append_rule};
 use std::alloc::{AllocError, Global};
 use std::process::Abort;
 use std::str;
@@ -156,7 +156,7 @@ fn the_first_broken_rule_is_named_with_its_leftmost_column(rt: HostRuntime) -> R
             "5 UnknownWord row 2 column year",
         ),
         (
-            "enter,line,1A1a,B.,,Q11,,,,",
+            "enter,line,1A1a,B.,,Q1,,,,",
             "5 UnknownWord row 2 column value",
         ),
         (
@@ -172,7 +172,7 @@ fn the_first_broken_rule_is_named_with_its_leftmost_column(rt: HostRuntime) -> R
             "5 UnknownWord row 2 column name",
         ),
         (
-            "enter,bind,LA,FC,,prev,A,,,",
+            "enter,bind,LA,FC,,decay,A,,,",
             "5 UnknownWord row 2 column value",
         ),
         (
@@ -482,5 +482,142 @@ fn a_note_is_text_too(rt: HostRuntime) -> Result<(), Fail> {
     let (rows, rule) = reading(&rt, rt.alloc(), &body)?;
     assert_eq!(rt; rows, 0);
     assert_eq!(rt; word(&rule), "4 BadShape row 1");
+    Ok(())
+}
+
+// The word of a form, and the names of its target.
+fn target_of(alloc: Global, form: &str, names: &[Name]) -> Result<Vec<u8>, AllocError> {
+    let mut text = Vec::from_slice(alloc, form.as_bytes())?;
+    for name in names {
+        text.push(b' ')?;
+        text.extend_from_slice(name.as_bytes())?;
+    }
+    Ok(text)
+}
+
+// The word of a binding's form and its target, with one space between two words.
+fn binding_text(alloc: Global, binding: &Binding) -> Result<Vec<u8>, AllocError> {
+    match binding {
+        Binding::Activity(name) => target_of(alloc, "activity", &[*name]),
+        Binding::Factor(name) => target_of(alloc, "factor", &[*name]),
+        Binding::Line(name) => target_of(alloc, "line", &[*name]),
+        Binding::Prev(name) => target_of(alloc, "prev", &[*name]),
+        Binding::Sum(names) => target_of(alloc, "sum", names.as_slice()),
+        Binding::Decay(name) => target_of(alloc, "decay", &[*name]),
+        Binding::Key(NotationKey::No) => Vec::from_slice(alloc, b"key NO"),
+        Binding::Key(NotationKey::Na) => Vec::from_slice(alloc, b"key NA"),
+        Binding::Key(NotationKey::Ie) => Vec::from_slice(alloc, b"key IE"),
+        Binding::Key(NotationKey::Ne) => Vec::from_slice(alloc, b"key NE"),
+    }
+}
+
+#[test]
+fn a_parameter_is_bound_by_each_form(rt: HostRuntime) -> Result<(), Fail> {
+    for (form, target) in [
+        ("activity", "GAS.TJ"),
+        ("factor", "GWP-CO2"),
+        ("line", "ELEC.GAS"),
+        ("line", "ABCDEFGHIJKLMNOPQRSTUVWX"),
+        ("prev", "LA"),
+        ("sum", "B"),
+        ("sum", "B A.1 C-2 A A_1"),
+        ("sum", "AB ABC A"),
+        ("key", "NO"),
+        ("key", "NA"),
+        ("key", "IE"),
+        ("key", "NE"),
+    ] {
+        let body = format!(in rt.alloc(); "{HEAD}\nenter,bind,LA,FC,,{form},{target},,,\n")?;
+        let want = format!(in rt.alloc(); "{form} {target}")?;
+        assert!(rt; !is_too_long(body.as_bytes()));
+        let Rows { rows, rest } = read_rows(rt.alloc(), body.as_bytes())?;
+        assert!(rt; rest.is_none(), "at {want}");
+        assert_eq!(rt; rows.len(), 1, "at {want}");
+        for row in &rows {
+            match &row.form {
+                RowForm::Bind(_, _, Some(binding)) => {
+                    let text = binding_text(rt.alloc(), binding)?;
+                    assert_eq!(rt; word(&text), want.as_str());
+                }
+                _ => assert!(rt; false, "at {want}"),
+            }
+        }
+    }
+    Ok(())
+}
+
+#[test]
+fn a_target_has_the_shape_of_its_form(rt: HostRuntime) -> Result<(), Fail> {
+    for (form, target) in [
+        ("line", ""),
+        ("line", "A B"),
+        ("line", "a"),
+        ("line", "GWP.CO2"),
+        ("line", "A "),
+        ("line", "ABCDEFGHIJKLMNOPQRSTUVWXY"),
+        ("prev", ""),
+        ("prev", "1A"),
+        ("prev", "GWP.X"),
+        ("sum", ""),
+        ("sum", " "),
+        ("sum", "A  B"),
+        ("sum", " A B"),
+        ("sum", "A B "),
+        ("sum", "A B A"),
+        ("sum", "A A"),
+        ("sum", "A b"),
+        ("sum", "A GWP.CO2"),
+        ("sum", "GWP.A B"),
+        ("sum", "A;B"),
+        ("sum", "A\tB"),
+        ("key", ""),
+        ("key", "no"),
+        ("key", "NO "),
+        ("key", "NO NA"),
+        ("key", "C"),
+    ] {
+        let row = format!(in rt.alloc(); "correct,bind,LA,FC,,{form},{target},5,TJ,")?;
+        let want = "5 UnknownWord row 2 column low";
+        assert!(rt; is_second_refused(&rt, rt.alloc(), &row, want)?, "at {row}");
+    }
+    for word in [
+        "Line", "LINE", "lines", "previous", "sum ", "add", "keys", "",
+    ] {
+        let row = format!(in rt.alloc(); "enter,bind,LA,FC,,{word},A,,,")?;
+        let want = "5 UnknownWord row 2 column value";
+        assert!(rt; is_second_refused(&rt, rt.alloc(), &row, want)?, "at {row}");
+    }
+    Ok(())
+}
+
+// A row that binds a parameter to the sum of lines A1, A2 and so on, as many as `count`.
+fn sum_of(alloc: Global, count: u32) -> Result<Vec<u8>, AllocError> {
+    let mut row = Vec::from_slice(alloc, b"enter,bind,LA,FC,,sum,A1")?;
+    for i in 2..=count {
+        let name = format!(in alloc; " A{i}")?;
+        row.extend_from_slice(name.as_bytes())?;
+    }
+    row.extend_from_slice(b",,,")?;
+    Ok(row)
+}
+
+#[test]
+fn a_sum_has_at_most_400_lines(rt: HostRuntime) -> Result<(), Fail> {
+    let most = sum_of(rt.alloc(), 400)?;
+    let body = format!(in rt.alloc(); "{HEAD}\n{}\n", word(&most))?;
+    assert!(rt; !is_too_long(body.as_bytes()));
+    let Rows { rows, rest } = read_rows(rt.alloc(), body.as_bytes())?;
+    assert!(rt; rest.is_none());
+    for row in &rows {
+        match &row.form {
+            RowForm::Bind(_, _, Some(Binding::Sum(names))) => {
+                assert_eq!(rt; names.as_slice().len(), 400);
+            }
+            _ => assert!(rt; false),
+        }
+    }
+    let more = sum_of(rt.alloc(), 401)?;
+    let want = "5 UnknownWord row 2 column low";
+    assert!(rt; is_second_refused(&rt, rt.alloc(), word(&more), want)?);
     Ok(())
 }
