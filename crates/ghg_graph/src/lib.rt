@@ -1,6 +1,25 @@
-//! The nodes of a workbook and the values that its compilation gives them.
+//! The nodes of a workbook, what they take, and the order in which each has what it takes before it.
 #![tactic(auto)]
 
 mod cells;
+mod gases;
+mod least;
+mod links;
+mod nodes;
+mod numbers;
+mod operands;
+mod ordering;
+mod rings;
+mod search;
+mod slots;
+#[cfg(test)]
+mod tests;
+mod walk;
 
 pub use cells::Cells;
+pub use gases::{emitters, potential};
+pub use nodes::Nodes;
+pub use operands::{Operand, bound_operand};
+pub use ordering::{check_acyclic, line_order};
+pub use rings::{CycleRefusal, Ring};
+pub use slots::{Slot, counts_in_gross, first_year, inputs_of};

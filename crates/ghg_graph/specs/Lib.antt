@@ -1,0 +1,9 @@
+pub mod Links
+pub mod Stops
+pub mod Walks
+pub mod Trails
+pub mod Ordering
+pub mod Refusal
+pub mod Numbers
+pub mod Operands
+pub mod Slots

@@ -1,0 +1,149 @@
+//! The lines of a workbook by numbers: their places in byte order.
+
+ghost use Rattle.std.specs.Prelude.{◌≡◌, ◌<◌, ◌++◌, ℕ, true, List, flat_map, length, map, option_copied, slice_index, IfOk};
+ghost use Rattle.std.specs.List.{AllByRecursion};
+ghost use Rattle.std.specs.List.Sorted.{IsStrictlySortedBy};
+ghost use Rattle.ghg_definitions.specs.Listed.{IsListed};
+ghost use Rattle.ghg_definitions.specs.Data.{Name, binding, line, line_names, name_cmp};
+ghost use Rattle.ghg_definitions.specs.Rings.{taken, taken_by};
+ghost use Rattle.ghg_definitions.specs.Sound.{IsWorkbook};
+ghost use Rattle.ghg_units.specs.Parameter.{is_parameter};
+ghost use Rattle.ghg_graph.specs.Numbers.{AreNumbers, IsNumbering, name_at};
+
+use crate::links::Links;
+use ghg_data::{Records, params_of};
+use ghg_equations::{EqId, Param};
+use ghg_units::{Binding, Name};
+use std::alloc::{AllocError, Global};
+use std::slice;
+
+/// The lines in byte order, and for each the numbers of those that it takes.
+#[derive(Drop)]
+pub(crate) struct Numbering {
+    pub(crate) lines: Vec<Name>,
+    pub(crate) links: Links,
+}
+
+/// The lines of a workbook by numbers.
+pub(crate) fn numbered<R: Records>(alloc: Global, records: &R) -> Result<Numbering, AllocError>
+    ensures numbers { IfOk result (λ n. IsNumbering (R.content records.now) n.lines.items n.links) }
+    ensures workbook { IsWorkbook (R.content records.now) }
+{
+    let lines = records.lines(alloc)?;
+    let links = links_of(alloc, records, &lines)?;
+    Ok(Numbering { lines, links })
+}
+
+fn links_of<R: Records>(alloc: Global, records: &R, lines: &[Name]) -> Result<Links, AllocError>
+    requires workbook { IsWorkbook (R.content records.now) }
+    requires lines { lines.now ≡ line_names (R.content records.now) }
+    ensures { IfOk result (λ links. IsNumbering (R.content records.now) lines.now links) }
+{
+    let mut targets = Vec::new(alloc);
+    for line in lines {
+        targets.push(targets_of(alloc, records, lines, line)?)?;
+    }
+    Ok(Links::new(targets))
+}
+
+/// The equation of a line; `None` exactly where the line is not present.
+pub(crate) fn equation_of<R: Records>(records: &R, name: &Name) -> Option<EqId>
+    ensures { result ≡ line (R.content records.now) name.now }
+{
+    let (_, id) = records.line(name)?;
+    Some(id)
+}
+
+// The numbers of the lines that a line takes.
+fn targets_of<R: Records>(
+    alloc: Global,
+    records: &R,
+    lines: &[Name],
+    line: &Name,
+) -> Result<Vec<usize>, AllocError>
+    requires workbook { IsWorkbook (R.content records.now) }
+    requires lines { lines.now ≡ line_names (R.content records.now) }
+    ensures { IfOk result (λ targets. AreNumbers lines.now targets.items (taken (R.content records.now) line.now)) }
+{
+    match equation_of(records, line) {
+        Some(id) => targets_at(alloc, records, lines, line, params_of(id)),
+        None => Ok(Vec::new(alloc)),
+    }
+}
+
+// The numbers of the lines that a line takes at these parameters.
+fn targets_at<R: Records>(
+    alloc: Global,
+    records: &R,
+    lines: &[Name],
+    line: &Name,
+    params: &[Param],
+) -> Result<Vec<usize>, AllocError>
+    requires order { IsStrictlySortedBy name_cmp lines.now }
+    requires names { AllByRecursion (λ q. is_parameter q.name.now ≡ true) params.now }
+    requires present { (k : Name) → IsListed k (flat_map (λ q. taken_by (binding (R.content records.now) line.now q.name.now)) params.now) → IsListed k lines.now }
+    ensures { IfOk result (λ targets. AreNumbers lines.now targets.items (flat_map (λ q. taken_by (binding (R.content records.now) line.now q.name.now)) params.now)) }
+{
+    let mut targets = Vec::new(alloc);
+    for param in params {
+        add_numbers(lines, taken_at(records, line, param), &mut targets)?;
+    }
+    Ok(targets)
+}
+
+// The lines whose values of the same year a line takes at a parameter.
+fn taken_at<'a, R: Records>(records: &'a R, line: &Name, param: &Param) -> &'a [Name]
+    requires { is_parameter param.now.name.now ≡ true }
+    ensures { result.now ≡ taken_by (binding (R.content records.now) line.now param.now.name.now) }
+{
+    taken_by(records.bound(line, param))
+}
+
+// The lines whose values of the same year a binding takes.
+fn taken_by(binding: Option<&Binding>) -> &[Name]
+    ensures { result.now ≡ taken_by (option_copied binding.entry) }
+{
+    match binding {
+        Some(Binding::Line(name)) => slice::from_ref(name),
+        Some(Binding::Sum(names)) => names.as_slice(),
+        _ => &[],
+    }
+}
+
+// Adds the numbers of lines.
+fn add_numbers(lines: &[Name], names: &[Name], numbers: &mut Vec<usize>) -> Result<(), AllocError>
+    requires order { IsStrictlySortedBy name_cmp lines.now }
+    requires present { (k : Name) → IsListed k names.now → IsListed k lines.now }
+    ensures { IfOk result (λ _. (before : List Name) → AreNumbers lines.now numbers.old.items before → AreNumbers lines.now numbers.new.items (before ++ names.now)) }
+{
+    for name in names {
+        numbers.push(number_of(lines, name))?;
+    }
+    Ok(())
+}
+
+// The number of a line.
+fn number_of(lines: &[Name], name: &Name) -> usize
+    requires order { IsStrictlySortedBy name_cmp lines.now }
+    requires present { IsListed name.now lines.now }
+    ensures within { result < length lines.now }
+    ensures name { name_at lines.now result ≡ name.now }
+{
+    lines.binary_search(name).unwrap()
+}
+
+/// The names of lines, in the order of the numbers.
+pub(crate) fn names_of(
+    alloc: Global,
+    lines: &[Name],
+    numbers: &[usize],
+) -> Result<Vec<Name>, AllocError>
+    requires { (k : ℕ) → k < length numbers.now → slice_index numbers.now k < length lines.now }
+    ensures { IfOk result (λ names. names.items ≡ map (name_at lines.now) numbers.now) }
+{
+    let mut names = Vec::with_capacity(alloc, numbers.len())?;
+    for number in numbers {
+        names.push(lines[*number])?;
+    }
+    Ok(names)
+}

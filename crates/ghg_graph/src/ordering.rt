@@ -1,0 +1,38 @@
+//! Orders of a workbook's lines.
+
+ghost use Rattle.std.specs.Prelude.{MatchResult};
+ghost use Rattle.ghg_definitions.specs.Rings.{IsAcyclic};
+ghost use Rattle.ghg_graph.specs.Ordering.{IsLineOrder};
+ghost use Rattle.ghg_graph.specs.Refusal.{IfRing, IsLeastRingOf};
+
+use crate::least::least_ring;
+use crate::numbers::{names_of, numbered};
+use crate::rings::{CycleRefusal, Ring};
+use crate::walk::{Stop, order};
+use ghg_data::Records;
+use ghg_units::Name;
+use std::alloc::Global;
+
+/// The lines of a workbook, each behind those whose values of the same year it takes; where there is no such order, a
+/// ring that begins with the least line on any.
+pub fn line_order<R: Records>(alloc: Global, records: &R) -> Result<Vec<Name>, CycleRefusal>
+    ensures { MatchResult result (λ names. IsLineOrder (R.content records.now) names.items) (IfRing (IsLeastRingOf (R.content records.now))) }
+{
+    let numbered = numbered(alloc, records)?;
+    match order(alloc, &numbered.links) {
+        Ok(order) => Ok(names_of(alloc, &numbered.lines, &order)?),
+        Err(Stop::Ring(met)) => {
+            let ring = least_ring(alloc, &numbered.links, met)?;
+            Err(CycleRefusal::Ring(Ring::new(names_of(alloc, &numbered.lines, &ring)?)))
+        }
+        Err(Stop::Memory) => Err(CycleRefusal::Memory),
+    }
+}
+
+/// That no lines of a workbook form a ring; otherwise a ring that begins with the least line on any.
+pub fn check_acyclic<R: Records>(alloc: Global, records: &R) -> Result<(), CycleRefusal>
+    ensures { MatchResult result (λ _. IsAcyclic (R.content records.now)) (IfRing (IsLeastRingOf (R.content records.now))) }
+{
+    line_order(alloc, records)?;
+    Ok(())
+}

@@ -1,0 +1,217 @@
+//! What a node takes.
+
+ghost use Rattle.std.specs.Prelude.{◌≡◌, true, false, filter, map, option_copied, IfOk};
+ghost use Rattle.std.specs.Option.{option_map_or};
+ghost use Rattle.std.specs.List.{AllByRecursion};
+ghost use Rattle.ghg_units.specs.declared.node.Node.TheVariants as node;
+ghost use Rattle.ghg_units.specs.Parameter.{is_parameter};
+ghost use Rattle.ghg_definitions.specs.Compilation.{bound_to, counts_in_gross, first_year, formula, gas_lines_at, line_formula, sheet_of};
+ghost use Rattle.ghg_definitions.specs.Data.{binding, category, line, span};
+ghost use Rattle.ghg_definitions.specs.Formulas.{Summed, map_formula, map_operand};
+ghost use Rattle.ghg_definitions.specs.Lookups.{given};
+ghost use Rattle.ghg_graph.specs.Slots.{is_within, slot_of, slots_of};
+
+use crate::gases::{emitters, potential};
+use crate::nodes::Nodes;
+use crate::numbers::equation_of;
+use crate::operands::{Operand, bound_operand};
+use ghg_categories::{Category, is_under};
+use ghg_cell::Input;
+use ghg_data::{Records, params_of};
+use ghg_equations::Param;
+use ghg_units::{Binding, Name, Node};
+use std::alloc::{AllocError, Global};
+
+/// What a parameter of a node's formula takes.
+#[derive(Drop)]
+pub enum Slot {
+    /// A figure of the records, zero, or a blank.
+    Input(Input),
+    /// A node's value.
+    Node(Node),
+    /// The sum of the nodes' values.
+    Sum(Nodes),
+}
+
+/// What a node takes: a line one slot for each parameter of its equation, in their order; an equivalent its line and
+/// the warming potential of its gas; a total the sum of its lines' equivalents by name.
+pub fn inputs_of<R: Records>(
+    alloc: Global,
+    records: &R,
+    node: &Node,
+) -> Result<Vec<Slot>, AllocError>
+    ensures { IfOk result (λ slots. slots.items ≡ slots_of (map_formula (given (R.content records.now)) ((sheet_of (R.content records.now)).formula node.now))) }
+{
+    match node {
+        Node::Line(name, year) => line_slots(alloc, records, name, *year),
+        Node::Equiv(name, year) => equivalent_slots(alloc, records, name, *year),
+        Node::Total(top, year) => total_slots(alloc, records, &Scope::Under(*top), *year),
+        Node::Gross(year) => total_slots(alloc, records, &Scope::Gross, *year),
+    }
+}
+
+// ---- lines
+
+fn line_slots<R: Records>(
+    alloc: Global,
+    records: &R,
+    name: &Name,
+    year: u32,
+) -> Result<Vec<Slot>, AllocError>
+    ensures { IfOk result (λ slots. slots.items ≡ slots_of (map_formula (given (R.content records.now)) (line_formula (R.content records.now) (first_year (span (R.content records.now))) name.now year (line (R.content records.now) name.now)))) }
+{
+    match equation_of(records, name) {
+        Some(id) => parameter_slots(alloc, records, name, params_of(id), year),
+        None => one_sum(alloc, Vec::new(alloc)),
+    }
+}
+
+fn one_sum(alloc: Global, nodes: Vec<Node>) -> Result<Vec<Slot>, AllocError>
+    ensures { IfOk result (λ slots. slots.items ≡ slots_of (Summed nodes.items)) }
+{
+    let slot = Slot::Sum(Nodes::new(nodes));
+    Ok(vec![in alloc; slot]?)
+}
+
+fn parameter_slots<R: Records>(
+    alloc: Global,
+    records: &R,
+    line: &Name,
+    params: &[Param],
+    year: u32,
+) -> Result<Vec<Slot>, AllocError>
+    requires { AllByRecursion (λ q. is_parameter q.name.now ≡ true) params.now }
+    ensures { IfOk result (λ slots. slots.items ≡ map (λ q. slot_of (map_operand (given (R.content records.now)) (bound_to (R.content records.now) (first_year (span (R.content records.now))) year (binding (R.content records.now) line.now q.name.now)))) params.now) }
+{
+    let first = first_year(records);
+    let mut slots = Vec::new(alloc);
+    for param in params {
+        let binding = records.bound(line, param);
+        slots.push(bound_slot(alloc, records, first, binding, year)?)?;
+    }
+    Ok(slots)
+}
+
+/// The first year of the inventory; 0 where the workbook has no years.
+pub fn first_year<R: Records>(records: &R) -> u32
+    ensures { result ≡ first_year (span (R.content records.now)) }
+{
+    match records.span() {
+        Some(span) => span.first,
+        None => 0,
+    }
+}
+
+// What a binding gives in a year of a span that begins with the first.
+fn bound_slot<R: Records>(
+    alloc: Global,
+    records: &R,
+    first: u32,
+    binding: Option<&Binding>,
+    year: u32,
+) -> Result<Slot, AllocError>
+    ensures { IfOk result (λ slot. slot ≡ slot_of (map_operand (given (R.content records.now)) (bound_to (R.content records.now) first year (option_copied binding.entry)))) }
+{
+    match bound_operand(records, first, binding, year) {
+        Operand::Given(input) => Ok(Slot::Input(input)),
+        Operand::Value(node) => Ok(Slot::Node(node)),
+        Operand::Sum(names, year) => {
+            let nodes = lines_in(alloc, names, year)?;
+            Ok(Slot::Sum(Nodes::new(nodes)))
+        }
+    }
+}
+
+// The values of lines in a year.
+fn lines_in(alloc: Global, names: &[Name], year: u32) -> Result<Vec<Node>, AllocError>
+    ensures { IfOk result (λ nodes. nodes.items ≡ map (λ name. node.Line name year) names.now) }
+{
+    names
+        .iter()
+        .map(|name| Node::Line(*name, year))
+        .collect(alloc)
+}
+
+// ---- equivalents
+
+fn equivalent_slots<R: Records>(
+    alloc: Global,
+    records: &R,
+    name: &Name,
+    year: u32,
+) -> Result<Vec<Slot>, AllocError>
+    ensures { IfOk result (λ slots. slots.items ≡ slots_of (map_formula (given (R.content records.now)) (formula (R.content records.now) (first_year (span (R.content records.now))) (node.Equiv name.now year)))) }
+{
+    let line = Slot::Node(Node::Line(*name, year));
+    let weight = Slot::Input(potential(records, name, year));
+    Ok(vec![in alloc; line, weight]?)
+}
+
+// ---- totals
+
+// The categories whose lines a total adds.
+#[derive(Clone, Copy, Drop)]
+enum Scope {
+    // Those at a category and under it.
+    Under(Category),
+    // Those of the national total but land.
+    Gross,
+}
+
+fn total_slots<R: Records>(
+    alloc: Global,
+    records: &R,
+    scope: &Scope,
+    year: u32,
+) -> Result<Vec<Slot>, AllocError>
+    ensures { IfOk result (λ slots. slots.items ≡ slots_of (Summed (map (λ name. node.Equiv name year) (gas_lines_at (is_within scope.now) (R.content records.now))))) }
+{
+    let lines = records.lines(alloc)?;
+    let emitters = emitters(alloc, records, &lines)?;
+    one_sum(
+        alloc,
+        equivalents_at(alloc, records, scope, &emitters, year)?,
+    )
+}
+
+// The equivalents of lines that stand within the scope.
+fn equivalents_at<R: Records>(
+    alloc: Global,
+    records: &R,
+    scope: &Scope,
+    lines: &[Name],
+    year: u32,
+) -> Result<Vec<Node>, AllocError>
+    ensures { IfOk result (λ nodes. nodes.items ≡ map (λ name. node.Equiv name year) (filter (λ name. option_map_or (is_within scope.now) (category (R.content records.now) name) false) lines.now)) }
+{
+    lines
+        .iter()
+        .filter(|name| stands_within(records, scope, name))
+        .map(|name| Node::Equiv(*name, year))
+        .collect(alloc)
+}
+
+fn stands_within<R: Records>(records: &R, scope: &Scope, name: &Name) -> bool
+    ensures { result ≡ option_map_or (is_within scope.now) (category (R.content records.now) name.now) false }
+{
+    match records.line(name) {
+        Some((category, _)) => is_within(scope, category),
+        None => false,
+    }
+}
+
+fn is_within(scope: &Scope, category: Category) -> bool
+    ensures { result ≡ is_within scope.now category }
+{
+    match scope {
+        Scope::Under(top) => is_under(category, *top),
+        Scope::Gross => counts_in_gross(category),
+    }
+}
+
+/// Whether the gross total counts the lines at a category: land is no part of it.
+pub fn counts_in_gross(category: Category) -> bool
+    ensures { result ≡ counts_in_gross category }
+{
+    is_under(category, Category::National) && !is_under(category, Category::C3B)
+}
