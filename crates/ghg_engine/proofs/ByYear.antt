@@ -1,5 +1,5 @@
 -- The nodes year by year stand behind their inputs.
-use Rattle.std.proofs.Common.{◌≡◌, ◌⊎◌, ◌&&◌, false, inl, inr, ℕ, zero, suc, ◌+◌, ◌-◌, ◌≤◌, Bool, true, List, [], ◌∷◌, ◌++◌, map, flat_map, is_some, Contains, Option, Some, None, refl, sym, ap, ◌∙◌, subst, arith, ◌<◌, cond, not, filter, Ordering, Less, Equal}
+use Rattle.std.proofs.Common.{eq-or-lt_of_le, leb-true, ◌≡◌, ◌⊎◌, ◌&&◌, false, inl, inr, ℕ, zero, suc, ◌+◌, ◌-◌, ◌≤◌, Bool, true, List, [], ◌∷◌, ◌++◌, map, flat_map, is_some, Contains, Option, Some, None, refl, sym, ap, ◌∙◌, subst, arith, ◌<◌, cond, not, filter, Ordering, Less, Equal}
 use Rattle.std.specs.Cmp.Lexicographic.{nat_list_cmp_total}
 use Rattle.std.specs.List.{AllByRecursion, list_any}
 use Rattle.std.specs.List.Sorted.{IsStrictlySortedBy}
@@ -22,15 +22,23 @@ use Rattle.ghg_definitions.specs.Data.{Data, Name, binding, category, line, line
 use Rattle.ghg_definitions.specs.Nodes.{kind_of, year_in}
 use Rattle.ghg_definitions.specs.Formulas.{Operand, inputs, nodes_in}
 use Rattle.ghg_definitions.specs.Lookups.{Source}
+use Rattle.ghg_definitions.specs.Rings.{Takes}
 use Rattle.ghg_definitions.specs.Sound.{IsWorkbook}
 use Rattle.ghg_definitions.specs.Trials.{Sheet}
 use Rattle.ghg_definitions.proofs.Alike.{both, first_so, not_so, second_so}
-use Rattle.ghg_definitions.proofs.Listed.{IsListed, contained, from_filter, from_map, in_either, listed, listed_any, listed_flat, listed_left, listed_map, listed_right}
+use Rattle.ghg_definitions.specs.Listed.{IsListed}
+use Rattle.ghg_definitions.proofs.Listed.{contained, from_filter, from_map, in_either, listed, listed_any, listed_flat, listed_left, listed_map, listed_right}
+use Rattle.ghg_definitions.proofs.Lines.{lines_sorted}
 use Rattle.ghg_definitions.proofs.NodeLists.{category_same, gas_lines_are, lines_are, tree_is, years_are}
+use Rattle.ghg_definitions.proofs.Grounded.{Comes, line_comes}
+use Rattle.ghg_graph.specs.Ordering.{IsBehind, IsLineOrder}
 use Rattle.ghg_engine.specs.Orders.{IsInOrder, IsOrder}
-use Rattle.ghg_engine.specs.Years.{nodes_by_year, year_nodes}
+use Rattle.ghg_engine.specs.Years.{year_nodes}
 use Rattle.ghg_engine.proofs.Facts.{binding_is}
 use Rattle.ghg_engine.proofs.InOrder.{all_done, all_listed, true_not_false}
+
+abbrev pub nodes_by_year : List Name → List Name → List ℕ → List Node
+nodes_by_year lines emitters years = flat_map (year_nodes lines emitters) years
 
 -- ---- one year more
 
@@ -143,6 +151,9 @@ of_kind to d h n xs i = let from = from_map to n xs i in ap kind_of from.2 ∙ h
 abbrev IsEarlier : ℕ → List Node → Type 0
 IsEarlier year done = (k : Node) → IsListed k done → year_in k < year
 
+at_most : (z year : ℕ) → z < year + 1 → z ≤ year
+at_most z year h = omega arith
+
 in_this_year : {A : Type 0} (to : A → Node) (year : ℕ) → ((x : A) → year_in (to x) ≡ year) → (n : Node) (xs : List A) → IsListed n (map to xs) → year_in n ≡ year
 in_this_year to year h n xs i = let from = from_map to n xs i in ap year_in from.2 ∙ h from.0
 
@@ -158,20 +169,7 @@ of_this_year lines emitters cs year n i = elim (in_either n (map (λ name. node.
   ]
 ]
 
--- ---- the inputs of lines
-
-no_nodes : (b : Binding) → IsBinding b → (m : Data) (first year : ℕ) → nodes_in (bound_to m first year (Some b)) ≡ []
-no_nodes (bound.Activity name) is m first year = refl
-no_nodes (bound.Factor name) is m first year = refl
-no_nodes (bound.Line name) is m first year = absurd is
-no_nodes (bound.Prev name) is m first year = absurd is
-no_nodes (bound.Sum names) is m first year = absurd is
-no_nodes (bound.Decay name) is m first year = refl
-no_nodes (bound.Key notation) is m first year = refl
-
-none_in_all : {A : Type 0} (f : A → Operand Source) (xs : List A) → ((x : A) → nodes_in (f x) ≡ []) → flat_map nodes_in (map f xs) ≡ []
-none_in_all f [] h = refl
-none_in_all f (x ∷ xs) h = ap (λ ns. ns ++ flat_map nodes_in (map f xs)) (h x) ∙ none_in_all f xs h
+-- ---- one year
 
 line_apart : (year : ℕ) (x y : Name) → node.Line x year ≡ node.Line y year → x ≡ y
 line_apart year x y e = cc
@@ -182,17 +180,20 @@ equivalent_apart year x y e = cc
 total_apart : (year : ℕ) (x y : Category) → node.Total x year ≡ node.Total y year → x ≡ y
 total_apart year x y e = cc
 
-module _ (m : Data) (workbook : IsWorkbook m) where
-  parameter_takes_none : (first year : ℕ) (name parameter : Name) → nodes_in (bound_to m first year (binding m name parameter)) ≡ []
-  parameter_takes_none first year name parameter = by (binding m name parameter) (λ b e. binding_is m name parameter b workbook e)
-    where
-      by : (o : Option Binding) → ((b : Binding) → o ≡ Some b → IsBinding b) → nodes_in (bound_to m first year o) ≡ []
-      by None is = refl
-      by (Some b) is = no_nodes b (is b refl) m first year
+module _ (m : Data) (workbook : IsWorkbook m) (names : List Name) (order : IsLineOrder m names) where
+  -- the line is among those in order
+  ordered : (name : Name) → is_some (line m name) ≡ true → IsListed name names
+  ordered name stands = listed names name (order.complete name stands)
 
-  line_takes_none : (first year : ℕ) (name : Name) (o : Option EqId) → inputs (line_formula m first name year o) ≡ []
-  line_takes_none first year name None = refl
-  line_takes_none first year name (Some e) = none_in_all (λ q. bound_to m first year (binding m name q.name)) (parameters e) (λ q. parameter_takes_none first year name q.name)
+  -- those in order are lines
+  all_stand : (done ns : List Name) → IsBehind m done ns → (name : Name) → IsListed name ns → is_some (line m name) ≡ true
+  all_stand done [] behind name i = absurd i
+  all_stand done (n ∷ ns) behind name (inl e) = subst (λ k. is_some (line m k) ≡ true) (sym e) behind.0
+  all_stand done (n ∷ ns) behind name (inr i) = all_stand (n ∷ done) ns behind.3 name i
+
+  -- the lines of earlier years are done
+  abbrev AreBefore : ℕ → List Node → Type 0
+  AreBefore year done = (k : Name) (z : ℕ) → is_node m (node.Line k z) ≡ true → z < year → IsListed (node.Line k z) done
 
   -- ---- a year
 
@@ -200,8 +201,8 @@ module _ (m : Data) (workbook : IsWorkbook m) where
     of_year : is_year_of (span m) year ≡ true
     of_year = (years_are (span m) year).1 (contained _ year within)
 
-    line_is : (name : Name) → IsListed name (line_names m) → is_node m (node.Line name year) ≡ true
-    line_is name i = both _ _ ((lines_are m workbook.records name).1 (contained _ name i)) of_year
+    line_is : (name : Name) → is_some (line m name) ≡ true → is_node m (node.Line name year) ≡ true
+    line_is name stands = both _ _ stands of_year
 
     equiv_is : (name : Name) → IsListed name (gas_lines m) → is_node m (node.Equiv name year) ≡ true
     equiv_is name i = both _ _ ((gas_lines_are m name).1 (contained _ name i)) of_year
@@ -210,7 +211,7 @@ module _ (m : Data) (workbook : IsWorkbook m) where
     total_is c i = both _ _ ((tree_is c).1 (contained tree c i)) of_year
 
     abbrev the_lines : List Node
-    the_lines = map (λ name. node.Line name year) (line_names m)
+    the_lines = map (λ name. node.Line name year) names
 
     abbrev the_equivalents : List Node
     the_equivalents = map (λ name. node.Equiv name year) (gas_lines m)
@@ -221,7 +222,7 @@ module _ (m : Data) (workbook : IsWorkbook m) where
     line_there : (name : Name) (k : Node) → IsListed k (node.Line name year ∷ []) → is_node m k ≡ true → IsListed k the_lines
     line_there name k (inl e) t =
         let there : is_some (line m name) ≡ true = first_so _ _ (subst (λ n. is_node m n ≡ true) e t) in
-        subst (λ n. IsListed n the_lines) (sym e) (listed_map (λ name. node.Line name year) name (line_names m) (listed _ name ((lines_are m workbook.records name).0 there)))
+        subst (λ n. IsListed n the_lines) (sym e) (listed_map (λ name. node.Line name year) name names (ordered name there))
     line_there name k (inr i) t = absurd i
 
     sum_there : (test : Category → Bool) (k : Node) → IsListed k (map (λ name. node.Equiv name year) (gas_lines_at test m)) → IsListed k the_equivalents
@@ -230,9 +231,9 @@ module _ (m : Data) (workbook : IsWorkbook m) where
         let there = from_filter (λ name. option_map_or test (category m name) false) from.0 (gas_lines m) from.1 in
         subst (λ n. IsListed n the_equivalents) (sym from.2) (listed_map (λ name. node.Equiv name year) from.0 (gas_lines m) there.0)
 
-    module _ (sorted : IsStrictlySortedBy name_cmp (line_names m)) (done : List Node) (earlier : IsEarlier year done) where
+    module _ (done : List Node) (earlier : IsEarlier year done) (before : AreBefore year done) where
       lines_apart : AreApart (line_names m)
-      lines_apart = sorted_apart (line_names m) sorted
+      lines_apart = sorted_apart (line_names m) (lines_sorted m)
 
       not_done : (n : Node) → year_in n ≡ year → IsListed n done → ⊥
       not_done n e i = let before : year_in n < year = earlier n i in absurd (omega arith)
@@ -252,7 +253,7 @@ module _ (m : Data) (workbook : IsWorkbook m) where
       unfolding second
       new_second n e d i = elim (split n done the_lines i) [
         | inl j ↦ not_done n e j
-        | inr j ↦ let k : kind_of n ≡ 0 = of_kind (λ name. node.Line name year) 0 (λ x. refl) n (line_names m) j in absurd (omega arith)
+        | inr j ↦ let k : kind_of n ≡ 0 = of_kind (λ name. node.Line name year) 0 (λ x. refl) n names j in absurd (omega arith)
       ]
 
       new_third : (n : Node) → year_in n ≡ year → 1 < kind_of n → IsListed n third → ⊥
@@ -269,9 +270,28 @@ module _ (m : Data) (workbook : IsWorkbook m) where
         | inr j ↦ let k : kind_of n ≡ 2 = of_kind (λ c. node.Total c year) 2 (λ x. refl) n tree j in absurd (omega arith)
       ]
 
+      -- an input of a line is a line of this year that it takes, or one of an earlier year
+      input_done : (placed : List Name) (so_far : List Node) (name : Name) → ((k : Name) → Takes m name k → Contains placed k) → ((k : Name) → IsListed k placed → IsListed (node.Line k year) so_far) → ((k : Node) → IsListed k done → IsListed k so_far) →
+          (k : Node) → Comes m name year k → is_node m k ≡ true → IsListed k so_far
+      input_done placed so_far name takes now old _ (Comes.now {k = k} t) is = now k (listed placed k (takes k t))
+      input_done placed so_far name takes now old _ (Comes.before {k = k} {z = z} lt) is = old (node.Line k z) (before k z is lt)
+
+      -- the lines still to come, where those that are placed are done
+      lines_behind : (placed ns : List Name) (so_far : List Node) → IsBehind m placed ns → ((k : Name) → IsListed k placed → IsListed (node.Line k year) so_far) → ((k : Name) → IsListed (node.Line k year) so_far → IsListed k placed) → ((k : Node) → IsListed k done → IsListed k so_far) →
+          IsInOrder (sheet_of m) so_far (map (λ name. node.Line name year) ns)
+      lines_behind placed [] so_far behind now only old = tt
+      lines_behind placed (name ∷ ns) so_far behind now only old = (
+        line_is name behind.0,
+        λ c. behind.1 (contained placed name (only name (listed so_far (node.Line name year) c))),
+        λ k i is. contained so_far k (input_done placed so_far name behind.2 now old k (line_comes m (first_year (span m)) name year behind.0 (line m name) k (listed _ k i)) is),
+        lines_behind (name ∷ placed) ns (node.Line name year ∷ so_far) behind.3
+            (λ k i. elim i [ inl e ↦ inl (ap (λ n. node.Line n year) e) | inr l ↦ inr (now k l) ])
+            (λ k i. elim i [ inl e ↦ inl (line_apart year k name e) | inr l ↦ inr (only k l) ])
+            (λ k i. inr (old k i)),
+      )
+
       lines_in_order : IsInOrder (sheet_of m) done the_lines
-      lines_in_order = block (sheet_of m) (λ name. node.Line name year) (line_apart year) done (line_names m) lines_apart (λ name i. not_done (node.Line name year) refl) line_is
-          (λ name i k j t. absurd (subst (IsListed k) (line_takes_none (first_year (span m)) year name (line m name)) j))
+      lines_in_order = lines_behind [] names done order.behind (λ k i. absurd i) (λ k i. absurd (not_done (node.Line k year) refl i)) (λ k i. i)
 
       equivalents_in_order : IsInOrder (sheet_of m) second the_equivalents
       unfolding second
@@ -295,7 +315,7 @@ module _ (m : Data) (workbook : IsWorkbook m) where
         tt,
       )
 
-      year_in_order : IsInOrder (sheet_of m) done (year_nodes (line_names m) (gas_lines m) year)
+      year_in_order : IsInOrder (sheet_of m) done (year_nodes names (gas_lines m) year)
       unfolding second third fourth
       year_in_order =
           one_behind (sheet_of m) done the_lines (the_equivalents ++ (the_totals ++ node.Gross year ∷ [])) lines_in_order (
@@ -304,42 +324,57 @@ module _ (m : Data) (workbook : IsWorkbook m) where
 
   -- ---- all years
 
-  years_in_order : IsStrictlySortedBy name_cmp (line_names m) → (done : List Node) (first count : ℕ) → ((y : ℕ) → IsListed y (years_from first count) → IsListed y (years_of (span m))) → IsEarlier first done → IsInOrder (sheet_of m) done (nodes_by_year (line_names m) (gas_lines m) (years_from first count))
-  years_in_order sorted done first zero within earlier = tt
-  years_in_order sorted done first (suc count) within earlier =
-      one_behind (sheet_of m) done (year_nodes (line_names m) (gas_lines m) first) (nodes_by_year (line_names m) (gas_lines m) (years_from (first + 1) count))
-      (year_in_order first (within first (inl refl)) sorted done earlier)
-      (years_in_order sorted (all_done done (year_nodes (line_names m) (gas_lines m) first)) (first + 1) count (λ z i. within z (inr i)) (λ k i. elim (split k done (year_nodes (line_names m) (gas_lines m) first) i) [
-        | inl j ↦ let before : year_in k < first = earlier k j in omega arith
-        | inr j ↦ let same : year_in k ≡ first = of_this_year (line_names m) (gas_lines m) tree first k j in omega arith
-      ]))
+  -- the lines of earlier years are done
+  one_year_more : (done : List Node) (year : ℕ) → AreBefore year done → AreBefore (year + 1) (all_done done (year_nodes names (gas_lines m) year))
+  one_year_more done year before k z is lt = elim (eq-or-lt_of_le (at_most z year lt)) [
+    | inr sooner ↦ done_before (node.Line k z) done (year_nodes names (gas_lines m) year) (before k z is sooner)
+    | inl now ↦ done_here (node.Line k z) done (year_nodes names (gas_lines m) year) (in_first (node.Line k z) (map (λ name. node.Line name year) names) (map (λ name. node.Equiv name year) (gas_lines m)) (map (λ c. node.Total c year) tree) (node.Gross year ∷ [])
+        (subst (λ y. IsListed (node.Line k z) (map (λ name. node.Line name y) names)) now (listed_map (λ name. node.Line name z) k names (ordered k (first_so _ _ is)))))
+  ]
 
-  all_in_order : IsStrictlySortedBy name_cmp (line_names m) → (s : Option Span) → span m ≡ s → IsInOrder (sheet_of m) [] (nodes_by_year (line_names m) (gas_lines m) (years_of s))
-  all_in_order sorted None e = tt
-  all_in_order sorted (Some s) e = years_in_order sorted [] s.first (s.last + 1 - s.first) (λ y i. subst (λ t. IsListed y (years_of t)) (sym e) i) (λ k i. absurd i)
+  -- no node is of a year before the first
+  none_before : (s : Span) → span m ≡ Some s → AreBefore s.first []
+  none_before s e k z is lt =
+      let year_is : is_year_of (Some s) z ≡ true = subst (λ t. is_year_of t z ≡ true) e (second_so (is_some (line m k)) _ is) in
+      let first : s.first ≤ z = leb-true s.first z (first_so _ _ year_is) in
+      absurd (omega arith)
+
+  years_in_order : (done : List Node) (first count : ℕ) → ((y : ℕ) → IsListed y (years_from first count) → IsListed y (years_of (span m))) → IsEarlier first done → AreBefore first done → IsInOrder (sheet_of m) done (nodes_by_year names (gas_lines m) (years_from first count))
+  years_in_order done first zero within earlier before = tt
+  years_in_order done first (suc count) within earlier before =
+      one_behind (sheet_of m) done (year_nodes names (gas_lines m) first) (nodes_by_year names (gas_lines m) (years_from (first + 1) count))
+      (year_in_order first (within first (inl refl)) done earlier before)
+      (years_in_order (all_done done (year_nodes names (gas_lines m) first)) (first + 1) count (λ z i. within z (inr i)) (λ k i. elim (split k done (year_nodes names (gas_lines m) first) i) [
+        | inl j ↦ let before : year_in k < first = earlier k j in omega arith
+        | inr j ↦ let same : year_in k ≡ first = of_this_year names (gas_lines m) tree first k j in omega arith
+      ]) (one_year_more done first before))
+
+  all_in_order : (s : Option Span) → span m ≡ s → IsInOrder (sheet_of m) [] (nodes_by_year names (gas_lines m) (years_of s))
+  all_in_order None e = tt
+  all_in_order (Some s) e = years_in_order [] s.first (s.last + 1 - s.first) (λ y i. subst (λ t. IsListed y (years_of t)) (sym e) i) (λ k i. absurd i) (none_before s e)
 
   year_there : (year : ℕ) → is_year_of (span m) year ≡ true → IsListed year (years_of (span m))
   year_there year t = listed _ year ((years_are (span m) year).0 t)
 
-  at_year : (n : Node) (year : ℕ) → is_year_of (span m) year ≡ true → IsListed n (year_nodes (line_names m) (gas_lines m) year) → Contains (nodes_by_year (line_names m) (gas_lines m) (years_of (span m))) n
-  at_year n year t i = contained _ n (listed_flat (year_nodes (line_names m) (gas_lines m)) year n (years_of (span m)) (year_there year t) i)
+  at_year : (n : Node) (year : ℕ) → is_year_of (span m) year ≡ true → IsListed n (year_nodes names (gas_lines m) year) → Contains (nodes_by_year names (gas_lines m) (years_of (span m))) n
+  at_year n year t i = contained _ n (listed_flat (year_nodes names (gas_lines m)) year n (years_of (span m)) (year_there year t) i)
 
-  each_there : (n : Node) → is_node m n ≡ true → Contains (nodes_by_year (line_names m) (gas_lines m) (years_of (span m))) n
+  each_there : (n : Node) → is_node m n ≡ true → Contains (nodes_by_year names (gas_lines m) (years_of (span m))) n
   each_there (node.Line name year) t =
-      let i = listed_map (λ k. node.Line k year) name (line_names m) (listed _ name ((lines_are m workbook.records name).0 (first_so _ _ t))) in
-      at_year (node.Line name year) year (second_so (is_some (line m name)) _ t) (in_first (node.Line name year) (map (λ k. node.Line k year) (line_names m)) (map (λ k. node.Equiv k year) (gas_lines m)) (map (λ c. node.Total c year) tree) (node.Gross year ∷ []) i)
+      let i = listed_map (λ k. node.Line k year) name names (ordered name (first_so _ _ t)) in
+      at_year (node.Line name year) year (second_so (is_some (line m name)) _ t) (in_first (node.Line name year) (map (λ k. node.Line k year) names) (map (λ k. node.Equiv k year) (gas_lines m)) (map (λ c. node.Total c year) tree) (node.Gross year ∷ []) i)
   each_there (node.Equiv name year) t =
       let i = listed_map (λ k. node.Equiv k year) name (gas_lines m) (listed _ name ((gas_lines_are m name).0 (first_so _ _ t))) in
-      at_year (node.Equiv name year) year (second_so (emits m name) _ t) (in_second (node.Equiv name year) (map (λ k. node.Line k year) (line_names m)) (map (λ k. node.Equiv k year) (gas_lines m)) (map (λ c. node.Total c year) tree) (node.Gross year ∷ []) i)
+      at_year (node.Equiv name year) year (second_so (emits m name) _ t) (in_second (node.Equiv name year) (map (λ k. node.Line k year) names) (map (λ k. node.Equiv k year) (gas_lines m)) (map (λ c. node.Total c year) tree) (node.Gross year ∷ []) i)
   each_there (node.Total c year) t =
       let i = listed_map (λ k. node.Total k year) c tree (listed tree c ((tree_is c).0 (first_so _ _ t))) in
-      at_year (node.Total c year) year (second_so (is_in_tree c) _ t) (in_third (node.Total c year) (map (λ k. node.Line k year) (line_names m)) (map (λ k. node.Equiv k year) (gas_lines m)) (map (λ k. node.Total k year) tree) (node.Gross year ∷ []) i)
+      at_year (node.Total c year) year (second_so (is_in_tree c) _ t) (in_third (node.Total c year) (map (λ k. node.Line k year) names) (map (λ k. node.Equiv k year) (gas_lines m)) (map (λ k. node.Total k year) tree) (node.Gross year ∷ []) i)
   each_there (node.Gross year) t =
-      at_year (node.Gross year) year t (in_fourth (node.Gross year) (map (λ k. node.Line k year) (line_names m)) (map (λ k. node.Equiv k year) (gas_lines m)) (map (λ k. node.Total k year) tree) (node.Gross year ∷ []) (inl refl))
+      at_year (node.Gross year) year t (in_fourth (node.Gross year) (map (λ k. node.Line k year) names) (map (λ k. node.Equiv k year) (gas_lines m)) (map (λ k. node.Total k year) tree) (node.Gross year ∷ []) (inl refl))
 
-  pub by_year : IsStrictlySortedBy name_cmp (line_names m) → IsOrder (sheet_of m) (nodes_by_year (line_names m) (gas_lines m) (years_of (span m)))
-  by_year sorted = record {
-    in_order = all_in_order sorted (span m) refl;
+  pub by_year : IsOrder (sheet_of m) (nodes_by_year names (gas_lines m) (years_of (span m)))
+  by_year = record {
+    in_order = all_in_order (span m) refl;
     complete = each_there;
   }
 
@@ -347,5 +382,5 @@ module _ (m : Data) (workbook : IsWorkbook m) where
   pub no_years : span m ≡ None → IsOrder (sheet_of m) []
   no_years none = record {
     in_order = tt;
-    complete = λ n t. subst (λ s. Contains (nodes_by_year (line_names m) (gas_lines m) (years_of s)) n) none (each_there n t);
+    complete = λ n t. subst (λ s. Contains (nodes_by_year names (gas_lines m) (years_of s)) n) none (each_there n t);
   }

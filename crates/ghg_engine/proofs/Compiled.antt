@@ -8,17 +8,20 @@ use Rattle.ghg_units.specs.declared.node.Node.{Node}
 use Rattle.ghg_definitions.specs.Compilation.{compilation, overflow, sheet_of}
 use Rattle.ghg_definitions.specs.Data.{Data}
 use Rattle.ghg_definitions.specs.Nodes.{least_node}
+use Rattle.ghg_definitions.specs.Rings.{IsAcyclic}
 use Rattle.ghg_definitions.specs.Sound.{IsWorkbook}
 use Rattle.ghg_definitions.specs.Trials.{Outcomes, breaks}
-use Rattle.ghg_definitions.proofs.Listed.{IsListed}
+use Rattle.ghg_definitions.specs.Listed.{IsListed}
+use Rattle.ghg_definitions.proofs.Exactness.{compilations_contain}
 use Rattle.ghg_definitions.proofs.NodeOrder.{IsLeastIn, least_in}
-use Rattle.ghg_definitions.proofs.OneTrial.{least_break_found, no_break_found, overflows_break, trial_is_compilation, workbooks_are_acyclic}
-use Rattle.ghg_engine.specs.Breaking.{broken_with, least_with, progress, start, step}
+use Rattle.ghg_definitions.proofs.OneTrial.{least_break_found, no_break_found, overflows_break, trial_is_compilation}
+use Rattle.ghg_engine.specs.Breaking.{least_with}
 use Rattle.ghg_engine.specs.declared.evaluated.Evaluated.{Evaluated}
 use Rattle.ghg_engine.specs.Evaluation.{IsEvaluatedAt}
 use Rattle.ghg_engine.specs.Orders.{Cells, IsOrder, breaks_at, with_cell}
 use Rattle.ghg_engine.specs.Proposals.{IsCompiled}
 use Rattle.ghg_engine.proofs.InOrder.{broken_listed, gives_trial, listed_breaks}
+use Rattle.ghg_engine.proofs.Progress.{broken_with, progress, start, step}
 
 -- the least of those that break, with one more
 pub least_more : (broken : List Node) (b : Bool) (n : Node) → least_node (broken_with broken b n) ≡ least_with (least_node broken) b n
@@ -44,9 +47,9 @@ one_so_far m done cells least n e held at = record {
       ∙ ap (λ o. least_with o e.breaks n) held.least_is);
 }
 
-module _ (m : Data) (is : IsWorkbook m) (ns : List Node) (order : IsOrder (sheet_of m) ns) where
+module _ (m : Data) (acyclic : IsAcyclic m) (ns : List Node) (order : IsOrder (sheet_of m) ns) where
   compiled : get (progress (sheet_of m) ns).cells ≡ compilation m
-  compiled = trial_is_compilation m (workbooks_are_acyclic m is) (get (progress (sheet_of m) ns).cells) (gives_trial (sheet_of m) ns order)
+  compiled = trial_is_compilation m acyclic (get (progress (sheet_of m) ns).cells) (gives_trial (sheet_of m) ns order)
 
   abbrev breaks_in : Outcomes → Node → Type 0
   breaks_in outcomes n = breaks (sheet_of m) outcomes n ≡ true
@@ -76,11 +79,13 @@ module _ (m : Data) (is : IsWorkbook m) (ns : List Node) (order : IsOrder (sheet
     fits_by : least ≡ None → overflow m ≡ None
     fits_by none = none_over (subst (IsLeastIn (progress (sheet_of m) ns).broken) none broken_are)
 
-    pub ends_compiled : least ≡ None → IsCompiled m cells
-    ends_compiled none = record {
+    pub ends_compiled : IsWorkbook m → least ≡ None → IsCompiled m cells
+    ends_compiled workbook none = record {
+      acyclic = acyclic;
       cells = ap get (sym so_far.cells_are ∙ ap (λ xs. (progress (sheet_of m) xs).cells) whole) ∙ compiled;
-      fits = overflows_break m (workbooks_are_acyclic m is) (fits_by none);
+      fits = overflows_break m acyclic (fits_by none);
       none_over = fits_by none;
+      contained = compilations_contain m workbook acyclic;
     }
 
     pub ends_over : (n : Node) → least ≡ Some n → overflow m ≡ Some n

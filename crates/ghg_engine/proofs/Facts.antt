@@ -1,7 +1,9 @@
 -- What workbooks are known to keep.
-use Rattle.std.proofs.Common.{◌≡◌, ◌≤◌, Bool, true, false, nat_lt, List, [], ◌∷◌, length, filter, Option, Some, None, if◌then◌else◌, refl, subst, arith, ltb-false}
+use Rattle.std.specs.Prelude.{IfSome}
+use Rattle.std.proofs.Common.{◌≡◌, ◌≤◌, Bool, true, false, nat_le, nat_lt, ℕ, List, [], ◌∷◌, length, filter, Option, Some, None, if◌then◌else◌, refl, subst, arith, ltb-false}
 use Rattle.std.specs.FinMap.{get}
 use Rattle.std.specs.Option.{option_map_or}
+use Rattle.std.proofs.lemmas.List.{length-map}
 use Rattle.ghg_categories.specs.declared.category.Category.{Category}
 use Rattle.ghg_units.specs.declared.row.Binding.{Binding}
 use Rattle.ghg_units.specs.declared.row.Binding.TheVariants as bound
@@ -12,11 +14,12 @@ use Rattle.ghg_units.specs.WellFormed.{IsBinding, IsSpan}
 use Rattle.ghg_definitions.specs.declared.record.Record.{Record}
 use Rattle.ghg_definitions.specs.declared.record.Record.TheVariants as entry
 use Rattle.ghg_definitions.specs.declared.record.RecordKey.TheVariants as key
-use Rattle.ghg_definitions.specs.Compilation.{emits, gas_lines, gas_lines_at}
+use Rattle.ghg_definitions.specs.Compilation.{bound_to, emits, gas_lines, gas_lines_at, previous}
 use Rattle.ghg_definitions.specs.Data.{Data, Name, as_binding, as_span, binding, category, line_names, span}
+use Rattle.ghg_definitions.specs.Formulas.{map_operand, nodes_in}
+use Rattle.ghg_definitions.specs.Lookups.{given}
 use Rattle.ghg_definitions.specs.Rules.{most_lines, passed_limit}
 use Rattle.ghg_definitions.specs.Sound.{IsWorkbook}
-use Rattle.ghg_engine.specs.Evaluation.{IsNoSum}
 
 -- the years of a workbook
 pub span_is : (m : Data) (s : Span) → IsWorkbook m → span m ≡ Some s → IsSpan s
@@ -36,17 +39,12 @@ binding_is m line parameter b workbook e = by (get m (key.Bind line parameter)) 
     by (Some (entry.Bind c)) is e = let same : c ≡ b = cc in subst IsBinding same (workbook.records (key.Bind line parameter) (entry.Bind c) is).1
     by (Some _) is e = absurd (cc)
 
-no_sum : (b : Binding) → IsBinding b → IsNoSum b
-no_sum (bound.Activity name) is = tt
-no_sum (bound.Factor name) is = tt
-no_sum (bound.Line name) is = tt
-no_sum (bound.Prev name) is = tt
-no_sum (bound.Sum names) is = absurd is
-no_sum (bound.Decay name) is = tt
-no_sum (bound.Key notation) is = tt
-
-pub bound_no_sum : (m : Data) (line parameter : Name) (b : Binding) → IsWorkbook m → binding m line parameter ≡ Some b → IsNoSum b
-bound_no_sum m line parameter b workbook e = no_sum b (binding_is m line parameter b workbook e)
+pub bound_is : (m : Data) (line parameter : Name) → IsWorkbook m → IfSome (binding m line parameter) IsBinding
+bound_is m line parameter workbook = by (binding m line parameter) (λ b e. binding_is m line parameter b workbook e)
+  where
+    by : (o : Option Binding) → ((b : Binding) → o ≡ Some b → IsBinding b) → IfSome o IsBinding
+    by None is = tt
+    by (Some b) is = is b refl
 
 -- ---- how many lines there are
 
@@ -72,3 +70,18 @@ few_at m test workbook =
     let some = fewer (emits m) (line_names m) in
     let at = fewer (λ name. option_map_or test (category m name) false) (gas_lines m) in
     omega (arith, all, some, at)
+
+-- a binding takes no more values than a sum may have parts
+pub few_taken : (m : Data) (first year : ℕ) (b : Option Binding) → IfSome b IsBinding → length (nodes_in (map_operand (given m) (bound_to m first year b))) ≤ 5000
+few_taken m first year None h = omega arith
+few_taken m first year (Some (bound.Activity name)) h = omega arith
+few_taken m first year (Some (bound.Factor name)) h = omega arith
+few_taken m first year (Some (bound.Line name)) h = omega arith
+few_taken m first year (Some (bound.Prev name)) h = by (nat_le year first)
+  where
+    by : (b : Bool) → length (nodes_in (map_operand (given m) (previous b name year))) ≤ 5000
+    by true = omega arith
+    by false = omega arith
+few_taken m first year (Some (bound.Sum names)) h = rw length-map (omega (arith, h.1))
+few_taken m first year (Some (bound.Decay name)) h = omega arith
+few_taken m first year (Some (bound.Key notation)) h = omega arith

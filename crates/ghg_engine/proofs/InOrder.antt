@@ -10,9 +10,10 @@ use Rattle.ghg_definitions.specs.Nodes.{node_cmp}
 use Rattle.ghg_definitions.specs.Trials.{IsTrial, Sheet, breaks, is_over, or_blank}
 use Rattle.ghg_definitions.proofs.Agreement.{formula_agrees}
 use Rattle.ghg_definitions.proofs.Keys.{equal_by}
-use Rattle.ghg_definitions.proofs.Listed.{IsListed, contained, listed}
+use Rattle.ghg_definitions.specs.Listed.{IsListed}
+use Rattle.ghg_definitions.proofs.Listed.{contained, listed}
 use Rattle.ghg_definitions.proofs.NodeOrder.{nodes_same, nodes_total}
-use Rattle.ghg_engine.specs.Breaking.{Progress, broken_with, progress, start, step}
+use Rattle.ghg_engine.proofs.Progress.{Progress, broken_with, progress, start, step}
 use Rattle.ghg_engine.specs.Orders.{Cells, IsInOrder, IsOrder, breaks_at, is_over_in, outcome_at, outcome_in, with_cell}
 
 pub true_not_false : ◌≡◌ {A = Bool} true false → ⊥

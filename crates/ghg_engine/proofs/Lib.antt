@@ -1,7 +1,12 @@
 pub mod NodeKeys
+pub mod Progress
 pub mod InOrder
+pub mod Counted
 pub mod Compiled
+pub mod Arranged
 pub mod Gathered
+pub mod Limits
+pub mod Held
 pub mod Facts
 pub mod LineOutcomes
 pub mod Grouped

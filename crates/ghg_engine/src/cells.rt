@@ -4,7 +4,7 @@ ghost use Rattle.std.specs.Prelude.{◌≡◌, OnOk, option_copied};
 ghost use Rattle.std.specs.FinMap as finite;
 ghost use Rattle.ghg_engine.specs.Orders.{outcome_in};
 
-use ghg_cell::Input;
+use ghg_cell::{Input, Value};
 use ghg_interval::Over;
 use ghg_units::Node;
 use std::alloc::{AllocError, Global};
@@ -14,7 +14,7 @@ use std::marker::Model;
 /// The outcomes of finitely many nodes, in the order of the nodes.
 #[derive(Drop)]
 pub(crate) struct Cells {
-    map: BTreeMap<Node, Result<Input, Over>>,
+    map: BTreeMap<Node, Result<Value, Over>>,
 }
 
 impl Model for Cells {
@@ -40,7 +40,7 @@ impl Cells {
     }
 
     /// The outcome of a node, where it has a cell.
-    pub(crate) fn get(&self, node: &Node) -> Option<&Result<Input, Over>>
+    pub(crate) fn get(&self, node: &Node) -> Option<&Result<Value, Over>>
         ensures { option_copied result ≡ finite.get self.now node.now }
     {
         self.map.get(node)
@@ -51,7 +51,8 @@ impl Cells {
         ensures { result ≡ outcome_in self.now node.now }
     {
         match self.get(node) {
-            Some(outcome) => *outcome,
+            Some(Ok(value)) => Ok(*value.input()),
+            Some(Err(Over)) => Err(Over),
             None => Ok(Input::Blank),
         }
     }
@@ -60,7 +61,7 @@ impl Cells {
     pub(crate) fn insert(
         &mut self,
         node: &Node,
-        outcome: Result<Input, Over>,
+        outcome: Result<Value, Over>,
     ) -> Result<(), AllocError>
         ensures { OnOk result (self.new ≡ finite.insert self.old node.now outcome) }
     {

@@ -1,26 +1,29 @@
 //! A book with its cells.
 
-ghost use Rattle.std.specs.Prelude.{◌≡◌, Ok, Err, Some, IfOk, MatchResult, option_copied};
+ghost use Rattle.std.specs.Prelude.{◌≡◌, ◌≤◌, ◌+◌, length, Ok, Err, Some, IfOk, MatchResult, option_copied};
 ghost use Rattle.std.specs.FinMap as finite;
 ghost use Rattle.std.specs.List.{AllByRecursion};
 ghost use Rattle.ghg_units.specs.WellFormed.{IsWellFormed};
-ghost use Rattle.ghg_definitions.specs.Compilation.{compilation, overflow, sheet_of};
+ghost use Rattle.ghg_definitions.specs.Compilation.{compilation, nodes, overflow, sheet_of};
+ghost use Rattle.ghg_definitions.specs.Containment.{HoldsExactValues};
 ghost use Rattle.ghg_definitions.specs.Rows.{after};
-ghost use Rattle.ghg_definitions.specs.Rules.{planned};
+ghost use Rattle.ghg_definitions.specs.Rules.{arranged};
 ghost use Rattle.ghg_definitions.specs.Trials.{IsCompilation, value_of};
 ghost use Rattle.ghg_data.specs.Changes.{applied};
 ghost use Rattle.ghg_data.specs.Refusal.{IfRule};
-ghost use Rattle.ghg_data.specs.Shelf.{IsPlanned};
-ghost use Rattle.ghg_engine.specs.Proposals.{IfOverflow, IsProposed};
+ghost use Rattle.ghg_engine.specs.Proposals.{IfOverflow, IsArranged, IsProposed};
 
 use crate::cells::Cells;
 use crate::evaluation::compile;
 use crate::refusal::EngineRefusal;
-use ghg_cell::Input;
+use ghg_cell::Value;
 use ghg_data::{Book, Edits, PlanRefusal, after};
+use ghg_graph::{CycleRefusal, check_acyclic};
+use ghg_steps::Steps;
 use ghg_units::{Node, Row, Rule};
 use std::alloc::Global;
 use std::marker::Model;
+use std::sync::ledger::Ledger;
 
 /// The records of a workbook and their compilation, in which nothing is over. Contracts see what they see of its book.
 #[derive(Drop)]
@@ -43,11 +46,22 @@ impl Model for Engine {
     ghost invariant = { λ e. IsCompiled e.book.content e.cells };
 }
 
-/// Edits, and the cells that the book will have with them.
+/// Edits, and the cells that the book will have with them. Contracts see the two.
 #[derive(Drop)]
 pub struct Proposal {
     edits: Edits,
     cells: Cells,
+}
+
+impl Model for Proposal {
+    ghost use Rattle.std.specs.Coded.{codes};
+    ghost use Rattle.ghg_engine.specs.Proposals.{Proposed, proposed_code};
+
+    ghost Value = { Proposed };
+
+    ghost coded = { proposed_code (Prim.hlevel codes) (Prim.hlevel codes) (Prim.hlevel codes) (Prim.hlevel codes) };
+
+    ghost view = { λ p. record { edits = p.edits; cells = p.cells } };
 }
 
 impl ghg_graph::Cells for Engine {
@@ -57,9 +71,9 @@ impl ghg_graph::Cells for Engine {
         &self.book
     }
 
-    fn value(&self, node: &Node) -> Option<&Input> {
+    fn value(&self, node: &Node) -> Option<&Value> {
         match self.cells.get(node) {
-            Some(Ok(input)) => Some(input),
+            Some(Ok(value)) => Some(value),
             _ => None,
         }
     }
@@ -80,7 +94,7 @@ impl Engine {
     ///
     /// `rest` is the rule that stopped the reading of the rows, and `kept_bytes` how many bytes all kept bodies have with this one.
     /// The first rule that is broken is answered: that of the first row that breaks one on units or presence, `rest`,
-    /// the least unsound binding, and the first limit. The records stay with every answer.
+    /// the least unsound binding, the first limit, and the least line on a ring. The records stay with every answer.
     pub fn plan(
         &mut self,
         alloc: Global,
@@ -90,27 +104,43 @@ impl Engine {
     ) -> Result<Edits, PlanRefusal>
         requires { AllByRecursion IsWellFormed rows.now }
         ensures kept { self.new.content ≡ self.old.content }
-        ensures planned { MatchResult result (λ edits. planned self.old.content rows.now rest kept_bytes ≡ Ok (applied self.old.content edits)) (IfRule (λ rule. planned self.old.content rows.now rest kept_bytes ≡ Err rule)) }
+        ensures planned { MatchResult result (λ edits. arranged self.old.content rows.now rest kept_bytes ≡ Ok (applied self.old.content edits)) (IfRule (λ rule. arranged self.old.content rows.now rest kept_bytes ≡ Err rule)) }
         ensures after { IfOk result (λ edits. applied self.old.content edits ≡ after self.old.content rows.now) }
-        ensures ready { IfOk result (IsPlanned self.new) }
+        ensures ready { IfOk result (IsArranged self.new) }
     {
-        self.book.plan(alloc, rows, rest, kept_bytes)
+        let edits = match self.book.plan(alloc, rows, rest, kept_bytes) {
+            Ok(edits) => edits,
+            Err(refusal) => return Err(refusal),
+        };
+        match check_acyclic(alloc, &after(&self.book, &edits)) {
+            Ok(()) => Ok(edits),
+            Err(CycleRefusal::Ring(ring)) => Err(PlanRefusal::Rule(Rule::Cycle(ring.least()))),
+            Err(CycleRefusal::Memory) => Err(PlanRefusal::Memory),
+        }
     }
 
     /// The compilation of the book with edits that were planned on it as it stands; or the least node that is beyond
-    /// the limits, while none of its inputs is.
-    pub fn propose(&self, alloc: Global, edits: Edits) -> Result<Proposal, EngineRefusal>
-        requires { IsPlanned self.now edits }
-        ensures { MatchResult result (λ p. (p.edits ≡ edits) × IsProposed self.now p) (IfOverflow (λ n. overflow (applied self.now.content edits) ≡ Some n)) }
+    /// the limits, while none of its inputs is. It spends at most one step for each node.
+    pub fn propose<L: Ledger>(
+        &self,
+        alloc: Global,
+        edits: Edits,
+        steps: &mut Steps<L>,
+    ) -> Result<Proposal, EngineRefusal>
+        requires { IsArranged self.now edits }
+        ensures steps { steps.new ≤ steps.old + length (nodes (applied self.now.content edits)) }
+        ensures proposed { MatchResult result (λ p. (p.edits ≡ edits) × IsProposed self.now p) (IfOverflow (λ n. overflow (applied self.now.content edits) ≡ Some n)) }
+        ensures contained { IfOk result (λ p. HoldsExactValues (applied self.now.content p.edits)) }
     {
-        let cells = compile(alloc, &after(&self.book, &edits))?;
+        let cells = compile(alloc, &after(&self.book, &edits), steps)?;
         Ok(Proposal { edits, cells })
     }
 
     /// Makes the edits of a proposal that was made on this engine as it stands. It takes no memory.
     pub fn accept(&mut self, proposal: Proposal)
         requires { IsProposed self.old proposal }
-        ensures { self.new.content ≡ applied self.old.content proposal.edits }
+        ensures made { self.new.content ≡ applied self.old.content proposal.edits }
+        ensures contained { HoldsExactValues self.new.content }
     {
         let Proposal { edits, cells } = proposal;
         self.book.commit(edits);

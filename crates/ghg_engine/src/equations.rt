@@ -1,21 +1,23 @@
-//! The equations over their inputs.
+//! The equations of all sectors.
 
-ghost use Rattle.std.specs.Prelude.{◌≡◌, [], ◌∷◌};
+ghost use Rattle.std.specs.Prelude.{◌≡◌, length};
 ghost use Rattle.ghg_cell.specs.Totals.{equation_outcome};
-ghost use Rattle.ghg_cell.specs.Values.{equation_value};
+ghost use Rattle.ghg_equations.specs.Table.{parameters};
 
-use ghg_cell::Input;
-use ghg_equations::EqId;
+use ghg_cell::{Input, Ticket, Value};
+use ghg_equations::{EqId, Sector};
 use ghg_interval::Over;
 
-/// Fuel burnt, to CO2: 2006 IPCC Guidelines, Volume 2, Equation 2.1. Inputs are within the limit by their type, so that
-/// the value of the equation is its outcome.
-pub(crate) fn q10(fc: &Input, ef: &Input) -> Result<Input, Over>
-    ensures value { result ≡ equation_value EqId.Q10 (fc.now ∷ ef.now ∷ []) }
-    ensures outcome { result ≡ equation_outcome EqId.Q10 (fc.now ∷ ef.now ∷ []) }
+/// The outcome of an equation over its inputs, which stand in the order of its parameters.
+pub(crate) fn evaluate(id: EqId, ticket: Ticket, inputs: &[Input]) -> Result<Value, Over>
+    requires { length inputs.now ≡ length (parameters id) }
+    ensures { result ≡ equation_outcome id inputs.now }
 {
-    let (Some(fc), Some(ef)) = (fc.figures(), ef.figures()) else {
-        return Ok(Input::Blank);
-    };
-    Ok(Input::known(fc.mul(&ef)?.scale(1, 1_000_000)?))
+    match id.sector() {
+        Sector::Energy => ghg_energy::evaluate(id, ticket, inputs),
+        Sector::Industry => ghg_ippu::evaluate(id, ticket, inputs),
+        Sector::Livestock => ghg_livestock::evaluate(id, ticket, inputs),
+        Sector::Soils => ghg_soils::evaluate(id, ticket, inputs),
+        Sector::Land => ghg_land::evaluate(id, ticket, inputs),
+    }
 }

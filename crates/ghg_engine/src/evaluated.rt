@@ -3,13 +3,13 @@
 ghost use Rattle.std.specs.Prelude.{◌≡◌, false, Err, Some};
 ghost use Rattle.ghg_definitions.specs.Trials.{is_over};
 
-use ghg_cell::Input;
+use ghg_cell::Value;
 use ghg_interval::Over;
 
 /// What the evaluation of a node gives.
-#[derive(Clone, Copy, Drop)]
+#[derive(Drop)]
 pub(crate) struct Evaluated {
-    pub(crate) outcome: Result<Input, Over>,
+    pub(crate) outcome: Result<Value, Over>,
     /// It is over, and none of its inputs is.
     pub(crate) breaks: bool,
 }
@@ -27,7 +27,7 @@ impl Evaluated {
     }
 
     /// The outcome over inputs of which none is over.
-    pub(crate) fn of(outcome: Result<Input, Over>) -> Evaluated
+    pub(crate) fn of(outcome: Result<Value, Over>) -> Evaluated
         ensures outcome { result.outcome ≡ outcome }
         ensures breaks { result.breaks ≡ is_over (Some outcome) }
     {

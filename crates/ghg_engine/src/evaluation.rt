@@ -1,44 +1,53 @@
 //! The evaluation of all nodes, each once and behind its inputs.
 
-ghost use Rattle.std.specs.Prelude.{◌≡◌, ◌≤◌, ◌&&◌, not, [], ◌∷◌, IfOk, MatchResult, Some, length};
-ghost use Rattle.ghg_cell.specs.Totals.{equation_outcome};
-ghost use Rattle.ghg_cell.specs.Values.{then};
-ghost use Rattle.ghg_definitions.specs.Compilation.{first_year, overflow, sheet_of};
+ghost use Rattle.std.specs.Prelude.{◌≡◌, ◌≤◌, ◌+◌, IfOk, MatchResult, Some, length};
+ghost use Rattle.ghg_definitions.specs.Compilation.{first_year, nodes, overflow, sheet_of};
 ghost use Rattle.ghg_definitions.specs.Data.{span};
-ghost use Rattle.ghg_definitions.specs.Formulas.{gather};
 ghost use Rattle.ghg_definitions.specs.Nodes.{lesser_node};
+ghost use Rattle.ghg_definitions.specs.Rings.{IsAcyclic};
 ghost use Rattle.ghg_definitions.specs.Sound.{IsWorkbook};
-ghost use Rattle.ghg_definitions.specs.Trials.{is_over};
 ghost use Rattle.ghg_engine.specs.Breaking.{least_with};
-ghost use Rattle.ghg_engine.specs.Evaluation.{IsEvaluatedAt, IsEvaluatedSum, is_err};
+ghost use Rattle.ghg_engine.specs.Evaluation.{IsEvaluatedAt, IsEvaluatedSum};
 ghost use Rattle.ghg_engine.specs.Grouping.{IsGrouping};
 ghost use Rattle.ghg_engine.specs.Orders.{IsOrder};
+ghost use Rattle.ghg_engine.specs.Parts.{nodes_for};
 ghost use Rattle.ghg_engine.specs.Proposals.{IfOverflow, IsCompiled};
 
+use crate::arguments::Arguments;
 use crate::cells::Cells;
-use crate::equations::q10;
 use crate::evaluated::Evaluated;
-use crate::groups::{Groups, emitters};
-use crate::inputs::{operand, potential};
-use crate::order::order;
+use crate::groups::Groups;
+use crate::order::{acyclic_order, order};
+use crate::parts::{Part, gather_parts};
 use crate::refusal::EngineRefusal;
-use ghg_cell::{Input, equiv, total};
+use ghg_cell::{Input, Permits, Ticket, equiv, take, total};
 use ghg_data::Records;
-use ghg_equations::EqId;
+use ghg_graph::{emitters, first_year, potential};
 use ghg_interval::Over;
+use ghg_steps::Steps;
 use ghg_units::{Name, Node};
 use std::alloc::{AllocError, Global};
 use std::cmp::Ordering;
+use std::sync::ledger::Ledger;
 
-/// The cells of all nodes of a workbook, or the least node that is over while none of its inputs is.
-pub(crate) fn compile<R: Records>(alloc: Global, records: &R) -> Result<Cells, EngineRefusal>
-    ensures { MatchResult result (IsCompiled (R.content records.now)) (IfOverflow (λ n. overflow (R.content records.now) ≡ Some n)) }
+/// The cells of all nodes of a workbook, or the least node that is over while none of its inputs is. It spends a step for
+/// each node, once there is the memory for their order.
+pub(crate) fn compile<R: Records, L: Ledger>(
+    alloc: Global,
+    records: &R,
+    steps: &mut Steps<L>,
+) -> Result<Cells, EngineRefusal>
+    requires { IsAcyclic (R.content records.now) }
+    ensures compiled { MatchResult result (IsCompiled (R.content records.now)) (IfOverflow (λ n. overflow (R.content records.now) ≡ Some n)) }
+    ensures steps { steps.new ≤ steps.old + length (nodes (R.content records.now)) }
 {
-    let lines = records.lines(alloc)?;
-    let emitters = emitters(alloc, records, &lines)?;
+    let names = records.lines(alloc)?;
+    let emitters = emitters(alloc, records, &names)?;
     let groups = Groups::of(alloc, records, &emitters)?;
+    let lines = acyclic_order(alloc, records)?;
     let nodes = order(alloc, records, &lines, &emitters)?;
-    evaluate_all(alloc, records, &groups, &nodes)
+    let permits = take(nodes.len() as u64, steps);
+    evaluate_all(alloc, records, &groups, &nodes, permits)
 }
 
 // The cells of nodes, each evaluated in its turn.
@@ -47,23 +56,45 @@ fn evaluate_all<R: Records>(
     records: &R,
     groups: &Groups,
     nodes: &[Node],
+    permits: Permits,
 ) -> Result<Cells, EngineRefusal>
     requires workbook { IsWorkbook (R.content records.now) }
+    requires acyclic { IsAcyclic (R.content records.now) }
     requires order { IsOrder (sheet_of (R.content records.now)) nodes.now }
     requires groups { IsGrouping (R.content records.now) groups.now }
+    requires paid { permits ≡ length nodes.now }
     ensures { MatchResult result (IsCompiled (R.content records.now)) (IfOverflow (λ n. overflow (R.content records.now) ≡ Some n)) }
 {
-    let mut parts = Vec::new(alloc);
+    let first = first_year(records);
+    let mut permits = permits;
+    let mut buffers = Buffers::new(alloc);
     let mut cells = Cells::new(alloc);
     let mut least = None;
     for node in nodes {
-        let evaluated = evaluate(records, groups, &cells, node, &mut parts)?;
+        let ticket = permits.ticket().unwrap();
+        let evaluated = evaluate(records, groups, &cells, first, node, ticket, &mut buffers)?;
         least = least_with(&least, evaluated.breaks, node);
         cells.insert(node, evaluated.outcome)?;
     }
     match least {
         None => Ok(cells),
         Some(node) => Err(EngineRefusal::Overflow(node)),
+    }
+}
+
+// What the evaluations of all nodes share.
+#[derive(Drop)]
+struct Buffers {
+    arguments: Arguments,
+    parts: Vec<Input>,
+}
+
+impl Buffers {
+    fn new(alloc: Global) -> Buffers {
+        Buffers {
+            arguments: Arguments::new(alloc),
+            parts: Vec::new(alloc),
+        }
     }
 }
 
@@ -87,69 +118,76 @@ fn lesser(node: &Node, least: &Option<Node>) -> Node
     }
 }
 
-// Evaluates a node over the cells of its inputs. The parts of a sum are gathered in a buffer that all sums share.
+// Evaluates a node over the cells of its inputs. `first` is the first year of the inventory.
 fn evaluate<R: Records>(
     records: &R,
     groups: &Groups,
     cells: &Cells,
+    first: u32,
     node: &Node,
-    parts: &mut Vec<Input>,
+    ticket: Ticket,
+    buffers: &mut Buffers,
 ) -> Result<Evaluated, AllocError>
     requires workbook { IsWorkbook (R.content records.now) }
     requires groups { IsGrouping (R.content records.now) groups.now }
+    requires first { first ≡ first_year (span (R.content records.now)) }
     ensures { IfOk result (IsEvaluatedAt (sheet_of (R.content records.now)) cells.now node.now) }
 {
     match node {
-        Node::Line(name, year) => Ok(line(records, cells, name, *year)),
-        Node::Equiv(name, year) => Ok(equivalent(records, cells, name, *year)),
-        Node::Total(category, year) => sum(cells, groups.at(*category), *year, parts),
-        Node::Gross(year) => sum(cells, groups.gross(), *year, parts),
-    }
-}
-
-// Evaluates a line's equation over what its parameters are bound to.
-fn line<R: Records>(records: &R, cells: &Cells, name: &Name, year: u32) -> Evaluated
-    requires { IsWorkbook (R.content records.now) }
-    ensures { IsEvaluatedAt (sheet_of (R.content records.now)) cells.now (Node.Line name.now year) result }
-{
-    let first = first_year(records);
-    match records.line(name) {
-        Some((_, EqId::Q10)) => {
-            let fc = operand(records, cells, first, name, b"FC", year);
-            let ef = operand(records, cells, first, name, b"EF", year);
-            evaluated_q10(fc, ef)
+        Node::Line(name, year) => {
+            let arguments = &mut buffers.arguments;
+            line(records, cells, first, name, *year, ticket, arguments)
         }
-        None => Evaluated::of(total(&[])),
+        Node::Equiv(name, year) => Ok(equivalent(records, cells, name, *year, ticket)),
+        Node::Total(category, year) => {
+            sum(
+                cells,
+                groups.at(*category),
+                *year,
+                ticket,
+                &mut buffers.parts,
+            )
+        }
+        Node::Gross(year) => sum(cells, groups.gross(), *year, ticket, &mut buffers.parts),
     }
 }
 
-// Evaluates the equation over its operands, of which one may be over.
-fn evaluated_q10(fc: Result<Input, Over>, ef: Result<Input, Over>) -> Evaluated
-    ensures outcome { result.outcome ≡ then (gather (fc ∷ ef ∷ [])) (equation_outcome EqId.Q10) }
-    ensures breaks { result.breaks ≡ (is_over (Some result.outcome) && not (is_err (gather (fc ∷ ef ∷ [])))) }
+// Evaluates a line's equation over what its parameters take.
+fn line<R: Records>(
+    records: &R,
+    cells: &Cells,
+    first: u32,
+    name: &Name,
+    year: u32,
+    ticket: Ticket,
+    arguments: &mut Arguments,
+) -> Result<Evaluated, AllocError>
+    requires workbook { IsWorkbook (R.content records.now) }
+    requires first { first ≡ first_year (span (R.content records.now)) }
+    ensures { IfOk result (IsEvaluatedAt (sheet_of (R.content records.now)) cells.now (Node.Line name.now year)) }
 {
-    match (fc, ef) {
-        (Ok(fc), Ok(ef)) => Evaluated::of(q10(&fc, &ef)),
-        _ => Evaluated::passed_on(),
-    }
-}
-
-// The first year of the inventory.
-fn first_year<R: Records>(records: &R) -> u32
-    ensures { result ≡ first_year (span (R.content records.now)) }
-{
-    match records.span() {
-        Some(span) => span.first,
-        None => 0,
+    let Some((_, id)) = records.line(name) else {
+        return Ok(Evaluated::of(total(ticket, &[])));
+    };
+    if arguments.gather(records, cells, first, name, id, year)? {
+        Ok(Evaluated::of(arguments.value(id, ticket)))
+    } else {
+        Ok(Evaluated::passed_on())
     }
 }
 
 // Evaluates the equivalent of a line.
-fn equivalent<R: Records>(records: &R, cells: &Cells, name: &Name, year: u32) -> Evaluated
+fn equivalent<R: Records>(
+    records: &R,
+    cells: &Cells,
+    name: &Name,
+    year: u32,
+    ticket: Ticket,
+) -> Evaluated
     ensures { IsEvaluatedAt (sheet_of (R.content records.now)) cells.now (Node.Equiv name.now year) result }
 {
     match cells.outcome(&Node::Line(*name, year)) {
-        Ok(value) => Evaluated::of(equiv(&value, &potential(records, name, year))),
+        Ok(value) => Evaluated::of(equiv(ticket, &value, &potential(records, name, year))),
         Err(Over) => Evaluated::passed_on(),
     }
 }
@@ -159,17 +197,15 @@ fn sum(
     cells: &Cells,
     names: &[Name],
     year: u32,
+    ticket: Ticket,
     parts: &mut Vec<Input>,
 ) -> Result<Evaluated, AllocError>
     requires { length names.now ≤ 5000 }
-    ensures { IfOk result (IsEvaluatedSum cells.now names.now year) }
+    ensures { IfOk result (IsEvaluatedSum cells.now (nodes_for Part.Equivalent names.now year)) }
 {
-    parts.clear();
-    for name in names {
-        match cells.outcome(&Node::Equiv(*name, year)) {
-            Ok(part) => parts.push(part)?,
-            Err(Over) => return Ok(Evaluated::passed_on()),
-        }
+    if gather_parts(cells, Part::Equivalent, names, year, parts)? {
+        Ok(Evaluated::of(total(ticket, parts)))
+    } else {
+        Ok(Evaluated::passed_on())
     }
-    Ok(Evaluated::of(total(parts)))
 }

@@ -4,12 +4,11 @@ ghost use Rattle.std.specs.Prelude.{◌≡◌, IfOk, OnOk, [], ◌∷◌, ◌++�
 ghost use Rattle.ghg_categories.specs.Tree.{is_same, stands_under, stands_within};
 ghost use Rattle.ghg_categories.specs.declared.category.Category.{Category};
 ghost use Rattle.ghg_definitions.specs.Compilation.{counts_in_gross, gas_lines};
-ghost use Rattle.ghg_definitions.specs.Data.{line_names};
 ghost use Rattle.ghg_engine.specs.Grouping.{IsGrouping, group_of};
 
-use crate::inputs::line_gas;
-use ghg_categories::{Category, DEPTH, is_under, parent};
+use ghg_categories::{Category, DEPTH, parent};
 use ghg_data::Records;
+use ghg_graph::counts_in_gross;
 use ghg_units::Name;
 use std::alloc::{AllocError, Global};
 use std::collections::BTreeMap;
@@ -93,27 +92,4 @@ impl Groups {
             _ => Ok(()),
         }
     }
-}
-
-// Land is no part of the gross total.
-fn counts_in_gross(category: Category) -> bool
-    ensures { result ≡ counts_in_gross category }
-{
-    is_under(category, Category::National) && !is_under(category, Category::C3B)
-}
-
-/// The lines that emit a gas, by name.
-pub(crate) fn emitters<R: Records>(
-    alloc: Global,
-    records: &R,
-    lines: &[Name],
-) -> Result<Vec<Name>, AllocError>
-    requires { lines.now ≡ line_names (R.content records.now) }
-    ensures { IfOk result (λ names. names.items ≡ gas_lines (R.content records.now)) }
-{
-    lines
-        .iter()
-        .filter(|name| line_gas(records, name).is_some())
-        .copied()
-        .collect(alloc)
 }

@@ -1,14 +1,15 @@
 //! The compilation of a workbook: the value of each line, equivalent and total in each year.
 #![tactic(auto)]
 
+mod arguments;
 mod cells;
 mod engine;
 mod equations;
 mod evaluated;
 mod evaluation;
 mod groups;
-mod inputs;
 mod order;
+mod parts;
 mod refusal;
 #[cfg(test)]
 mod tests;

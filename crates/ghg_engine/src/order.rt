@@ -5,24 +5,38 @@ ghost use Rattle.std.specs.List.Sorted.{IsStrictlySortedBy};
 ghost use Rattle.ghg_categories.specs.Tree.{tree};
 ghost use Rattle.ghg_definitions.specs.Compilation.{gas_lines, sheet_of};
 ghost use Rattle.ghg_definitions.specs.Data.{line_names, name_cmp};
+ghost use Rattle.ghg_definitions.specs.Rings.{IsAcyclic};
+ghost use Rattle.ghg_graph.specs.Ordering.{IsLineOrder};
 ghost use Rattle.ghg_engine.specs.Orders.{IsOrder};
 ghost use Rattle.ghg_engine.specs.Years.{year_nodes};
 
 use ghg_categories::Category;
 use ghg_data::Records;
+use ghg_graph::CycleRefusal;
 use ghg_units::{Name, Node};
 use std::alloc::{AllocError, Global};
 
-/// The nodes of a workbook, each once and behind its inputs: year by year the lines, their equivalents, the totals and the gross
-/// total. No row binds a parameter to a line yet, so that lines of a year may stand in any order.
+/// The lines of a workbook without a ring, each behind those that it takes.
+pub(crate) fn acyclic_order<R: Records>(alloc: Global, records: &R) -> Result<Vec<Name>, AllocError>
+    requires { IsAcyclic (R.content records.now) }
+    ensures { IfOk result (λ names. IsLineOrder (R.content records.now) names.items) }
+{
+    match ghg_graph::line_order(alloc, records) {
+        Ok(names) => Ok(names),
+        Err(CycleRefusal::Memory) => Err(AllocError),
+        Err(CycleRefusal::Ring(_)) => unreachable!(),
+    }
+}
+
+/// The nodes of a workbook, each once and behind its inputs: year by year the lines in their order, the equivalents,
+/// the totals and the gross total.
 pub(crate) fn order<R: Records>(
     alloc: Global,
     records: &R,
     lines: &[Name],
     emitters: &[Name],
 ) -> Result<Vec<Node>, AllocError>
-    requires lines { lines.now ≡ line_names (R.content records.now) }
-    requires sorted { IsStrictlySortedBy name_cmp lines.now }
+    requires lines { IsLineOrder (R.content records.now) lines.now }
     requires emitters { emitters.now ≡ gas_lines (R.content records.now) }
     ensures { IfOk result (λ nodes. IsOrder (sheet_of (R.content records.now)) nodes.items) }
 {

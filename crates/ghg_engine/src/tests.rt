@@ -1,22 +1,28 @@
 //! Submissions that are planned, proposed and accepted.
 
-ghost use Rattle.std.specs.Prelude.{◌≡◌, ◌≤◌, ◌*◌, pos, false};
+ghost use Rattle.std.specs.Prelude.{◌≡◌, ◌≤◌, ◌<◌, ◌*◌, pos, false, IfOk};
 ghost use Rattle.std.specs.List.{AllByRecursion};
 ghost use Rattle.ghg_interval.specs.Bounds.{AreBounded};
 ghost use Rattle.ghg_units.specs.Units.{converted};
-ghost use Rattle.ghg_units.specs.WellFormed.{IsFactorName, IsFigure, IsForm, IsLeaf, IsPlainName, IsWellFormed, IsYear};
+ghost use Rattle.ghg_units.specs.WellFormed.{IsBinding, IsFactorName, IsFigure, IsForm, IsLeaf, IsPlainName, IsWellFormed, IsYear};
+
+mod equations;
 
 use crate::{Engine, EngineRefusal};
 use ghg_categories::Category;
-use ghg_cell::Input;
+use ghg_cell::{Input, Value};
+use ghg_data::PlanRefusal;
 use ghg_equations::EqId;
 use ghg_graph::Cells;
+use ghg_steps::Steps;
 use ghg_units::{
-    Act, Amount, Binding, Decimal, Figure, Name, Node, ParamName, Row, RowForm, Span, Unit,
-    to_interval,
+    Act, Amount, Binding, Decimal, Figure, Name, Names, Node, NotationKey, ParamName, Row, RowForm,
+    Rule, Span, Unit, to_interval,
 };
 use std::alloc::Global;
+use std::marker::Brand;
 use std::process::Abort;
+use std::sync::ledger::{Blank, Ledger};
 use std::test::Fail;
 
 fn name(rt: &impl Abort, text: &[u8]) -> Name
@@ -35,7 +41,7 @@ fn parameter(rt: &impl Abort, text: &[u8]) -> ParamName {
     ParamName::new(text).expect(rt, "a parameter")
 }
 
-fn whole(number: u32) -> Decimal
+fn whole(number: u64) -> Decimal
     ensures { result.scaled ≡ pos (number * 1_000_000_000_000) }
 {
     Decimal {
@@ -52,7 +58,7 @@ fn expect_within_the_limit(rt: &impl Abort, decimal: Decimal, unit: Unit)
 }
 
 // A whole number of units and its bounds.
-fn figure(rt: &impl Abort, low: u32, value: u32, high: u32, unit: Unit) -> Figure
+fn figure(rt: &impl Abort, low: u64, value: u64, high: u64, unit: Unit) -> Figure
     requires low { low ≤ value }
     requires high { value ≤ high }
     ensures { IsFigure result }
@@ -68,25 +74,42 @@ fn figure(rt: &impl Abort, low: u32, value: u32, high: u32, unit: Unit) -> Figur
     }
 }
 
-fn entered(number: u32, form: RowForm) -> Row
+fn entered(form: RowForm) -> Row
     requires { IsForm false form }
     ensures { IsWellFormed result }
 {
     Row {
-        number,
+        number: 1,
         act: Act::Enter,
         form,
     }
 }
 
-// Plans, proposes and accepts rows; the node that is over where one is.
-fn submit(alloc: Global, engine: &mut Engine, rows: &[Row]) -> Result<Option<Node>, Fail>
-    requires { AllByRecursion IsWellFormed rows.now }
+// Enters what a parameter of a line is bound to.
+fn bound(rt: &impl Abort, line: Name, text: &[u8], binding: Binding) -> Row
+    requires line { IsPlainName line }
+    requires binding { IsBinding binding }
+    ensures { IsWellFormed result }
+{
+    entered(RowForm::Bind(line, parameter(rt, text), Some(binding)))
+}
+
+// Plans, proposes and accepts rows, with steps of a new ledger; the node that is over where one is.
+fn submit_with<L: Ledger>(
+    blank: Blank,
+    alloc: Global,
+    engine: &mut Engine,
+    rows: &[Row],
+) -> Result<Option<Node>, Fail>
+    requires rows { AllByRecursion IsWellFormed rows.now }
+    requires name { blank.name ≡ L.name }
+    requires parts { blank.parts ≡ L.parts }
+    requires some { 0 < blank.parts }
 {
     let Ok(edits) = engine.plan(alloc, rows, None, 0) else {
         return Err("not planned".into());
     };
-    match engine.propose(alloc, edits) {
+    match engine.propose(alloc, edits, &mut Steps::<L>::new(blank)) {
         Ok(proposal) => {
             engine.accept(proposal);
             Ok(None)
@@ -96,78 +119,109 @@ fn submit(alloc: Global, engine: &mut Engine, rows: &[Row]) -> Result<Option<Nod
     }
 }
 
-fn submit_one(alloc: Global, engine: &mut Engine, form: RowForm) -> Result<Option<Node>, Fail>
-    requires { IsForm false form }
+fn submit(alloc: Global, engine: &mut Engine, rows: &[Row]) -> Result<Option<Node>, Fail>
+    requires { AllByRecursion IsWellFormed rows.now }
 {
-    submit(alloc, engine, &[entered(1, form)])
+    submit_with::<Brand>(Blank::new(1), alloc, engine, rows)
 }
 
-// Enters fuel burnt in a year, in TJ.
-fn enter_fuel(
+// Submits rows that bring no overflow.
+fn accept(alloc: Global, engine: &mut Engine, rows: &[Row]) -> Result<(), Fail>
+    requires { AllByRecursion IsWellFormed rows.now }
+{
+    match submit(alloc, engine, rows)? {
+        None => Ok(()),
+        Some(_) => Err("over".into()),
+    }
+}
+
+fn accept_one(alloc: Global, engine: &mut Engine, form: RowForm) -> Result<(), Fail>
+    requires { IsForm false form }
+{
+    accept(alloc, engine, &[entered(form)])
+}
+
+// Enters energy of a year, in TJ.
+fn enter_energy(
     rt: &impl Abort,
     alloc: Global,
     engine: &mut Engine,
-    fuel: Name,
+    activity: Name,
     year: u32,
-    terajoules: u32,
+    terajoules: u64,
 ) -> Result<(), Fail>
-    requires fuel { IsPlainName fuel }
+    requires activity { IsPlainName activity }
     requires year { IsYear year }
 {
-    let burnt = figure(rt, terajoules, terajoules, terajoules, Unit::Terajoule);
-    submit_one(alloc, engine, RowForm::Activity(fuel, year, Some(burnt)))?;
-    Ok(())
+    let energy = figure(rt, terajoules, terajoules, terajoules, Unit::Terajoule);
+    accept_one(
+        alloc,
+        engine,
+        RowForm::Activity(activity, year, Some(energy)),
+    )
 }
 
-// Enters a line of fuel burnt, with its bindings.
-fn enter_line(
+// Enters a line that burns what the binding gives; the node that is over where one is.
+fn enter_burning(
     rt: &impl Abort,
     alloc: Global,
     engine: &mut Engine,
     line: Name,
     category: Category,
-    fuel: Name,
+    fuel: Binding,
 ) -> Result<Option<Node>, Fail>
     requires line { IsPlainName line }
     requires category { IsLeaf category }
-    requires fuel { IsPlainName fuel }
+    requires fuel { IsBinding fuel }
 {
     let content = Binding::Factor(name(rt, b"GAS.EF"));
-    let fuel = Binding::Activity(fuel);
     let rows = [
-        entered(1, RowForm::Line(line, Some((category, EqId::Q10)))),
-        entered(2, RowForm::Bind(line, parameter(rt, b"FC"), Some(fuel))),
-        entered(3, RowForm::Bind(line, parameter(rt, b"EF"), Some(content))),
+        entered(RowForm::Line(line, Some((category, EqId::Q10)))),
+        bound(rt, line, b"FC", fuel),
+        bound(rt, line, b"EF", content),
     ];
     submit(alloc, engine, &rows)
 }
 
-// The years 1990 and 1991, a factor of gas in kg/TJ, and the global warming potential of CO2.
-fn begin(rt: &impl Abort, alloc: Global, content: Figure, potential: Figure) -> Result<Engine, Fail>
-    requires content { IsFigure content }
-    requires potential { IsFigure potential }
-{
+// The years 1990 and 1991, with no other record.
+fn begin_years(alloc: Global) -> Result<Engine, Fail> {
     let mut engine = Engine::new(alloc);
     let span = Span {
         first: 1990,
         base: 1990,
         last: 1991,
     };
-    submit_one(alloc, &mut engine, RowForm::Span(Some(span)))?;
+    accept_one(alloc, &mut engine, RowForm::Span(Some(span)))?;
+    Ok(engine)
+}
+
+// These years, a factor of gas in kg/TJ, and the global warming potential of CO2.
+fn begin(rt: &impl Abort, alloc: Global, content: Figure, potential: Figure) -> Result<Engine, Fail>
+    requires content { IsFigure content }
+    requires potential { IsFigure potential }
+{
+    let mut engine = begin_years(alloc)?;
     let of_gas = RowForm::Factor(name(rt, b"GAS.EF"), 1990, Some(content));
-    submit_one(alloc, &mut engine, of_gas)?;
+    accept_one(alloc, &mut engine, of_gas)?;
     let of_carbon_dioxide = RowForm::Factor(warming_potential(rt), 1990, Some(potential));
-    submit_one(alloc, &mut engine, of_carbon_dioxide)?;
+    accept_one(alloc, &mut engine, of_carbon_dioxide)?;
     Ok(engine)
 }
 
 // The bounds of a known node in 10^-12: of the point, and of the range.
 fn bounds(engine: &Engine, node: Node) -> Option<[i128; 4]> {
-    match engine.value(&node) {
+    match engine.value(&node).map(Value::input) {
         Some(Input::Known { point, range }) => {
             Some([point.lo(), point.hi(), range.lo(), range.hi()])
         }
         _ => None,
+    }
+}
+
+fn is_blank(engine: &Engine, node: Node) -> bool {
+    match engine.value(&node) {
+        Some(value) => value.input().is_blank(),
+        None => false,
     }
 }
 
@@ -185,33 +239,33 @@ fn three_lines(rt: &impl Abort, alloc: Global) -> Result<Engine, Fail> {
     let gas = name(rt, b"GAS.TJ");
     let fuel = name(rt, b"FUEL.TJ");
     let fire = name(rt, b"FIRE.TJ");
-    enter_fuel(rt, alloc, &mut engine, gas, 1990, 1000)?;
-    enter_fuel(rt, alloc, &mut engine, gas, 1991, 2000)?;
-    enter_fuel(rt, alloc, &mut engine, fuel, 1990, 500)?;
-    enter_fuel(rt, alloc, &mut engine, fire, 1990, 100)?;
-    enter_line(
+    enter_energy(rt, alloc, &mut engine, gas, 1990, 1000)?;
+    enter_energy(rt, alloc, &mut engine, gas, 1991, 2000)?;
+    enter_energy(rt, alloc, &mut engine, fuel, 1990, 500)?;
+    enter_energy(rt, alloc, &mut engine, fire, 1990, 100)?;
+    enter_burning(
         rt,
         alloc,
         &mut engine,
         name(rt, b"ELEC.GAS"),
         Category::C1A1a,
-        gas,
+        Binding::Activity(gas),
     )?;
-    enter_line(
+    enter_burning(
         rt,
         alloc,
         &mut engine,
         name(rt, b"BOILER"),
         Category::C1A2,
-        fuel,
+        Binding::Activity(fuel),
     )?;
-    enter_line(
+    enter_burning(
         rt,
         alloc,
         &mut engine,
         name(rt, b"FOREST"),
         Category::C3B1,
-        fire,
+        Binding::Activity(fire),
     )?;
     Ok(engine)
 }
@@ -231,7 +285,7 @@ fn lines_and_equivalents_have_their_values(rt: HostRuntime) -> Result<(), Fail> 
     );
     assert!(rt; bounds(&engine, Node::Equiv(gas, 1991)) == later);
     let boiler = Node::Line(name(&rt, b"BOILER"), 1991);
-    assert!(rt; engine.value(&boiler) == Some(&Input::Blank));
+    assert!(rt; is_blank(&engine, boiler));
     assert!(rt; engine.value(&Node::Line(gas, 1992)).is_none());
     Ok(())
 }
@@ -265,8 +319,9 @@ fn an_equivalent_beyond_the_limit_is_named(rt: HostRuntime) -> Result<(), Fail> 
     let mut engine = begin(&rt, alloc, content, potential)?;
     let gas = name(&rt, b"GAS.TJ");
     let line = name(&rt, b"ELEC.GAS");
-    enter_fuel(&rt, alloc, &mut engine, gas, 1990, 10_000_000)?;
-    let over = enter_line(&rt, alloc, &mut engine, line, Category::C1A1a, gas)?;
+    enter_energy(&rt, alloc, &mut engine, gas, 1990, 10_000_000)?;
+    let fuel = Binding::Activity(gas);
+    let over = enter_burning(&rt, alloc, &mut engine, line, Category::C1A1a, fuel)?;
     assert!(rt; over == Some(Node::Equiv(line, 1990)));
     assert!(rt; engine.value(&Node::Line(line, 1990)).is_none());
     Ok(())

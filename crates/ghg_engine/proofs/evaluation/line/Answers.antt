@@ -1,16 +1,22 @@
-use Rattle.std.proofs.Common.{◌≡◌, ◌∙◌, Some, refl, sym, ap}
-use Rattle.ghg_equations.specs.declared.eq_id.EqId.{EqId}
-use Rattle.ghg_equations.specs.declared.eq_id.EqId.TheVariants.{Q10}
-use Rattle.ghg_engine.proofs.LineOutcomes.{q10_evaluated}
+use Rattle.std.proofs.Common.{◌∙◌, Some, sym, ap, subst}
+use Rattle.ghg_equations.specs.Table.{parameters}
+use Rattle.ghg_definitions.specs.Trials.{is_over}
+use Rattle.ghg_engine.specs.Arguments.{AreGathered, parameter_outcomes}
+use Rattle.ghg_engine.proofs.LineOutcomes.{line_evaluated, line_passed_on}
 use Rattle.ghg_engine.proofs.evaluation.line.Goals as goal
 
-the_one : (id : EqId) → id ≡ Q10
-the_one Q10 = refl
+pub returns-then-branch : goal.returns-then-branch
+returns-then-branch g c =
+    let m = g.R.Records.content c.args.records.now in
+    let outcomes = parameter_outcomes m c.args.cells.now c.args.name.now c.args.year (parameters c.in-Some.id) in
+    let held = subst (AreGathered outcomes c.gather.new.self) c.if-branch.true c.in_ok-gather.ensures in
+    line_evaluated m c.args.cells.now c.args.name.now c.args.year c.in-Some.id (sym c.in-Some.ensures.equation) c.of-then-branch.result held.found held.gathered
+    (c.of-then-branch.ensures.outcome ∙ c.value.ensures outcomes held)
+    (c.of-then-branch.ensures.breaks ∙ ap (λ x. is_over (Some x)) (sym c.of-then-branch.ensures.outcome))
 
-pub returns-in-Some-default-Q10 : goal.returns-in-Some-default-Q10
-returns-in-Some-default-Q10 g c =
-    q10_evaluated (g.R.Records.content c.args.records.now) c.args.cells.now c.args.name.now c.args.year c.operand-fc.result c.operand-ef.result c.evaluated_q10.result
-    (sym c.in-Some-default-Q10.ensures.equation ∙ ap Some (the_one _))
-    (rw c.first_year-first.ensures at c.operand-fc.ensures)
-    (rw c.first_year-first.ensures at c.operand-ef.ensures)
-    c.evaluated_q10.ensures.outcome c.evaluated_q10.ensures.breaks
+pub returns-else-branch : goal.returns-else-branch
+returns-else-branch g c =
+    let m = g.R.Records.content c.args.records.now in
+    let outcomes = parameter_outcomes m c.args.cells.now c.args.name.now c.args.year (parameters c.in-Some.id) in
+    line_passed_on m c.args.cells.now c.args.name.now c.args.year c.in-Some.id (sym c.in-Some.ensures.equation) c.passed_on.result
+    (subst (AreGathered outcomes c.gather.new.self) c.if-branch.false c.in_ok-gather.ensures) c.passed_on.ensures.outcome c.passed_on.ensures.breaks

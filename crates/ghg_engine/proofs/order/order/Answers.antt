@@ -3,8 +3,8 @@ use Rattle.std.specs.List.Sorted.{IsStrictlySortedBy}
 use Rattle.ghg_definitions.specs.Compilation.{sheet_of, years_from, years_of}
 use Rattle.ghg_definitions.specs.Data.{name_cmp, span}
 use Rattle.ghg_engine.specs.Orders.{IsOrder}
-use Rattle.ghg_engine.specs.Years.{nodes_by_year, year_nodes}
-use Rattle.ghg_engine.proofs.ByYear.{by_year, nodes_more}
+use Rattle.ghg_engine.specs.Years.{year_nodes}
+use Rattle.ghg_engine.proofs.ByYear.{by_year, nodes_by_year, nodes_more}
 use Rattle.ghg_engine.proofs.Facts.{span_is}
 use Rattle.ghg_engine.proofs.order.order.Goals as goal
 
@@ -29,5 +29,5 @@ returns g c =
     subst (IsOrder (sheet_of m)) (sym (c.loop-year.invariant
     ∙ ap (λ n. nodes_by_year c.args.lines.now c.args.emitters.now (years_from c.in-Some.span.first n)) end
     ∙ ap (λ s. nodes_by_year c.args.lines.now c.args.emitters.now (years_of s)) (sym is)
-    ∙ ap₂ (λ ls es. nodes_by_year ls es (years_of (span m))) c.requires.lines c.requires.emitters))
-    (by_year m c.span.ensures.workbook (subst (IsStrictlySortedBy name_cmp) c.requires.lines c.requires.sorted))
+    ∙ ap (λ es. nodes_by_year c.args.lines.now es (years_of (span m))) c.requires.emitters))
+    (by_year m c.span.ensures.workbook c.args.lines.now c.requires.lines)

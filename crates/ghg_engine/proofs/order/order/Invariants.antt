@@ -1,6 +1,6 @@
 use Rattle.std.proofs.Common.{◌≡◌, ◌-◌}
 use Rattle.ghg_definitions.specs.Compilation.{years_from}
-use Rattle.ghg_engine.specs.Years.{nodes_by_year}
+use Rattle.ghg_engine.proofs.ByYear.{nodes_by_year}
 use Rattle.ghg_engine.proofs.order.order.Given as goal
 
 abbrev pub invariant-loop-year : goal.invariant-loop-year

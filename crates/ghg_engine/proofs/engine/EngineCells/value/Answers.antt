@@ -1,5 +1,6 @@
 use Rattle.std.proofs.Common.{ap, subst}
 use Rattle.ghg_definitions.specs.Compilation.{compilation, sheet_of}
+use Rattle.ghg_definitions.specs.Containment.{HoldsExactValues}
 use Rattle.ghg_definitions.specs.Data.{Data}
 use Rattle.ghg_definitions.specs.Trials.{IsCompilation}
 use Rattle.ghg_engine.proofs.engine.EngineCells.value.Goals as goal
@@ -12,3 +13,9 @@ returns-in-Some-Ok-clause-compiled c = subst IsFit (ap (λ s. s.content) c.self.
 
 pub returns-in_default-clause-compiled : goal.returns-in_default-clause-compiled
 returns-in_default-clause-compiled c = subst IsFit (ap (λ s. s.content) c.self.view_is) c.self.invariant.fits
+
+pub returns-in-Some-Ok-clause-contained : goal.returns-in-Some-Ok-clause-contained
+returns-in-Some-Ok-clause-contained c = subst HoldsExactValues (ap (λ s. s.content) c.self.view_is) c.self.invariant.contained
+
+pub returns-in_default-clause-contained : goal.returns-in_default-clause-contained
+returns-in_default-clause-contained c = subst HoldsExactValues (ap (λ s. s.content) c.self.view_is) c.self.invariant.contained

@@ -1,0 +1,23 @@
+-- The parts of sums.
+use Rattle.std.specs.Prelude.{◌≡◌, ℕ, Bool, true, false, if◌then◌else◌, List, map, length, Ok, Err}
+use Rattle.ghg_cell.specs.declared.input.Input.{Input}
+use Rattle.ghg_units.specs.declared.node.Node.{Node}
+use Rattle.ghg_units.specs.declared.node.Node.TheVariants as node
+use Rattle.ghg_definitions.specs.Data.{Name}
+use Rattle.ghg_definitions.specs.Formulas.{gather}
+use Rattle.ghg_engine.specs.declared.parts.Part.{Part}
+use Rattle.ghg_engine.specs.declared.parts.Part.TheVariants as part
+use Rattle.ghg_engine.specs.Orders.{Cells, outcome_in}
+
+-- the node of a line that is added
+abbrev pub node_for : Part → Name → ℕ → Node
+node_for part.Line name year = node.Line name year
+node_for part.Equivalent name year = node.Equiv name year
+
+abbrev pub nodes_for : Part → List Name → ℕ → List Node
+nodes_for p names year = map (λ name. node_for p name year) names
+
+-- the parts are what the nodes give, where none of these is over
+pub record AreParts (cells : Cells) (ns : List Node) (parts : List Input) (whole : Bool) : Type 0 where
+  pub gathered : gather (map (outcome_in cells) ns) ≡ (if whole then Ok parts else Err (record {}))
+  pub count : whole ≡ true → length parts ≡ length ns
