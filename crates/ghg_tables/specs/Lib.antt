@@ -3,3 +3,4 @@ pub mod Texts
 pub mod Tables
 pub mod Names
 pub mod Laws
+pub mod SoundTexts

@@ -24,6 +24,12 @@ or_blank (Some value) = value
 abbrev pub shown : Outcomes → Node → Input
 shown outcomes n = or_blank (value_of (outcomes n))
 
+-- the line that says what stands in the columns
+abbrev pub header : Table → List ℕ
+header Cells = codes "code,category,equation,gas,unit,value,low,high\n"
+header Summary = codes "category,value,low,high\n"
+header Series = codes "year,total,total_low,total_high,gross,gross_low,gross_high\n"
+
 -- ---- cells: each line by name
 
 -- the row of a line that is present
@@ -35,7 +41,7 @@ unfoldable pub line_row : Data → Outcomes → ℕ → Name → List ℕ
 line_row m outcomes year name = present_text name (category m name) (line m name) (shown outcomes (node.Line name year))
 
 unfoldable pub cells_text : Data → Outcomes → ℕ → List ℕ
-cells_text m outcomes year = codes "code,category,equation,gas,unit,value,low,high\n" ++ flat_map (line_row m outcomes year) (line_names m)
+cells_text m outcomes year = header Cells ++ flat_map (line_row m outcomes year) (line_names m)
 
 -- ---- summary: each category of the tree, and the gross total
 
@@ -46,7 +52,7 @@ unfoldable pub gross_row : Outcomes → ℕ → List ℕ
 gross_row outcomes year = total_text (codes "gross") (shown outcomes (node.Gross year))
 
 unfoldable pub summary_text : Outcomes → ℕ → List ℕ
-summary_text outcomes year = codes "category,value,low,high\n" ++ flat_map (category_row outcomes year) tree ++ gross_row outcomes year
+summary_text outcomes year = header Summary ++ flat_map (category_row outcomes year) tree ++ gross_row outcomes year
 
 -- ---- series: each year from a first one to this one
 
@@ -54,7 +60,7 @@ unfoldable pub year_row : Outcomes → ℕ → List ℕ
 year_row outcomes year = year_text year (shown outcomes (node.Total National year)) (shown outcomes (node.Gross year))
 
 unfoldable pub series_text : ℕ → Outcomes → ℕ → List ℕ
-series_text first outcomes year = codes "year,total,total_low,total_high,gross,gross_low,gross_high\n" ++ flat_map (year_row outcomes) (years_from first (year + 1 - first))
+series_text first outcomes year = header Series ++ flat_map (year_row outcomes) (years_from first (year + 1 - first))
 
 -- ---- each table
 

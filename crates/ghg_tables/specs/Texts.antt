@@ -26,8 +26,12 @@ field text = text ++ 44 ∷ []
 unfoldable pub number_text : Precision → ℤ → List ℕ
 number_text p n = fixed_text n (places_of p)
 
+-- a value and two bounds, in units of the last decimal
+abbrev pub three_decimals : Precision → ℤ → ℤ → ℤ → List ℕ
+three_decimals p value low high = field (number_text p value) ++ field (number_text p low) ++ number_text p high
+
 unfoldable pub known_text : Precision → Bounds → Bounds → List ℕ
-known_text p point range = field (number_text p (reported p point)) ++ field (number_text p (low_of p range)) ++ number_text p (high_of p range)
+known_text p point range = three_decimals p (reported p point) (low_of p range) (high_of p range)
 
 -- a value and its bounds
 unfoldable pub figures_text : Precision → Input → List ℕ
@@ -50,11 +54,13 @@ unit_word_of (Aux dim) = base_word_of dim
 unfoldable pub identity_text : Name → Category → EqId → List ℕ
 identity_text name c e = field name ++ field (code_of c) ++ field (code e)
 
+-- what stands before the value of a line
+abbrev pub cell_words : Name → Category → EqId → List ℕ
+cell_words name c e = identity_text name c e ++ field (gas_word_of (output e)) ++ field (unit_word_of (output e))
+
 -- a line and its value
 unfoldable pub cell_text : Name → Category → EqId → Input → List ℕ
-cell_text name c e value =
-    identity_text name c e ++ field (gas_word_of (output e)) ++ field (unit_word_of (output e))
-    ++ figures_text (precision_of (output e)) value ++ 10 ∷ []
+cell_text name c e value = cell_words name c e ++ figures_text (precision_of (output e)) value ++ 10 ∷ []
 
 -- a total by its name
 unfoldable pub total_text : List ℕ → Input → List ℕ

@@ -1,6 +1,6 @@
 //! What follows of the definitions alone.
 
-ghost use Rattle.ghg_tables.specs.Laws.{BoundsHold, NearIsNearest, PowerPlantPrints, SmallestPrints};
+ghost use Rattle.ghg_tables.specs.Laws.{BoundsHold, BurntFuelPrints, NearIsNearest, PowerPlantPrints, SmallestPrints};
 
 /// The printed bounds, as decimals, hold each fraction inside the range.
 pub fn bounds_hold()
@@ -15,6 +15,11 @@ pub fn near_is_nearest()
 /// The row of a power plant that burns 1000 TJ of gas at 56100 kg/TJ, from 54300 to 58300.
 pub fn power_plant_prints()
     ensures { PowerPlantPrints }
+{}
+
+/// The rows of a line that gives the energy of 2000 t of fuel at 48 TJ/Gg, and of one that burns it at 56100 kg/TJ.
+pub fn burnt_fuel_prints()
+    ensures { BurntFuelPrints }
 {}
 
 /// Half of the last decimal rounds away from zero, and the bounds hold it.

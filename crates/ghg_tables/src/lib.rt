@@ -12,7 +12,9 @@ mod table;
 mod tests;
 
 pub use figures::reported;
-pub use laws::{bounds_hold, near_is_nearest, power_plant_prints, smallest_prints};
+pub use laws::{
+    bounds_hold, burnt_fuel_prints, near_is_nearest, power_plant_prints, smallest_prints,
+};
 pub use precision::{Precision, precision_for};
 pub use printing::print;
 pub use rounding::near;

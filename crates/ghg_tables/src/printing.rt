@@ -3,7 +3,7 @@
 ghost use Rattle.std.specs.Prelude.{◌≡◌, ◌≤◌, ◌++◌, IfOk, OnOk, true};
 ghost use Rattle.ghg_definitions.specs.Compilation.{compilation, is_year_of};
 ghost use Rattle.ghg_definitions.specs.Data.{span};
-ghost use Rattle.ghg_tables.specs.Laws.{PrintedBoundsHold};
+ghost use Rattle.ghg_tables.specs.SoundTexts.{IsSoundText};
 ghost use Rattle.ghg_tables.specs.Tables.{category_row, cells_text, gross_row, line_row, series_text, shown, summary_text, table_text, year_row};
 
 use crate::rows::{append_cell, append_total, append_year};
@@ -38,7 +38,7 @@ pub fn print<C: Cells>(
 ) -> Result<Text, AllocError>
     requires { is_year_of (span (C.content cells.now)) year ≡ true }
     ensures text { IfOk result (λ text. text ≡ table_text table (C.content cells.now) (compilation (C.content cells.now)) year) }
-    ensures bounds { PrintedBoundsHold (C.content cells.now) }
+    ensures bounds { IfOk result (IsSoundText table (C.content cells.now) year) }
 {
     let first = cells.book().span().unwrap().first;
     match table {
@@ -152,7 +152,7 @@ fn shown<C: Cells>(cells: &C, node: &Node) -> Input
     ensures { result ≡ shown (compilation (C.content cells.now)) node.now }
 {
     match cells.value(node) {
-        Some(value) => *value,
+        Some(value) => *value.input(),
         None => Input::Blank,
     }
 }

@@ -1,4 +1,3 @@
-use crate::figures::append_figures;
 use crate::rows::{append_cell, append_total, append_year};
 use crate::{Precision, Table, near, precision_for, reported, table_named};
 use ghg_categories::Category;
@@ -34,9 +33,12 @@ fn writes_the_rows_of_lines(rt: HostRuntime) -> Result<(), Fail> {
     let oil = Name::new(b"ELEC.OIL").expect(&rt, "a name");
     append_cell(&mut text, &gas, Category::C1A1a, EqId::Q10, &burnt(&rt))?;
     append_cell(&mut text, &oil, Category::MB, EqId::Q10, &Input::Blank)?;
+    let heat = Name::new(b"HEAT").expect(&rt, "a name");
+    let energy = known(&rt, 1_500_000, -1, 1_000_000_000_001);
+    append_cell(&mut text, &heat, Category::C1A1a, EqId::Q13, &energy)?;
     assert_eq!(rt;
         text.as_slice(),
-        b"ELEC.GAS,1A1a,Q10,CO2,Gg,56.100,54.300,58.300\nELEC.OIL,MB,Q10,CO2,Gg,NE,NE,NE\n".as_slice()
+        b"ELEC.GAS,1A1a,Q10,CO2,Gg,56.100,54.300,58.300\nELEC.OIL,MB,Q10,CO2,Gg,NE,NE,NE\nHEAT,1A1a,Q13,-,TJ,0.000002,-0.000001,1.000001\n".as_slice()
     );
     Ok(())
 }
@@ -52,15 +54,6 @@ fn writes_the_rows_of_totals(rt: HostRuntime) -> Result<(), Fail> {
         text.as_slice(),
         b"3B,-0.001,-0.002,0.000\ngross,NE,NE,NE\n1990,-0.001,-0.002,0.000,56.100,54.300,58.300\n".as_slice()
     );
-    Ok(())
-}
-
-#[test]
-fn other_quantities_have_six_decimals(rt: HostRuntime) -> Result<(), Fail> {
-    let mut text = Vec::new(rt.alloc());
-    let energy = known(&rt, 1_500_000, -1, 1_000_000_000_001);
-    append_figures(&mut text, &energy, Precision::Millionths)?;
-    assert_eq!(rt; text.as_slice(), b"0.000002,-0.000001,1.000001".as_slice());
     Ok(())
 }
 
