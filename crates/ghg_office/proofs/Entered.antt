@@ -3,7 +3,8 @@ use Rattle.std.proofs.Common.{◌≡◌, ◌≤◌, ◌+◌, ℕ, Bool, true, fa
 use Rattle.std.proofs.lemmas.Bool.{ltb-false}
 use Rattle.ghg_definitions.specs.Compilation.{overflow}
 use Rattle.ghg_definitions.specs.Data.{Data}
-use Rattle.ghg_definitions.specs.Rules.{after_rows, binding_fault, judged, limit_fault, most_kept_bytes, or_broken, passed_limit, planned, rows_applied, unsound_place}
+use Rattle.ghg_definitions.specs.Rings.{ring_line}
+use Rattle.ghg_definitions.specs.Rules.{after_rows, arranged, binding_fault, judged, limit_fault, most_kept_bytes, or_broken, passed_limit, planned, rows_applied, unsound_place, without_ring}
 use Rattle.ghg_import.specs.Reading.{Reading}
 use Rattle.ghg_units.specs.declared.rule.Limit.{Limit}
 use Rattle.ghg_units.specs.declared.node.Node.{Node}
@@ -17,7 +18,7 @@ use Rattle.ghg_office.specs.Office.{State, compiled, decided, entered, within_li
 -- no line is beyond the limits
 pub entered-overflow : (m n : Data) (reading : Reading) (bytes : ℕ) → entered m reading bytes ≡ Ok n → overflow n ≡ None
 unfolding entered
-entered-overflow m n reading bytes e = by (planned m reading.rows reading.rest bytes) e
+entered-overflow m n reading bytes e = by (arranged m reading.rows reading.rest bytes) e
   where
     within : (k : Data) (node : Option Node) → overflow k ≡ node → within_limits k node ≡ Ok n → overflow n ≡ None
     within k None is e = let same : k ≡ n = cc in ap overflow (sym same) ∙ is
@@ -27,25 +28,29 @@ entered-overflow m n reading bytes e = by (planned m reading.rows reading.rest b
     by (Ok k) e = within k (overflow k) refl e
     by (Err rule) e = absurd (cc)
 
+-- what is left of what was planned, once rings and overflows are looked for
+abbrev left : Result Data Rule → Result Data Rule
+left planned = compiled (after_rows (λ n. without_ring n (ring_line n)) planned)
+
 -- the kept bodies are not beyond theirs
 pub entered-bytes : (m n : Data) (reading : Reading) (bytes : ℕ) → entered m reading bytes ≡ Ok n → bytes ≤ most_kept_bytes
-unfolding entered planned
+unfolding entered arranged planned
 entered-bytes m n reading bytes e = by (rows_applied m reading.rows) reading.rest e
   where
     small : (b : Bool) → nat_lt most_kept_bytes bytes ≡ b → (if b then Some (TooMany Bytes) else None) ≡ None → bytes ≤ most_kept_bytes
     small true is e = absurd (cc)
     small false is e = ltb-false most_kept_bytes bytes is
 
-    few : (limit : Option Limit) (k : Data) → (fault : Option Rule) → limit_fault limit bytes ≡ fault → compiled (or_broken fault (Ok k)) ≡ Ok n → bytes ≤ most_kept_bytes
+    few : (limit : Option Limit) (k : Data) → (fault : Option Rule) → limit_fault limit bytes ≡ fault → left (or_broken fault (Ok k)) ≡ Ok n → bytes ≤ most_kept_bytes
     few limit k (Some rule) is e = absurd (cc)
     few (Some limit) k None is e = absurd (cc)
     few None k None is e = small (nat_lt most_kept_bytes bytes) refl is
 
-    bound : (fault : Option Rule) (k : Data) → compiled (or_broken fault (or_broken (limit_fault (passed_limit k) bytes) (Ok k))) ≡ Ok n → bytes ≤ most_kept_bytes
+    bound : (fault : Option Rule) (k : Data) → left (or_broken fault (or_broken (limit_fault (passed_limit k) bytes) (Ok k))) ≡ Ok n → bytes ≤ most_kept_bytes
     bound None k e = few (passed_limit k) k (limit_fault (passed_limit k) bytes) refl e
     bound (Some rule) k e = absurd (cc)
 
-    by : (r : Result Data Rule) (rest : Option Rule) → compiled (after_rows (judged rest bytes) r) ≡ Ok n → bytes ≤ most_kept_bytes
+    by : (r : Result Data Rule) (rest : Option Rule) → left (after_rows (judged rest bytes) r) ≡ Ok n → bytes ≤ most_kept_bytes
     by (Err rule) rest e = absurd (cc)
     by (Ok k) (Some rule) e = absurd (cc)
     by (Ok k) None e = bound (binding_fault (unsound_place k)) k e

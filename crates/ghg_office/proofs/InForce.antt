@@ -2,17 +2,18 @@
 use Rattle.std.proofs.Common.{◌≡◌, ◌+◌, ℕ, Bool, true, false, nat_lt, List, length, Option, Some, None, Result, Ok, Err, if◌then◌else◌, refl, sym, subst}
 use Rattle.std.specs.FinMap.{empty}
 use Rattle.std.specs.Str.{bytes_eq}
-use Rattle.ghg_data.proofs.Empty.{is_workbook}
+use Rattle.ghg_data.proofs.Empty.{is_acyclic, is_workbook}
 use Rattle.ghg_definitions.specs.Compilation.{overflow}
 use Rattle.ghg_definitions.specs.Data.{Data}
-use Rattle.ghg_definitions.specs.Rules.{planned}
+use Rattle.ghg_definitions.specs.Rules.{arranged}
+use Rattle.ghg_definitions.specs.Rings.{IsAcyclic}
 use Rattle.ghg_definitions.specs.Sound.{IsWorkbook}
-use Rattle.ghg_definitions.proofs.Planned.{plans_keep}
+use Rattle.ghg_definitions.proofs.Rings.{arranged_keeps}
 use Rattle.ghg_engine.proofs.Nothing.{nothing_compiled}
 use Rattle.ghg_import.specs.Body.{max_body}
 use Rattle.ghg_import.specs.Reading.{Reading, reading_of}
 use Rattle.ghg_import.proofs.Formed.{all_formed}
-use Rattle.ghg_tables.proofs.Printed.{printed}
+use Rattle.ghg_tables.proofs.Sound.{texts_sound}
 use Rattle.ghg_units.specs.declared.node.Node.{Node}
 use Rattle.ghg_units.specs.declared.rule.Rule.{Rule}
 use Rattle.ghg_units.specs.declared.rule.Rule.TheVariants.{BadId, BodyTooLong, IdReused}
@@ -23,26 +24,25 @@ use Rattle.ghg_office.specs.Laws.{BoundsHoldInForce, IsInForce, StatesStayInForc
 use Rattle.ghg_office.specs.Office.{State, compiled, decided, entered, judged, once, refused, start, submitted, within_limits}
 use Rattle.ghg_office.proofs.Entered.{entered-overflow}
 
--- data that rows leave are a workbook
-entered_workbook : (m n : Data) (body : List ℕ) (bytes : ℕ) → IsWorkbook m → entered m (reading_of body) bytes ≡ Ok n → IsWorkbook n
+-- data that rows leave are a workbook without a ring
+entered_keeps : (m n : Data) (body : List ℕ) (bytes : ℕ) → IsWorkbook m → entered m (reading_of body) bytes ≡ Ok n → IsWorkbook n × IsAcyclic n
 unfolding entered
-entered_workbook m n body bytes w e = by (planned m (reading_of body).rows (reading_of body).rest bytes) refl e
+entered_keeps m n body bytes w e = by (arranged m (reading_of body).rows (reading_of body).rest bytes) refl e
   where
-    within : (k : Data) (node : Option Node) → planned m (reading_of body).rows (reading_of body).rest bytes ≡ Ok k → within_limits k node ≡ Ok n → IsWorkbook n
-    within k None p e = let same : k ≡ n = cc in subst IsWorkbook same (plans_keep m k (reading_of body).rows (reading_of body).rest bytes w (all_formed body) p)
-    within k (Some node) p e = absurd (cc)
+    within : (k : Data) (node : Option Node) → arranged m (reading_of body).rows (reading_of body).rest bytes ≡ Ok k → within_limits k node ≡ Ok n → IsWorkbook n × IsAcyclic n
+    within k None a e = let same : k ≡ n = cc in subst (λ x. IsWorkbook x × IsAcyclic x) same (arranged_keeps m k (reading_of body).rows (reading_of body).rest bytes w (all_formed body) a)
+    within k (Some node) a e = absurd (cc)
 
-    by : (r : Result Data Rule) → planned m (reading_of body).rows (reading_of body).rest bytes ≡ r → compiled r ≡ Ok n → IsWorkbook n
-    by (Ok k) p e = within k (overflow k) p e
-    by (Err rule) p e = absurd (cc)
+    by : (r : Result Data Rule) → arranged m (reading_of body).rows (reading_of body).rest bytes ≡ r → compiled r ≡ Ok n → IsWorkbook n × IsAcyclic n
+    by (Ok k) a e = within k (overflow k) a e
+    by (Err rule) a e = absurd (cc)
 
 module _ (s : State) (id body : List ℕ) (h : IsInForce s) where
   decided_stays : (r : Result Data Rule) → entered s.content (reading_of body) (kept_bytes s.accepted + length body) ≡ r → IsInForce (decided s id body r).after
   decided_stays (Err rule) e = h
-  decided_stays (Ok m) e = record {
-    workbook = entered_workbook s.content m body (kept_bytes s.accepted + length body) h.workbook e;
-    fits = entered-overflow s.content m (reading_of body) (kept_bytes s.accepted + length body) e;
-  }
+  decided_stays (Ok m) e =
+      let kept = entered_keeps s.content m body (kept_bytes s.accepted + length body) h.workbook e in
+      record { workbook = kept.0; acyclic = kept.1; fits = entered-overflow s.content m (reading_of body) (kept_bytes s.accepted + length body) e }
 
   judged_stays : IsInForce (judged s id body).after
   judged_stays = by (nat_lt max_body (length body))
@@ -69,9 +69,9 @@ module _ (s : State) (id body : List ℕ) (h : IsInForce s) where
 
 pub states_stay : StatesStayInForce
 states_stay = record {
-  first = record { workbook = is_workbook; fits = (nothing_compiled start.content empty refl refl).none_over };
+  first = record { workbook = is_workbook; acyclic = is_acyclic; fits = (nothing_compiled start.content empty refl refl).none_over };
   later = λ s id body h. submitted_stays s id body h;
 }
 
 pub bounds_hold : BoundsHoldInForce
-bounds_hold s h = printed s.content h.workbook
+bounds_hold s h table year = texts_sound s.content h.workbook h.acyclic table year

@@ -5,9 +5,9 @@ use Rattle.std.specs.Coded.{Coded, code_by, coded×, coded_list}
 use Rattle.std.specs.FinMap.{code, empty}
 use Rattle.ghg_definitions.specs.declared.record.Record.{Record}
 use Rattle.ghg_definitions.specs.declared.record.RecordKey.{RecordKey}
-use Rattle.ghg_definitions.specs.Compilation.{compilation, is_year_of, overflow}
+use Rattle.ghg_definitions.specs.Compilation.{compilation, is_year_of, nodes, overflow}
 use Rattle.ghg_definitions.specs.Data.{Data, span}
-use Rattle.ghg_definitions.specs.Rules.{planned}
+use Rattle.ghg_definitions.specs.Rules.{arranged}
 use Rattle.ghg_import.specs.Body.{max_body}
 use Rattle.ghg_import.specs.Reading.{Reading, reading_of}
 use Rattle.ghg_office.specs.Accepted.{Kept, Submission, kept_bytes, kept_from, submission_code}
@@ -48,7 +48,7 @@ compiled (Ok m) = within_limits m (overflow m)
 
 -- the data once the rows of a body are entered, or the first rule that the rows or these data break
 unfoldable pub entered : Data → Reading → ℕ → Result Data Rule
-entered m reading kept_bytes = compiled (planned m reading.rows reading.rest kept_bytes)
+entered m reading kept_bytes = compiled (arranged m reading.rows reading.rest kept_bytes)
 
 -- an answer, and the state after it
 pub record Answer : Type 0 where
@@ -79,6 +79,27 @@ once s id body (Some kept) = if bytes_eq kept.body body then record { reply = Re
 
 unfoldable pub submitted : State → List ℕ → List ℕ → Answer
 submitted s id body = if is_id id then once s id body (kept_from 1 id s.accepted) else refused s BadId
+
+-- ---- how many evaluations a submission asks for
+
+-- those of all nodes of the data with its rows, where no rule but that on overflows may be broken
+abbrev pub evaluations_of : Result Data Rule → ℕ
+evaluations_of (Err rule) = 0
+evaluations_of (Ok m) = length (nodes m)
+
+-- of a submission with an id that is not kept
+abbrev pub new_evaluations : State → List ℕ → ℕ
+new_evaluations s body =
+    if nat_lt max_body (length body) then 0
+    else evaluations_of (arranged s.content (reading_of body).rows (reading_of body).rest (kept_bytes s.accepted + length body))
+
+-- a repeat asks for none, and neither does an id that is reused
+abbrev pub evaluations_once : State → List ℕ → Option Kept → ℕ
+evaluations_once s body None = new_evaluations s body
+evaluations_once s body (Some kept) = 0
+
+unfoldable pub evaluations : State → List ℕ → List ℕ → ℕ
+evaluations s id body = if is_id id then evaluations_once s body (kept_from 1 id s.accepted) else 0
 
 -- the submission is a new one, and its body is read
 pub record IsRead (s : State) (id body : List ℕ) : Type 0 where

@@ -6,14 +6,14 @@ ghost use Rattle.std.specs.List.{AllByRecursion};
 ghost use Rattle.ghg_units.specs.WellFormed.{IsWellFormed};
 ghost use Rattle.ghg_definitions.specs.Compilation.{is_year_of};
 ghost use Rattle.ghg_definitions.specs.Data.{span};
+ghost use Rattle.ghg_definitions.specs.Rules.{arranged};
 ghost use Rattle.ghg_data.specs.Changes.{applied};
 ghost use Rattle.ghg_data.specs.Refusal.{IfRule};
 ghost use Rattle.ghg_import.specs.Body.{max_body};
 ghost use Rattle.ghg_import.specs.Reading.{reading_of};
 ghost use Rattle.ghg_engine.specs.Proposals.{IsProposed};
-ghost use Rattle.ghg_tables.specs.Laws.{PrintedBoundsHold};
 ghost use Rattle.ghg_office.specs.Accepted.{kept_bytes, kept_from};
-ghost use Rattle.ghg_office.specs.Office.{IsRead, decided, entered, requested, start, submitted};
+ghost use Rattle.ghg_office.specs.Office.{IsRead, decided, entered, evaluations, evaluations_of, requested, start, submitted};
 ghost use Rattle.ghg_office.specs.Replies.{Answers, Shows, reply_of};
 
 use crate::accepted::Accepted;
@@ -60,7 +60,7 @@ impl Office {
     }
 
     /// Answers a submission. With any answer but that it is accepted, the data and the accepted submissions are as before.
-    #[tactic(auto, unfolding(crate::specs::Office::submitted))]
+    #[tactic(auto, unfolding(crate::specs::Office::submitted, crate::specs::Office::evaluations))]
     pub fn submit<L: Ledger>(
         &mut self,
         alloc: Global,
@@ -71,7 +71,9 @@ impl Office {
         ensures answer { Answers (submitted self.old id.now body.now) result self.old self.new }
         // Only a new submission whose body is read takes memory.
         ensures memory { result ≡ Reply.Memory → IsRead self.old id.now body.now }
-        ensures steps { steps.new ≡ steps.old }
+        // With any answer no more nodes are evaluated than the data with its rows have, and none for a repeat or where
+        // a rule before the last is broken.
+        ensures steps { steps.new ≤ steps.old + evaluations self.old id.now body.now }
     {
         let Some(id) = SubmissionId::new(id) else {
             return Reply::Refused(Rule::BadId);
@@ -86,18 +88,25 @@ impl Office {
         if is_too_long(body) {
             return Reply::Refused(Rule::BodyTooLong);
         }
-        reply_of(self.enter(alloc, id, body))
+        reply_of(self.enter(alloc, id, body, steps))
     }
 
     // Enters a body under an id that is not kept, and gives its number.
-    fn enter(&mut self, alloc: Global, id: SubmissionId, body: &[u8]) -> Result<u64, PlanRefusal>
+    fn enter<L: Ledger>(
+        &mut self,
+        alloc: Global,
+        id: SubmissionId,
+        body: &[u8],
+        steps: &mut Steps<L>,
+    ) -> Result<u64, PlanRefusal>
         requires new_id { kept_from 1 id self.old.accepted ≡ None }
         requires short { length body.now ≤ max_body }
-        ensures { Answers (decided self.old id body.now (entered self.old.content (reading_of body.now) (kept_bytes self.old.accepted + length body.now))) (reply_of result) self.old self.new }
+        ensures steps { steps.new ≤ steps.old + evaluations_of (arranged self.old.content (reading_of body.now).rows (reading_of body.now).rest (kept_bytes self.old.accepted + length body.now)) }
+        ensures answer { Answers (decided self.old id body.now (entered self.old.content (reading_of body.now) (kept_bytes self.old.accepted + length body.now))) (reply_of result) self.old self.new }
     {
         let rows = read_rows(alloc, body)?;
         let kept_bytes = self.accepted.kept_bytes() + body.len() as u64;
-        let proposal = propose(&mut self.engine, alloc, rows, kept_bytes)?;
+        let proposal = propose(&mut self.engine, alloc, rows, kept_bytes, steps)?;
         let body = Text::new(Vec::from_slice(alloc, body)?);
         self.accepted.reserve()?;
         self.engine.accept(proposal);
@@ -136,19 +145,21 @@ fn has_year(book: &Book, year: u32) -> bool
 
 // The proposal that the rows of a body ask for, or the first rule that is broken. The records stay.
 #[tactic(auto, unfolding(crate::specs::Office::entered))]
-fn propose(
+fn propose<L: Ledger>(
     engine: &mut Engine,
     alloc: Global,
     rows: Rows,
     kept_bytes: u64,
+    steps: &mut Steps<L>,
 ) -> Result<Proposal, PlanRefusal>
     requires { AllByRecursion IsWellFormed rows.rows.items }
     ensures kept { engine.new.content ≡ engine.old.content }
+    ensures steps { steps.new ≤ steps.old + evaluations_of (arranged engine.old.content rows.rows.items rows.rest kept_bytes) }
     ensures proposed { IfOk result (IsProposed engine.new) }
     ensures entered { MatchResult result (λ p. entered engine.old.content (record { rows = rows.rows.items; rest = rows.rest }) kept_bytes ≡ Ok (applied engine.old.content p.edits)) (IfRule (λ rule. entered engine.old.content (record { rows = rows.rows.items; rest = rows.rest }) kept_bytes ≡ Err rule)) }
 {
     let edits = engine.plan(alloc, &rows.rows, rows.rest, kept_bytes)?;
-    match engine.propose(alloc, edits) {
+    match engine.propose(alloc, edits, steps) {
         Ok(proposal) => Ok(proposal),
         Err(EngineRefusal::Overflow(node)) => Err(PlanRefusal::Rule(Rule::Overflow(node))),
         Err(EngineRefusal::Memory) => Err(PlanRefusal::Memory),
