@@ -7,3 +7,4 @@ mod Turns
 mod Readings
 mod Whole
 pub mod Held
+pub mod Spending

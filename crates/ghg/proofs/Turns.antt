@@ -61,7 +61,7 @@ over_ended n number s left taken a b written w m =
     }
 
 -- a request was replied to
-pub goes_on : {S W : Type 0} (n number : ℕ) (s s' : State) (asked : Request) (left taken : S → Option (List ℕ)) (a b : S) (written : W → Option (List ℕ)) (v w : W)
+unfoldable pub goes_on : {S W : Type 0} (n number : ℕ) (s s' : State) (asked : Request) (left taken : S → Option (List ℕ)) (a b : S) (written : W → Option (List ℕ)) (v w : W)
     → Found command_at left taken a b (command.Request asked) → Appends (written v) (written w) (reply_of s asked) → s' ≡ state_after s asked
     → GoesOn (place (suc n) number s) (place n (number + 1) s') left taken a b written v w
 goes_on n number s s' asked left taken a b written v w m wrote e = record {
@@ -84,10 +84,10 @@ known_rest bytes text (Some rest) c = (rest, refl, c)
 front_of_front : (k : ℕ) (xs ys : List ℕ) → take (min k (length xs)) (xs ++ ys) ≡ take k xs
 front_of_front k xs ys = take-append-le (min k (length xs)) xs ys (omega arith) ∙ take_min k xs
 
-longer_front : (old new : Option (List ℕ)) (xs ys : List ℕ) → AppendsFront old new xs → AppendsFront old new (xs ++ ys)
+pub longer_front : (old new : Option (List ℕ)) (xs ys : List ℕ) → AppendsFront old new xs → AppendsFront old new (xs ++ ys)
 longer_front old new xs ys f = (min f.0 (length xs), subst (Appends old new) (sym (front_of_front f.0 xs ys)) f.1)
 
-front_behind : (old mid new : Option (List ℕ)) (xs ys : List ℕ) → Appends old mid xs → AppendsFront mid new ys → AppendsFront old new (xs ++ ys)
+pub front_behind : (old mid new : Option (List ℕ)) (xs ys : List ℕ) → Appends old mid xs → AppendsFront mid new ys → AppendsFront old new (xs ++ ys)
 front_behind old mid new xs ys p f = (length xs + f.0, rw take-append-add (Appends-trans old mid new xs (take f.0 ys) p f.1))
 
 refused_at : (n number : ℕ) (s : State) (old new before after : Option (List ℕ)) (text : List ℕ) → Consumes old new text
@@ -129,16 +129,16 @@ cut_off n number s left taken a b m =
 
 -- ---- many turns
 
-pub begins : {S W : Type 0} (p : Place) (left taken : S → Option (List ℕ)) (a : S) (written : W → Option (List ℕ)) (w : W) → GoesOn p p left taken a a written w w
+unfoldable pub begins : {S W : Type 0} (p : Place) (left taken : S → Option (List ℕ)) (a : S) (written : W → Option (List ℕ)) (w : W) → GoesOn p p left taken a a written w w
 begins p left taken a written w =
     record { text = []; requests = []; took = took_nothing left taken a; each = λ rest. refl; wrote = Appends-nil (written w); state = refl }
 
 -- what bytes read as that begin with these two texts
-reading_on : (p q r : Place) (xs ys : List Request) (t u : List ℕ) → ((rest : List ℕ) → reading_from p (t ++ rest) ≡ after_requests xs (reading_from q rest))
+pub reading_on : (p q r : Place) (xs ys : List Request) (t u : List ℕ) → ((rest : List ℕ) → reading_from p (t ++ rest) ≡ after_requests xs (reading_from q rest))
     → ((rest : List ℕ) → reading_from q (u ++ rest) ≡ after_requests ys (reading_from r rest)) → (rest : List ℕ) → reading_from p ((t ++ u) ++ rest) ≡ after_requests (xs ++ ys) (reading_from r rest)
 reading_on p q r xs ys t u f g rest = rw (append_assoc t u rest) (f (u ++ rest) ∙ ap (after_requests xs) (g rest) ∙ after_requests_twice xs ys (reading_from r rest))
 
-pub goes_further : {S W : Type 0} (p q r : Place) (left taken : S → Option (List ℕ)) (a b c : S) (written : W → Option (List ℕ)) (u v w : W)
+unfoldable pub goes_further : {S W : Type 0} (p q r : Place) (left taken : S → Option (List ℕ)) (a b c : S) (written : W → Option (List ℕ)) (u v w : W)
     → GoesOn p q left taken a b written u v → GoesOn q r left taken b c written v w → GoesOn p r left taken a c written u w
 goes_further p q r left taken a b c written u v w x y = record {
   text = x.text ++ y.text;

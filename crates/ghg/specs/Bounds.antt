@@ -1,19 +1,46 @@
--- The bounds that a session prints.
-use Rattle.std.specs.Prelude.{⊤, ℕ, List, [], ◌∷◌, Option, IfSome}
+-- What the bytes of a session say of the data: the bounds in each table hold the exact values of its nodes.
+use Rattle.std.specs.Prelude.{◌≡◌, ◌⊎◌, ℕ, List, [], ◌∷◌, ◌++◌, Option, Some, IfSome, codes}
+use Rattle.std.specs.Io.KnownBytes.{Appends}
+use Rattle.ghg_office.specs.declared.reply.Reply.TheVariants.{NoTable}
+use Rattle.ghg_office.specs.Office.{State, requested, start}
+use Rattle.ghg_tables.specs.declared.table.Table.{Table}
+use Rattle.ghg_tables.specs.Names.{table_in}
+use Rattle.ghg_tables.specs.SoundTexts.{IsSoundText}
 use Rattle.ghg.specs.declared.command.Request.{Request}
 use Rattle.ghg.specs.declared.command.Request.TheVariants.{Submit, Show}
-use Rattle.ghg.specs.Replies.{state_after}
+use Rattle.ghg.specs.Replies.{heading, line_of, reply_of, state_after}
 use Rattle.ghg.specs.Script.{reading_of}
-use Rattle.ghg_office.specs.Office.{State, start}
-use Rattle.ghg_tables.specs.Laws.{PrintedBoundsHold}
+use Rattle.ghg.specs.Session.{last_line}
+use Rattle.ghg.specs.Turns.{AppendsFront}
 
--- At each request for a table: wherever the inputs are within their supplied bounds, the exact value of each known node
--- of the data then in force is within the bounds that are printed of it.
-abbrev pub BoundsHold : State → List Request → Type 0
-BoundsHold s [] = ⊤
-BoundsHold s (Submit id body ∷ rest) = BoundsHold (state_after s (Submit id body)) rest
-BoundsHold s (Show table year ∷ rest) = PrintedBoundsHold s.content × BoundsHold (state_after s (Show table year)) rest
+-- the lines are the table of that name of the data in force, under its heading, and each bound in it holds
+pub record IsSoundTable (s : State) (name : List ℕ) (year : ℕ) (lines : List ℕ) : Type 0 where
+  pub table : Table
+  pub named : table_in name ≡ Some table
+  pub text : List ℕ
+  pub headed : lines ≡ heading name year text ++ text
+  pub sound : IsSoundText table s.content year text
 
--- in the session of the bytes that are left to be read
-abbrev pub SessionHolds : Option (List ℕ) → Type 0
-SessionHolds left = IfSome left (λ bytes. BoundsHold start (reading_of bytes).requests)
+-- there is no such table, and the lines say so
+pub record IsNoTable (s : State) (name : List ℕ) (year : ℕ) (lines : List ℕ) : Type 0 where
+  pub none : requested s name year ≡ NoTable
+  pub says : lines ≡ line_of (codes "no table")
+
+-- the reply to a request: of a request for a table such a table, or the line that there is none
+abbrev pub IsSoundReply : State → Request → List ℕ → Type 0
+IsSoundReply s (Submit id body) lines = lines ≡ reply_of s (Submit id body)
+IsSoundReply s (Show name year) lines = IsNoTable s name year lines ⊎ IsSoundTable s name year lines
+
+-- one after the other, each from the state that the requests before it leave
+abbrev pub AreSoundReplies : State → List Request → List ℕ → Type 0
+AreSoundReplies s [] output = output ≡ []
+AreSoundReplies s (asked ∷ rest) output = (lines more : List ℕ) × (output ≡ lines ++ more) × IsSoundReply s asked lines × AreSoundReplies (state_after s asked) rest more
+
+-- The session of the bytes that were left was written: such replies to its requests, and the line that names the command
+-- that is none.
+abbrev pub IsSoundSession : Option (List ℕ) → Option (List ℕ) → Option (List ℕ) → Type 0
+IsSoundSession left before after = IfSome left (λ bytes. (output : List ℕ) × Appends before after (output ++ last_line (reading_of bytes).wrong) × AreSoundReplies start (reading_of bytes).requests output)
+
+-- A front of that was written, and nothing else.
+abbrev pub IsSoundFront : Option (List ℕ) → Option (List ℕ) → Option (List ℕ) → Type 0
+IsSoundFront left before after = IfSome left (λ bytes. (output : List ℕ) × AppendsFront before after (output ++ last_line (reading_of bytes).wrong) × AreSoundReplies start (reading_of bytes).requests output)

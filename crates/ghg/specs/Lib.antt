@@ -8,3 +8,4 @@ pub mod Script
 pub mod Session
 pub mod Turns
 pub mod Words
+pub mod Evaluations

@@ -8,6 +8,11 @@ pub record Took {S : Type 0} (left taken : S → Option (List ℕ)) (old new : S
   pub consumed : Consumes (left old) (left new) text
   pub told : Appends (taken old) (taken new) text
 
+-- some text was read from the front of what was left, and nothing else
+pub record TookSome {S : Type 0} (left taken : S → Option (List ℕ)) (old new : S) : Type 0 where
+  pub text : List ℕ
+  pub took : Took left taken old new text
+
 -- what was read is the text of this value, whatever follows it
 pub record Found {S T : Type 0} (parse : List ℕ → Option (T × List ℕ)) (left taken : S → Option (List ℕ)) (old new : S) (value : T) : Type 0 where
   pub text : List ℕ

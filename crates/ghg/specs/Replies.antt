@@ -3,6 +3,7 @@ use Rattle.std.specs.Prelude.{ℕ, List, [], ◌∷◌, ◌++◌, ◌==◌, code
 use Rattle.std.specs.Fmt.{decimal}
 use Rattle.ghg.specs.declared.command.Request.{Request}
 use Rattle.ghg.specs.declared.command.Request.TheVariants.{Submit, Show}
+use Rattle.ghg.specs.declared.reply.Lines.{Lines}
 use Rattle.ghg_office.specs.Office.{Answer, State, submitted, requested}
 use Rattle.ghg_office.specs.Replies.{reply_text}
 use Rattle.ghg_office.specs.declared.reply.Reply.{Reply}
@@ -24,6 +25,10 @@ heading table year text = line_of (codes "table " ++ table ++ codes " " ++ decim
 abbrev pub table_lines : List ℕ → ℕ → Reply → List ℕ
 table_lines table year (Table text) = heading table year text ++ text
 table_lines table year reply = line_of (reply_text reply)
+
+-- the bytes of lines
+abbrev pub bytes_of : Lines → List ℕ
+bytes_of lines = lines.first.items ++ lines.below
 
 -- the office's answer to a request, and the state after it
 abbrev pub answer_of : State → Request → Answer

@@ -3,7 +3,9 @@ use Rattle.std.specs.Prelude.{ℕ, zero, suc, ◌+◌, Bool, ◌&&◌, List, [],
 use Rattle.std.specs.Option.{option_map_or}
 use Rattle.std.specs.List.{list_all}
 use Rattle.std.specs.Str.{bytes_eq}
-use Rattle.ghg_units.specs.Decimal.{◌>>=◌, number_in}
+use Rattle.ghg_import.specs.Body.{max_body}
+use Rattle.ghg_units.specs.Decimal.{number_in}
+use Rattle.ghg_units.specs.Steps.{◌>>=◌}
 use Rattle.ghg.specs.declared.command.Command.{Command}
 use Rattle.ghg.specs.declared.command.Command.TheVariants as command
 use Rattle.ghg.specs.declared.command.Line.{Line}
@@ -68,7 +70,7 @@ form_of bytes =
 
 -- of a body only so many bytes are kept, which is one more than the longest that is taken
 abbrev pub most_kept : ℕ
-most_kept = 4194305
+most_kept = max_body + 1
 
 -- the command that a line begins, and what follows it; the body stands behind the line
 abbrev pub command_of : Line → List ℕ → Option (Command × List ℕ)

@@ -3,7 +3,7 @@
 ghost use Rattle.std.specs.Prelude.{◌≡◌, ◌-◌, ◌≤◌, [], ◌∷◌, ◌++◌, length, take, IfOk, IsErrOf, OnErr, OnOk, MatchOption};
 ghost use Rattle.std.specs.Io.KnownBytes.{IsAtEnd};
 ghost use Rattle.ghg.specs.Calls.{Reads, ReadsOnly};
-ghost use Rattle.ghg.specs.Reader.{Found, Missing, Stopped, Took, TookBody, TookFewer};
+ghost use Rattle.ghg.specs.Reader.{Found, Missing, Stopped, Took, TookBody, TookFewer, TookSome};
 ghost use Rattle.ghg.specs.Script.{command_at, line_at, most_kept};
 
 use crate::command::{Command, Line, Request};
@@ -19,6 +19,7 @@ pub fn next_command<S: Source>(alloc: Global, source: &mut S) -> Result<Option<C
         (Missing command_at S.left S.taken source.old source.new)
         (λ command. Found command_at S.left S.taken source.old source.new command)) }
     ensures stopped { IsErrOf result Stop.Input → Stopped command_at S.left S.taken source.old source.new }
+    ensures taken { OnErr result (TookSome S.left S.taken source.old source.new) }
     ensures reads { Reads S.faults S.written source.old source.new result }
     ensures only { ReadsOnly result }
 {
@@ -50,6 +51,7 @@ fn read_line<S: Source>(alloc: Global, source: &mut S) -> Result<Option<Vec<u8>>
         (Missing line_at S.left S.taken source.old source.new)
         (λ line. Found line_at S.left S.taken source.old source.new line.items)) }
     ensures stopped { IsErrOf result Stop.Input → Stopped line_at S.left S.taken source.old source.new }
+    ensures taken { OnErr result (TookSome S.left S.taken source.old source.new) }
     ensures reads { Reads S.faults S.written source.old source.new result }
     ensures only { ReadsOnly result }
 {
@@ -94,6 +96,7 @@ fn read_body<S: Source>(
         (IsAtEnd (S.left source.new) × TookFewer S.left S.taken source.old source.new count)
         (λ body. TookBody S.left S.taken source.old source.new count body.items)) }
     ensures stopped { IsErrOf result Stop.Input → TookFewer S.left S.taken source.old source.new count }
+    ensures taken { OnErr result (TookSome S.left S.taken source.old source.new) }
     ensures reads { Reads S.faults S.written source.old source.new result }
     ensures only { ReadsOnly result }
 {

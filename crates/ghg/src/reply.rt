@@ -1,29 +1,36 @@
 //! The lines that reply to requests.
 
 ghost use Rattle.std.specs.Prelude.{◌≡◌, ◌≢◌, IfOk, OnOk};
-ghost use Rattle.ghg.specs.Replies.{heading, line_count, line_of, table_lines};
+ghost use Rattle.ghg.specs.Replies.{bytes_of, heading, line_count, line_of, table_lines};
 ghost use Rattle.ghg_office.specs.Replies.{reply_text};
 
 use ghg_office::{Reply, append_reply};
+use ghg_units::Text;
 use std::alloc::{AllocError, Global};
+
+/// The lines of a reply: the first one, and the text of a table that stands under it.
+#[derive(Drop)]
+pub struct Lines {
+    pub first: Vec<u8>,
+    pub below: Text,
+}
 
 /// The lines that reply to a request for a table. That memory ran out is no reply.
 pub fn table_lines(
     alloc: Global,
     table: &[u8],
     year: u32,
-    reply: &Reply,
-) -> Result<Vec<u8>, AllocError>
-    ensures lines { IfOk result (λ lines. lines.items ≡ table_lines table.now year reply.now) }
-    ensures answered { OnOk result (reply.now ≢ Reply.Memory) }
+    reply: Reply,
+) -> Result<Lines, AllocError>
+    ensures lines { IfOk result (λ lines. bytes_of lines ≡ table_lines table.now year reply) }
+    ensures answered { OnOk result (reply ≢ Reply.Memory) }
 {
     match reply {
         Reply::Table(text) => {
-            let mut lines = heading(alloc, table, year, text.as_slice())?;
-            lines.extend_from_slice(text.as_slice())?;
-            Ok(lines)
+            let first = heading(alloc, table, year, text.as_slice())?;
+            Ok(Lines { first, below: text })
         }
-        _ => reply_line(alloc, reply),
+        other => one_line(alloc, &other),
     }
 }
 
@@ -47,8 +54,18 @@ fn line_count(text: &[u8]) -> usize
     text.iter().filter(|b| **b == b'\n').count()
 }
 
-/// The line of a reply. That memory ran out is no reply.
-pub fn reply_line(alloc: Global, reply: &Reply) -> Result<Vec<u8>, AllocError>
+/// The line of a reply, with nothing under it. That memory ran out is no reply.
+pub fn one_line(alloc: Global, reply: &Reply) -> Result<Lines, AllocError>
+    ensures line { IfOk result (λ lines. bytes_of lines ≡ line_of (reply_text reply.now)) }
+    ensures answered { OnOk result (reply.now ≢ Reply.Memory) }
+{
+    let first = reply_line(alloc, reply)?;
+    let below = Text::new(Vec::new(alloc));
+    Ok(Lines { first, below })
+}
+
+// The line of a reply. That memory ran out is no reply.
+fn reply_line(alloc: Global, reply: &Reply) -> Result<Vec<u8>, AllocError>
     ensures line { IfOk result (λ line. line.items ≡ line_of (reply_text reply.now)) }
     ensures answered { OnOk result (reply.now ≢ Reply.Memory) }
 {

@@ -3,8 +3,9 @@
 ghost use Rattle.std.specs.Prelude.{◌≡◌, ◌≢◌, true, Some, None, map, OnErr, OnOk};
 ghost use Rattle.std.specs.Io.KnownBytes.{Appends, Keeps};
 ghost use Rattle.std.specs.String.{string_bytes};
-ghost use Rattle.ghg.specs.Bounds.{SessionHolds};
+ghost use Rattle.ghg.specs.Bounds.{IsSoundFront, IsSoundSession};
 ghost use Rattle.ghg.specs.Calls.{Writes, WritesOnly};
+ghost use Rattle.ghg.specs.Evaluations.{SpendsWithin};
 ghost use Rattle.ghg.specs.Run.{IsBegun, IsDone, IsLeftBehind, IsNoScript, bad_command_line, is_end, is_status};
 ghost use Rattle.ghg.specs.Turns.{AppendsFront, IsCutOff, first_place};
 ghost use Rattle.ghg.specs.Words.{task_in};
@@ -31,7 +32,6 @@ use std::sync::ledger::Ledger;
 /// | 4 | the input failed |
 /// | 5 | the output failed |
 /// | 8 | memory ran out |
-#[tactic(auto, using(crate::proofs::Held::session_holds))]
 pub fn run<S: Source, W: Sink, L: Ledger>(
     alloc: Global,
     words: &[String],
@@ -58,6 +58,12 @@ pub fn run<S: Source, W: Sink, L: Ledger>(
     ensures usage { result ≡ 2 → Appends (W.written out.old) (W.written out.new) bad_command_line.output }
     ensures unread { task_in (map string_bytes words.now) ≡ None → input.new ≡ input.old }
 
+    // Whether or not the input tells its bytes: where the words are no command, the status is 2 unless the output failed
+    // or memory ran out, and a front of that line was written, and nothing else. Status 4 comes from `compile` alone.
+    ensures refused { task_in (map string_bytes words.now) ≡ None → (Rose (W.faults out.old) (W.faults out.new) → ⊥) → result ≢ 8 → result ≡ 2 }
+    ensures refused_begun { task_in (map string_bytes words.now) ≡ None → AppendsFront (W.written out.old) (W.written out.new) bad_command_line.output }
+    ensures compile { result ≡ 4 → task_in (map string_bytes words.now) ≡ Some Task.Compile }
+
     // Whatever the status, a front of what is due was written, and nothing else.
     ensures begun { IsBegun (map string_bytes words.now) (S.left input.old) (W.written out.old) (W.written out.new) }
 
@@ -67,15 +73,20 @@ pub fn run<S: Source, W: Sink, L: Ledger>(
     ensures taken { result ≡ 4 → IsCutOff first_place S.left S.taken input.old input.new }
     ensures output { result ≡ 5 → Rose (W.faults out.old) (W.faults out.new) }
 
-    // Of the input only what is read changes, and of the output only what is written. No step is spent.
+    // Of the input only what is read changes, and of the output only what is written.
     ensures input_kept { Keeps (S.written input.old) (S.written input.new) }
     ensures output_left { Keeps (W.left out.old) (W.left out.new) }
     ensures output_taken { Keeps (W.taken out.old) (W.taken out.new) }
-    ensures steps { steps.new ≡ steps.old }
 
-    // At each request for a table in the bytes that were left: wherever the inputs are within their supplied bounds,
-    // the exact value of each known node of the data then in force is within the bounds that are printed of it.
-    ensures bounds { SessionHolds (S.left input.old) }
+    // A step is the evaluation of a node: no more are spent than the submissions ask for that were read. One that was
+    // not read whole asks for none.
+    ensures steps { SpendsWithin first_place S.left S.taken input.old input.new steps.old steps.new }
+
+    // With statuses 0 and 3 what was written replies to each request in turn, and in each table among it the bounds hold
+    // the exact values of the nodes of the data then in force, wherever the inputs are within their supplied bounds.
+    // With every status of `compile` it is a front of such replies.
+    ensures bounds { is_end result ≡ true → IsSoundSession (S.left input.old) (W.written out.old) (W.written out.new) }
+    ensures bounds_begun { task_in (map string_bytes words.now) ≡ Some Task.Compile → IsSoundFront (S.left input.old) (W.written out.old) (W.written out.new) }
 
     // There is no other status.
     ensures status { is_status result ≡ true }

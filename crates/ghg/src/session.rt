@@ -1,16 +1,17 @@
 //! Answers a whole script.
 
-ghost use Rattle.std.specs.Prelude.{◌≡◌, ◌+◌, ◌<◌, ◌^◌, ℕ, suc, IfOk, IsErrOf, MatchOption, OnErr, OnOk};
+ghost use Rattle.std.specs.Prelude.{◌≡◌, ◌+◌, ◌<◌, ◌≤◌, ◌^◌, ℕ, suc, IfOk, IsErrOf, MatchOption, OnErr, OnOk};
 ghost use Rattle.std.specs.Io.KnownBytes.{Appends};
 ghost use Rattle.ghg.specs.Calls.{Reads, Writes, WritesOnly};
-ghost use Rattle.ghg.specs.Replies.{reply_of, state_after};
+ghost use Rattle.ghg.specs.Evaluations.{GoesOnWithin, SpendsWithin, evaluations_for};
+ghost use Rattle.ghg.specs.Replies.{bytes_of, reply_of, state_after};
 ghost use Rattle.ghg.specs.Script.{most_commands};
 ghost use Rattle.ghg.specs.Session.{end_status, wrong_line};
-ghost use Rattle.ghg.specs.Turns.{AppendsFront, GoesOn, IsCut, IsCutOff, IsOver, first_place, place};
+ghost use Rattle.ghg.specs.Turns.{AppendsFront, IsCut, IsCutOff, IsOver, first_place, place};
 
 use crate::command::{Command, Request};
 use crate::reading::next_command;
-use crate::reply::{reply_line, table_lines};
+use crate::reply::{Lines, one_line, table_lines};
 use crate::stop::Stop;
 use crate::writing::write_all;
 use ghg_office::Office;
@@ -55,7 +56,7 @@ pub fn play<S: Source, W: Sink, L: Ledger>(
     ensures cut { OnErr result (IsCut first_place (S.left input.old) (W.written out.old) (W.written out.new)) }
     ensures reads { Reads S.faults S.written input.old input.new result }
     ensures writes { Writes W.faults W.left W.taken out.old out.new result }
-    ensures steps { steps.new ≡ steps.old }
+    ensures steps { SpendsWithin first_place S.left S.taken input.old input.new steps.old steps.new }
 {
     let mut office = Office::new(alloc);
     answer_all(alloc, input, out, &mut office, steps)
@@ -74,7 +75,7 @@ fn answer_all<S: Source, W: Sink, L: Ledger>(
     ensures cut { OnErr result (IsCut (place most_commands 1 office.old) (S.left input.old) (W.written out.old) (W.written out.new)) }
     ensures reads { Reads S.faults S.written input.old input.new result }
     ensures writes { Writes W.faults W.left W.taken out.old out.new result }
-    ensures steps { steps.new ≡ steps.old }
+    ensures steps { SpendsWithin (place most_commands 1 office.old) S.left S.taken input.old input.new steps.old steps.new }
 {
     'commands: for done in 0..MOST_COMMANDS {
         match turn(alloc, input, out, office, done + 1, steps) {
@@ -99,13 +100,13 @@ fn turn<S: Source, W: Sink, L: Ledger>(
     steps: &mut Steps<L>,
 ) -> Result<Option<End>, Stop>
     ensures turned { IfOk result (λ end. MatchOption end
-        ((n : ℕ) → GoesOn (place (suc n) number office.old) (place n (number + 1) office.new) S.left S.taken input.old input.new W.written out.old out.new)
+        ((n : ℕ) → GoesOnWithin (place (suc n) number office.old) (place n (number + 1) office.new) S.left S.taken input.old input.new W.written out.old out.new steps.old steps.new)
         (λ end. (n : ℕ) → IsOver (place (suc n) number office.old) S.left S.taken input.old input.new W.written out.old out.new end)) }
     ensures stopped { IsErrOf result Stop.Input → (n : ℕ) → IsCutOff (place (suc n) number office.old) S.left S.taken input.old input.new }
     ensures cut { OnErr result ((n : ℕ) → IsCut (place (suc n) number office.old) (S.left input.old) (W.written out.old) (W.written out.new)) }
     ensures reads { Reads S.faults S.written input.old input.new result }
     ensures writes { Writes W.faults W.left W.taken out.old out.new result }
-    ensures steps { steps.new ≡ steps.old }
+    ensures steps { (n : ℕ) → SpendsWithin (place (suc n) number office.old) S.left S.taken input.old input.new steps.old steps.new }
 {
     match next_command(alloc, input)? {
         None => match refuse(alloc, out, number) {
@@ -150,10 +151,23 @@ fn reply<W: Sink, L: Ledger>(
     ensures front { OnErr result (AppendsFront (W.written out.old) (W.written out.new) (reply_of office.old request.now)) }
     ensures writes { Writes W.faults W.left W.taken out.old out.new result }
     ensures only { WritesOnly result }
-    ensures steps { steps.new ≡ steps.old }
+    ensures steps { steps.new ≤ steps.old + evaluations_for office.old request.now }
 {
     let lines = answer(alloc, office, request, steps)?;
-    write_all(out, &lines)
+    write_lines(out, &lines)
+}
+
+// Writes all lines, or a front of them.
+fn write_lines<W: Sink>(out: &mut W, lines: &Lines) -> Result<(), Stop>
+    ensures whole { OnOk result (Appends (W.written out.old) (W.written out.new) (bytes_of lines.now)) }
+    ensures front { OnErr result (AppendsFront (W.written out.old) (W.written out.new) (bytes_of lines.now)) }
+    ensures writes { Writes W.faults W.left W.taken out.old out.new result }
+    ensures only { WritesOnly result }
+{
+    match write_all(out, &lines.first) {
+        Ok(()) => write_all(out, lines.below.as_slice()),
+        Err(stop) => Err(stop),
+    }
 }
 
 // The lines that reply to a request.
@@ -163,19 +177,19 @@ fn answer<L: Ledger>(
     office: &mut Office,
     request: &Request,
     steps: &mut Steps<L>,
-) -> Result<Vec<u8>, AllocError>
-    ensures lines { IfOk result (λ lines. lines.items ≡ reply_of office.old request.now) }
+) -> Result<Lines, AllocError>
+    ensures lines { IfOk result (λ lines. bytes_of lines ≡ reply_of office.old request.now) }
     ensures after { OnOk result (office.new ≡ state_after office.old request.now) }
-    ensures steps { steps.new ≡ steps.old }
+    ensures steps { steps.new ≤ steps.old + evaluations_for office.old request.now }
 {
     match request {
         Request::Submit { id, body } => {
             let reply = office.submit(alloc, id.as_slice(), body.as_slice(), steps);
-            reply_line(alloc, &reply)
+            one_line(alloc, &reply)
         }
         Request::Show { table, year } => {
             let reply = office.show(alloc, table.as_slice(), *year);
-            table_lines(alloc, table.as_slice(), *year, &reply)
+            table_lines(alloc, table.as_slice(), *year, reply)
         }
     }
 }

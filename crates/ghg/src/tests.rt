@@ -9,6 +9,9 @@ use std::process::Abort;
 use std::sync::ledger::{Blank, Ledger};
 use std::test::Fail;
 
+mod bindings;
+mod lines;
+
 // A run over an input and an output in memory.
 #[derive(Drop)]
 struct Case {
@@ -58,11 +61,18 @@ fn ends_of_scripts(rt: HostRuntime) -> Result<(), Fail> {
         ("END\nSHOW", 0, ""),
         ("", 3, "not a script: command 1\n"),
         ("END", 3, "not a script: command 1\n"),
-        ("SUBMIT a 291\nact,kind", 3, "not a script: command 1\n"),
+        (
+            "SUBMIT a 291\nact,kind,subject,name,year,value,low,high,unit,note\n\
+            enter,span,,,1990,1991,1990,,,\nenter,line,1A1a,E",
+            3,
+            "not a script: command 1\n",
+        ),
         ("SHOW cells 199\nEND\n", 3, "not a script: command 1\n"),
         ("SUBMIT a 0\nEND\n", 0, "refused 4 BadShape row 0\n"),
         (
-            "SUBMIT a 52\nact,kind,subject,name,year,value,low,high,unit,note\nSUBMIT b 9\nact,kind",
+            "SUBMIT h 52\nact,kind,subject,name,year,value,low,high,unit,note\n\
+            SUBMIT a 291\nact,kind,subject,name,year,value,low,high,unit,note\n\
+            enter,span,,,1990,1991,1990,,,\nenter,line,1A1a,E",
             3,
             "accepted 1\nnot a script: command 2\n",
         ),
@@ -291,6 +301,11 @@ fn figures_are_refused_at_their_column(rt: HostRuntime) -> Result<(), Fail> {
             "enter,factor,,GAS.EF,1990,56100,,kg/TJ,\n",
             "4 BadShape row 6",
         ),
+        (
+            "enter,activity,,GAS.TJ,1990,1,000,,,TJ,\n",
+            FACTOR,
+            "4 BadShape row 5",
+        ),
     ] {
         let output = format!(in rt.alloc(); "refused {refusal}\nno table\n")?;
         plant_answers(&rt, fuel, factor, &output)?;
@@ -421,6 +436,47 @@ fn land_and_bunkers_stand_apart(rt: HostRuntime) -> Result<(), Fail> {
         "accepted 1\ntable cells 1990 rows 5\ncode,category,equation,gas,unit,value,low,high\n\
         ELEC.GAS,1A1a,Q10,CO2,Gg,{each}\nFOREST,3B1,Q10,CO2,Gg,{each}\n\
         MILL,1A2,Q10,CO2,Gg,NE,NE,NE\nSHIPS,MB,Q10,CO2,Gg,{each}\n{totals}"
+    )?;
+    answers(&rt, &given, &output)
+}
+
+// A plant that emits half a tonne, and a forest that takes up as much: each is rounded away from zero, and its bounds
+// outward.
+#[test]
+fn halves_are_rounded_away_from_zero(rt: HostRuntime) -> Result<(), Fail> {
+    let alloc = rt.alloc();
+    let given = [
+        Given::Rows(
+            "a",
+            &[
+                PLANT,
+                "enter,line,3B1,FOREST,,Q10,,,,\nenter,bind,FOREST,FC,,activity,UPTAKE.TJ,,,\nenter,bind,FOREST,EF,,factor,GAS.EF,,,\n",
+                "enter,activity,,GAS.TJ,1990,1,,,TJ,\nenter,activity,,UPTAKE.TJ,1990,-1,,,TJ,\n",
+                "enter,factor,,GAS.EF,1990,500,,,kg/TJ,\n",
+                POTENTIAL,
+            ],
+        ),
+        Given::Line("SHOW series 1990\nSHOW summary 1990\n"),
+    ];
+    let emitted = "0.001,0.000,0.001";
+    let taken_up = "-0.001,-0.001,0.000";
+    let totals = summary(
+        alloc,
+        &[
+            ("1", emitted),
+            ("1A", emitted),
+            ("1A1", emitted),
+            ("1A1a", emitted),
+            ("3", taken_up),
+            ("3B", taken_up),
+            ("3B1", taken_up),
+        ],
+        emitted,
+    )?;
+    let output = format!(in alloc;
+        "accepted 1\ntable series 1990 rows 2\n\
+        year,total,total_low,total_high,gross,gross_low,gross_high\n\
+        1990,0.000,0.000,0.000,{emitted}\n{totals}"
     )?;
     answers(&rt, &given, &output)
 }
@@ -591,14 +647,20 @@ fn a_spreadsheet_is_read_as_plain_text(rt: HostRuntime) -> Result<(), Fail> {
 fn rules_name_what_breaks_them(rt: HostRuntime) -> Result<(), Fail> {
     let given = [
         Given::Rows("a!", &[PLANT]),
-        Given::Rows("a", &[PLANT, "enter,activity,,GAS.TJ,1990,1000,,,TJ\n"]),
+        Given::Rows(
+            "a",
+            &[
+                "enter,span,,,1990,1991,1990,,,\n",
+                "enter,line,1A1a,ELEC.GAS,,Q10,,,\n",
+            ],
+        ),
         Given::Rows("a", &["enter,span,,,1900,2051,1900,,,\n"]),
         Given::Rows("a", &[]),
     ];
     answers(
         &rt,
         &given,
-        "refused 1 BadId\nrefused 4 BadShape row 5\nrefused 11 TooMany span\naccepted 1\n",
+        "refused 1 BadId\nrefused 4 BadShape row 2\nrefused 11 TooMany span\naccepted 1\n",
     )
 }
 
@@ -671,4 +733,58 @@ fn a_workbook_has_its_limit_of_lines(rt: HostRuntime) -> Result<(), Fail> {
         answers_script(&rt, script, output)?;
     }
     Ok(())
+}
+
+// The most lines of a workbook.
+const MOST_LINES: u32 = 5_000;
+
+// A chain of the most lines over one year, whose names fall. The first two take 1 TJ each, and each other takes the line
+// before it and the first, so that the n-th gives n - 1 TJ.
+fn append_chain(body: &mut Vec<u8>, alloc: Global) -> Result<(), AllocError> {
+    body.extend_from_slice(HEADER.as_bytes())?;
+    body.extend_from_slice(b"enter,span,,,1990,1990,1990,,,\nenter,activity,,A,1990,1,,,TJ,\n")?;
+    for before in 0..MOST_LINES {
+        let name = 9_999 - before;
+        let taken = if before < 2 {
+            String::from_str(alloc, "activity,A")?
+        } else {
+            format!(in alloc; "sum,L{} L9999", name + 1)?
+        };
+        let rows = format!(in alloc;
+            "enter,line,RA,L{name},,Q22,,,,\nenter,bind,L{name},PR,,{taken},,,\n\
+            enter,bind,L{name},IM,,key,NO,,,\nenter,bind,L{name},EX,,key,NO,,,\n\
+            enter,bind,L{name},IB,,key,NO,,,\nenter,bind,L{name},SC,,key,NO,,,\n"
+        )?;
+        body.extend_from_slice(rows.as_bytes())?;
+    }
+    Ok(())
+}
+
+// The table of that chain, in the order of the names.
+fn chain_table(alloc: Global) -> Result<String, AllocError> {
+    let mut text = String::from_str(
+        alloc,
+        "table cells 1990 rows 5001\ncode,category,equation,gas,unit,value,low,high\n",
+    )?;
+    for after in 0..MOST_LINES {
+        let name = 5_000 + after;
+        let energy = if after < 4_999 { 4_999 - after } else { 1 };
+        text.push_str(&format!(in alloc;
+            "L{name},RA,Q22,-,TJ,{energy}.000000,{energy}.000000,{energy}.000000\n"
+        )?)?;
+    }
+    Ok(text)
+}
+
+#[test]
+fn a_chain_may_have_all_lines(rt: HostRuntime) -> Result<(), Fail> {
+    let alloc = rt.alloc();
+    let mut body = Vec::new(alloc);
+    append_chain(&mut body, alloc)?;
+    let mut script = format!(in alloc; "SUBMIT a {}\n", body.len())?.into_bytes();
+    script.extend_from_slice(&body)?;
+    script.extend_from_slice(b"SHOW cells 1990\nEND\n")?;
+    let table = chain_table(alloc)?;
+    let output = format!(in alloc; "accepted 1\n{table}")?;
+    answers_script(&rt, script, &output)
 }

@@ -1,7 +1,9 @@
 use Rattle.std.proofs.Common.{◌<◌, drop, length, length-take, sym, arith}
 use Rattle.std.proofs.KnownBytes.{Keeps-trans}
+use Rattle.std.proofs.lemmas.Result.{err_from_is_err_and}
 use Rattle.std.proofs.lemmas.List.{take-append-le}
 use Rattle.ghg.proofs.Bodies.{kept_is_short, body_grows, body_ends}
+use Rattle.ghg.proofs.Taken.{took_more, took_some}
 use Rattle.ghg.proofs.reading.read_body.Goals as goal
 
 pub returns-in-Ok-eq0-clause-body : goal.returns-in-Ok-eq0-clause-body
@@ -26,3 +28,8 @@ pieces-preserved g c =
       later = omega (arith, c.read.ensures.faults.later, c.pieces.invariant.later);
       kept = Keeps-trans _ _ _ c.pieces.invariant.kept c.read.ensures.written;
     }
+
+pub returns-in_err-keep_front-in-Ok-clause-taken : goal.returns-in_err-keep_front-in-Ok-clause-taken
+returns-in_err-keep_front-in-Ok-clause-taken g c =
+    let p = err_from_is_err_and c.from_residual.result c.from_residual.ensures.1 in
+    rw p.1 (took_some _ _ _ _ _ (took_more _ _ _ _ _ _ _ c.pieces.invariant.took.took (record { consumed = c.in-Ok.ensures.left.0; told = c.in-Ok.ensures.taken })))

@@ -1,9 +1,10 @@
 use Rattle.std.proofs.Common.{rules, ◌≡◌, ◌≤◌, length, nat_eq, false, arith}
 use Rattle.std.proofs.lemmas.Grind.{common_steps}
+use Rattle.std.proofs.lemmas.Result.{err_from_is_err_and}
 use Rattle.std.proofs.KnownBytes.{Keeps-refl, Keeps-trans}
 use Rattle.ghg.specs.Script.{longest_line}
 use Rattle.ghg.proofs.Lines.{found_line, line_begins, line_grows, missing_feed, missing_short_line, stopped_in_line}
-use Rattle.ghg.proofs.Taken.{took_nothing, took_more}
+use Rattle.ghg.proofs.Taken.{took_nothing, took_more, took_some}
 use Rattle.ghg.proofs.reading.read_line.Goals as goal
 
 pub bytes-init : goal.bytes-init
@@ -44,3 +45,14 @@ bytes-preserved g c =
 
 pub returns-clause-line : goal.returns-clause-line
 returns-clause-line g c = missing_short_line _ _ _ _ _ c.bytes.invariant.took c.bytes.invariant.plain (omega arith)
+
+pub returns-in_err-next_byte-clause-taken : goal.returns-in_err-next_byte-clause-taken
+returns-in_err-next_byte-clause-taken g c =
+    let p = err_from_is_err_and c.from_residual.result c.from_residual.ensures.1 in
+    rw p.1 (took_some _ _ _ _ _ (took_more _ _ _ _ _ _ _ c.bytes.invariant.took c.in_err-next_byte.ensures.none))
+
+pub returns-in_err-push-in-Some-clause-taken : goal.returns-in_err-push-in-Some-clause-taken
+returns-in_err-push-in-Some-clause-taken g c =
+    let byte = rw c.in-Some.is at c.in_ok-next_byte.ensures.byte in
+    let p = err_from_is_err_and c.from_residual-in_err-push-in-Some.result c.from_residual-in_err-push-in-Some.ensures.1 in
+    rw p.1 (took_some _ _ _ _ _ (took_more _ _ _ _ _ _ _ c.bytes.invariant.took byte))
