@@ -1,5 +1,5 @@
 -- The rules of a book, and then that there is no ring.
-use Rattle.std.proofs.Common.{◌≡◌, ℕ, List, ◌∷◌, Option, Ok, Err, ap, ◌∙◌}
+use Rattle.std.proofs.Common.{◌≡◌, ℕ, List, Option, Ok, Err, ap, ◌∙◌}
 use Rattle.ghg_units.specs.declared.row.Row.{Row}
 use Rattle.ghg_units.specs.declared.rule.Rule.{Rule}
 use Rattle.ghg_units.specs.declared.rule.Rule.TheVariants.{Cycle}

@@ -9,19 +9,13 @@ use Rattle.std.proofs.lemmas.List.{append-nil}
 use Rattle.std.proofs.lemmas.Grind.{flat_map-append}
 use Rattle.ghg_categories.specs.declared.category.Category.{Category}
 use Rattle.ghg_categories.specs.Tree.{is_same, stands_under, tree}
-use Rattle.ghg_equations.specs.declared.eq_id.EqId.{EqId}
-use Rattle.ghg_equations.specs.Table.{parameters}
 use Rattle.ghg_units.specs.declared.node.Node.{Node}
 use Rattle.ghg_units.specs.declared.node.Node.TheVariants as node
-use Rattle.ghg_units.specs.declared.row.Binding.{Binding}
-use Rattle.ghg_units.specs.declared.row.Binding.TheVariants as bound
 use Rattle.ghg_units.specs.declared.row.Span.{Span}
-use Rattle.ghg_units.specs.WellFormed.{IsBinding}
-use Rattle.ghg_definitions.specs.Compilation.{bound_to, counts_in_gross, emits, first_year, gas_lines, gas_lines_at, is_in_tree, is_node, is_year_of, line_formula, sheet_of, years_from, years_of}
-use Rattle.ghg_definitions.specs.Data.{Data, Name, binding, category, line, line_names, name_cmp, span}
+use Rattle.ghg_definitions.specs.Compilation.{counts_in_gross, emits, first_year, gas_lines, gas_lines_at, is_in_tree, is_node, is_year_of, sheet_of, years_from, years_of}
+use Rattle.ghg_definitions.specs.Data.{Data, Name, category, line, line_names, name_cmp, span}
 use Rattle.ghg_definitions.specs.Nodes.{kind_of, year_in}
-use Rattle.ghg_definitions.specs.Formulas.{Operand, inputs, nodes_in}
-use Rattle.ghg_definitions.specs.Lookups.{Source}
+use Rattle.ghg_definitions.specs.Formulas.{inputs}
 use Rattle.ghg_definitions.specs.Rings.{Takes}
 use Rattle.ghg_definitions.specs.Sound.{IsWorkbook}
 use Rattle.ghg_definitions.specs.Trials.{Sheet}
@@ -29,12 +23,11 @@ use Rattle.ghg_definitions.proofs.Alike.{both, first_so, not_so, second_so}
 use Rattle.ghg_definitions.specs.Listed.{IsListed}
 use Rattle.ghg_definitions.proofs.Listed.{contained, from_filter, from_map, in_either, listed, listed_any, listed_flat, listed_left, listed_map, listed_right}
 use Rattle.ghg_definitions.proofs.Lines.{lines_sorted}
-use Rattle.ghg_definitions.proofs.NodeLists.{category_same, gas_lines_are, lines_are, tree_is, years_are}
+use Rattle.ghg_definitions.proofs.NodeLists.{category_same, gas_lines_are, tree_is, years_are}
 use Rattle.ghg_definitions.proofs.Grounded.{Comes, line_comes}
 use Rattle.ghg_graph.specs.Ordering.{IsBehind, IsLineOrder}
 use Rattle.ghg_engine.specs.Orders.{IsInOrder, IsOrder}
 use Rattle.ghg_engine.specs.Years.{year_nodes}
-use Rattle.ghg_engine.proofs.Facts.{binding_is}
 use Rattle.ghg_engine.proofs.InOrder.{all_done, all_listed, true_not_false}
 
 abbrev pub nodes_by_year : List Name → List Name → List ℕ → List Node

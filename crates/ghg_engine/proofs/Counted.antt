@@ -1,11 +1,9 @@
 -- An order has no more nodes than the list of all nodes.
-use Rattle.std.proofs.Common.{◌≡◌, ℕ, ◌+◌, ◌≤◌, suc, Bool, true, List, [], ◌∷◌, length, inl, inr, refl, sym, ap, subst, arith}
+use Rattle.std.proofs.Common.{◌≡◌, ◌≤◌, suc, true, List, [], ◌∷◌, length, inl, inr, refl, sym, subst, arith}
 use Rattle.ghg_units.specs.declared.node.Node.{Node}
-use Rattle.ghg_definitions.specs.Compilation.{nodes, sheet_of}
-use Rattle.ghg_definitions.specs.Data.{Data}
 use Rattle.ghg_definitions.specs.Trials.{Sheet}
 use Rattle.ghg_definitions.specs.Listed.{IsListed}
-use Rattle.ghg_definitions.proofs.Listed.{contained, listed, take_out}
+use Rattle.ghg_definitions.proofs.Listed.{contained, take_out}
 use Rattle.ghg_engine.specs.Orders.{IsInOrder, IsOrder}
 
 module _ {S : Type 0} (sheet : Sheet S) where

@@ -1,13 +1,12 @@
 -- What the equation of a line gives, over what its parameters take.
-use Rattle.std.proofs.Common.{◌≡◌, ℕ, Bool, true, false, not, ◌&&◌, ◌||◌, List, [], ◌∷◌, ◌++◌, map, Some, Ok, Err, is_err, refl, sym, ap, ap₂, ◌∙◌, subst}
+use Rattle.std.proofs.Common.{◌≡◌, ℕ, Bool, true, false, not, ◌&&◌, ◌||◌, List, [], ◌∷◌, ◌++◌, map, Some, Ok, Err, is_err, refl, sym, ap, ◌∙◌, subst}
 use Rattle.std.proofs.lemmas.List.{map-append}
 use Rattle.ghg_cell.specs.declared.input.Input.{Input}
 use Rattle.ghg_cell.specs.Totals.{equation_outcome}
 use Rattle.ghg_cell.specs.Values.{is_blank, then}
 use Rattle.ghg_equations.specs.declared.eq_id.EqId.{EqId}
-use Rattle.ghg_equations.specs.declared.row.Equation.{Equation}
 use Rattle.ghg_equations.specs.declared.row.Param.{Param}
-use Rattle.ghg_equations.specs.Table.{Quantity, parameters, row, seen, ◌of◌}
+use Rattle.ghg_equations.specs.Table.{Quantity, parameters, ◌of◌}
 use Rattle.ghg_units.specs.declared.node.Node.TheVariants as node
 use Rattle.ghg_definitions.specs.Compilation.{bound_to, first_year, line_formula, sheet_of}
 use Rattle.ghg_definitions.specs.Data.{Data, Name, binding, line, span}

@@ -1,10 +1,9 @@
-use Rattle.std.proofs.Common.{◌≡◌, ◌∙◌, ℕ, List, Result, Ok, Err, map, sym, ap, subst, IfOk}
+use Rattle.std.proofs.Common.{◌≡◌, ◌∙◌, ℕ, List, Result, Ok, Err, sym, ap, subst, IfOk}
 use Rattle.ghg_categories.specs.declared.category.Category.{Category}
 use Rattle.ghg_categories.specs.Tree.{stands_under}
 use Rattle.ghg_units.specs.declared.node.Node.TheVariants as node
 use Rattle.ghg_definitions.specs.Compilation.{counts_in_gross, gas_lines_at, sheet_of, sum_formula}
 use Rattle.ghg_definitions.specs.Data.{Data, Name}
-use Rattle.ghg_definitions.specs.Formulas.{Summed}
 use Rattle.ghg_engine.specs.declared.evaluated.Evaluated.{Evaluated}
 use Rattle.ghg_engine.specs.declared.parts.Part.TheVariants.{Equivalent}
 use Rattle.ghg_engine.specs.Evaluation.{IsEvaluatedAt, IsEvaluatedSum}

@@ -1,4 +1,4 @@
-use Rattle.std.proofs.Common.{rules, ◌≡◌, ◌+◌, ◌<◌, ◌≤◌, ℕ, Option, Some, None, arith}
+use Rattle.std.proofs.Common.{rules, ◌≡◌, ◌+◌, ◌<◌, ℕ, Option, Some, None, arith}
 use Rattle.std.specs.Option.{IsSome, MatchOption}
 use Rattle.ghg_engine.proofs.Compiled.{ends_compiled, ends_over}
 use Rattle.ghg_engine.proofs.evaluation.evaluate_all.Goals as goal

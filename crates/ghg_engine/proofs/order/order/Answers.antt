@@ -1,7 +1,6 @@
-use Rattle.std.proofs.Common.{◌≡◌, ◌+◌, ◌-◌, ◌++◌, ◌∙◌, ◌≤◌, sym, ap, ap₂, subst, arith}
-use Rattle.std.specs.List.Sorted.{IsStrictlySortedBy}
+use Rattle.std.proofs.Common.{◌≡◌, ◌+◌, ◌-◌, ◌++◌, ◌∙◌, ◌≤◌, sym, ap, subst, arith}
 use Rattle.ghg_definitions.specs.Compilation.{sheet_of, years_from, years_of}
-use Rattle.ghg_definitions.specs.Data.{name_cmp, span}
+use Rattle.ghg_definitions.specs.Data.{span}
 use Rattle.ghg_engine.specs.Orders.{IsOrder}
 use Rattle.ghg_engine.specs.Years.{year_nodes}
 use Rattle.ghg_engine.proofs.ByYear.{by_year, nodes_by_year, nodes_more}

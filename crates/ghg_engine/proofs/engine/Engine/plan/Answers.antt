@@ -1,8 +1,5 @@
-use Rattle.std.proofs.Common.{◌≡◌, ◌∙◌, ℕ, List, [], ◌∷◌, Option, Ok, Err, drop, sym, ap, subst}
-use Rattle.ghg_units.specs.declared.row.Row.{Row}
-use Rattle.ghg_units.specs.declared.rule.Rule.{Rule}
+use Rattle.std.proofs.Common.{◌≡◌, ◌∙◌, Ok, Err, drop, ap, subst}
 use Rattle.ghg_units.specs.declared.rule.Rule.TheVariants.{Cycle}
-use Rattle.ghg_definitions.specs.Data.{Data, Name}
 use Rattle.ghg_definitions.specs.Rings.{IsAcyclic, IsLeastRing}
 use Rattle.ghg_definitions.specs.Rules.{arranged}
 use Rattle.ghg_definitions.specs.Sound.{IsWorkbook}
