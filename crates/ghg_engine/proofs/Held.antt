@@ -1,29 +1,30 @@
 -- What is taken of all parameters of a line.
-use Rattle.std.proofs.Common.{◌≡◌, ◌⊎◌, inl, inr, ℕ, ◌+◌, Bool, true, false, not, ◌&&◌, ◌||◌, List, [], ◌∷◌, ◌++◌, length, Option, Some, None, cond, Ok, Err, refl, sym, ap, ap₂, ◌∙◌, subst, arith, length-append}
-use Rattle.std.specs.List.{list_any}
-use Rattle.std.proofs.lemmas.List.Folds.{list_any-append}
+use Rattle.std.proofs.Common.{◌≡◌, ◌⊎◌, inl, inr, Bool, true, false, not, ◌&&◌, ◌||◌, List, [], ◌∷◌, ◌++◌, length, Option, Some, None, cond, Ok, Err, refl, sym, ap, ap₂, ◌∙◌, subst, arith, length-append}
+use Rattle.std.specs.List.{list_all, list_any}
+use Rattle.std.proofs.lemmas.List.Folds.{list_all-append, list_any-append}
 use Rattle.ghg_cell.specs.declared.input.Input.{Input}
 use Rattle.ghg_cell.specs.declared.input.Input.TheVariants.{Blank, Known}
 use Rattle.ghg_cell.specs.declared.figures.Figures.{Figures}
 use Rattle.ghg_cell.specs.Totals.{are_bounded_by, bounded_sum, equation_outcome, is_limited, sum_all, sum_input, sum_of_known, sum_within}
-use Rattle.ghg_cell.specs.Values.{all_known, input_of, is_blank, then}
+use Rattle.ghg_cell.specs.Values.{all_known, equation_value, input_of, is_blank, then}
 use Rattle.ghg_interval.specs.declared.Over.{Over}
 use Rattle.ghg_interval.specs.Bounds.{bound_limit}
 use Rattle.ghg_units.specs.declared.node.Node.{Node}
 use Rattle.ghg_equations.specs.declared.eq_id.EqId.{EqId}
 use Rattle.ghg_definitions.specs.Formulas.{Outcome, gather}
 use Rattle.ghg_definitions.specs.Lookups.{zero_input}
+use Rattle.ghg_definitions.proofs.Alike.{first_so, second_so}
 use Rattle.ghg_engine.specs.declared.arguments.Arguments.{Arguments}
 use Rattle.ghg_engine.specs.declared.arguments.Taken.{Taken}
 use Rattle.ghg_engine.specs.Arguments.{IsHeld, IsTaken, sum_outcome}
 use Rattle.ghg_engine.specs.Orders.{Cells}
 use Rattle.ghg_engine.specs.Parts.{AreParts}
 use Rattle.ghg_engine.proofs.Gathered.{gather_more}
-use Rattle.ghg_engine.proofs.Limits.{beyond_outcome, blank_outcome, is_beyond}
+use Rattle.ghg_engine.proofs.Limits.{beyond_outcome, blank_outcome, is_beyond, limited_outcome}
 
 -- nothing is taken yet
 pub nothing_held : (held : Arguments) → held.inputs.items ≡ [] → held.fit ≡ true → held.blank ≡ false → IsHeld [] held
-nothing_held held none fit blank = record { found = []; gathered = refl; count = ap length none; blank = blank; fit = λ e. none; beyond = λ e. absurd (clash (sym fit ∙ e)) }
+nothing_held held none fit blank = record { found = []; gathered = refl; count = ap length none; blank = blank; fit = λ e. none; beyond = λ e. absurd (clash (sym fit ∙ e)); limited = ap (list_all is_limited) none }
   where
     clash : ◌≡◌ {A = Bool} true false → ⊥
     clash e = cc
@@ -55,21 +56,14 @@ one_held outcomes old new x t held taken inputs fit blank = record {
   gathered = gather_more outcomes held.found x held.gathered ∙ ap (λ y. then y (λ p. Ok (held.found ++ p ∷ []))) taken.outcome;
   count = ap length inputs ∙ simp length-append (omega (arith, held.count));
   blank = blank ∙ ap₂ (λ a b. a || b) held.blank (same_blank x t taken) ∙ sym (any_more is_blank held.found taken.found);
-  fit = λ e. inputs ∙ ap₂ (λ xs y. xs ++ y ∷ []) (held.fit (first_of old.fit t.fits (sym fit ∙ e))) (taken.fits (second_of old.fit t.fits (sym fit ∙ e)));
+  fit = λ e. inputs ∙ ap₂ (λ xs y. xs ++ y ∷ []) (held.fit (first_so old.fit t.fits (sym fit ∙ e))) (taken.fits (second_so old.fit t.fits (sym fit ∙ e)));
   beyond = λ e. any_more is_beyond held.found taken.found ∙ elim (either_false old.fit t.fits (sym fit ∙ e)) [
     | inl f ↦ ap (λ b. b || is_beyond taken.found) (held.beyond f)
     | inr f ↦ ap (λ b. list_any is_beyond held.found || not b) (taken.beyond f).1 ∙ or_true (list_any is_beyond held.found)
   ];
+  limited = ap (list_all is_limited) inputs ∙ list_all-append is_limited old.inputs.items (t.input ∷ []) ∙ ap₂ (λ a b. a && (b && true)) held.limited taken.limited;
 }
   where
-    first_of : (a b : Bool) → (a && b) ≡ true → a ≡ true
-    first_of true b e = refl
-    first_of false b e = e
-
-    second_of : (a b : Bool) → (a && b) ≡ true → b ≡ true
-    second_of true b e = e
-    second_of false b e = absurd (cc)
-
     either_false : (a b : Bool) → (a && b) ≡ false → (a ≡ false) ⊎ (b ≡ false)
     either_false true b e = inr e
     either_false false b e = inl refl
@@ -121,6 +115,7 @@ sum_beyond cells ns parts o t are is fits zero = record {
   outcome = sum_is cells ns parts are;
   fits = λ e. absurd (clash (sym e ∙ fits));
   beyond = λ e. (zero, beyond_is parts o is);
+  limited = ap is_limited zero;
 }
   where
     clash : ◌≡◌ {A = Bool} true false → ⊥
@@ -132,8 +127,8 @@ module _ (id : EqId) (outcomes : List Outcome) (held : Arguments) (is : IsHeld o
   outcome_is : then (gather outcomes) (equation_outcome id) ≡ equation_outcome id is.found
   outcome_is = ap (λ r. then r (equation_outcome id)) is.gathered
 
-  pub held_value : held.fit ≡ true → equation_outcome id held.inputs.items ≡ then (gather outcomes) (equation_outcome id)
-  held_value fit = ap (equation_outcome id) (is.fit fit) ∙ sym outcome_is
+  pub held_value : held.fit ≡ true → equation_value id held.inputs.items ≡ then (gather outcomes) (equation_outcome id)
+  held_value fit = limited_outcome id held.inputs.items is.limited ∙ ap (equation_outcome id) (is.fit fit) ∙ sym outcome_is
 
   pub held_blank : held.blank ≡ true → Ok Blank ≡ then (gather outcomes) (equation_outcome id)
   held_blank blank = sym (blank_outcome id is.found (sym is.blank ∙ blank)) ∙ sym outcome_is

@@ -1,6 +1,6 @@
 -- What the parameters of a line take.
 use Rattle.std.specs.Prelude.{◌≡◌, ℕ, Bool, true, false, not, List, map, length, Option, Some, None, Ok, Err}
-use Rattle.std.specs.List.{list_any}
+use Rattle.std.specs.List.{list_all, list_any}
 use Rattle.ghg_cell.specs.declared.input.Input.{Input}
 use Rattle.ghg_cell.specs.Totals.{is_limited}
 use Rattle.ghg_cell.specs.Values.{is_blank}
@@ -34,12 +34,14 @@ param_outcomes m cells line year ps = map (λ p. named_outcome m cells line year
 
 -- ---- what is taken
 
--- the outcome is taken as it is, or zero is taken for it since it is beyond the limit of intervals
+-- the outcome is taken as it is, or zero is taken for it since it is beyond the limit of intervals; what is taken is within
+-- that limit
 pub record IsTaken (x : Outcome) (t : Taken) : Type 0 where
   pub found : Input
   pub outcome : x ≡ Ok found
   pub fits : t.fits ≡ true → t.input ≡ found
   pub beyond : t.fits ≡ false → (t.input ≡ zero_input) × (is_limited found ≡ false)
+  pub limited : is_limited t.input ≡ true
 
 -- it is over, or it is taken
 abbrev pub IsArgument : Outcome → Option Taken → Type 0
@@ -48,7 +50,8 @@ IsArgument x (Some t) = IsTaken x t
 
 -- ---- all that is taken
 
--- none of the outcomes is over, and the arguments are what they are, unless one is beyond the limit of intervals
+-- none of the outcomes is over, and the arguments are what the outcomes give, unless one of these is beyond the limit of
+-- intervals; each argument is within it
 pub record IsHeld (outcomes : List Outcome) (held : Arguments) : Type 0 where
   pub found : List Input
   pub gathered : gather outcomes ≡ Ok found
@@ -56,6 +59,7 @@ pub record IsHeld (outcomes : List Outcome) (held : Arguments) : Type 0 where
   pub blank : held.blank ≡ list_any is_blank found
   pub fit : held.fit ≡ true → held.inputs.items ≡ found
   pub beyond : held.fit ≡ false → list_any (λ i. not (is_limited i)) found ≡ true
+  pub limited : list_all is_limited held.inputs.items ≡ true
 
 -- where one of the outcomes is over, so is what they give together
 abbrev pub AreGathered : List Outcome → Arguments → Bool → Type 0

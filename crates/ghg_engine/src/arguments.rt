@@ -148,7 +148,7 @@ impl Arguments {
         Ok(())
     }
 
-    /// The value of an equation over these arguments: blank where one of them is, and over where a sum among them or a
+    /// The value of an equation over these arguments: blank where one of them is, else over where a sum among them or a
     /// result on the way is beyond the limit of intervals.
     pub(crate) fn value(&self, id: EqId, ticket: Ticket) -> Result<Value, Over>
         requires { length self.now.inputs.items ≡ length (parameters id) }
