@@ -2,7 +2,6 @@
 
 ghost use Rattle.std.specs.Prelude.{◌≡◌, [], ◌∷◌};
 ghost use Rattle.ghg_equations.specs.declared.eq_id.EqId.TheVariants as EqId;
-ghost use Rattle.ghg_cell.specs.Totals.{equation_outcome};
 ghost use Rattle.ghg_cell.specs.Values.{equation_value};
 
 use ghg_cell::{Input, Ticket, Value};
@@ -10,8 +9,7 @@ use ghg_interval::Over;
 
 /// CO2 of fuel burnt, in Gg: the fuel `fc` in TJ times the emission factor `ef` in kg/TJ (Equation 2.1).
 pub fn q10(ticket: Ticket, fc: &Input, ef: &Input) -> Result<Value, Over>
-    ensures value { result ≡ equation_value EqId.Q10 (fc.now ∷ ef.now ∷ []) }
-    ensures outcome { result ≡ equation_outcome EqId.Q10 (fc.now ∷ ef.now ∷ []) }
+    ensures { result ≡ equation_value EqId.Q10 (fc.now ∷ ef.now ∷ []) }
 {
     let (Some(fc), Some(ef)) = (fc.figures(), ef.figures()) else {
         return Ok(Value::blank(ticket));
@@ -22,16 +20,14 @@ pub fn q10(ticket: Ticket, fc: &Input, ef: &Input) -> Result<Value, Over>
 
 /// CH4 of fuel burnt, in Gg, of the same parameters (Equation 2.1).
 pub fn q11(ticket: Ticket, fc: &Input, ef: &Input) -> Result<Value, Over>
-    ensures value { result ≡ equation_value EqId.Q11 (fc.now ∷ ef.now ∷ []) }
-    ensures outcome { result ≡ equation_outcome EqId.Q11 (fc.now ∷ ef.now ∷ []) }
+    ensures { result ≡ equation_value EqId.Q11 (fc.now ∷ ef.now ∷ []) }
 {
     q10(ticket, fc, ef)
 }
 
 /// N2O of fuel burnt, in Gg, of the same parameters (Equation 2.1).
 pub fn q12(ticket: Ticket, fc: &Input, ef: &Input) -> Result<Value, Over>
-    ensures value { result ≡ equation_value EqId.Q12 (fc.now ∷ ef.now ∷ []) }
-    ensures outcome { result ≡ equation_outcome EqId.Q12 (fc.now ∷ ef.now ∷ []) }
+    ensures { result ≡ equation_value EqId.Q12 (fc.now ∷ ef.now ∷ []) }
 {
     q10(ticket, fc, ef)
 }
@@ -39,8 +35,7 @@ pub fn q12(ticket: Ticket, fc: &Input, ef: &Input) -> Result<Value, Over>
 /// Energy of a mass of fuel, in TJ: the mass `fm` in t times the net calorific value `ncv` in TJ/Gg. No numbered
 /// equation of the Guidelines.
 pub fn q13(ticket: Ticket, fm: &Input, ncv: &Input) -> Result<Value, Over>
-    ensures value { result ≡ equation_value EqId.Q13 (fm.now ∷ ncv.now ∷ []) }
-    ensures outcome { result ≡ equation_outcome EqId.Q13 (fm.now ∷ ncv.now ∷ []) }
+    ensures { result ≡ equation_value EqId.Q13 (fm.now ∷ ncv.now ∷ []) }
 {
     let (Some(fm), Some(ncv)) = (fm.figures(), ncv.figures()) else {
         return Ok(Value::blank(ticket));

@@ -2,7 +2,6 @@
 
 ghost use Rattle.std.specs.Prelude.{◌≡◌, length};
 ghost use Rattle.ghg_equations.specs.Table.{parameters, sector_of};
-ghost use Rattle.ghg_cell.specs.Totals.{equation_outcome};
 ghost use Rattle.ghg_cell.specs.Values.{equation_value};
 
 use crate::combustion::{q10, q11, q12, q13};
@@ -16,8 +15,7 @@ use ghg_interval::Over;
 pub fn evaluate(id: EqId, ticket: Ticket, inputs: &[Input]) -> Result<Value, Over>
     requires sector { sector_of id ≡ Sector.Energy }
     requires count { length inputs.now ≡ length (parameters id) }
-    ensures value { result ≡ equation_value id inputs.now }
-    ensures outcome { result ≡ equation_outcome id inputs.now }
+    ensures { result ≡ equation_value id inputs.now }
 {
     match (id, inputs) {
         (EqId::Q10, [fc, ef]) => q10(ticket, fc, ef),

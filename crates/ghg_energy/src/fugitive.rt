@@ -2,7 +2,6 @@
 
 ghost use Rattle.std.specs.Prelude.{◌≡◌, [], ◌∷◌};
 ghost use Rattle.ghg_equations.specs.declared.eq_id.EqId.TheVariants as EqId;
-ghost use Rattle.ghg_cell.specs.Totals.{equation_outcome};
 ghost use Rattle.ghg_cell.specs.Values.{equation_value};
 
 use ghg_cell::{Input, Ticket, Value};
@@ -11,8 +10,7 @@ use ghg_interval::Over;
 /// CH4 of coal mining, in Gg: the coal `p` in t times the emission factor `ef` in m3/t, at 0.67 kg of CH4 in a m3
 /// (chapter 4, coal, Tier 1).
 pub fn q14(ticket: Ticket, p: &Input, ef: &Input) -> Result<Value, Over>
-    ensures value { result ≡ equation_value EqId.Q14 (p.now ∷ ef.now ∷ []) }
-    ensures outcome { result ≡ equation_outcome EqId.Q14 (p.now ∷ ef.now ∷ []) }
+    ensures { result ≡ equation_value EqId.Q14 (p.now ∷ ef.now ∷ []) }
 {
     let (Some(p), Some(ef)) = (p.figures(), ef.figures()) else {
         return Ok(Value::blank(ticket));
@@ -23,8 +21,7 @@ pub fn q14(ticket: Ticket, p: &Input, ef: &Input) -> Result<Value, Over>
 
 /// CH4 of oil and natural gas, in Gg: the activity `a` in m3 times the emission factor `ef` in kg/m3 (Equation 4.2.1).
 pub fn q15(ticket: Ticket, a: &Input, ef: &Input) -> Result<Value, Over>
-    ensures value { result ≡ equation_value EqId.Q15 (a.now ∷ ef.now ∷ []) }
-    ensures outcome { result ≡ equation_outcome EqId.Q15 (a.now ∷ ef.now ∷ []) }
+    ensures { result ≡ equation_value EqId.Q15 (a.now ∷ ef.now ∷ []) }
 {
     let (Some(a), Some(ef)) = (a.figures(), ef.figures()) else {
         return Ok(Value::blank(ticket));
@@ -35,16 +32,14 @@ pub fn q15(ticket: Ticket, a: &Input, ef: &Input) -> Result<Value, Over>
 
 /// CO2 of oil and natural gas, in Gg, of the same parameters (Equation 4.2.1).
 pub fn q16(ticket: Ticket, a: &Input, ef: &Input) -> Result<Value, Over>
-    ensures value { result ≡ equation_value EqId.Q16 (a.now ∷ ef.now ∷ []) }
-    ensures outcome { result ≡ equation_outcome EqId.Q16 (a.now ∷ ef.now ∷ []) }
+    ensures { result ≡ equation_value EqId.Q16 (a.now ∷ ef.now ∷ []) }
 {
     q15(ticket, a, ef)
 }
 
 /// N2O of oil and natural gas, in Gg, of the same parameters (Equation 4.2.1).
 pub fn q17(ticket: Ticket, a: &Input, ef: &Input) -> Result<Value, Over>
-    ensures value { result ≡ equation_value EqId.Q17 (a.now ∷ ef.now ∷ []) }
-    ensures outcome { result ≡ equation_outcome EqId.Q17 (a.now ∷ ef.now ∷ []) }
+    ensures { result ≡ equation_value EqId.Q17 (a.now ∷ ef.now ∷ []) }
 {
     q15(ticket, a, ef)
 }

@@ -2,8 +2,7 @@
 //!
 //! Each call is one row of the table of equations, and each takes the inputs of a node in the order of its parameters,
 //! in the base units of their dimensions. It gives the value of the row's expression, on points and on ranges: blank
-//! where an input is, and `Over` exactly where a result on the way is beyond the limit of intervals. Inputs are within
-//! that limit by their type, so that the value is also the outcome of a formula, which tests them.
+//! where an input is, else `Over` exactly where a result on the way is beyond the limit of intervals.
 #![tactic(auto)]
 
 mod combustion;

@@ -2,7 +2,6 @@
 
 ghost use Rattle.std.specs.Prelude.{◌≡◌, [], ◌∷◌};
 ghost use Rattle.ghg_equations.specs.declared.eq_id.EqId.TheVariants as EqId;
-ghost use Rattle.ghg_cell.specs.Totals.{equation_outcome};
 ghost use Rattle.ghg_cell.specs.Values.{equation_value};
 
 use ghg_cell::{Input, Ticket, Value};
@@ -18,8 +17,7 @@ pub fn q20(
     ib: &Input,
     sc: &Input,
 ) -> Result<Value, Over>
-    ensures value { result ≡ equation_value EqId.Q20 (pr.now ∷ im.now ∷ ex.now ∷ ib.now ∷ sc.now ∷ []) }
-    ensures outcome { result ≡ equation_outcome EqId.Q20 (pr.now ∷ im.now ∷ ex.now ∷ ib.now ∷ sc.now ∷ []) }
+    ensures { result ≡ equation_value EqId.Q20 (pr.now ∷ im.now ∷ ex.now ∷ ib.now ∷ sc.now ∷ []) }
 {
     let (Some(pr), Some(im), Some(ex), Some(ib), Some(sc)) = (
         pr.figures(),
@@ -37,8 +35,7 @@ pub fn q20(
 /// Apparent consumption of a secondary fuel, in t: imports `im`, less exports `ex`, international bunkers `ib` and the
 /// change of stocks `sc`, each in t (Equation 6.3).
 pub fn q21(ticket: Ticket, im: &Input, ex: &Input, ib: &Input, sc: &Input) -> Result<Value, Over>
-    ensures value { result ≡ equation_value EqId.Q21 (im.now ∷ ex.now ∷ ib.now ∷ sc.now ∷ []) }
-    ensures outcome { result ≡ equation_outcome EqId.Q21 (im.now ∷ ex.now ∷ ib.now ∷ sc.now ∷ []) }
+    ensures { result ≡ equation_value EqId.Q21 (im.now ∷ ex.now ∷ ib.now ∷ sc.now ∷ []) }
 {
     let (Some(im), Some(ex), Some(ib), Some(sc)) = (
         im.figures(),
@@ -61,16 +58,14 @@ pub fn q22(
     ib: &Input,
     sc: &Input,
 ) -> Result<Value, Over>
-    ensures value { result ≡ equation_value EqId.Q22 (pr.now ∷ im.now ∷ ex.now ∷ ib.now ∷ sc.now ∷ []) }
-    ensures outcome { result ≡ equation_outcome EqId.Q22 (pr.now ∷ im.now ∷ ex.now ∷ ib.now ∷ sc.now ∷ []) }
+    ensures { result ≡ equation_value EqId.Q22 (pr.now ∷ im.now ∷ ex.now ∷ ib.now ∷ sc.now ∷ []) }
 {
     q20(ticket, pr, im, ex, ib, sc)
 }
 
 /// Apparent consumption of a secondary fuel, in TJ, of the same parameters as `q21`, each in TJ (Equation 6.3).
 pub fn q23(ticket: Ticket, im: &Input, ex: &Input, ib: &Input, sc: &Input) -> Result<Value, Over>
-    ensures value { result ≡ equation_value EqId.Q23 (im.now ∷ ex.now ∷ ib.now ∷ sc.now ∷ []) }
-    ensures outcome { result ≡ equation_outcome EqId.Q23 (im.now ∷ ex.now ∷ ib.now ∷ sc.now ∷ []) }
+    ensures { result ≡ equation_value EqId.Q23 (im.now ∷ ex.now ∷ ib.now ∷ sc.now ∷ []) }
 {
     q21(ticket, im, ex, ib, sc)
 }
@@ -78,8 +73,7 @@ pub fn q23(ticket: Ticket, im: &Input, ex: &Input, ib: &Input, sc: &Input) -> Re
 /// Carbon excluded from fuel combustion, in GgC: the fuel `a` in TJ times its carbon content `cc` in tC/TJ
 /// (Equation 6.4).
 pub fn q24(ticket: Ticket, a: &Input, cc: &Input) -> Result<Value, Over>
-    ensures value { result ≡ equation_value EqId.Q24 (a.now ∷ cc.now ∷ []) }
-    ensures outcome { result ≡ equation_outcome EqId.Q24 (a.now ∷ cc.now ∷ []) }
+    ensures { result ≡ equation_value EqId.Q24 (a.now ∷ cc.now ∷ []) }
 {
     let (Some(a), Some(cc)) = (a.figures(), cc.figures()) else {
         return Ok(Value::blank(ticket));
@@ -99,8 +93,7 @@ pub fn q25(
     xc: &Input,
     cof: &Input,
 ) -> Result<Value, Over>
-    ensures value { result ≡ equation_value EqId.Q25 (ac.now ∷ conv.now ∷ cc.now ∷ xc.now ∷ cof.now ∷ []) }
-    ensures outcome { result ≡ equation_outcome EqId.Q25 (ac.now ∷ conv.now ∷ cc.now ∷ xc.now ∷ cof.now ∷ []) }
+    ensures { result ≡ equation_value EqId.Q25 (ac.now ∷ conv.now ∷ cc.now ∷ xc.now ∷ cof.now ∷ []) }
 {
     let (Some(ac), Some(conv), Some(cc), Some(xc), Some(cof)) = (
         ac.figures(),
@@ -120,8 +113,7 @@ pub fn q25(
 /// CO2 of a fuel by the reference approach, in Gg, where the apparent consumption `ac` is in TJ, and the other parameters
 /// are those of `q25` (Equation 6.1).
 pub fn q26(ticket: Ticket, ac: &Input, cc: &Input, xc: &Input, cof: &Input) -> Result<Value, Over>
-    ensures value { result ≡ equation_value EqId.Q26 (ac.now ∷ cc.now ∷ xc.now ∷ cof.now ∷ []) }
-    ensures outcome { result ≡ equation_outcome EqId.Q26 (ac.now ∷ cc.now ∷ xc.now ∷ cof.now ∷ []) }
+    ensures { result ≡ equation_value EqId.Q26 (ac.now ∷ cc.now ∷ xc.now ∷ cof.now ∷ []) }
 {
     let (Some(ac), Some(cc), Some(xc), Some(cof)) = (
         ac.figures(),

@@ -2,7 +2,6 @@
 
 ghost use Rattle.std.specs.Prelude.{◌≡◌, [], ◌∷◌};
 ghost use Rattle.ghg_equations.specs.declared.eq_id.EqId.TheVariants as EqId;
-ghost use Rattle.ghg_cell.specs.Totals.{equation_outcome};
 ghost use Rattle.ghg_cell.specs.Values.{equation_value};
 
 use ghg_cell::{Figures, Input, Ticket, Value};
@@ -19,8 +18,7 @@ pub fn q37(
     cof: &Input,
     r: &Input,
 ) -> Result<Value, Over>
-    ensures value { result ≡ equation_value EqId.Q37 (ap.now ∷ fr.now ∷ ccf.now ∷ cof.now ∷ r.now ∷ []) }
-    ensures outcome { result ≡ equation_outcome EqId.Q37 (ap.now ∷ fr.now ∷ ccf.now ∷ cof.now ∷ r.now ∷ []) }
+    ensures { result ≡ equation_value EqId.Q37 (ap.now ∷ fr.now ∷ ccf.now ∷ cof.now ∷ r.now ∷ []) }
 {
     let (Some(ap), Some(fr), Some(ccf), Some(cof), Some(r)) = (
         ap.figures(),
@@ -39,8 +37,7 @@ pub fn q37(
 /// N2O of nitric or adipic acid, in Gg: the emission factor `ef` in t/t times the acid produced `p` in t (Equations 3.5
 /// and 3.7, Tier 1).
 pub fn q38(ticket: Ticket, ef: &Input, p: &Input) -> Result<Value, Over>
-    ensures value { result ≡ equation_value EqId.Q38 (ef.now ∷ p.now ∷ []) }
-    ensures outcome { result ≡ equation_outcome EqId.Q38 (ef.now ∷ p.now ∷ []) }
+    ensures { result ≡ equation_value EqId.Q38 (ef.now ∷ p.now ∷ []) }
 {
     let (Some(ef), Some(p)) = (ef.figures(), p.figures()) else {
         return Ok(Value::blank(ticket));
@@ -53,8 +50,7 @@ pub fn q38(ticket: Ticket, ef: &Input, p: &Input) -> Result<Value, Over>
 /// t, less what is destroyed, by the destruction factor `df` and the utilisation factor `asuf` of the abatement (a term
 /// of Equations 3.6 and 3.8, Tier 2).
 pub fn q39(ticket: Ticket, ef: &Input, p: &Input, df: &Input, asuf: &Input) -> Result<Value, Over>
-    ensures value { result ≡ equation_value EqId.Q39 (ef.now ∷ p.now ∷ df.now ∷ asuf.now ∷ []) }
-    ensures outcome { result ≡ equation_outcome EqId.Q39 (ef.now ∷ p.now ∷ df.now ∷ asuf.now ∷ []) }
+    ensures { result ≡ equation_value EqId.Q39 (ef.now ∷ p.now ∷ df.now ∷ asuf.now ∷ []) }
 {
     let (Some(ef), Some(p), Some(df), Some(asuf)) = (
         ef.figures(),

@@ -2,7 +2,6 @@
 
 ghost use Rattle.std.specs.Prelude.{◌≡◌, [], ◌∷◌};
 ghost use Rattle.ghg_equations.specs.declared.eq_id.EqId.TheVariants as EqId;
-ghost use Rattle.ghg_cell.specs.Totals.{equation_outcome};
 ghost use Rattle.ghg_cell.specs.Values.{equation_value};
 
 use ghg_cell::{Input, Ticket, Value};
@@ -19,8 +18,7 @@ pub fn q40(
     ohf: &Input,
     efo: &Input,
 ) -> Result<Value, Over>
-    ensures value { result ≡ equation_value EqId.Q40 (bof.now ∷ efb.now ∷ eaf.now ∷ efe.now ∷ ohf.now ∷ efo.now ∷ []) }
-    ensures outcome { result ≡ equation_outcome EqId.Q40 (bof.now ∷ efb.now ∷ eaf.now ∷ efe.now ∷ ohf.now ∷ efo.now ∷ []) }
+    ensures { result ≡ equation_value EqId.Q40 (bof.now ∷ efb.now ∷ eaf.now ∷ efe.now ∷ ohf.now ∷ efo.now ∷ []) }
 {
     let (Some(bof), Some(efb), Some(eaf), Some(efe), Some(ohf), Some(efo)) = (
         bof.figures(),
@@ -47,8 +45,7 @@ pub fn q41(
     efs: &Input,
     mps: &Input,
 ) -> Result<Value, Over>
-    ensures value { result ≡ equation_value EqId.Q41 (efp.now ∷ mpp.now ∷ efs.now ∷ mps.now ∷ []) }
-    ensures outcome { result ≡ equation_outcome EqId.Q41 (efp.now ∷ mpp.now ∷ efs.now ∷ mps.now ∷ []) }
+    ensures { result ≡ equation_value EqId.Q41 (efp.now ∷ mpp.now ∷ efs.now ∷ mps.now ∷ []) }
 {
     let (Some(efp), Some(mpp), Some(efs), Some(mps)) = (
         efp.figures(),
@@ -67,8 +64,7 @@ pub fn q41(
 /// CF4 of the anode effects of aluminium, in Gg: the emission factor `ef` of a cell technology in t/t times its
 /// aluminium `mp` in t (a term of Equation 4.25, Tier 1).
 pub fn q42(ticket: Ticket, ef: &Input, mp: &Input) -> Result<Value, Over>
-    ensures value { result ≡ equation_value EqId.Q42 (ef.now ∷ mp.now ∷ []) }
-    ensures outcome { result ≡ equation_outcome EqId.Q42 (ef.now ∷ mp.now ∷ []) }
+    ensures { result ≡ equation_value EqId.Q42 (ef.now ∷ mp.now ∷ []) }
 {
     let (Some(ef), Some(mp)) = (ef.figures(), mp.figures()) else {
         return Ok(Value::blank(ticket));
@@ -80,8 +76,7 @@ pub fn q42(ticket: Ticket, ef: &Input, mp: &Input) -> Result<Value, Over>
 /// CF4 of the anode effects of aluminium by the slope method, in Gg: the slope `s` in kg/t/AEmin times the anode effect
 /// minutes of a cell and day `aem` and the aluminium `mp` in t (Equation 4.26, Tier 2).
 pub fn q44(ticket: Ticket, s: &Input, aem: &Input, mp: &Input) -> Result<Value, Over>
-    ensures value { result ≡ equation_value EqId.Q44 (s.now ∷ aem.now ∷ mp.now ∷ []) }
-    ensures outcome { result ≡ equation_outcome EqId.Q44 (s.now ∷ aem.now ∷ mp.now ∷ []) }
+    ensures { result ≡ equation_value EqId.Q44 (s.now ∷ aem.now ∷ mp.now ∷ []) }
 {
     let (Some(s), Some(aem), Some(mp)) = (s.figures(), aem.figures(), mp.figures()) else {
         return Ok(Value::blank(ticket));
@@ -93,8 +88,7 @@ pub fn q44(ticket: Ticket, s: &Input, aem: &Input, mp: &Input) -> Result<Value, 
 /// C2F6 of the anode effects of aluminium, in Gg: the CF4 `cf` in Gg times the weight of C2F6 for one of CF4 `f` in t/t
 /// (Equation 4.26, Tier 2).
 pub fn q45(ticket: Ticket, cf: &Input, f: &Input) -> Result<Value, Over>
-    ensures value { result ≡ equation_value EqId.Q45 (cf.now ∷ f.now ∷ []) }
-    ensures outcome { result ≡ equation_outcome EqId.Q45 (cf.now ∷ f.now ∷ []) }
+    ensures { result ≡ equation_value EqId.Q45 (cf.now ∷ f.now ∷ []) }
 {
     let (Some(cf), Some(f)) = (cf.figures(), f.figures()) else {
         return Ok(Value::blank(ticket));

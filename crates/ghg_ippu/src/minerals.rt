@@ -2,7 +2,6 @@
 
 ghost use Rattle.std.specs.Prelude.{◌≡◌, [], ◌∷◌};
 ghost use Rattle.ghg_equations.specs.declared.eq_id.EqId.TheVariants as EqId;
-ghost use Rattle.ghg_cell.specs.Totals.{equation_outcome};
 ghost use Rattle.ghg_cell.specs.Values.{equation_value};
 
 use ghg_cell::{Figures, Input, Ticket, Value};
@@ -10,8 +9,7 @@ use ghg_interval::Over;
 
 /// Clinker of a cement, in t: the cement produced `mc` in t times its clinker fraction `ccl` (a term of Equation 2.1).
 pub fn q30(ticket: Ticket, mc: &Input, ccl: &Input) -> Result<Value, Over>
-    ensures value { result ≡ equation_value EqId.Q30 (mc.now ∷ ccl.now ∷ []) }
-    ensures outcome { result ≡ equation_outcome EqId.Q30 (mc.now ∷ ccl.now ∷ []) }
+    ensures { result ≡ equation_value EqId.Q30 (mc.now ∷ ccl.now ∷ []) }
 {
     let (Some(mc), Some(ccl)) = (mc.figures(), ccl.figures()) else {
         return Ok(Value::blank(ticket));
@@ -23,8 +21,7 @@ pub fn q30(ticket: Ticket, mc: &Input, ccl: &Input) -> Result<Value, Over>
 /// CO2 of cement, in Gg: the clinker of the cement produced `cl`, less imports `im` and with exports `ex` of clinker,
 /// each in t, times the emission factor `ef` in t/t (Equation 2.1, Tier 1).
 pub fn q31(ticket: Ticket, cl: &Input, im: &Input, ex: &Input, ef: &Input) -> Result<Value, Over>
-    ensures value { result ≡ equation_value EqId.Q31 (cl.now ∷ im.now ∷ ex.now ∷ ef.now ∷ []) }
-    ensures outcome { result ≡ equation_outcome EqId.Q31 (cl.now ∷ im.now ∷ ex.now ∷ ef.now ∷ []) }
+    ensures { result ≡ equation_value EqId.Q31 (cl.now ∷ im.now ∷ ex.now ∷ ef.now ∷ []) }
 {
     let (Some(cl), Some(im), Some(ex), Some(ef)) = (
         cl.figures(),
@@ -42,8 +39,7 @@ pub fn q31(ticket: Ticket, cl: &Input, im: &Input, ex: &Input, ef: &Input) -> Re
 /// CO2 of clinker, in Gg: the clinker produced `mcl` in t times the emission factor `ef` in t/t and the correction `cf`
 /// for cement kiln dust (Equation 2.2, Tier 2).
 pub fn q32(ticket: Ticket, mcl: &Input, ef: &Input, cf: &Input) -> Result<Value, Over>
-    ensures value { result ≡ equation_value EqId.Q32 (mcl.now ∷ ef.now ∷ cf.now ∷ []) }
-    ensures outcome { result ≡ equation_outcome EqId.Q32 (mcl.now ∷ ef.now ∷ cf.now ∷ []) }
+    ensures { result ≡ equation_value EqId.Q32 (mcl.now ∷ ef.now ∷ cf.now ∷ []) }
 {
     let (Some(mcl), Some(ef), Some(cf)) = (mcl.figures(), ef.figures(), cf.figures()) else {
         return Ok(Value::blank(ticket));
@@ -55,8 +51,7 @@ pub fn q32(ticket: Ticket, mcl: &Input, ef: &Input, cf: &Input) -> Result<Value,
 /// CO2 of a type of lime, in Gg: the emission factor `ef` in t/t times the lime produced `ml` in t, the correction `cf`
 /// for lime kiln dust and the correction `ch` for hydrated lime (a term of Equation 2.6, Tier 2).
 pub fn q33(ticket: Ticket, ef: &Input, ml: &Input, cf: &Input, ch: &Input) -> Result<Value, Over>
-    ensures value { result ≡ equation_value EqId.Q33 (ef.now ∷ ml.now ∷ cf.now ∷ ch.now ∷ []) }
-    ensures outcome { result ≡ equation_outcome EqId.Q33 (ef.now ∷ ml.now ∷ cf.now ∷ ch.now ∷ []) }
+    ensures { result ≡ equation_value EqId.Q33 (ef.now ∷ ml.now ∷ cf.now ∷ ch.now ∷ []) }
 {
     let (Some(ef), Some(ml), Some(cf), Some(ch)) = (
         ef.figures(),
@@ -73,8 +68,7 @@ pub fn q33(ticket: Ticket, ef: &Input, ml: &Input, cf: &Input, ch: &Input) -> Re
 /// CO2 of glass, in Gg: the glass melted `mg` in t times the emission factor `ef` in t/t, less the cullet ratio `cr` of
 /// it (Equation 2.10, and a term of Equation 2.11).
 pub fn q34(ticket: Ticket, mg: &Input, ef: &Input, cr: &Input) -> Result<Value, Over>
-    ensures value { result ≡ equation_value EqId.Q34 (mg.now ∷ ef.now ∷ cr.now ∷ []) }
-    ensures outcome { result ≡ equation_outcome EqId.Q34 (mg.now ∷ ef.now ∷ cr.now ∷ []) }
+    ensures { result ≡ equation_value EqId.Q34 (mg.now ∷ ef.now ∷ cr.now ∷ []) }
 {
     let (Some(mg), Some(ef), Some(cr)) = (mg.figures(), ef.figures(), cr.figures()) else {
         return Ok(Value::blank(ticket));
@@ -88,8 +82,7 @@ pub fn q34(ticket: Ticket, mg: &Input, ef: &Input, cr: &Input) -> Result<Value, 
 /// CO2 of carbonates in other uses, in Gg: the carbonate `m` in t, of which 85 percent are limestone and 15 percent
 /// dolomite, times their emission factors `efls` and `efd` in t/t (Equation 2.14, Tier 1).
 pub fn q35(ticket: Ticket, m: &Input, efls: &Input, efd: &Input) -> Result<Value, Over>
-    ensures value { result ≡ equation_value EqId.Q35 (m.now ∷ efls.now ∷ efd.now ∷ []) }
-    ensures outcome { result ≡ equation_outcome EqId.Q35 (m.now ∷ efls.now ∷ efd.now ∷ []) }
+    ensures { result ≡ equation_value EqId.Q35 (m.now ∷ efls.now ∷ efd.now ∷ []) }
 {
     let (Some(m), Some(efls), Some(efd)) = (m.figures(), efls.figures(), efd.figures()) else {
         return Ok(Value::blank(ticket));
@@ -108,8 +101,7 @@ pub fn q36(
     md: &Input,
     efd: &Input,
 ) -> Result<Value, Over>
-    ensures value { result ≡ equation_value EqId.Q36 (mls.now ∷ efls.now ∷ md.now ∷ efd.now ∷ []) }
-    ensures outcome { result ≡ equation_outcome EqId.Q36 (mls.now ∷ efls.now ∷ md.now ∷ efd.now ∷ []) }
+    ensures { result ≡ equation_value EqId.Q36 (mls.now ∷ efls.now ∷ md.now ∷ efd.now ∷ []) }
 {
     let (Some(mls), Some(efls), Some(md), Some(efd)) = (
         mls.figures(),

@@ -2,7 +2,6 @@
 
 ghost use Rattle.std.specs.Prelude.{◌≡◌, [], ◌∷◌};
 ghost use Rattle.ghg_equations.specs.declared.eq_id.EqId.TheVariants as EqId;
-ghost use Rattle.ghg_cell.specs.Totals.{equation_outcome};
 ghost use Rattle.ghg_cell.specs.Values.{equation_value};
 
 use ghg_cell::{Input, Ticket, Value};
@@ -11,8 +10,7 @@ use ghg_interval::Over;
 /// CO2 of lubricants or waxes in their use, in Gg: the consumption `lc` in TJ times the carbon content `cc` in tC/TJ
 /// and the fraction oxidised during use `odu`, from carbon to CO2 (Equations 5.2 and 5.4, Tier 1).
 pub fn q46(ticket: Ticket, lc: &Input, cc: &Input, odu: &Input) -> Result<Value, Over>
-    ensures value { result ≡ equation_value EqId.Q46 (lc.now ∷ cc.now ∷ odu.now ∷ []) }
-    ensures outcome { result ≡ equation_outcome EqId.Q46 (lc.now ∷ cc.now ∷ odu.now ∷ []) }
+    ensures { result ≡ equation_value EqId.Q46 (lc.now ∷ cc.now ∷ odu.now ∷ []) }
 {
     let (Some(lc), Some(cc), Some(odu)) = (lc.figures(), cc.figures(), odu.figures()) else {
         return Ok(Value::blank(ticket));

@@ -2,7 +2,6 @@
 
 ghost use Rattle.std.specs.Prelude.{◌≡◌, [], ◌∷◌};
 ghost use Rattle.ghg_equations.specs.declared.eq_id.EqId.TheVariants as EqId;
-ghost use Rattle.ghg_cell.specs.Totals.{equation_outcome};
 ghost use Rattle.ghg_cell.specs.Values.{equation_value};
 
 use ghg_cell::{Figures, Input, Ticket, Value};
@@ -12,8 +11,7 @@ use ghg_interval::Over;
 /// and that below ground by its ratio `r`, times the carbon fraction `cf` (a term of Equation 2.9, with Equation 2.10,
 /// Tier 1).
 pub fn q78(ticket: Ticket, a: &Input, gw: &Input, r: &Input, cf: &Input) -> Result<Value, Over>
-    ensures value { result ≡ equation_value EqId.Q78 (a.now ∷ gw.now ∷ r.now ∷ cf.now ∷ []) }
-    ensures outcome { result ≡ equation_outcome EqId.Q78 (a.now ∷ gw.now ∷ r.now ∷ cf.now ∷ []) }
+    ensures { result ≡ equation_value EqId.Q78 (a.now ∷ gw.now ∷ r.now ∷ cf.now ∷ []) }
 {
     let (Some(a), Some(gw), Some(r), Some(cf)) = (
         a.figures(),
@@ -40,8 +38,7 @@ pub fn q79(
     r: &Input,
     cf: &Input,
 ) -> Result<Value, Over>
-    ensures value { result ≡ equation_value EqId.Q79 (a.now ∷ iv.now ∷ bcef.now ∷ r.now ∷ cf.now ∷ []) }
-    ensures outcome { result ≡ equation_outcome EqId.Q79 (a.now ∷ iv.now ∷ bcef.now ∷ r.now ∷ cf.now ∷ []) }
+    ensures { result ≡ equation_value EqId.Q79 (a.now ∷ iv.now ∷ bcef.now ∷ r.now ∷ cf.now ∷ []) }
 {
     let (Some(a), Some(iv), Some(bcef), Some(r), Some(cf)) = (
         a.figures(),
@@ -61,8 +58,7 @@ pub fn q79(
 /// Carbon that biomass loses by wood removals, in GgC: the wood removed `h` in m3 times its conversion and expansion
 /// `bcef` in t/m3, and that below ground by its ratio `r`, times the carbon fraction `cf` (Equation 2.12).
 pub fn q80(ticket: Ticket, h: &Input, bcef: &Input, r: &Input, cf: &Input) -> Result<Value, Over>
-    ensures value { result ≡ equation_value EqId.Q80 (h.now ∷ bcef.now ∷ r.now ∷ cf.now ∷ []) }
-    ensures outcome { result ≡ equation_outcome EqId.Q80 (h.now ∷ bcef.now ∷ r.now ∷ cf.now ∷ []) }
+    ensures { result ≡ equation_value EqId.Q80 (h.now ∷ bcef.now ∷ r.now ∷ cf.now ∷ []) }
 {
     let (Some(h), Some(bcef), Some(r), Some(cf)) = (
         h.figures(),
@@ -90,8 +86,7 @@ pub fn q81(
     d: &Input,
     cf: &Input,
 ) -> Result<Value, Over>
-    ensures value { result ≡ equation_value EqId.Q81 (ft.now ∷ bcef.now ∷ r.now ∷ fp.now ∷ d.now ∷ cf.now ∷ []) }
-    ensures outcome { result ≡ equation_outcome EqId.Q81 (ft.now ∷ bcef.now ∷ r.now ∷ fp.now ∷ d.now ∷ cf.now ∷ []) }
+    ensures { result ≡ equation_value EqId.Q81 (ft.now ∷ bcef.now ∷ r.now ∷ fp.now ∷ d.now ∷ cf.now ∷ []) }
 {
     let (Some(ft), Some(bcef), Some(r), Some(fp), Some(d), Some(cf)) = (
         ft.figures(),
@@ -122,8 +117,7 @@ pub fn q82(
     cf: &Input,
     fd: &Input,
 ) -> Result<Value, Over>
-    ensures value { result ≡ equation_value EqId.Q82 (a.now ∷ bw.now ∷ r.now ∷ cf.now ∷ fd.now ∷ []) }
-    ensures outcome { result ≡ equation_outcome EqId.Q82 (a.now ∷ bw.now ∷ r.now ∷ cf.now ∷ fd.now ∷ []) }
+    ensures { result ≡ equation_value EqId.Q82 (a.now ∷ bw.now ∷ r.now ∷ cf.now ∷ fd.now ∷ []) }
 {
     let (Some(a), Some(bw), Some(r), Some(cf), Some(fd)) = (
         a.figures(),

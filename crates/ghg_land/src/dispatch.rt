@@ -2,7 +2,6 @@
 
 ghost use Rattle.std.specs.Prelude.{◌≡◌, length};
 ghost use Rattle.ghg_equations.specs.Table.{parameters, sector_of};
-ghost use Rattle.ghg_cell.specs.Totals.{equation_outcome};
 ghost use Rattle.ghg_cell.specs.Values.{equation_value};
 
 use crate::biomass::{q78, q79, q80, q81, q82};
@@ -16,8 +15,7 @@ use ghg_interval::Over;
 pub fn evaluate(id: EqId, ticket: Ticket, inputs: &[Input]) -> Result<Value, Over>
     requires sector { sector_of id ≡ Sector.Land }
     requires count { length inputs.now ≡ length (parameters id) }
-    ensures value { result ≡ equation_value id inputs.now }
-    ensures outcome { result ≡ equation_outcome id inputs.now }
+    ensures { result ≡ equation_value id inputs.now }
 {
     match (id, inputs) {
         (EqId::Q78, [a, gw, r, cf]) => q78(ticket, a, gw, r, cf),

@@ -2,7 +2,6 @@
 
 ghost use Rattle.std.specs.Prelude.{◌≡◌, [], ◌∷◌};
 ghost use Rattle.ghg_equations.specs.declared.eq_id.EqId.TheVariants as EqId;
-ghost use Rattle.ghg_cell.specs.Totals.{equation_outcome};
 ghost use Rattle.ghg_cell.specs.Values.{equation_value};
 
 use ghg_cell::{Input, Ticket, Value};
@@ -11,8 +10,7 @@ use ghg_interval::Over;
 /// CH4 of a fire, in Gg: the area burnt `a` in ha times the fuel there `mb` in t/ha, the fraction of it that burns `cb`
 /// and the emission factor `gef` in t of gas for a t of dry matter (Equation 2.27).
 pub fn q88(ticket: Ticket, a: &Input, mb: &Input, cb: &Input, gef: &Input) -> Result<Value, Over>
-    ensures value { result ≡ equation_value EqId.Q88 (a.now ∷ mb.now ∷ cb.now ∷ gef.now ∷ []) }
-    ensures outcome { result ≡ equation_outcome EqId.Q88 (a.now ∷ mb.now ∷ cb.now ∷ gef.now ∷ []) }
+    ensures { result ≡ equation_value EqId.Q88 (a.now ∷ mb.now ∷ cb.now ∷ gef.now ∷ []) }
 {
     let (Some(a), Some(mb), Some(cb), Some(gef)) = (
         a.figures(),
@@ -28,8 +26,7 @@ pub fn q88(ticket: Ticket, a: &Input, mb: &Input, cb: &Input, gef: &Input) -> Re
 
 /// N2O of a fire, in Gg, of the same parameters (Equation 2.27).
 pub fn q89(ticket: Ticket, a: &Input, mb: &Input, cb: &Input, gef: &Input) -> Result<Value, Over>
-    ensures value { result ≡ equation_value EqId.Q89 (a.now ∷ mb.now ∷ cb.now ∷ gef.now ∷ []) }
-    ensures outcome { result ≡ equation_outcome EqId.Q89 (a.now ∷ mb.now ∷ cb.now ∷ gef.now ∷ []) }
+    ensures { result ≡ equation_value EqId.Q89 (a.now ∷ mb.now ∷ cb.now ∷ gef.now ∷ []) }
 {
     q88(ticket, a, mb, cb, gef)
 }

@@ -2,7 +2,6 @@
 
 ghost use Rattle.std.specs.Prelude.{◌≡◌, [], ◌∷◌};
 ghost use Rattle.ghg_equations.specs.declared.eq_id.EqId.TheVariants as EqId;
-ghost use Rattle.ghg_cell.specs.Totals.{equation_outcome};
 ghost use Rattle.ghg_cell.specs.Values.{equation_value};
 
 use ghg_cell::{Figures, Input, Ticket, Value};
@@ -10,8 +9,7 @@ use ghg_interval::Over;
 
 /// Change of a carbon stock in a year, in GgC: the gains `g` less the losses `l`, each in GgC (Equation 2.7).
 pub fn q83(ticket: Ticket, g: &Input, l: &Input) -> Result<Value, Over>
-    ensures value { result ≡ equation_value EqId.Q83 (g.now ∷ l.now ∷ []) }
-    ensures outcome { result ≡ equation_outcome EqId.Q83 (g.now ∷ l.now ∷ []) }
+    ensures { result ≡ equation_value EqId.Q83 (g.now ∷ l.now ∷ []) }
 {
     let (Some(g), Some(l)) = (g.figures(), l.figures()) else {
         return Ok(Value::blank(ticket));
@@ -23,8 +21,7 @@ pub fn q83(ticket: Ticket, g: &Input, l: &Input) -> Result<Value, Over>
 /// CO2 of a change of a carbon stock, in Gg: the carbon gained `c` in GgC, with its sign turned, from carbon to CO2
 /// (chapter 2: times -44/12). A gain of carbon is a removal.
 pub fn q84(ticket: Ticket, c: &Input) -> Result<Value, Over>
-    ensures value { result ≡ equation_value EqId.Q84 (c.now ∷ []) }
-    ensures outcome { result ≡ equation_outcome EqId.Q84 (c.now ∷ []) }
+    ensures { result ≡ equation_value EqId.Q84 (c.now ∷ []) }
 {
     let Some(c) = c.figures() else {
         return Ok(Value::blank(ticket));
@@ -44,8 +41,7 @@ pub fn q85(
     fi: &Input,
     a: &Input,
 ) -> Result<Value, Over>
-    ensures value { result ≡ equation_value EqId.Q85 (sref.now ∷ flu.now ∷ fmg.now ∷ fi.now ∷ a.now ∷ []) }
-    ensures outcome { result ≡ equation_outcome EqId.Q85 (sref.now ∷ flu.now ∷ fmg.now ∷ fi.now ∷ a.now ∷ []) }
+    ensures { result ≡ equation_value EqId.Q85 (sref.now ∷ flu.now ∷ fmg.now ∷ fi.now ∷ a.now ∷ []) }
 {
     let (Some(sref), Some(flu), Some(fmg), Some(fi), Some(a)) = (
         sref.figures(),
@@ -68,8 +64,7 @@ pub fn q85(
 /// Change of the organic carbon in mineral soils in a year, in GgC: the stock `s0` less the stock at the start `st`,
 /// each in GgC, over a transition of 20 years (Equation 2.25).
 pub fn q86(ticket: Ticket, s0: &Input, st: &Input) -> Result<Value, Over>
-    ensures value { result ≡ equation_value EqId.Q86 (s0.now ∷ st.now ∷ []) }
-    ensures outcome { result ≡ equation_outcome EqId.Q86 (s0.now ∷ st.now ∷ []) }
+    ensures { result ≡ equation_value EqId.Q86 (s0.now ∷ st.now ∷ []) }
 {
     let (Some(s0), Some(st)) = (s0.figures(), st.figures()) else {
         return Ok(Value::blank(ticket));
@@ -81,8 +76,7 @@ pub fn q86(ticket: Ticket, s0: &Input, st: &Input) -> Result<Value, Over>
 /// Carbon that drained organic soils lose in a year, in GgC: the area `a` in ha times the emission factor `ef` in t of
 /// carbon for a ha and year (a term of Equation 2.26).
 pub fn q87(ticket: Ticket, a: &Input, ef: &Input) -> Result<Value, Over>
-    ensures value { result ≡ equation_value EqId.Q87 (a.now ∷ ef.now ∷ []) }
-    ensures outcome { result ≡ equation_outcome EqId.Q87 (a.now ∷ ef.now ∷ []) }
+    ensures { result ≡ equation_value EqId.Q87 (a.now ∷ ef.now ∷ []) }
 {
     let (Some(a), Some(ef)) = (a.figures(), ef.figures()) else {
         return Ok(Value::blank(ticket));

@@ -2,7 +2,6 @@
 
 ghost use Rattle.std.specs.Prelude.{◌≡◌, [], ◌∷◌};
 ghost use Rattle.ghg_equations.specs.declared.eq_id.EqId.TheVariants as EqId;
-ghost use Rattle.ghg_cell.specs.Totals.{equation_outcome};
 ghost use Rattle.ghg_cell.specs.Values.{equation_value};
 
 use ghg_cell::{Input, Ticket, Value};
@@ -11,8 +10,7 @@ use ghg_interval::Over;
 /// CH4 of enteric fermentation or of manure, in Gg: the emission factor `ef` in kg/head and year times the animals `n`
 /// (Equation 10.19, and a term of Equation 10.22).
 pub fn q55(ticket: Ticket, ef: &Input, n: &Input) -> Result<Value, Over>
-    ensures value { result ≡ equation_value EqId.Q55 (ef.now ∷ n.now ∷ []) }
-    ensures outcome { result ≡ equation_outcome EqId.Q55 (ef.now ∷ n.now ∷ []) }
+    ensures { result ≡ equation_value EqId.Q55 (ef.now ∷ n.now ∷ []) }
 {
     let (Some(ef), Some(n)) = (ef.figures(), n.figures()) else {
         return Ok(Value::blank(ticket));
@@ -24,8 +22,7 @@ pub fn q55(ticket: Ticket, ef: &Input, n: &Input) -> Result<Value, Over>
 /// Emission factor of enteric fermentation, in kg/head and year: the gross energy intake `ge` in MJ/head/day times the
 /// fraction of it that turns into CH4 `ym`, of 55.65 MJ in a kg of CH4 and over 365 days (Equation 10.21).
 pub fn q56(ticket: Ticket, ge: &Input, ym: &Input) -> Result<Value, Over>
-    ensures value { result ≡ equation_value EqId.Q56 (ge.now ∷ ym.now ∷ []) }
-    ensures outcome { result ≡ equation_outcome EqId.Q56 (ge.now ∷ ym.now ∷ []) }
+    ensures { result ≡ equation_value EqId.Q56 (ge.now ∷ ym.now ∷ []) }
 {
     let (Some(ge), Some(ym)) = (ge.figures(), ym.figures()) else {
         return Ok(Value::blank(ticket));
@@ -37,8 +34,7 @@ pub fn q56(ticket: Ticket, ge: &Input, ym: &Input) -> Result<Value, Over>
 /// Methane conversion of a manure management system, as a ratio: its conversion factor `mcf` times the share of manure
 /// that it handles `ms` (a term of the sum in Equation 10.23).
 pub fn q57(ticket: Ticket, mcf: &Input, ms: &Input) -> Result<Value, Over>
-    ensures value { result ≡ equation_value EqId.Q57 (mcf.now ∷ ms.now ∷ []) }
-    ensures outcome { result ≡ equation_outcome EqId.Q57 (mcf.now ∷ ms.now ∷ []) }
+    ensures { result ≡ equation_value EqId.Q57 (mcf.now ∷ ms.now ∷ []) }
 {
     let (Some(mcf), Some(ms)) = (mcf.figures(), ms.figures()) else {
         return Ok(Value::blank(ticket));
@@ -51,8 +47,7 @@ pub fn q57(ticket: Ticket, mcf: &Input, ms: &Input) -> Result<Value, Over>
 /// times the most CH4 that they yield `bo` in m3/kg, at 0.67 kg of CH4 in a m3, and the sum `sm` of the methane
 /// conversions of the systems (Equation 10.23).
 pub fn q58(ticket: Ticket, vs: &Input, bo: &Input, sm: &Input) -> Result<Value, Over>
-    ensures value { result ≡ equation_value EqId.Q58 (vs.now ∷ bo.now ∷ sm.now ∷ []) }
-    ensures outcome { result ≡ equation_outcome EqId.Q58 (vs.now ∷ bo.now ∷ sm.now ∷ []) }
+    ensures { result ≡ equation_value EqId.Q58 (vs.now ∷ bo.now ∷ sm.now ∷ []) }
 {
     let (Some(vs), Some(bo), Some(sm)) = (vs.figures(), bo.figures(), sm.figures()) else {
         return Ok(Value::blank(ticket));

@@ -2,7 +2,6 @@
 
 ghost use Rattle.std.specs.Prelude.{◌≡◌, [], ◌∷◌};
 ghost use Rattle.ghg_equations.specs.declared.eq_id.EqId.TheVariants as EqId;
-ghost use Rattle.ghg_cell.specs.Totals.{equation_outcome};
 ghost use Rattle.ghg_cell.specs.Values.{equation_value};
 
 use ghg_cell::{Figures, Input, Ticket, Value};
@@ -11,8 +10,7 @@ use ghg_interval::Over;
 /// Direct N2O of manure management, in Gg: the animals `n` times the nitrogen that one excretes `nex` in kg/head and
 /// year, the share of a system `ms` and its emission factor `ef3`, from nitrogen to N2O (a term of Equation 10.25).
 pub fn q59(ticket: Ticket, n: &Input, nex: &Input, ms: &Input, ef3: &Input) -> Result<Value, Over>
-    ensures value { result ≡ equation_value EqId.Q59 (n.now ∷ nex.now ∷ ms.now ∷ ef3.now ∷ []) }
-    ensures outcome { result ≡ equation_outcome EqId.Q59 (n.now ∷ nex.now ∷ ms.now ∷ ef3.now ∷ []) }
+    ensures { result ≡ equation_value EqId.Q59 (n.now ∷ nex.now ∷ ms.now ∷ ef3.now ∷ []) }
 {
     let (Some(n), Some(nex), Some(ms), Some(ef3)) = (
         n.figures(),
@@ -35,8 +33,7 @@ pub fn q59(ticket: Ticket, n: &Input, nex: &Input, ms: &Input, ef3: &Input) -> R
 /// one excretes `nex` in kg/head and year, the share of a system `ms` and the fraction lost there `fr` (a term of
 /// Equations 10.26 and 10.28).
 pub fn q60(ticket: Ticket, n: &Input, nex: &Input, ms: &Input, fr: &Input) -> Result<Value, Over>
-    ensures value { result ≡ equation_value EqId.Q60 (n.now ∷ nex.now ∷ ms.now ∷ fr.now ∷ []) }
-    ensures outcome { result ≡ equation_outcome EqId.Q60 (n.now ∷ nex.now ∷ ms.now ∷ fr.now ∷ []) }
+    ensures { result ≡ equation_value EqId.Q60 (n.now ∷ nex.now ∷ ms.now ∷ fr.now ∷ []) }
 {
     let (Some(n), Some(nex), Some(ms), Some(fr)) = (
         n.figures(),
@@ -53,8 +50,7 @@ pub fn q60(ticket: Ticket, n: &Input, nex: &Input, ms: &Input, fr: &Input) -> Re
 /// Indirect N2O of manure management, in Gg: the nitrogen lost `nv` in t times the emission factor `ef` of
 /// volatilisation or leaching, from nitrogen to N2O (Equations 10.27 and 10.29).
 pub fn q61(ticket: Ticket, nv: &Input, ef: &Input) -> Result<Value, Over>
-    ensures value { result ≡ equation_value EqId.Q61 (nv.now ∷ ef.now ∷ []) }
-    ensures outcome { result ≡ equation_outcome EqId.Q61 (nv.now ∷ ef.now ∷ []) }
+    ensures { result ≡ equation_value EqId.Q61 (nv.now ∷ ef.now ∷ []) }
 {
     let (Some(nv), Some(ef)) = (nv.figures(), ef.figures()) else {
         return Ok(Value::blank(ticket));
@@ -66,8 +62,7 @@ pub fn q61(ticket: Ticket, nv: &Input, ef: &Input) -> Result<Value, Over>
 /// Nitrogen that an animal excretes, in kg/head and year: the excretion rate `nr` in kg of nitrogen for a t of animal
 /// mass and day, times the mass of an animal `tam` in kg/head, over 365 days (Equation 10.30).
 pub fn q62(ticket: Ticket, nr: &Input, tam: &Input) -> Result<Value, Over>
-    ensures value { result ≡ equation_value EqId.Q62 (nr.now ∷ tam.now ∷ []) }
-    ensures outcome { result ≡ equation_outcome EqId.Q62 (nr.now ∷ tam.now ∷ []) }
+    ensures { result ≡ equation_value EqId.Q62 (nr.now ∷ tam.now ∷ []) }
 {
     let (Some(nr), Some(tam)) = (nr.figures(), tam.figures()) else {
         return Ok(Value::blank(ticket));
@@ -87,8 +82,7 @@ pub fn q63(
     fl: &Input,
     nb: &Input,
 ) -> Result<Value, Over>
-    ensures value { result ≡ equation_value EqId.Q63 (n.now ∷ nex.now ∷ ms.now ∷ fl.now ∷ nb.now ∷ []) }
-    ensures outcome { result ≡ equation_outcome EqId.Q63 (n.now ∷ nex.now ∷ ms.now ∷ fl.now ∷ nb.now ∷ []) }
+    ensures { result ≡ equation_value EqId.Q63 (n.now ∷ nex.now ∷ ms.now ∷ fl.now ∷ nb.now ∷ []) }
 {
     let (Some(n), Some(nex), Some(ms), Some(fl), Some(nb)) = (
         n.figures(),
@@ -110,8 +104,7 @@ pub fn q63(
 /// Nitrogen of urine and dung that grazing animals leave, in t: the animals `n` times the nitrogen that one excretes
 /// `nex` in kg/head and year and the share of it on pasture `ms` (a term of Equation 11.5).
 pub fn q64(ticket: Ticket, n: &Input, nex: &Input, ms: &Input) -> Result<Value, Over>
-    ensures value { result ≡ equation_value EqId.Q64 (n.now ∷ nex.now ∷ ms.now ∷ []) }
-    ensures outcome { result ≡ equation_outcome EqId.Q64 (n.now ∷ nex.now ∷ ms.now ∷ []) }
+    ensures { result ≡ equation_value EqId.Q64 (n.now ∷ nex.now ∷ ms.now ∷ []) }
 {
     let (Some(n), Some(nex), Some(ms)) = (n.figures(), nex.figures(), ms.figures()) else {
         return Ok(Value::blank(ticket));

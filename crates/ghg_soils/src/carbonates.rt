@@ -2,7 +2,6 @@
 
 ghost use Rattle.std.specs.Prelude.{◌≡◌, [], ◌∷◌};
 ghost use Rattle.ghg_equations.specs.declared.eq_id.EqId.TheVariants as EqId;
-ghost use Rattle.ghg_cell.specs.Totals.{equation_outcome};
 ghost use Rattle.ghg_cell.specs.Values.{equation_value};
 
 use ghg_cell::{Input, Ticket, Value};
@@ -11,8 +10,7 @@ use ghg_interval::Over;
 /// CO2 of lime on soils, in Gg: the limestone `ml` and the dolomite `md` in t, each times its emission factor `efl` and
 /// `efd` in t of carbon for a t, from carbon to CO2 (Equation 11.12).
 pub fn q74(ticket: Ticket, ml: &Input, efl: &Input, md: &Input, efd: &Input) -> Result<Value, Over>
-    ensures value { result ≡ equation_value EqId.Q74 (ml.now ∷ efl.now ∷ md.now ∷ efd.now ∷ []) }
-    ensures outcome { result ≡ equation_outcome EqId.Q74 (ml.now ∷ efl.now ∷ md.now ∷ efd.now ∷ []) }
+    ensures { result ≡ equation_value EqId.Q74 (ml.now ∷ efl.now ∷ md.now ∷ efd.now ∷ []) }
 {
     let (Some(ml), Some(efl), Some(md), Some(efd)) = (
         ml.figures(),
@@ -31,8 +29,7 @@ pub fn q74(ticket: Ticket, ml: &Input, efl: &Input, md: &Input, efd: &Input) -> 
 /// CO2 of urea on soils, in Gg: the urea `m` in t times the emission factor `ef` in t of carbon for a t, from carbon to
 /// CO2 (Equation 11.13).
 pub fn q75(ticket: Ticket, m: &Input, ef: &Input) -> Result<Value, Over>
-    ensures value { result ≡ equation_value EqId.Q75 (m.now ∷ ef.now ∷ []) }
-    ensures outcome { result ≡ equation_outcome EqId.Q75 (m.now ∷ ef.now ∷ []) }
+    ensures { result ≡ equation_value EqId.Q75 (m.now ∷ ef.now ∷ []) }
 {
     let (Some(m), Some(ef)) = (m.figures(), ef.figures()) else {
         return Ok(Value::blank(ticket));

@@ -2,7 +2,6 @@
 
 ghost use Rattle.std.specs.Prelude.{◌≡◌, [], ◌∷◌};
 ghost use Rattle.ghg_equations.specs.declared.eq_id.EqId.TheVariants as EqId;
-ghost use Rattle.ghg_cell.specs.Totals.{equation_outcome};
 ghost use Rattle.ghg_cell.specs.Values.{equation_value};
 
 use ghg_cell::{Figures, Input, Ticket, Value};
@@ -17,8 +16,7 @@ pub fn q67(
     fcomp: &Input,
     fooa: &Input,
 ) -> Result<Value, Over>
-    ensures value { result ≡ equation_value EqId.Q67 (fam.now ∷ fsew.now ∷ fcomp.now ∷ fooa.now ∷ []) }
-    ensures outcome { result ≡ equation_outcome EqId.Q67 (fam.now ∷ fsew.now ∷ fcomp.now ∷ fooa.now ∷ []) }
+    ensures { result ≡ equation_value EqId.Q67 (fam.now ∷ fsew.now ∷ fcomp.now ∷ fooa.now ∷ []) }
 {
     let (Some(fam), Some(fsew), Some(fcomp), Some(fooa)) = (
         fam.figures(),
@@ -35,8 +33,7 @@ pub fn q67(
 /// Nitrogen of animal manure applied to soils, in t: that of managed manure `na` in t, less the fractions used for feed
 /// `ff`, fuel `fu` and construction `fc` (Equation 11.4).
 pub fn q68(ticket: Ticket, na: &Input, ff: &Input, fu: &Input, fc: &Input) -> Result<Value, Over>
-    ensures value { result ≡ equation_value EqId.Q68 (na.now ∷ ff.now ∷ fu.now ∷ fc.now ∷ []) }
-    ensures outcome { result ≡ equation_outcome EqId.Q68 (na.now ∷ ff.now ∷ fu.now ∷ fc.now ∷ []) }
+    ensures { result ≡ equation_value EqId.Q68 (na.now ∷ ff.now ∷ fu.now ∷ fc.now ∷ []) }
 {
     let (Some(na), Some(ff), Some(fu), Some(fc)) = (
         na.figures(),
@@ -62,8 +59,7 @@ pub fn q69(
     fsom: &Input,
     ef1: &Input,
 ) -> Result<Value, Over>
-    ensures value { result ≡ equation_value EqId.Q69 (fsn.now ∷ fon.now ∷ fcr.now ∷ fsom.now ∷ ef1.now ∷ []) }
-    ensures outcome { result ≡ equation_outcome EqId.Q69 (fsn.now ∷ fon.now ∷ fcr.now ∷ fsom.now ∷ ef1.now ∷ []) }
+    ensures { result ≡ equation_value EqId.Q69 (fsn.now ∷ fon.now ∷ fcr.now ∷ fsom.now ∷ ef1.now ∷ []) }
 {
     let (Some(fsn), Some(fon), Some(fcr), Some(fsom), Some(ef1)) = (
         fsn.figures(),
@@ -82,8 +78,7 @@ pub fn q69(
 /// Direct N2O of managed organic soils, in Gg: the area `a` in ha times the emission factor `ef2` in t of nitrogen for
 /// a ha and year, from nitrogen to N2O (the organic soils of Equation 11.1).
 pub fn q70(ticket: Ticket, a: &Input, ef2: &Input) -> Result<Value, Over>
-    ensures value { result ≡ equation_value EqId.Q70 (a.now ∷ ef2.now ∷ []) }
-    ensures outcome { result ≡ equation_outcome EqId.Q70 (a.now ∷ ef2.now ∷ []) }
+    ensures { result ≡ equation_value EqId.Q70 (a.now ∷ ef2.now ∷ []) }
 {
     let (Some(a), Some(ef2)) = (a.figures(), ef2.figures()) else {
         return Ok(Value::blank(ticket));
@@ -95,8 +90,7 @@ pub fn q70(ticket: Ticket, a: &Input, ef2: &Input) -> Result<Value, Over>
 /// Direct N2O of urine and dung on pasture, in Gg: their nitrogen `fp` in t times the emission factor `ef3`, from
 /// nitrogen to N2O (the pasture of Equation 11.1).
 pub fn q71(ticket: Ticket, fp: &Input, ef3: &Input) -> Result<Value, Over>
-    ensures value { result ≡ equation_value EqId.Q71 (fp.now ∷ ef3.now ∷ []) }
-    ensures outcome { result ≡ equation_outcome EqId.Q71 (fp.now ∷ ef3.now ∷ []) }
+    ensures { result ≡ equation_value EqId.Q71 (fp.now ∷ ef3.now ∷ []) }
 {
     let (Some(fp), Some(ef3)) = (fp.figures(), ef3.figures()) else {
         return Ok(Value::blank(ticket));
@@ -117,8 +111,7 @@ pub fn q72(
     fm: &Input,
     ef4: &Input,
 ) -> Result<Value, Over>
-    ensures value { result ≡ equation_value EqId.Q72 (fsn.now ∷ fg.now ∷ fon.now ∷ fp.now ∷ fm.now ∷ ef4.now ∷ []) }
-    ensures outcome { result ≡ equation_outcome EqId.Q72 (fsn.now ∷ fg.now ∷ fon.now ∷ fp.now ∷ fm.now ∷ ef4.now ∷ []) }
+    ensures { result ≡ equation_value EqId.Q72 (fsn.now ∷ fg.now ∷ fon.now ∷ fp.now ∷ fm.now ∷ ef4.now ∷ []) }
 {
     let (Some(fsn), Some(fg), Some(fon), Some(fp), Some(fm), Some(ef4)) = (
         fsn.figures(),
@@ -150,8 +143,7 @@ pub fn q73(
     fl: &Input,
     ef5: &Input,
 ) -> Result<Value, Over>
-    ensures value { result ≡ equation_value EqId.Q73 (fsn.now ∷ fon.now ∷ fp.now ∷ fcr.now ∷ fsom.now ∷ fl.now ∷ ef5.now ∷ []) }
-    ensures outcome { result ≡ equation_outcome EqId.Q73 (fsn.now ∷ fon.now ∷ fp.now ∷ fcr.now ∷ fsom.now ∷ fl.now ∷ ef5.now ∷ []) }
+    ensures { result ≡ equation_value EqId.Q73 (fsn.now ∷ fon.now ∷ fp.now ∷ fcr.now ∷ fsom.now ∷ fl.now ∷ ef5.now ∷ []) }
 {
     let (Some(fsn), Some(fon), Some(fp), Some(fcr), Some(fsom), Some(fl), Some(ef5)) = (
         fsn.figures(),

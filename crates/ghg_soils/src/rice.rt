@@ -2,7 +2,6 @@
 
 ghost use Rattle.std.specs.Prelude.{◌≡◌, [], ◌∷◌};
 ghost use Rattle.ghg_equations.specs.declared.eq_id.EqId.TheVariants as EqId;
-ghost use Rattle.ghg_cell.specs.Totals.{equation_outcome};
 ghost use Rattle.ghg_cell.specs.Values.{equation_value};
 
 use ghg_cell::{Input, Ticket, Value};
@@ -19,8 +18,7 @@ pub fn q76(
     sfo: &Input,
     sfs: &Input,
 ) -> Result<Value, Over>
-    ensures value { result ≡ equation_value EqId.Q76 (efc.now ∷ sfw.now ∷ sfp.now ∷ sfo.now ∷ sfs.now ∷ []) }
-    ensures outcome { result ≡ equation_outcome EqId.Q76 (efc.now ∷ sfw.now ∷ sfp.now ∷ sfo.now ∷ sfs.now ∷ []) }
+    ensures { result ≡ equation_value EqId.Q76 (efc.now ∷ sfw.now ∷ sfp.now ∷ sfo.now ∷ sfs.now ∷ []) }
 {
     let (Some(efc), Some(sfw), Some(sfp), Some(sfo), Some(sfs)) = (
         efc.figures(),
@@ -38,8 +36,7 @@ pub fn q76(
 /// CH4 of rice, in Gg: the emission factor `ef` in kg/ha/day times the days of cultivation `t` and the area harvested
 /// `a` in ha (a term of Equation 5.1).
 pub fn q77(ticket: Ticket, ef: &Input, t: &Input, a: &Input) -> Result<Value, Over>
-    ensures value { result ≡ equation_value EqId.Q77 (ef.now ∷ t.now ∷ a.now ∷ []) }
-    ensures outcome { result ≡ equation_outcome EqId.Q77 (ef.now ∷ t.now ∷ a.now ∷ []) }
+    ensures { result ≡ equation_value EqId.Q77 (ef.now ∷ t.now ∷ a.now ∷ []) }
 {
     let (Some(ef), Some(t), Some(a)) = (ef.figures(), t.figures(), a.figures()) else {
         return Ok(Value::blank(ticket));
