@@ -113,6 +113,7 @@ impl Book {
         self.holdings.apply(edits);
     }
 
+    /// The records by their keys, with the names and years that look-ups search.
     pub(crate) fn holdings(&self) -> &Holdings
         ensures { result.now ≡ self.now }
     {

@@ -15,7 +15,7 @@ use ghg_units::Name;
 use indexmap::IndexMap;
 use std::alloc::{AllocError, Global};
 
-// What has a record for each of several years.
+/// What has a record for each of several years.
 #[derive(Clone, Copy, PartialEq, Eq, Hash, Drop)]
 pub(crate) enum Series {
     Activity(Name),
@@ -23,7 +23,7 @@ pub(crate) enum Series {
 }
 
 impl Series {
-    // The key of its record of a year.
+    /// The key of its record of a year.
     pub(crate) fn dated(&self, year: u32) -> RecordKey
         ensures { result ≡ dated self.now year }
     {
@@ -34,7 +34,7 @@ impl Series {
     }
 }
 
-// The series and the year that a key is of.
+/// The series and the year that a key is of.
 pub(crate) fn date_of(key: &RecordKey) -> Option<(Series, u32)>
     ensures { result ≡ date_of key.now }
 {
@@ -45,13 +45,14 @@ pub(crate) fn date_of(key: &RecordKey) -> Option<(Series, u32)>
     }
 }
 
-// The years of each series that has any, and room for more series.
+/// The years of each series that has any, and room for more series.
 #[derive(Drop)]
 pub(crate) struct Calendar {
     years: IndexMap<Series, YearSet>,
 }
 
 impl Calendar {
+    /// No years of any series. It takes no memory.
     pub(crate) fn new(alloc: Global) -> Calendar
         ensures { (s : Series) (y : ℕ) → has_date result s y ≡ false }
     {
@@ -60,7 +61,7 @@ impl Calendar {
         }
     }
 
-    // Makes room for so many more series.
+    /// Makes room for so many more series.
     pub(crate) fn reserve(&mut self, additional: usize) -> Result<(), AllocError>
         ensures dates { (s : Series) (y : ℕ) → has_date self.new s y ≡ has_date self.old s y }
         ensures room { OnOk result (additional ≤ spare self.new.years) }
@@ -68,7 +69,7 @@ impl Calendar {
         self.years.reserve(additional)
     }
 
-    // The years of a series.
+    /// The years of a series.
     pub(crate) fn years(&self, series: &Series) -> YearSet
         ensures { (y : ℕ) → has_year result y ≡ has_date self.now series.now y }
     {
@@ -78,7 +79,7 @@ impl Calendar {
         }
     }
 
-    // Notes that a key has a record, or has none. It takes no memory.
+    /// Notes that a key has a record, or has none. It takes no memory.
     pub(crate) fn note(&mut self, key: &RecordKey, present: bool)
         requires { 0 < spare self.old.years }
         ensures dates { (s : Series) (y : ℕ) → has_date self.new s y ≡ cond (is_year y && eq_by_cmp key_cmp (dated s y) key.now) present (has_date self.old s y) }

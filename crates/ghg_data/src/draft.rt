@@ -21,7 +21,7 @@ use ghg_units::{Binding, Figure, Name, ParamName, Span};
 use std::alloc::{AllocError, Global};
 use std::marker::Model;
 
-// Records as the edits so far leave them.
+/// Records as the edits so far leave them.
 #[derive(Drop)]
 pub(crate) struct Draft<'a> {
     holdings: &'a Holdings,
@@ -45,6 +45,7 @@ impl<'a> Model for Draft<'a> {
 }
 
 impl<'a> Draft<'a> {
+    /// The records once the edits are made.
     pub(crate) fn of(holdings: &'a Holdings, edits: &'a Edits) -> Draft<'a>
         requires { IsConsistent (applied holdings.now.content edits.now) }
         ensures { result ≡ applied holdings.now.content edits.now }
@@ -52,6 +53,7 @@ impl<'a> Draft<'a> {
         Draft { holdings, edits }
     }
 
+    /// The record under a key.
     pub(crate) fn get(&self, key: &RecordKey) -> Option<&Record>
         ensures { option_copied result ≡ finite.get self.now key.now }
     {
@@ -61,7 +63,7 @@ impl<'a> Draft<'a> {
         }
     }
 
-    // The figure of an activity's or a factor's record.
+    /// The figure of an activity's or a factor's record.
     pub(crate) fn figure(&self, key: &RecordKey) -> Option<Figure>
         ensures { result ≡ figure self.now key.now }
     {
@@ -71,27 +73,28 @@ impl<'a> Draft<'a> {
         }
     }
 
+    /// The years that the span's record holds, where there is one.
     pub(crate) fn span(&self) -> Option<Span>
         ensures { result ≡ span self.now }
     {
         span_in(self.get(&RecordKey::Span))
     }
 
-    // The names of the lines, in order.
+    /// The names of the lines, in order.
     pub(crate) fn lines(&self, alloc: Global) -> Result<Vec<Name>, AllocError>
         ensures { IfOk result (λ lines. lines.items ≡ line_names self.now) }
     {
         lines_after(alloc, self.holdings, self.edits)
     }
 
-    // The equation of a line that is present.
+    /// The equation of a line that is present.
     pub(crate) fn line(&self, name: &Name) -> Option<EqId>
         ensures { result ≡ line self.now name.now }
     {
         equation_in(self.get(&RecordKey::Line(*name)))
     }
 
-    // What a parameter of a line is bound to.
+    /// What a parameter of a line is bound to.
     pub(crate) fn binding(&self, line: &Name, parameter: &ParamName) -> Option<&Binding>
         ensures { option_copied result ≡ binding self.now line.now parameter.now }
     {
@@ -101,7 +104,7 @@ impl<'a> Draft<'a> {
         }
     }
 
-    // The years of the records of a series.
+    /// The years of the records of a series.
     pub(crate) fn years(&self, series: &Series) -> YearSet
         ensures { (y : ℕ) → has_year result y ≡ is_year y && is_some (finite.get self.now (dated series.now y)) }
     {
@@ -110,7 +113,7 @@ impl<'a> Draft<'a> {
         self.holdings.years(series).changed(&put, &taken)
     }
 
-    // The figure of some record of the same kind and name for another year.
+    /// The figure of some record of the same kind and name for another year.
     pub(crate) fn other_year(&self, key: &RecordKey) -> Option<Figure>
         ensures found { IfSome result (λ f. (q : RecordKey) × (figure self.now q ≡ Some f) × (is_other_year key.now q ≡ true)) }
         ensures none { IfNone result ((q : RecordKey) → is_other_year key.now q ≡ true → figure self.now q ≡ None) }
@@ -128,7 +131,7 @@ impl<'a> Draft<'a> {
     }
 }
 
-// The years that a span's record holds.
+/// The years that a span's record holds.
 pub(crate) fn span_in(entry: Option<&Record>) -> Option<Span>
     ensures { result ≡ as_span (option_copied entry.entry) }
 {
@@ -138,7 +141,7 @@ pub(crate) fn span_in(entry: Option<&Record>) -> Option<Span>
     }
 }
 
-// The equation that a line's record holds.
+/// The equation that a line's record holds.
 pub(crate) fn equation_in(entry: Option<&Record>) -> Option<EqId>
     ensures { result ≡ as_line (option_copied entry.entry) }
 {

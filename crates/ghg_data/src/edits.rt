@@ -44,6 +44,7 @@ impl Model for Edits {
 }
 
 impl Edits {
+    /// No changes. It takes no memory.
     pub(crate) fn new(alloc: Global) -> Edits
         ensures { result ≡ [] }
     {
@@ -62,6 +63,7 @@ impl Edits {
         self.changes.keys().as_slice()
     }
 
+    /// How many keys are set or removed.
     pub(crate) fn len(&self) -> usize
         ensures len { result ≡ length self.now }
         ensures small { result < 2 ^ 63 }
@@ -69,7 +71,7 @@ impl Edits {
         self.changes.len()
     }
 
-    // A change by its number.
+    /// A change by its number.
     pub(crate) fn at(&self, index: usize) -> (&RecordKey, &Option<Record>)
         requires { index < length self.now }
         ensures { slice_get self.now index ≡ Some (result.0.now, result.1.now) }
@@ -77,14 +79,14 @@ impl Edits {
         self.changes.get_index(index).unwrap()
     }
 
-    // The change of a key.
+    /// The change of a key.
     pub(crate) fn get(&self, key: &RecordKey) -> Option<&Option<Record>>
         ensures { option_copied result ≡ find key_cmp key.now self.now }
     {
         self.changes.get(key)
     }
 
-    // A line's record is removed.
+    /// A line's record is removed.
     pub(crate) fn withdraws_line(&self, name: &Name) -> bool
         ensures { result ≡ is_taken (find key_cmp (key.Line name.now) self.now) }
     {
@@ -94,7 +96,7 @@ impl Edits {
         }
     }
 
-    // Makes one more change.
+    /// Makes one more change.
     pub(crate) fn put(&mut self, key: RecordKey, change: Option<Record>) -> Result<(), AllocError>
         ensures ok { OnOk result ((m : Data) → applied m self.new ≡ with_record (applied m self.old) key change) }
         ensures err { OnErr result (self.new ≡ self.old) }
@@ -108,21 +110,21 @@ impl Edits {
         Ok(())
     }
 
-    // The years of a series for which a record is set.
+    /// The years of a series for which a record is set.
     pub(crate) fn years_put(&self, series: &Series) -> YearSet
         ensures { (y : ℕ) → has_year result y ≡ is_year y && is_put (find key_cmp (dated series.now y) self.now) }
     {
         self.put.years(series)
     }
 
-    // The years of a series for which the record is removed.
+    /// The years of a series for which the record is removed.
     pub(crate) fn years_taken(&self, series: &Series) -> YearSet
         ensures { (y : ℕ) → has_year result y ≡ is_year y && is_taken (find key_cmp (dated series.now y) self.now) }
     {
         self.taken.years(series)
     }
 
-    // The changes themselves.
+    /// The changes themselves.
     pub(crate) fn into_changes(self) -> IndexMap<RecordKey, Option<Record>>
         ensures { result.entries ≡ self }
     {

@@ -21,8 +21,8 @@ use indexmap::IndexMap;
 use std::alloc::{AllocError, Global};
 use std::marker::Model;
 
-// Records by their keys with the names of the lines in order and the years of each activity and factor, and room for
-// more.
+/// Records by their keys with the names of the lines in order and the years of each activity and factor, and room for
+/// more.
 #[derive(Drop)]
 pub(crate) struct Holdings {
     records: IndexMap<RecordKey, Record>,
@@ -49,6 +49,7 @@ impl Model for Holdings {
 }
 
 impl Holdings {
+    /// No records. It takes no memory.
     pub(crate) fn new(alloc: Global) -> Holdings
         ensures { result.content ≡ finite.empty }
     {
@@ -59,13 +60,14 @@ impl Holdings {
         }
     }
 
+    /// The record under a key.
     pub(crate) fn get(&self, key: &RecordKey) -> Option<&Record>
         ensures { option_copied result ≡ finite.get self.now.content key.now }
     {
         self.records.get(key)
     }
 
-    // How many records there are.
+    /// How many records there are.
     pub(crate) fn len(&self) -> usize
         ensures len { result ≡ finite.len self.now.content }
         ensures small { result < 2 ^ 63 }
@@ -73,21 +75,21 @@ impl Holdings {
         self.records.len()
     }
 
-    // The names of the lines, in order.
+    /// The names of the lines, in order.
     pub(crate) fn lines(&self) -> &[Name]
         ensures { result.now ≡ line_names self.now.content }
     {
         &self.lines
     }
 
-    // The years of the records of a series.
+    /// The years of the records of a series.
     pub(crate) fn years(&self, series: &Series) -> YearSet
         ensures { (y : ℕ) → has_year result y ≡ is_year y && is_some (finite.get self.now.content (dated series.now y)) }
     {
         self.calendar.years(series)
     }
 
-    // Makes room for so many more changes.
+    /// Makes room for so many more changes.
     pub(crate) fn reserve(&mut self, additional: usize) -> Result<(), AllocError>
         ensures content { self.new.content ≡ self.old.content }
         ensures room { OnOk result (additional ≤ self.new.spare) }
@@ -98,7 +100,7 @@ impl Holdings {
         Ok(())
     }
 
-    // Makes the changes. It takes no memory.
+    /// Makes the changes. It takes no memory.
     pub(crate) fn apply(&mut self, edits: Edits)
         requires { length edits ≤ self.old.spare }
         ensures { self.new.content ≡ applied self.old.content edits }

@@ -44,7 +44,7 @@ fn passed_limit(draft: &Draft<'_>, lines: usize, records: usize) -> Option<Limit
     }
 }
 
-// The rule on limits, where the records or the kept bytes break it.
+/// The rule on limits, where the records or the kept bytes break it.
 pub(crate) fn limit_fault(
     draft: &Draft<'_>,
     lines: usize,

@@ -10,7 +10,7 @@ use ghg_definitions::RecordKey;
 use ghg_units::Name;
 use std::alloc::{AllocError, Global};
 
-// The names of the lines once the edits are made, in order.
+/// The names of the lines once the edits are made, in order.
 pub(crate) fn lines_after(
     alloc: Global,
     holdings: &Holdings,
@@ -25,7 +25,7 @@ pub(crate) fn lines_after(
     Ok(lines)
 }
 
-// Makes the names of the lines those once the edits are made. It sorts them once, and takes no memory.
+/// Makes the names of the lines those once the edits are made. It sorts them once, and takes no memory.
 pub(crate) fn change_names(names: &mut Vec<Name>, edits: &Edits)
     requires { vec_len names.old + length edits.now ≤ vec_capacity names.old }
     ensures items { (m : Data) → names.old.items ≡ line_names m → names.new.items ≡ line_names (applied m edits.now) }

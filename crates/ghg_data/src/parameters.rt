@@ -17,7 +17,7 @@ pub fn params_of(id: EqId) -> &'static [Param]
     equation(id).params
 }
 
-// The name of an equation's parameter.
+/// The name of an equation's parameter.
 pub(crate) fn name_of(param: &Param) -> ParamName
     requires { is_parameter param.now.name.now ≡ true }
     ensures { result ≡ param.now.name.now }

@@ -13,7 +13,7 @@ use ghg_equations::Dim;
 use ghg_units::{Act, Binding, Names, Row, RowForm, Rule, is_potential_name};
 use std::alloc::{AllocError, Global};
 
-// The key of the record that a row is about.
+/// The key of the record that a row is about.
 pub(crate) fn key_of(form: &RowForm) -> RecordKey
     ensures { result ≡ key_of form.now }
 {
@@ -26,7 +26,7 @@ pub(crate) fn key_of(form: &RowForm) -> RecordKey
     }
 }
 
-// The record that a row puts there, or none where it withdraws.
+/// The record that a row puts there, or none where it withdraws.
 pub(crate) fn record_of(alloc: Global, form: &RowForm) -> Result<Option<Record>, AllocError>
     ensures { IfOk result (λ entry. entry ≡ record_of form.now) }
 {
@@ -62,7 +62,7 @@ fn copied_names(alloc: Global, names: &Names) -> Result<Names, AllocError>
     Ok(Names::new(Vec::from_slice(alloc, names.as_slice())?))
 }
 
-// The first rule that a row breaks over the records as they stand.
+/// The first rule that a row breaks over the records as they stand.
 #[tactic(auto, unfolding(ghg_definitions::specs::Rules::row_fault))]
 pub(crate) fn row_fault(draft: &Draft<'_>, row: &Row) -> Option<Rule>
     ensures { result ≡ row_fault draft.now row.now }

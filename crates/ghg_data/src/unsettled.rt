@@ -31,7 +31,7 @@ fn unsettles_record(entry: Option<&Record>, change: &Option<Record>) -> bool
     }
 }
 
-// Some edit does so to what its key has. It takes one look-up for each edit.
+/// Some edit does so to what its key has. It takes one look-up for each edit.
 pub(crate) fn unsettles(holdings: &Holdings, edits: &Edits) -> bool
     ensures { result ≡ unsettles holdings.now.content edits.now }
 {

@@ -36,6 +36,7 @@ impl<'a> Model for After<'a> {
 }
 
 impl<'a> After<'a> {
+    /// The book as it will be once the edits that were planned on it are made.
     pub(crate) fn of(book: &'a Book, edits: &'a Edits) -> After<'a>
         requires { IsPlanned book.now edits.now }
         ensures { result ≡ applied book.now.content edits.now }

@@ -8,13 +8,13 @@ ghost use Rattle.ghg_data.specs.YearSet.{has_bit, has_place, has_year};
 // The first year that a record may be of.
 const FIRST_YEAR: u32 = 1900;
 
-// The last year that a record may be of.
+/// The last year that a record may be of.
 pub(crate) const LAST_YEAR: u32 = 2100;
 
 // How many years a word holds.
 const WORD: u32 = 128;
 
-// Years up to the last one, each as a bit. The lowest bit is for the last year.
+/// Years up to the last one, each as a bit. The lowest bit is for the last year.
 #[derive(Clone, Copy, Drop)]
 pub(crate) struct YearSet {
     late: u128,
@@ -22,19 +22,21 @@ pub(crate) struct YearSet {
 }
 
 impl YearSet {
+    /// No years.
     pub(crate) fn empty() -> YearSet
         ensures { (y : ℕ) → has_year result y ≡ false }
     {
         YearSet { late: 0, early: 0 }
     }
 
+    /// Whether it holds no year.
     pub(crate) fn is_empty(&self) -> bool
         ensures { OnTrue result ((y : ℕ) → has_year self.now y ≡ false) }
     {
         self.late == 0 && self.early == 0
     }
 
-    // The set with this year, or without it. A year that no record may be of changes nothing.
+    /// The set with this year, or without it. A year that no record may be of changes nothing.
     pub(crate) fn with(&self, year: u32, present: bool) -> YearSet
         ensures { (y : ℕ) → has_year result y ≡ cond (is_year year && (y == year)) present (has_year self.now y) }
     {
@@ -55,7 +57,7 @@ impl YearSet {
         }
     }
 
-    // The set once some years are put in and others are taken out.
+    /// The set once some years are put in and others are taken out.
     pub(crate) fn changed(&self, put: &YearSet, taken: &YearSet) -> YearSet
         ensures { (y : ℕ) → has_year result y ≡ has_year put.now y || (has_year self.now y && not (has_year taken.now y)) }
     {
@@ -65,7 +67,7 @@ impl YearSet {
         }
     }
 
-    // The greatest year that is not after this one.
+    /// The greatest year that is not after this one.
     pub(crate) fn last_until(&self, year: u32) -> Option<u32>
         ensures { MatchOption result ((y : ℕ) → y ≤ year → has_year self.now y ≡ false) (λ s. (s ≤ year) × (has_year self.now s ≡ true) × ((y : ℕ) → s < y → y ≤ year → has_year self.now y ≡ false)) }
     {
