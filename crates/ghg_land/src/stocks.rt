@@ -18,8 +18,8 @@ pub fn q83(ticket: Ticket, g: &Input, l: &Input) -> Result<Value, Over>
     Ok(Value::known(ticket, value))
 }
 
-/// CO2 of a change of a carbon stock, in Gg: the carbon gained `c` in GgC, with its sign turned, from carbon to CO2
-/// (chapter 2: times -44/12). A gain of carbon is a removal.
+/// CO2 of a change of a carbon stock, in Gg: the carbon gained `c` in GgC, with its sign turned, from carbon to CO2, so
+/// that a gain of carbon is a removal (chapter 2: times -44/12).
 pub fn q84(ticket: Ticket, c: &Input) -> Result<Value, Over>
     ensures { result ≡ equation_value EqId.Q84 (c.now ∷ []) }
 {
@@ -61,8 +61,8 @@ pub fn q85(
     Ok(Value::known(ticket, value))
 }
 
-/// Change of the organic carbon in mineral soils in a year, in GgC: the stock `s0` less the stock at the start `st`,
-/// each in GgC, over a transition of 20 years (Equation 2.25).
+/// Change of the organic carbon in mineral soils in a year, in GgC: the stock at the end of the transition `s0` less the
+/// stock at its start `st`, each in GgC, over 20 years (Equation 2.25).
 pub fn q86(ticket: Ticket, s0: &Input, st: &Input) -> Result<Value, Over>
     ensures { result ≡ equation_value EqId.Q86 (s0.now ∷ st.now ∷ []) }
 {

@@ -73,7 +73,8 @@ pub fn q62(ticket: Ticket, nr: &Input, tam: &Input) -> Result<Value, Over>
 
 /// Nitrogen of managed manure that is left for soils, feed, fuel or construction, in t: the animals `n` times the
 /// nitrogen that one excretes `nex` in kg/head and year and the share of a system `ms`, less the fraction lost there
-/// `fl`, and the nitrogen of bedding `nb` in kg/head and year (a term of Equation 10.34).
+/// `fl`; to which is added the nitrogen of bedding `nb` in kg/head and year, times `n` and `ms` (a term of Equation
+/// 10.34).
 pub fn q63(
     ticket: Ticket,
     n: &Input,
