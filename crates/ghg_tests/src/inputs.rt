@@ -1,0 +1,39 @@
+//! Quantities as the tables of cases write them.
+
+use ghg_cell::Input;
+use ghg_interval::{Interval, LIMIT};
+use ghg_units::read_decimal;
+
+/// A decimal, in 10^-12 of its unit.
+pub fn number(text: &str) -> Option<i128> {
+    read_decimal(text.as_bytes()).map(|decimal| decimal.scaled)
+}
+
+/// An interval: its low and its high bound with a comma between them, one number for both, or `most` for the widest one.
+pub fn interval(text: &str) -> Option<Interval> {
+    if text == "most" {
+        return Interval::new(-LIMIT, LIMIT);
+    }
+    let (low, high) = text.split_once(',').unwrap_or((text, text));
+    Interval::new(number(low)?, number(high)?)
+}
+
+/// A quantity: a value with its low and high bound, with commas between them; a value alone for all three; two bounds of
+/// both the point and the range, with a semicolon between them; or `NE` for a blank.
+pub fn input(text: &str) -> Option<Input> {
+    if text == "NE" {
+        return Some(Input::Blank);
+    }
+    if let Some((low, high)) = text.split_once(';') {
+        let both = Interval::new(number(low)?, number(high)?)?;
+        return Some(Input::Known {
+            point: both,
+            range: both,
+        });
+    }
+    let (value, bounds) = text.split_once(',').unwrap_or((text, text));
+    Some(Input::Known {
+        point: interval(value)?,
+        range: interval(bounds)?,
+    })
+}
