@@ -8,6 +8,3 @@ mod tree;
 pub use category::Category;
 pub use laws::{codes_are_ordered, each_code_names_itself, under_is_by_parents};
 pub use tree::{DEPTH, all, code, is_leaf, is_under, named, parent};
-
-#[cfg(test)]
-mod tests;

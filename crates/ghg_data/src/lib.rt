@@ -15,8 +15,6 @@ mod plan;
 mod records;
 mod refusal;
 mod rows;
-#[cfg(test)]
-mod tests;
 mod unsettled;
 mod view;
 mod year_set;

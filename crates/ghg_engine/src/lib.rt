@@ -11,8 +11,6 @@ mod groups;
 mod order;
 mod parts;
 mod refusal;
-#[cfg(test)]
-mod tests;
 
 pub use engine::{Engine, Proposal};
 pub use refusal::EngineRefusal;

@@ -16,6 +16,3 @@ pub use quantity::{Dim, Gas, Output};
 pub use row::{Equation, Param};
 pub use sector::Sector;
 pub use table::{eq_named, equation};
-
-#[cfg(test)]
-mod tests;

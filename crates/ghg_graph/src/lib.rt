@@ -12,8 +12,6 @@ mod ordering;
 mod rings;
 mod search;
 mod slots;
-#[cfg(test)]
-mod tests;
 mod walk;
 
 pub use cells::Cells;

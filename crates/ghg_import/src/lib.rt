@@ -12,6 +12,3 @@ mod sum;
 
 pub use laws::{each_form_is_its_row_of_the_table, rows_are_well_formed};
 pub use rows::{MAX_BODY, Rows, is_too_long, read_rows};
-
-#[cfg(test)]
-mod tests;

@@ -3,9 +3,6 @@
 
 ghost use Rattle.std.specs.Prelude.{◌≡◌, ℕ, ◌+◌, ◌<◌};
 
-#[cfg(test)]
-mod tests;
-
 use std::marker::Model;
 use std::sync::ledger::{Blank, Book, Ledger, Share};
 

@@ -8,8 +8,6 @@ mod printing;
 mod rounding;
 mod rows;
 mod table;
-#[cfg(test)]
-mod tests;
 
 pub use figures::reported;
 pub use laws::{

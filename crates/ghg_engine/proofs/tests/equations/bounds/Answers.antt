@@ -1,6 +1,0 @@
-use Rattle.std.proofs.Common.{arith}
-use Rattle.std.proofs.lemmas.List.{length-map}
-use Rattle.ghg_engine.proofs.tests.equations.bounds.Goals as goal
-
-pub evaluate-requires : goal.evaluate-requires
-evaluate-requires c = rw (← c.params_of.ensures.table, length-map) (omega arith)
