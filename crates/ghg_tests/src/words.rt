@@ -8,9 +8,9 @@ use ghg_equations::{Dim, Gas, Output};
 use ghg_interval::Interval;
 use ghg_tables::{Precision, Table, near, precision_for, reported, table_named};
 use ghg_units::{
-    Act, Column, Limit, Name, Names, Node, NotationKey, ParamName, Rule, ShortText, Text, Unit,
-    act_named, append_rule, base_word, dim, fixed_texts_read, is_potential_name, key_named, ratio,
-    read_decimal, read_number, read_year, to_interval, unit_named, write_fixed,
+    Act, Column, Decimal, Limit, Name, Names, Node, NotationKey, ParamName, Rule, ShortText, Text,
+    Unit, act_named, append_rule, base_word, dim, fixed_texts_read, is_potential_name, key_named,
+    ratio, read_decimal, read_number, read_year, to_interval, unit_named, write_fixed,
 };
 use std::alloc::{AllocError, Global};
 use std::collections::HashMap;
@@ -384,6 +384,27 @@ fn figures_of_other_units_are_converted(rt: HostRuntime) {
             Some((41_868_000_000_000, 41_868_000_000_000)),
         ),
         (
+            "0.000000000001",
+            "ktoe",
+            Dim::Energy,
+            (10_467, 250),
+            Some((41, 42)),
+        ),
+        (
+            "-0.000000000001",
+            "ktoe",
+            Dim::Energy,
+            (10_467, 250),
+            Some((-42, -41)),
+        ),
+        (
+            "0.00000000025",
+            "ktoe",
+            Dim::Energy,
+            (10_467, 250),
+            Some((10_467, 10_467)),
+        ),
+        (
             "-5",
             "GWh",
             Dim::Energy,
@@ -432,6 +453,11 @@ fn figures_of_other_units_are_converted(rt: HostRuntime) {
             None => assert!(rt; false, "at {word}"),
         }
     }
+    // A product of 39 digits leaves 128 bits.
+    let beyond = Decimal {
+        scaled: -1_000_000_000_000_000_000_000_000_000_000_000,
+    };
+    assert!(rt; to_interval(beyond, Unit::MillionCubicMetres).is_err());
 }
 
 fn refused(alloc: Global, rule: Rule) -> Result<Vec<u8>, AllocError> {

@@ -135,6 +135,7 @@ fn a_book_has_its_limit_of_bytes(rt: HostRuntime) -> Result<(), Fail> {
 fn figures_are_converted(rt: HostRuntime) -> Result<(), Fail> {
     for (figure, want) in [
         ("0.5,,,PJ", "500"),
+        ("56100,54300,58300,kg/TJ", "56100,54300,58300"),
         ("-0.5,-5.0,0.1,t/t", "-0.5,-5,0.1"),
         ("00002,0.000000000001,3,Mm3", "2000000,0.000001,3000000"),
         ("NO,,,TJ", "0"),
@@ -147,6 +148,9 @@ fn figures_are_converted(rt: HostRuntime) -> Result<(), Fail> {
         let found = book.activity(&name(&rt, "A"), 1990);
         assert!(rt; Some(found) == input(want), "at {figure}");
     }
+    let book = Book::new(rt.alloc());
+    assert!(rt; book.activity(&name(&rt, "A"), 1990).is_blank());
+    assert!(rt; book.factor(&name(&rt, "A"), 1990).is_blank());
     Ok(())
 }
 

@@ -48,32 +48,3 @@ fn ceil(n: i128, d: u64) -> i128
         floor + 1
     }
 }
-
-#[cfg(test)]
-mod tests {
-    use crate::quotient::interval_of;
-
-    // 10467 over 250 is 41.868.
-    #[test]
-    fn a_ratio_rounds_outward(rt: HostRuntime) {
-        for (parts, lo, hi) in [
-            (1, 41, 42),
-            (-1, -42, -41),
-            (250, 10_467, 10_467),
-            (1_000_000_000_000, 41_868_000_000_000, 41_868_000_000_000),
-        ] {
-            let interval = interval_of(parts, 10_467, 250).expect(&rt, "bounds within the limit");
-            assert_eq!(rt; interval.lo(), lo);
-            assert_eq!(rt; interval.hi(), hi);
-        }
-    }
-
-    // The limit is 10^26 parts: 10^20 times 10^6, and a product of 39 digits leaves 128 bits.
-    #[test]
-    fn a_bound_beyond_the_limit_is_over(rt: HostRuntime) {
-        let most = 100_000_000_000_000_000_000;
-        assert!(rt; interval_of(most, 1_000_000, 1).is_ok());
-        assert!(rt; interval_of(most + 1, 1_000_000, 1).is_err());
-        assert!(rt; interval_of(-most * 10_000_000_000_000, 1_000_000, 1_000_000).is_err());
-    }
-}
