@@ -11,7 +11,7 @@ mod sector;
 mod table;
 
 pub use eq_id::EqId;
-pub use laws::each_code_names_itself;
+pub use laws::{each_code_names_itself, each_expression_takes_its_parameters};
 pub use quantity::{Dim, Gas, Output};
 pub use row::{Equation, Param};
 pub use sector::Sector;

@@ -2,6 +2,7 @@
 
 use crate::eq_id::EqId;
 use crate::quantity::{Dim, Output};
+use crate::sector::Sector;
 
 /// A parameter of an equation.
 #[derive(Clone, Copy)]
@@ -17,6 +18,8 @@ pub struct Equation {
     pub id: EqId,
     /// The code as it is written.
     pub name: &'static str,
+    /// The sector whose crate has the call.
+    pub sector: Sector,
     /// The parameters, in the order in which the expression takes them.
     pub params: &'static [Param],
     pub output: Output,
