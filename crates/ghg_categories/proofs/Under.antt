@@ -4,7 +4,8 @@ use Rattle.std.specs.Option.{option_map_or}
 use Rattle.std.specs.Bool.{Decides}
 use Rattle.std.proofs.lemmas.Slice.Eq.{bytes_eq-Decides}
 use Rattle.ghg_categories.specs.declared.category.Category.{Category}
-use Rattle.ghg_categories.specs.Tree.{code_of, depth, parent_of, named_in, is_same, stands_within, stands_under}
+use Rattle.ghg_categories.specs.declared.tree.TheConstants.{DEPTH}
+use Rattle.ghg_categories.specs.Tree.{code_of, parent_of, named_in, is_same, stands_within, stands_under}
 use Rattle.ghg_categories.specs.Laws.{IsUnder, itself, by_parent}
 use Rattle.ghg_categories.proofs.Levels.{level, level-parent, level-le}
 use Rattle.ghg_categories.proofs.Table.{named_by_code}
@@ -42,4 +43,4 @@ reached (suc n) c above (by_parent {p = p} e up) h = rw (e, reached n p above up
 
 pub by_parents : (c above : Category) → Decides (stands_under c above) (IsUnder c above)
 unfolding stands_under
-by_parents c above = (climbs depth c above, λ up. reached depth c above up (level-le c))
+by_parents c above = (climbs DEPTH c above, λ up. reached DEPTH c above up (level-le c))

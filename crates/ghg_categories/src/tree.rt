@@ -60,225 +60,130 @@ fn stands_within_levels(levels: u8, category: Category, top: Category) -> bool
     }
 }
 
+// What the table says of a category: its code, the category just above, and whether none stands just under it.
+#[derive(Clone, Copy)]
+struct CategoryRow {
+    code: &'static str,
+    parent: Option<Category>,
+    is_leaf: bool,
+}
+
+macro_rules! row {
+    (branch $code:literal) => { row!($code, None, false) };
+    (leaf $code:literal) => { row!($code, None, true) };
+    (branch $code:literal under $parent:ident) => { row!($code, Some(Category::$parent), false) };
+    (leaf $code:literal under $parent:ident) => { row!($code, Some(Category::$parent), true) };
+    ($code:literal, $parent:expr, $is_leaf:literal) => {
+        CategoryRow { code: $code, parent: $parent, is_leaf: $is_leaf }
+    };
+}
+
+// The row of a category.
+fn row(category: Category) -> CategoryRow
+    ensures code { result.code.now ≡ code_of category }
+    ensures parent { result.parent ≡ parent_of category }
+    ensures is_leaf { result.is_leaf ≡ is_leaf_of category }
+{
+    match category {
+        Category::National => row!(branch "0"),
+        Category::C1 => row!(branch "1" under National),
+        Category::C1A => row!(branch "1A" under C1),
+        Category::C1A1 => row!(branch "1A1" under C1A),
+        Category::C1A1a => row!(leaf "1A1a" under C1A1),
+        Category::C1A1b => row!(leaf "1A1b" under C1A1),
+        Category::C1A1c => row!(leaf "1A1c" under C1A1),
+        Category::C1A2 => row!(leaf "1A2" under C1A),
+        Category::C1A3 => row!(branch "1A3" under C1A),
+        Category::C1A3a => row!(leaf "1A3a" under C1A3),
+        Category::C1A3b => row!(leaf "1A3b" under C1A3),
+        Category::C1A3c => row!(leaf "1A3c" under C1A3),
+        Category::C1A3d => row!(leaf "1A3d" under C1A3),
+        Category::C1A3e => row!(leaf "1A3e" under C1A3),
+        Category::C1A4 => row!(branch "1A4" under C1A),
+        Category::C1A4a => row!(leaf "1A4a" under C1A4),
+        Category::C1A4b => row!(leaf "1A4b" under C1A4),
+        Category::C1A4c => row!(leaf "1A4c" under C1A4),
+        Category::C1A5 => row!(leaf "1A5" under C1A),
+        Category::C1B => row!(branch "1B" under C1),
+        Category::C1B1 => row!(leaf "1B1" under C1B),
+        Category::C1B2 => row!(leaf "1B2" under C1B),
+        Category::C1B3 => row!(leaf "1B3" under C1B),
+        Category::C1C => row!(leaf "1C" under C1),
+        Category::C2 => row!(branch "2" under National),
+        Category::C2A => row!(branch "2A" under C2),
+        Category::C2A1 => row!(leaf "2A1" under C2A),
+        Category::C2A2 => row!(leaf "2A2" under C2A),
+        Category::C2A3 => row!(leaf "2A3" under C2A),
+        Category::C2A4 => row!(leaf "2A4" under C2A),
+        Category::C2B => row!(branch "2B" under C2),
+        Category::C2B1 => row!(leaf "2B1" under C2B),
+        Category::C2B2 => row!(leaf "2B2" under C2B),
+        Category::C2B3 => row!(leaf "2B3" under C2B),
+        Category::C2C => row!(branch "2C" under C2),
+        Category::C2C1 => row!(leaf "2C1" under C2C),
+        Category::C2C3 => row!(leaf "2C3" under C2C),
+        Category::C2D => row!(branch "2D" under C2),
+        Category::C2D1 => row!(leaf "2D1" under C2D),
+        Category::C2D2 => row!(leaf "2D2" under C2D),
+        Category::C3 => row!(branch "3" under National),
+        Category::C3A => row!(branch "3A" under C3),
+        Category::C3A1 => row!(leaf "3A1" under C3A),
+        Category::C3A2 => row!(leaf "3A2" under C3A),
+        Category::C3B => row!(branch "3B" under C3),
+        Category::C3B1 => row!(leaf "3B1" under C3B),
+        Category::C3B2 => row!(leaf "3B2" under C3B),
+        Category::C3B3 => row!(leaf "3B3" under C3B),
+        Category::C3B4 => row!(leaf "3B4" under C3B),
+        Category::C3B5 => row!(leaf "3B5" under C3B),
+        Category::C3B6 => row!(leaf "3B6" under C3B),
+        Category::C3C => row!(branch "3C" under C3),
+        Category::C3C1 => row!(leaf "3C1" under C3C),
+        Category::C3C2 => row!(leaf "3C2" under C3C),
+        Category::C3C3 => row!(leaf "3C3" under C3C),
+        Category::C3C4 => row!(leaf "3C4" under C3C),
+        Category::C3C5 => row!(leaf "3C5" under C3C),
+        Category::C3C6 => row!(leaf "3C6" under C3C),
+        Category::C3C7 => row!(leaf "3C7" under C3C),
+        Category::C3C8 => row!(leaf "3C8" under C3C),
+        Category::C3D => row!(branch "3D" under C3),
+        Category::C3D1 => row!(leaf "3D1" under C3D),
+        Category::C3D2 => row!(leaf "3D2" under C3D),
+        Category::C4 => row!(branch "4" under National),
+        Category::C4A => row!(leaf "4A" under C4),
+        Category::C4B => row!(leaf "4B" under C4),
+        Category::C4C => row!(branch "4C" under C4),
+        Category::C4C1 => row!(leaf "4C1" under C4C),
+        Category::C4C2 => row!(leaf "4C2" under C4C),
+        Category::C4D => row!(branch "4D" under C4),
+        Category::C4D1 => row!(leaf "4D1" under C4D),
+        Category::C4D2 => row!(leaf "4D2" under C4D),
+        Category::C4E => row!(leaf "4E" under C4),
+        Category::C5 => row!(branch "5" under National),
+        Category::C5A => row!(leaf "5A" under C5),
+        Category::C5B => row!(leaf "5B" under C5),
+        Category::MB => row!(leaf "MB"),
+        Category::MC => row!(leaf "MC"),
+        Category::RA => row!(leaf "RA"),
+    }
+}
+
 /// Whether no category has it as its parent. Memo codes are leaves too; lines stand at leaves alone.
 pub fn is_leaf(category: Category) -> bool
     ensures { result ≡ is_leaf_of category }
 {
-    match category {
-        Category::National
-        | Category::C1
-        | Category::C1A
-        | Category::C1A1
-        | Category::C1A3
-        | Category::C1A4
-        | Category::C1B
-        | Category::C2
-        | Category::C2A
-        | Category::C2B
-        | Category::C2C
-        | Category::C2D
-        | Category::C3
-        | Category::C3A
-        | Category::C3B
-        | Category::C3C
-        | Category::C3D
-        | Category::C4
-        | Category::C4C
-        | Category::C4D
-        | Category::C5 => false,
-        Category::C1A1a
-        | Category::C1A1b
-        | Category::C1A1c
-        | Category::C1A2
-        | Category::C1A3a
-        | Category::C1A3b
-        | Category::C1A3c
-        | Category::C1A3d
-        | Category::C1A3e
-        | Category::C1A4a
-        | Category::C1A4b
-        | Category::C1A4c
-        | Category::C1A5
-        | Category::C1B1
-        | Category::C1B2
-        | Category::C1B3
-        | Category::C1C
-        | Category::C2A1
-        | Category::C2A2
-        | Category::C2A3
-        | Category::C2A4
-        | Category::C2B1
-        | Category::C2B2
-        | Category::C2B3
-        | Category::C2C1
-        | Category::C2C3
-        | Category::C2D1
-        | Category::C2D2
-        | Category::C3A1
-        | Category::C3A2
-        | Category::C3B1
-        | Category::C3B2
-        | Category::C3B3
-        | Category::C3B4
-        | Category::C3B5
-        | Category::C3B6
-        | Category::C3C1
-        | Category::C3C2
-        | Category::C3C3
-        | Category::C3C4
-        | Category::C3C5
-        | Category::C3C6
-        | Category::C3C7
-        | Category::C3C8
-        | Category::C3D1
-        | Category::C3D2
-        | Category::C4A
-        | Category::C4B
-        | Category::C4C1
-        | Category::C4C2
-        | Category::C4D1
-        | Category::C4D2
-        | Category::C4E
-        | Category::C5A
-        | Category::C5B
-        | Category::MB
-        | Category::MC
-        | Category::RA => true,
-    }
+    row(category).is_leaf
 }
 
 /// The category just above; `None` for the national total and the memo codes.
 pub fn parent(category: Category) -> Option<Category>
     ensures { result ≡ parent_of category }
 {
-    match category {
-        Category::National | Category::MB | Category::MC | Category::RA => None,
-        Category::C1 | Category::C2 | Category::C3 | Category::C4 | Category::C5 => Some(
-            Category::National,
-        ),
-        Category::C1A | Category::C1B | Category::C1C => Some(Category::C1),
-        Category::C1A1 | Category::C1A2 | Category::C1A3 | Category::C1A4 | Category::C1A5 => Some(
-            Category::C1A,
-        ),
-        Category::C1A1a | Category::C1A1b | Category::C1A1c => Some(Category::C1A1),
-        Category::C1A3a | Category::C1A3b | Category::C1A3c | Category::C1A3d | Category::C1A3e =>
-            Some(Category::C1A3),
-        Category::C1A4a | Category::C1A4b | Category::C1A4c => Some(Category::C1A4),
-        Category::C1B1 | Category::C1B2 | Category::C1B3 => Some(Category::C1B),
-        Category::C2A | Category::C2B | Category::C2C | Category::C2D => Some(Category::C2),
-        Category::C2A1 | Category::C2A2 | Category::C2A3 | Category::C2A4 => Some(Category::C2A),
-        Category::C2B1 | Category::C2B2 | Category::C2B3 => Some(Category::C2B),
-        Category::C2C1 | Category::C2C3 => Some(Category::C2C),
-        Category::C2D1 | Category::C2D2 => Some(Category::C2D),
-        Category::C3A | Category::C3B | Category::C3C | Category::C3D => Some(Category::C3),
-        Category::C3A1 | Category::C3A2 => Some(Category::C3A),
-        Category::C3B1
-        | Category::C3B2
-        | Category::C3B3
-        | Category::C3B4
-        | Category::C3B5
-        | Category::C3B6 => Some(Category::C3B),
-        Category::C3C1
-        | Category::C3C2
-        | Category::C3C3
-        | Category::C3C4
-        | Category::C3C5
-        | Category::C3C6
-        | Category::C3C7
-        | Category::C3C8 => Some(Category::C3C),
-        Category::C3D1 | Category::C3D2 => Some(Category::C3D),
-        Category::C4A | Category::C4B | Category::C4C | Category::C4D | Category::C4E => Some(
-            Category::C4,
-        ),
-        Category::C4C1 | Category::C4C2 => Some(Category::C4C),
-        Category::C4D1 | Category::C4D2 => Some(Category::C4D),
-        Category::C5A | Category::C5B => Some(Category::C5),
-    }
+    row(category).parent
 }
 
 /// The code as submissions and tables write it.
 pub fn code(category: Category) -> &'static str
     ensures { result.now ≡ code_of category }
 {
-    match category {
-        Category::National => "0",
-        Category::C1 => "1",
-        Category::C1A => "1A",
-        Category::C1A1 => "1A1",
-        Category::C1A1a => "1A1a",
-        Category::C1A1b => "1A1b",
-        Category::C1A1c => "1A1c",
-        Category::C1A2 => "1A2",
-        Category::C1A3 => "1A3",
-        Category::C1A3a => "1A3a",
-        Category::C1A3b => "1A3b",
-        Category::C1A3c => "1A3c",
-        Category::C1A3d => "1A3d",
-        Category::C1A3e => "1A3e",
-        Category::C1A4 => "1A4",
-        Category::C1A4a => "1A4a",
-        Category::C1A4b => "1A4b",
-        Category::C1A4c => "1A4c",
-        Category::C1A5 => "1A5",
-        Category::C1B => "1B",
-        Category::C1B1 => "1B1",
-        Category::C1B2 => "1B2",
-        Category::C1B3 => "1B3",
-        Category::C1C => "1C",
-        Category::C2 => "2",
-        Category::C2A => "2A",
-        Category::C2A1 => "2A1",
-        Category::C2A2 => "2A2",
-        Category::C2A3 => "2A3",
-        Category::C2A4 => "2A4",
-        Category::C2B => "2B",
-        Category::C2B1 => "2B1",
-        Category::C2B2 => "2B2",
-        Category::C2B3 => "2B3",
-        Category::C2C => "2C",
-        Category::C2C1 => "2C1",
-        Category::C2C3 => "2C3",
-        Category::C2D => "2D",
-        Category::C2D1 => "2D1",
-        Category::C2D2 => "2D2",
-        Category::C3 => "3",
-        Category::C3A => "3A",
-        Category::C3A1 => "3A1",
-        Category::C3A2 => "3A2",
-        Category::C3B => "3B",
-        Category::C3B1 => "3B1",
-        Category::C3B2 => "3B2",
-        Category::C3B3 => "3B3",
-        Category::C3B4 => "3B4",
-        Category::C3B5 => "3B5",
-        Category::C3B6 => "3B6",
-        Category::C3C => "3C",
-        Category::C3C1 => "3C1",
-        Category::C3C2 => "3C2",
-        Category::C3C3 => "3C3",
-        Category::C3C4 => "3C4",
-        Category::C3C5 => "3C5",
-        Category::C3C6 => "3C6",
-        Category::C3C7 => "3C7",
-        Category::C3C8 => "3C8",
-        Category::C3D => "3D",
-        Category::C3D1 => "3D1",
-        Category::C3D2 => "3D2",
-        Category::C4 => "4",
-        Category::C4A => "4A",
-        Category::C4B => "4B",
-        Category::C4C => "4C",
-        Category::C4C1 => "4C1",
-        Category::C4C2 => "4C2",
-        Category::C4D => "4D",
-        Category::C4D1 => "4D1",
-        Category::C4D2 => "4D2",
-        Category::C4E => "4E",
-        Category::C5 => "5",
-        Category::C5A => "5A",
-        Category::C5B => "5B",
-        Category::MB => "MB",
-        Category::MC => "MC",
-        Category::RA => "RA",
-    }
+    row(category).code
 }
