@@ -23,6 +23,7 @@ pub mod Chains
 pub mod Rings
 pub mod Compiled
 pub mod Valuations
+pub mod Central
 pub mod Chosen
 pub mod Consequences
 pub mod Exactness

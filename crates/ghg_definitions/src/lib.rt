@@ -8,9 +8,9 @@ mod place;
 mod record;
 
 pub use laws::{
-    choices_have_valuations, compilations_contain, factors_in_force_are_latest, have_one_trial,
-    inputs_hold_their_figures, overflows_are_least, overflows_break, plans_keep_workbooks,
-    rings_are_named, trials_are_finite, valuations_are_equal,
+    choices_exist, choices_have_valuations, compilations_contain, factors_in_force_are_latest,
+    have_one_trial, inputs_hold_their_figures, overflows_are_least, overflows_break,
+    plans_keep_workbooks, rings_are_named, trials_are_finite, valuations_are_equal,
 };
 pub use place::Place;
 pub use record::{Record, RecordKey};
