@@ -12,8 +12,9 @@ use Rattle.ghg_definitions.specs.Rows.{with_record}
 use Rattle.ghg_definitions.proofs.Entries.{found}
 use Rattle.ghg_definitions.proofs.Keys.{key_eq, key_ties, keys_total}
 use Rattle.ghg_data.specs.declared.calendar.Calendar.{Calendar}
-use Rattle.ghg_data.specs.declared.calendar.Series.{Series}
-use Rattle.ghg_data.specs.Calendar.{IsCalendarOf, dated, has_date, is_put, is_taken}
+use Rattle.ghg_data.specs.declared.series.Series.{Series}
+use Rattle.ghg_data.specs.Calendar.{IsCalendarOf, has_date, is_put, is_taken}
+use Rattle.ghg_data.specs.Series.{dated}
 use Rattle.ghg_data.specs.Changes.{Change, applied}
 use Rattle.ghg_units.specs.Year.{is_year}
 use Rattle.ghg_data.proofs.Applied.{get-applied, get-with_record, over}

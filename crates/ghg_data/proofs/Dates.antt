@@ -9,14 +9,15 @@ use Rattle.ghg_definitions.specs.declared.record.RecordKey.{RecordKey}
 use Rattle.ghg_definitions.specs.declared.record.RecordKey.TheVariants as key
 use Rattle.ghg_definitions.specs.Data.{Name, key_cmp}
 use Rattle.ghg_definitions.proofs.Keys.{equal_by, key_eq, key_ties, keys_total, names_same}
-use Rattle.ghg_data.specs.contracts.calendar.SeriesPartialEq.TheImpl as derived
+use Rattle.ghg_data.specs.contracts.series.SeriesPartialEq.TheImpl as derived
 use Rattle.ghg_data.specs.declared.calendar.Calendar.{Calendar}
-use Rattle.ghg_data.specs.declared.calendar.Series.{Series}
-use Rattle.ghg_data.specs.declared.calendar.Series.TheVariants as series
+use Rattle.ghg_data.specs.declared.series.Series.{Series}
+use Rattle.ghg_data.specs.declared.series.Series.TheVariants as series
 use Rattle.ghg_data.specs.declared.year_set.YearSet.{YearSet}
-use Rattle.ghg_data.specs.Calendar.{date_of, dated, has_date, holds_year, same_series}
+use Rattle.ghg_data.specs.Calendar.{has_date, holds_year}
+use Rattle.ghg_data.specs.Series.{EachHasAYear, date_of, dated, same_series}
 use Rattle.ghg_units.specs.Year.{is_year}
-use Rattle.ghg_data.specs.YearSet.{has_year}
+use Rattle.ghg_data.specs.YearSet.{HasNoYear, has_year}
 
 -- the equality that the code has
 abbrev pub series_eq : Series → Series → Bool
@@ -59,6 +60,15 @@ module _ (old new : List (Series × YearSet)) (k : Series) (years : YearSet) whe
       by : (b : Bool) (o : Option YearSet) → holds_year (cond b None o) y ≡ cond b (has_year years y) (holds_year o y)
       by true o = sym (empty y)
       by false o = refl
+
+-- each series still has a year, where the one that is given other years has
+pub each_has_a_year : (old new : List (Series × YearSet)) (k : Series) (given : Option YearSet) → ((set : YearSet) → given ≡ Some set → ¬ HasNoYear set)
+    → ((q : Series) → lookup (series_eq q) new ≡ cond (series_eq k q) given (lookup (series_eq q) old)) → EachHasAYear old → EachHasAYear new
+each_has_a_year old new k given some h each s set e = by (series_eq k s) (sym (h s) ∙ found s new ∙ e)
+  where
+    by : (b : Bool) → cond b given (lookup (series_eq s) old) ≡ Some set → ¬ HasNoYear set
+    by true f = some set f
+    by false f = each s set (sym (found s old) ∙ f)
 
 -- ---- a key is noted
 

@@ -10,8 +10,8 @@ use Rattle.ghg_definitions.specs.Rings.{IsAcyclic, Takes}
 use Rattle.ghg_definitions.specs.Rules.{is_long, is_sound, least_place, most_lines, most_records, passed_limit, places_in, unsound_place}
 use Rattle.ghg_definitions.specs.Sound.{IsWorkbook}
 use Rattle.ghg_definitions.proofs.Chains.{leading}
-use Rattle.ghg_data.specs.declared.calendar.Series.{Series}
-use Rattle.ghg_data.specs.Calendar.{dated}
+use Rattle.ghg_data.specs.declared.series.Series.{Series}
+use Rattle.ghg_data.specs.Series.{dated}
 use Rattle.ghg_units.specs.Year.{is_year}
 use Rattle.ghg_units.specs.declared.row.Figure.{Figure}
 use Rattle.ghg_units.specs.declared.rule.Limit.TheVariants.{Lines, Records}

@@ -32,6 +32,11 @@ pub rule_first : (m n : Data) (rows : List Row) (row : Row) (more : List Row) �
 rule_first m n rows row more so_far (refusal.Rule rule) fault = first_broken m n rows row more rule so_far fault
 rule_first m n rows row more so_far refusal.Memory fault = tt
 
+-- one that breaks none leaves the rest to be applied
+pub row_passed : (m n : Data) (rows : List Row) (row : Row) (more : List Row) (k : Data) → rows_applied m rows ≡ rows_applied n (row ∷ more) → row_fault n row ≡ None → k ≡ after_row n row → rows_applied m rows ≡ rows_applied k more
+unfolding rows_applied
+row_passed m n rows row more k so_far none is = so_far ∙ ap (λ o. or_broken o (rows_applied (after_row n row) more)) none ∙ ap (λ d. rows_applied d more) (sym is)
+
 pub drop_row : (rows : List Row) (i : ℕ) (row : Row) → i < length rows → row ≡ get_or rows i row → drop i rows ≡ row ∷ drop (suc i) rows
 drop_row [] i row l e = absurd (omega arith)
 drop_row (x ∷ rows) zero row l e = ap (λ y. y ∷ rows) (sym e)

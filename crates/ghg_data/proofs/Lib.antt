@@ -1,6 +1,6 @@
 pub mod Applied
 pub mod Empty
-pub mod Series
+pub mod OtherYears
 pub mod Lines
 pub mod Placed
 pub mod Faults
@@ -17,3 +17,4 @@ pub mod Settled
 pub mod YearBits
 pub mod Dates
 pub mod Calendars
+pub mod Changed

@@ -7,4 +7,5 @@ pub mod Faults
 pub mod Counts
 pub mod Settling
 pub mod YearSet
+pub mod Series
 pub mod Calendar

@@ -7,16 +7,16 @@ ghost use Rattle.ghg_units.specs.WellFormed.{IsWellFormed};
 ghost use Rattle.ghg_definitions.specs.Rows.{after};
 ghost use Rattle.ghg_definitions.specs.Rules.{planned};
 ghost use Rattle.ghg_data.specs.Refusal.{IsPlanOf};
-ghost use Rattle.ghg_data.specs.Changes.{applied};
+ghost use Rattle.ghg_data.specs.Changes.{AreOfRows, applied};
 ghost use Rattle.ghg_data.specs.Shelf.{IsPlanned};
 
-use crate::calendar::Series;
 use crate::draft::span_in;
 use crate::edits::Edits;
 use crate::holdings::Holdings;
 use crate::plan::planned_edits;
 use crate::records::Records;
 use crate::refusal::PlanRefusal;
+use crate::series::Series;
 use crate::view::After;
 use ghg_definitions::{Record, RecordKey};
 use ghg_units::{Name, Row, Rule, Span};
@@ -98,6 +98,7 @@ impl Book {
         ensures kept { self.new.content ≡ self.old.content }
         ensures planned { IsPlanOf (planned self.old.content rows.now rest kept_bytes) self.old.content result }
         ensures after { IfOk result (λ edits. applied self.old.content edits ≡ after self.old.content rows.now) }
+        ensures few { IfOk result (AreOfRows rows.now) }
         ensures ready { IfOk result (IsPlanned self.new) }
     {
         let edits = planned_edits(alloc, &self.holdings, rows, rest, kept_bytes)?;

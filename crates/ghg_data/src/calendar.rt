@@ -4,54 +4,27 @@ ghost use Rattle.std.specs.Prelude.{◌≡◌, ℕ, ◌+◌, ◌≤◌, ◌<◌,
 ghost use Rattle.std.specs.Ordering.{eq_by_cmp};
 ghost use Rattle.indexmap.specs.IndexMap.{spare};
 ghost use Rattle.ghg_definitions.specs.Data.{key_cmp};
-ghost use Rattle.ghg_data.specs.declared.calendar.Series.{Series};
-ghost use Rattle.ghg_data.specs.Calendar.{date_of, dated, has_date, same_series};
 ghost use Rattle.ghg_units.specs.Year.{is_year};
+ghost use Rattle.ghg_data.specs.declared.series.Series.{Series};
+ghost use Rattle.ghg_data.specs.Series.{EachHasAYear, dated, same_series};
 ghost use Rattle.ghg_data.specs.YearSet.{has_year};
 
+use crate::series::{Series, date_of};
 use crate::year_set::YearSet;
 use ghg_definitions::RecordKey;
-use ghg_units::Name;
 use indexmap::IndexMap;
 use std::alloc::{AllocError, Global};
-
-/// What has a record for each of several years.
-#[derive(Clone, Copy, PartialEq, Eq, Hash, Drop)]
-pub(crate) enum Series {
-    Activity(Name),
-    Factor(Name),
-}
-
-impl Series {
-    /// The key of its record of a year.
-    pub(crate) fn dated(&self, year: u32) -> RecordKey
-        ensures { result ≡ dated self.now year }
-    {
-        match self {
-            Series::Activity(name) => RecordKey::Activity(*name, year),
-            Series::Factor(name) => RecordKey::Factor(*name, year),
-        }
-    }
-}
-
-/// The series and the year that a key is of.
-pub(crate) fn date_of(key: &RecordKey) -> Option<(Series, u32)>
-    ensures { result ≡ date_of key.now }
-{
-    match key {
-        RecordKey::Activity(name, year) => Some((Series::Activity(*name), *year)),
-        RecordKey::Factor(name, start) => Some((Series::Factor(*name), *start)),
-        _ => None,
-    }
-}
 
 /// The years of each series that has any, and room for more series.
 #[derive(Drop)]
 pub(crate) struct Calendar {
     years: IndexMap<Series, YearSet>,
+    ghost none_empty: { EachHasAYear years.entries },
 }
 
 impl Calendar {
+    ghost use Rattle.ghg_data.specs.Calendar.{has_date};
+
     /// No years of any series. It takes no memory.
     pub(crate) fn new(alloc: Global) -> Calendar
         ensures { (s : Series) (y : ℕ) → has_date result s y ≡ false }

@@ -5,15 +5,15 @@ ghost use Rattle.std.specs.FinMap as finite;
 ghost use Rattle.ghg_definitions.specs.Data.{as_line, as_span, binding, figure, line, line_names, span};
 ghost use Rattle.ghg_definitions.specs.Rules.{is_other_year};
 ghost use Rattle.ghg_definitions.specs.Sound.{IsConsistent};
-ghost use Rattle.ghg_data.specs.Calendar.{dated};
+ghost use Rattle.ghg_data.specs.Series.{dated};
 ghost use Rattle.ghg_data.specs.Changes.{applied};
 ghost use Rattle.ghg_units.specs.Year.{is_year};
 ghost use Rattle.ghg_data.specs.YearSet.{has_year};
 
-use crate::calendar::{Series, date_of};
 use crate::edits::Edits;
 use crate::holdings::Holdings;
 use crate::names::lines_after;
+use crate::series::{Series, date_of};
 use crate::year_set::{LAST_YEAR, YearSet};
 use ghg_definitions::{Record, RecordKey};
 use ghg_equations::EqId;

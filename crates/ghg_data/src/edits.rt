@@ -7,12 +7,14 @@ ghost use Rattle.std.specs.Ordering.{eq_by_cmp};
 ghost use Rattle.ghg_definitions.specs.declared.record.RecordKey.TheVariants as key;
 ghost use Rattle.ghg_definitions.specs.Data.{Data, key_cmp};
 ghost use Rattle.ghg_definitions.specs.Rows.{with_record};
-ghost use Rattle.ghg_data.specs.Calendar.{dated, is_put, is_taken};
-ghost use Rattle.ghg_data.specs.Changes.{applied};
+ghost use Rattle.ghg_data.specs.Calendar.{is_put, is_taken};
+ghost use Rattle.ghg_data.specs.Series.{dated};
+ghost use Rattle.ghg_data.specs.Changes.{ChangesAlso, applied};
 ghost use Rattle.ghg_units.specs.Year.{is_year};
 ghost use Rattle.ghg_data.specs.YearSet.{has_year};
 
-use crate::calendar::{Calendar, Series};
+use crate::calendar::Calendar;
+use crate::series::Series;
 use crate::year_set::YearSet;
 use ghg_definitions::{Record, RecordKey};
 use ghg_units::Name;
@@ -99,6 +101,7 @@ impl Edits {
     /// Makes one more change.
     pub(crate) fn put(&mut self, key: RecordKey, change: Option<Record>) -> Result<(), AllocError>
         ensures ok { OnOk result ((m : Data) → applied m self.new ≡ with_record (applied m self.old) key change) }
+        ensures keys { OnOk result (ChangesAlso key self.old self.new) }
         ensures err { OnErr result (self.new ≡ self.old) }
     {
         self.changes.reserve(1)?;

@@ -6,14 +6,16 @@ ghost use Rattle.std.specs.FinMap.{from_entries};
 ghost use Rattle.indexmap.specs.IndexMap.{spare};
 ghost use Rattle.ghg_definitions.specs.Data.{key_cmp, line_names};
 ghost use Rattle.ghg_definitions.specs.Rows.{with_record};
-ghost use Rattle.ghg_data.specs.Calendar.{IsCalendarOf, dated};
+ghost use Rattle.ghg_data.specs.Calendar.{IsCalendarOf};
+ghost use Rattle.ghg_data.specs.Series.{dated};
 ghost use Rattle.ghg_data.specs.Changes.{applied};
 ghost use Rattle.ghg_units.specs.Year.{is_year};
 ghost use Rattle.ghg_data.specs.YearSet.{has_year};
 
-use crate::calendar::{Calendar, Series};
+use crate::calendar::Calendar;
 use crate::edits::Edits;
 use crate::names::change_names;
+use crate::series::Series;
 use crate::year_set::YearSet;
 use ghg_definitions::{Record, RecordKey};
 use ghg_units::Name;

@@ -15,6 +15,7 @@ mod plan;
 mod records;
 mod refusal;
 mod rows;
+mod series;
 mod unsettled;
 mod view;
 mod year_set;

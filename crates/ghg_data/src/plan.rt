@@ -5,10 +5,10 @@ ghost use Rattle.std.specs.List.{AllByRecursion};
 ghost use Rattle.std.specs.FinMap.{len};
 ghost use Rattle.ghg_units.specs.WellFormed.{IsWellFormed};
 ghost use Rattle.ghg_definitions.specs.Data.{line_names};
-ghost use Rattle.ghg_definitions.specs.Rows.{after, after_row};
+ghost use Rattle.ghg_definitions.specs.Rows.{after, after_row, key_of};
 ghost use Rattle.ghg_definitions.specs.Rules.{judged, planned, row_fault, rows_applied};
 ghost use Rattle.ghg_definitions.specs.Sound.{IsConsistent, IsWorkbook};
-ghost use Rattle.ghg_data.specs.Changes.{applied};
+ghost use Rattle.ghg_data.specs.Changes.{AreOfRows, ChangesAlso, applied};
 ghost use Rattle.ghg_data.specs.Counts.{count_after, line_count_after};
 ghost use Rattle.ghg_data.specs.Refusal.{IfRule, IsPlanOf};
 
@@ -43,6 +43,7 @@ pub(crate) fn planned_edits(
     requires well_formed { AllByRecursion IsWellFormed rows.now }
     ensures planned { IsPlanOf (planned holdings.now.content rows.now rest kept_bytes) holdings.now.content result }
     ensures after { IfOk result (λ edits. applied holdings.now.content edits ≡ after holdings.now.content rows.now) }
+    ensures few { IfOk result (AreOfRows rows.now) }
     ensures workbook { IfOk result (λ edits. IsWorkbook (applied holdings.now.content edits)) }
 {
     let progress = progress_of(alloc, holdings, rows)?;
@@ -57,6 +58,7 @@ fn progress_of(alloc: Global, holdings: &Holdings, rows: &[Row]) -> Result<Progr
     requires consistent { IsConsistent holdings.now.content }
     requires well_formed { AllByRecursion IsWellFormed rows.now }
     ensures applied { MatchResult result (λ p. rows_applied holdings.now.content rows.now ≡ Ok (applied holdings.now.content p.edits)) (IfRule (λ rule. rows_applied holdings.now.content rows.now ≡ Err rule)) }
+    ensures few { IfOk result (λ p. AreOfRows rows.now p.edits) }
     ensures consistent { IfOk result (λ p. IsConsistent (applied holdings.now.content p.edits)) }
     ensures records { IfOk result (λ p. p.records ≡ len (applied holdings.now.content p.edits)) }
     ensures lines { IfOk result (λ p. p.lines ≡ length (line_names (applied holdings.now.content p.edits))) }
@@ -87,6 +89,7 @@ fn add_row(
     requires lines_fit { progress.old.lines + 1 < 2 ^ 64 }
     ensures fault { MatchResult result (λ _. row_fault (applied holdings.now.content progress.old.edits) row.now ≡ None) (IfRule (λ rule. row_fault (applied holdings.now.content progress.old.edits) row.now ≡ Some rule)) }
     ensures added { OnOk result (applied holdings.now.content progress.new.edits ≡ after_row (applied holdings.now.content progress.old.edits) row.now) }
+    ensures keys { OnOk result (ChangesAlso (key_of row.now.form) progress.old.edits progress.new.edits) }
     ensures consistent { OnOk result (IsConsistent (applied holdings.now.content progress.new.edits)) }
     ensures records { OnOk result (progress.new.records ≡ len (applied holdings.now.content progress.new.edits)) }
     ensures lines { OnOk result (progress.new.lines ≡ length (line_names (applied holdings.now.content progress.new.edits))) }

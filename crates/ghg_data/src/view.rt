@@ -5,10 +5,10 @@ ghost use Rattle.ghg_data.specs.Changes.{applied};
 ghost use Rattle.ghg_data.specs.Shelf.{IsPlanned};
 
 use crate::book::Book;
-use crate::calendar::Series;
 use crate::draft::Draft;
 use crate::edits::Edits;
 use crate::records::Records;
+use crate::series::Series;
 use ghg_definitions::{Record, RecordKey};
 use ghg_units::{Name, Span};
 use std::alloc::{AllocError, Global};

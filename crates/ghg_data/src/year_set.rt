@@ -1,9 +1,8 @@
 //! Sets of years.
 
-ghost use Rattle.std.specs.Prelude.{◌≡◌, ℕ, ◌≤◌, ◌<◌, Bool, true, false, cond, not, ◌&&◌, ◌||◌, ◌==◌, MatchOption};
-ghost use Rattle.std.specs.Bool.{OnTrue};
+ghost use Rattle.std.specs.Prelude.{◌≡◌, ℕ, ◌≤◌, ◌<◌, Bool, true, false, cond, not, ◌&&◌, ◌||◌, ◌==◌, ◌↔◌, IsTrue, MatchOption};
 ghost use Rattle.ghg_units.specs.Year.{is_year};
-ghost use Rattle.ghg_data.specs.YearSet.{has_bit, has_place, has_year};
+ghost use Rattle.ghg_data.specs.YearSet.{HasNoYear, has_bit, has_place, has_year};
 
 // The first year that a record may be of.
 const FIRST_YEAR: u32 = 1900;
@@ -24,16 +23,16 @@ pub(crate) struct YearSet {
 impl YearSet {
     /// No years.
     pub(crate) fn empty() -> YearSet
-        ensures { (y : ℕ) → has_year result y ≡ false }
+        ensures { HasNoYear result }
     {
         YearSet { late: 0, early: 0 }
     }
 
     /// Whether it holds no year.
     pub(crate) fn is_empty(&self) -> bool
-        ensures { OnTrue result ((y : ℕ) → has_year self.now y ≡ false) }
+        ensures { IsTrue result ↔ HasNoYear self.now }
     {
-        self.late == 0 && self.early == 0
+        self.last_until(LAST_YEAR).is_none()
     }
 
     /// The set with this year, or without it. A year that no record may be of changes nothing.

@@ -2,7 +2,8 @@ use Rattle.std.proofs.Common.{cond, ◌&&◌, ◌∙◌, sym, ap, arith, length,
 use Rattle.std.specs.FinMap.{from_entries}
 use Rattle.std.specs.Ordering.{eq_by_cmp}
 use Rattle.ghg_definitions.specs.Data.{Data, key_cmp}
-use Rattle.ghg_data.specs.Calendar.{dated, has_date}
+use Rattle.ghg_data.specs.Calendar.{has_date}
+use Rattle.ghg_data.specs.Series.{dated}
 use Rattle.ghg_data.specs.Changes.{applied}
 use Rattle.ghg_units.specs.Year.{is_year}
 use Rattle.ghg_data.proofs.Applied.{applied-pop}

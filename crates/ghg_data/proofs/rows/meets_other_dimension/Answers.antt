@@ -1,6 +1,6 @@
 use Rattle.std.proofs.Common.{not, ◌∙◌, sym, ap}
 use Rattle.ghg_equations.specs.Quantity.{same_dim}
-use Rattle.ghg_data.proofs.Series.{meets_none, meets_some}
+use Rattle.ghg_data.proofs.OtherYears.{meets_none, meets_some}
 use Rattle.ghg_data.proofs.rows.meets_other_dimension.Goals as goal
 
 pub returns-in-Some : goal.returns-in-Some

@@ -1,5 +1,6 @@
 use Rattle.std.proofs.Common.{cond, ◌&&◌, ◌==◌, ◌∙◌, sym, ap}
-use Rattle.ghg_data.specs.Calendar.{has_date, same_series}
+use Rattle.ghg_data.specs.Calendar.{has_date}
+use Rattle.ghg_data.specs.Series.{same_series}
 use Rattle.ghg_units.specs.Year.{is_year}
 use Rattle.ghg_data.proofs.Dates.{noted}
 use Rattle.ghg_data.proofs.calendar.Calendar.note.Goals as goal

@@ -4,7 +4,7 @@ use Rattle.ghg_definitions.specs.Rules.{is_other_year}
 use Rattle.ghg_definitions.specs.Sound.{IsConsistent}
 use Rattle.ghg_units.specs.Year.{is_year}
 use Rattle.ghg_data.specs.YearSet.{has_year}
-use Rattle.ghg_data.proofs.Series.{answers, never_none, no_other, some_other}
+use Rattle.ghg_data.proofs.OtherYears.{answers, never_none, no_other, some_other}
 use Rattle.ghg_data.proofs.draft.Draft.other_year.Goals as goal
 
 pub returns-in-Some-last_until-clause-found : goal.returns-in-Some-last_until-clause-found

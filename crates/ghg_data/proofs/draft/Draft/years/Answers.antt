@@ -1,6 +1,6 @@
 use Rattle.std.proofs.Common.{◌&&◌, is_some, ◌∙◌, ap}
 use Rattle.std.specs.FinMap.{get}
-use Rattle.ghg_data.specs.Calendar.{dated}
+use Rattle.ghg_data.specs.Series.{dated}
 use Rattle.ghg_units.specs.Year.{is_year}
 use Rattle.ghg_data.proofs.Calendars.{merged}
 use Rattle.ghg_data.proofs.draft.Draft.years.Goals as goal

@@ -2,10 +2,12 @@ use Rattle.std.proofs.Common.{cond, ◌&&◌, ◌∙◌, ap}
 use Rattle.std.specs.Ordering.{eq_by_cmp}
 use Rattle.ghg_definitions.specs.Data.{key_cmp}
 use Rattle.ghg_definitions.specs.Rows.{with_record}
-use Rattle.ghg_data.specs.Calendar.{dated, has_date}
+use Rattle.ghg_data.specs.Calendar.{has_date}
+use Rattle.ghg_data.specs.Series.{dated}
 use Rattle.ghg_data.specs.Changes.{applied}
 use Rattle.ghg_units.specs.Year.{is_year}
 use Rattle.ghg_data.proofs.Applied.{applied-put, on_ok}
+use Rattle.ghg_data.proofs.Changed.{also_put}
 use Rattle.ghg_data.proofs.Calendars.{changed_at, opposite, put_noted, taken_noted}
 use Rattle.ghg_data.proofs.edits.Edits.put.Goals as goal
 
@@ -29,3 +31,8 @@ returns-clause-ok c =
     let updates = on_ok c.insert.result c.unwrap.result _ c.unwrap.ensures c.insert.ensures.updates in
     λ m. applied-put m c.reserve.new.self.entries c.insert.new.self.entries c.args.key c.args.change updates.0
     ∙ ap (λ cs. with_record (applied m cs) c.args.key c.args.change) (c.reserve.ensures.entries ∙ c.self.view_is)
+
+pub returns-clause-keys : goal.returns-clause-keys
+returns-clause-keys c =
+    let put = on_ok c.insert.result c.unwrap.result _ c.unwrap.ensures c.insert.ensures.entries in
+    also_put c.args.key c.args.change _ _ _ (c.reserve.ensures.entries ∙ c.self.view_is) put

@@ -1,7 +1,7 @@
 use Rattle.std.proofs.Common.{is_some, ◌&&◌, ◌∙◌, sym, ap}
 use Rattle.std.specs.FinMap.{from_entries, get}
 use Rattle.ghg_definitions.specs.Data.{key_cmp, line_names}
-use Rattle.ghg_data.specs.Calendar.{dated}
+use Rattle.ghg_data.specs.Series.{dated}
 use Rattle.ghg_units.specs.Year.{is_year}
 use Rattle.ghg_data.proofs.Empty.{no_dates, no_lines}
 use Rattle.ghg_data.proofs.holdings.Holdings.new.Goals as goal

@@ -17,9 +17,9 @@ use Rattle.ghg_definitions.specs.declared.record.Record.{Record}
 use Rattle.ghg_definitions.specs.declared.record.Record.TheVariants as entry
 use Rattle.std.specs.FinMap.{get}
 use Rattle.std.proofs.lemmas.Bool.{and_from, and_parts, le-leb}
-use Rattle.ghg_data.specs.declared.calendar.Series.{Series}
-use Rattle.ghg_data.specs.declared.calendar.Series.TheVariants as series
-use Rattle.ghg_data.specs.Calendar.{date_of, dated}
+use Rattle.ghg_data.specs.declared.series.Series.{Series}
+use Rattle.ghg_data.specs.declared.series.Series.TheVariants as series
+use Rattle.ghg_data.specs.Series.{date_of, dated}
 use Rattle.ghg_units.specs.Year.{is_year}
 use Rattle.ghg_data.proofs.Dates.{key_of_date}
 
