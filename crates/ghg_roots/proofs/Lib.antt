@@ -1,0 +1,3 @@
+pub mod Powers
+pub mod Rounded
+pub mod Ends

@@ -1,0 +1,7 @@
+use Rattle.std.proofs.Common.{◌≡◌, ◌≤◌, pos}
+use Rattle.ghg_interval.specs.Bounds.{unit_scale}
+use Rattle.ghg_roots.specs.Decay.{power_up}
+use Rattle.ghg_roots.proofs.parts_up.Given as goal
+
+abbrev pub invariant-loop : goal.invariant-loop
+invariant-loop l = (pos l.power ≡ power_up (pos l.x) l.counter) × (l.power ≤ unit_scale)

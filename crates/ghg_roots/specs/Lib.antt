@@ -1,0 +1,2 @@
+pub mod Decay
+pub mod Roots
