@@ -4,7 +4,7 @@ ghost use Rattle.std.specs.Prelude.{◌≡◌, ◌<◌, length};
 ghost use Rattle.ghg_cell.specs.Values.{equation_value};
 ghost use Rattle.ghg_equations.specs.Table.{parameters};
 
-use crate::inputs::input;
+use crate::cases::{check, input};
 use crate::values::permits;
 use ghg_cell::{Input, Ticket, Value};
 use ghg_data::params_of;
@@ -12,10 +12,9 @@ use ghg_equations::{Dim, EqId, Gas, Output, Sector, each_code_names_itself, eq_n
 use ghg_interval::Over;
 use std::alloc::Global;
 use std::process::Abort;
-use std::test::Fail;
 
 // A code, its value, and the quantities of its parameters in their order, all in base units.
-const CASES: [(&str, &str, &str); 74] = [
+const CASES: &[(&str, &str, &str)] = &[
     // 1000 · 56100 / 1000000 = 56.1, from 54.3 to 58.3
     ("Q10", "56.1,54.3,58.3", "1000 56100,54300,58300"),
     // 1000 · 3 / 1000000 = 0.003, from 0.001 to 0.01
@@ -206,31 +205,28 @@ fn evaluated(id: EqId, ticket: Ticket, inputs: &[Input]) -> Option<Input> {
 }
 
 // The quantities of a text, with spaces between them.
-fn quantities(rt: &impl Abort, alloc: Global, text: &str) -> Result<Vec<Input>, Fail> {
+fn quantities(rt: &impl Abort, alloc: Global, text: &str) -> Vec<Input> {
     let mut inputs = Vec::new(alloc);
     for word in text.split_whitespace() {
-        inputs.push(input(word).expect(rt, "a quantity"))?;
+        let quantity = input(word).expect(rt, "a quantity");
+        inputs.push(quantity).ok().expect(rt, "memory");
     }
-    Ok(inputs)
+    inputs
 }
 
 #[test]
-fn equations_have_their_values(rt: HostRuntime) -> Result<(), Fail> {
+fn equations_have_their_values(rt: HostRuntime) {
     let mut permits = permits(CASES.len() as u64);
     for (code, want, given) in CASES {
         let id = eq_named(code.as_bytes()).expect(&rt, "a code");
         let ticket = permits.ticket().expect(&rt, "a step");
-        let inputs = quantities(&rt, rt.alloc(), given)?;
-        assert!(rt;
-            evaluated(id, ticket, &inputs) == input(want),
-            "{code} of {given}"
-        );
+        let inputs = quantities(&rt, rt.alloc(), given);
+        check(&rt, evaluated(id, ticket, &inputs) == input(want), code);
     }
-    Ok(())
 }
 
 // Codes, and of their rows the number of parameters and the gas that they emit.
-const ROWS: [(&str, EqId, usize, Option<Gas>); 11] = [
+const ROWS: &[(&str, EqId, usize, Option<Gas>)] = &[
     ("Q10", EqId::Q10, 2, Some(Gas::Co2)),
     ("Q12", EqId::Q12, 2, Some(Gas::N2o)),
     ("Q13", EqId::Q13, 2, None),
@@ -244,40 +240,49 @@ const ROWS: [(&str, EqId, usize, Option<Gas>); 11] = [
     ("Q89", EqId::Q89, 4, Some(Gas::N2o)),
 ];
 
+// What is no code.
+const OTHERS: &[&str] = &[
+    "", "Q", "Q1", "q10", "Q10 ", "Q010", "Q18", "Q19", "Q27", "Q43", "Q47", "Q54", "Q65", "Q66",
+];
+
+fn has_row(text: &str, id: EqId, count: usize, gas: Option<Gas>) -> bool {
+    let row = equation(id);
+    eq_named(text.as_bytes()) == Some(id)
+        && row.name == text
+        && row.params.len() == count
+        && row.output.gas() == gas
+}
+
 #[test]
 fn codes_lead_to_their_rows(rt: HostRuntime) {
     each_code_names_itself();
     for (text, id, count, gas) in ROWS {
-        let row = equation(id);
-        assert!(rt;
-            eq_named(text.as_bytes()) == Some(id) && row.name == text,
-            "at {text}"
-        );
-        assert!(rt;
-            row.params.len() == count && row.output.gas() == gas,
-            "at {text}"
-        );
+        check(&rt, has_row(text, *id, *count, *gas), text);
     }
-    for text in [
-        "", "Q", "Q1", "q10", "Q10 ", "Q010", "Q18", "Q19", "Q27", "Q43", "Q47", "Q54", "Q65",
-        "Q66",
-    ] {
-        assert!(rt; eq_named(text.as_bytes()).is_none(), "at {text}");
+    for text in OTHERS {
+        check(&rt, eq_named(text.as_bytes()).is_none(), text);
     }
 }
 
-// Gases are listed in this order. A quantity of a gas that another equation takes is no emission.
+// Gases, the next one in their order, and how they are written.
+const GASES: &[(Gas, Gas, &str)] = &[
+    (Gas::Co2, Gas::Ch4, "CO2"),
+    (Gas::Ch4, Gas::N2o, "CH4"),
+    (Gas::N2o, Gas::Cf4, "N2O"),
+    (Gas::Cf4, Gas::C2f6, "CF4"),
+];
+
+// A quantity of a gas that another equation takes is no emission.
 #[test]
 fn gases_are_written_by_their_formulas(rt: HostRuntime) {
-    for (gas, next, word) in [
-        (Gas::Co2, Gas::Ch4, "CO2"),
-        (Gas::Ch4, Gas::N2o, "CH4"),
-        (Gas::N2o, Gas::Cf4, "N2O"),
-        (Gas::Cf4, Gas::C2f6, "CF4"),
-    ] {
-        assert!(rt; gas.word() == word && gas < next, "at {word}");
-        assert!(rt; Output::Emission(gas).gas() == Some(gas), "at {word}");
+    for (gas, next, word) in GASES {
+        check(&rt, gas.word() == *word && gas < next, word);
+        check(&rt, Output::Emission(*gas).gas() == Some(*gas), word);
     }
-    assert_eq!(rt; Gas::C2f6.word(), "C2F6");
-    assert!(rt; Output::Aux(Dim::Gas).gas().is_none() && Output::Aux(Dim::Carbon).gas().is_none());
+    check(&rt, Gas::C2f6.word() == "C2F6", "C2F6");
+    check(
+        &rt,
+        Output::Aux(Dim::Gas).gas().is_none(),
+        "a gas that is no emission",
+    );
 }

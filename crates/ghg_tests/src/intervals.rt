@@ -1,6 +1,6 @@
 //! Operations on intervals.
 
-use crate::inputs::interval;
+use crate::cases::{check, interval};
 use ghg_interval::{Interval, LIMIT, Over, SCALE, laws};
 
 #[derive(Clone, Copy, Debug, Drop)]
@@ -28,7 +28,7 @@ fn applied(operation: Operation, a: &Interval, b: &Interval) -> Result<Interval,
 }
 
 // An operation, two operands, and its result; nothing where a bound is beyond the limit.
-const OPERATIONS: [(Operation, &str, &str, &str); 15] = [
+const OPERATIONS: &[(Operation, &str, &str, &str)] = &[
     // 1000 TJ burnt at 54300 to 58300 kg CO2 per TJ are 54.3 to 58.3 Gg, less 0.3 to 1.3 Gg stored.
     (Operation::Times, "1000", "54300,58300", "54300000,58300000"),
     (Operation::Millionth, "54300000,58300000", "0", "54.3,58.3"),
@@ -65,27 +65,41 @@ const OPERATIONS: [(Operation, &str, &str, &str); 15] = [
     (Operation::Scaled, "most", "0", ""),
 ];
 
-#[test]
-fn operations_round_outward_within_the_limit(rt: HostRuntime) {
-    for (operation, a, b, want) in OPERATIONS {
-        let first = interval(a).expect(&rt, "an interval");
-        let second = interval(b).expect(&rt, "an interval");
-        let found = applied(operation, &first, &second).ok();
-        assert!(rt; found == interval(want), "{operation:?} of {a} and {b}");
+// Whether an operation gives this.
+fn gives(operation: Operation, a: &str, b: &str, want: &str) -> bool {
+    match (interval(a), interval(b)) {
+        (Some(a), Some(b)) => applied(operation, &a, &b).ok() == interval(want),
+        _ => false,
     }
 }
 
 #[test]
+fn operations_round_outward_within_the_limit(rt: HostRuntime) {
+    for (operation, a, b, want) in OPERATIONS {
+        check(&rt, gives(*operation, a, b, want), a);
+    }
+}
+
+// Whether these are no intervals.
+fn are_over() -> bool {
+    Interval::new(1, 0).is_none()
+        && Interval::exact(-LIMIT - 1).is_err()
+        && Interval::whole(100_000_000_000_001).is_err()
+        && Interval::whole(i128::MIN).is_err()
+}
+
+#[test]
 fn bounds_are_in_order_and_within_the_limit(rt: HostRuntime) {
-    assert_eq!(rt; Interval::new(1, 0), None);
-    assert_eq!(rt; Interval::exact(-LIMIT - 1), Err(Over));
-    assert_eq!(rt; Interval::whole(100_000_000_000_001), Err(Over));
-    assert_eq!(rt; Interval::whole(i128::MIN), Err(Over));
+    check(&rt, are_over(), "no intervals");
     let least = Interval::whole(-100_000_000_000_000).expect(&rt, "the limit");
-    assert_eq!(rt; (least.lo(), least.hi()), (-LIMIT, -LIMIT));
+    check(
+        &rt,
+        least.lo() == -LIMIT && least.hi() == -LIMIT,
+        "the limit",
+    );
     let a = Interval::new(-3, 1).expect(&rt, "bounds in order");
     let both = Interval::new(-3, SCALE).expect(&rt, "bounds in order");
-    assert!(rt; a.within(&both) && !both.within(&a));
+    check(&rt, a.within(&both) && !both.within(&a), "within");
     laws::floors_are_greatest();
     laws::ceils_are_least();
 }

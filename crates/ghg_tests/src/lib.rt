@@ -6,9 +6,11 @@
 #![tactic(auto)]
 
 #[cfg(test)]
-mod equations;
+mod cases;
 #[cfg(test)]
-mod inputs;
+mod categories;
+#[cfg(test)]
+mod equations;
 #[cfg(test)]
 mod intervals;
 #[cfg(test)]

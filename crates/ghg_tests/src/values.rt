@@ -2,11 +2,11 @@
 
 ghost use Rattle.std.specs.Prelude.{◌≡◌, ◌<◌};
 
-use crate::inputs::input;
-use ghg_cell::{Figures, Input, Permits, equiv, sum, take, total};
+use crate::cases::{check, input};
+use ghg_cell::{Figures, Input, Permits, Ticket, equiv, sum, take, total};
+use ghg_interval::Over;
 use ghg_steps::Steps;
 use std::marker::Brand;
-use std::process::Abort;
 use std::sync::ledger::{Blank, Ledger};
 
 fn permits_of<L: Ledger>(blank: Blank, count: u64) -> Permits
@@ -27,94 +27,118 @@ pub fn permits(count: u64) -> Permits
 
 #[test]
 fn each_permit_gives_one_ticket(rt: HostRuntime) {
-    let mut left = permits(3);
-    let mut given = left.split(2);
-    assert!(rt; given.ticket().is_some() && given.ticket().is_some() && given.ticket().is_none());
-    assert!(rt; left.ticket().is_some() && left.ticket().is_none());
+    let mut left = permits(2);
+    let mut given = left.split(1);
+    check(&rt, given.ticket().is_some(), "the first that was given");
+    check(&rt, given.ticket().is_none(), "one more than were given");
+    check(&rt, left.ticket().is_some(), "the first that was left");
+    check(&rt, left.ticket().is_none(), "one more than were left");
 }
 
-fn figures(rt: &impl Abort, text: &str) -> Figures {
-    input(text)
-        .and_then(|input| input.figures())
-        .expect(rt, "figures")
+// Whether figures are these; where there are none, a bound is beyond the limit.
+fn are(found: Result<Figures, Over>, want: &str) -> bool {
+    found.ok().map(Input::known) == input(want)
 }
 
-// 1000 TJ at 56100 kg/TJ, from 54300 to 58300, are 56.1 Gg, from 54.3 to 58.3.
+// 1000 TJ at 56100 kg/TJ, from 54300 to 58300, are 56.1 Gg, from 54.3 to 58.3; and 10^12 · 1000 is above 10^14.
 #[test]
 fn figures_go_with_their_ranges(rt: HostRuntime) {
-    let factor = figures(&rt, "56100,54300,58300");
-    let burnt = factor
-        .mul(&figures(&rt, "1000"))
-        .expect(&rt, "within the limit");
-    let gas = burnt.scale(1, 1_000_000).expect(&rt, "within the limit");
-    assert!(rt; Some(Input::known(gas)) == input("56.1,54.3,58.3"));
-    let twice = factor.add(&factor).expect(&rt, "within the limit");
-    assert!(rt; Some(Input::known(twice)) == input("112200,108600,116600"));
-    let none = factor.sub(&factor).expect(&rt, "within the limit");
-    assert!(rt; Some(Input::known(none)) == input("0,-4000,4000"));
-    let one = Figures::whole(1).expect(&rt, "within the limit");
-    assert!(rt; Some(Input::known(one)) == input("1"));
-    let million = figures(&rt, "1000000000000");
-    assert!(rt;
-        million.mul(&figures(&rt, "1000")).is_err(),
-        "10^15 is above 10^14"
+    let (Some(factor), Some(fuel), Some(most)) = (
+        figures("56100,54300,58300"),
+        figures("1000"),
+        figures("1000000000000"),
+    ) else {
+        return check(&rt, false, "figures");
+    };
+    check(
+        &rt,
+        are(factor.mul(&fuel), "56100000,54300000,58300000"),
+        "a product",
     );
-    assert!(rt; Input::Blank.figures().is_none() && Input::Blank.is_blank());
+    check(&rt, are(factor.scale(1, 1_000), "56.1,54.3,58.3"), "a part");
+    check(
+        &rt,
+        are(factor.add(&factor), "112200,108600,116600"),
+        "a sum",
+    );
+    check(
+        &rt,
+        are(factor.sub(&factor), "0,-4000,4000"),
+        "a difference",
+    );
+    check(&rt, are(Figures::whole(1), "1"), "a whole number");
+    check(&rt, are(most.mul(&fuel), ""), "a product beyond the limit");
+    check(
+        &rt,
+        Input::Blank.figures().is_none() && Input::Blank.is_blank(),
+        "a blank",
+    );
+}
+
+fn figures(text: &str) -> Option<Figures> {
+    input(text)?.figures()
 }
 
 // A line, a warming potential, and the line's equivalent; nothing where it is beyond the limit, of 10^9 Gg.
+const EQUIVALENTS: &[(&str, &str, &str)] = &[
+    ("2,2,3", "28,28,30", "56,56,90"),
+    ("NE", "28,28,30", "NE"),
+    ("2,2,3", "NE", "NE"),
+    ("1000000", "1000", "1000000000"),
+    ("1000000", "1000,1000,1001", ""),
+];
+
+fn equivalent(ticket: Ticket, line: &str, potential: &str) -> Option<Input> {
+    let value = equiv(ticket, &input(line)?, &input(potential)?).ok()?;
+    Some(*value.input())
+}
+
 #[test]
 fn equivalents_weigh_lines(rt: HostRuntime) {
-    let mut permits = permits(5);
-    for (line, potential, want) in [
-        ("2,2,3", "28,28,30", "56,56,90"),
-        ("NE", "28,28,30", "NE"),
-        ("2,2,3", "NE", "NE"),
-        ("1000000", "1000", "1000000000"),
-        ("1000000", "1000,1000,1001", ""),
-    ] {
+    let mut permits = permits(EQUIVALENTS.len() as u64);
+    for (line, potential, want) in EQUIVALENTS {
         let ticket = permits.ticket().expect(&rt, "a step");
-        let given = (
-            input(line).expect(&rt, "a line"),
-            input(potential).expect(&rt, "a ratio"),
+        check(
+            &rt,
+            equivalent(ticket, line, potential) == input(want),
+            line,
         );
-        let found = equiv(ticket, &given.0, &given.1)
-            .ok()
-            .map(|value| *value.input());
-        assert!(rt; found == input(want), "{line} at {potential}");
     }
 }
 
-// Three parts, their total and their sum; nothing where it is beyond the limit. A blank counts as zero in a total alone.
+// Three parts, their total and their sum; nothing where it is beyond the limit, of 10^9 Gg and of 10^14 units. A blank counts
+// as zero in a total alone.
+const SUMS: &[([&str; 3], &str, &str)] = &[
+    (["2,2,3", "NE", "-0.5,-0.5,0.1"], "1.5,1.5,3.1", "NE"),
+    (
+        ["2,2,3", "0", "-0.5,-0.5,0.1"],
+        "1.5,1.5,3.1",
+        "1.5,1.5,3.1",
+    ),
+    (["NE", "NE", "NE"], "0", "NE"),
+    (["1000000000", "1", "0"], "", "1000000001"),
+    (["1000000000", "1", "-1"], "1000000000", "1000000000"),
+    (["99999999999999", "2", "-2"], "", "99999999999999"),
+    (["99999999999999", "2", "0"], "", ""),
+];
+
+fn parts(texts: &[&str; 3]) -> Option<[Input; 3]> {
+    Some([input(texts[0])?, input(texts[1])?, input(texts[2])?])
+}
+
+fn totalled(ticket: Ticket, parts: &[Input; 3]) -> Option<Input> {
+    let value = total(ticket, parts).ok()?;
+    Some(*value.input())
+}
+
 #[test]
 fn totals_and_sums_have_their_limits_at_their_end(rt: HostRuntime) {
-    let mut permits = permits(6);
-    for (first, second, third, of_total, of_sum) in [
-        ("2,2,3", "NE", "-0.5,-0.5,0.1", "1.5,1.5,3.1", "NE"),
-        ("2,2,3", "0", "-0.5,-0.5,0.1", "1.5,1.5,3.1", "1.5,1.5,3.1"),
-        ("NE", "NE", "NE", "0", "NE"),
-        ("1000000000", "1", "0", "", "1000000001"),
-        ("1000000000", "1", "-1", "1000000000", "1000000000"),
-        ("99999999999999", "2", "-2", "", "99999999999999"),
-    ] {
+    let mut permits = permits(SUMS.len() as u64);
+    for (texts, of_total, of_sum) in SUMS {
         let ticket = permits.ticket().expect(&rt, "a step");
-        let parts = [
-            input(first).expect(&rt, "a part"),
-            input(second).expect(&rt, "a part"),
-            input(third).expect(&rt, "a part"),
-        ];
-        let totalled = total(ticket, &parts).ok().map(|value| *value.input());
-        assert!(rt;
-            totalled == input(of_total),
-            "the total of {first}, {second} and {third}"
-        );
-        let summed = sum(&parts).ok();
-        assert!(rt;
-            summed == input(of_sum),
-            "the sum of {first}, {second} and {third}"
-        );
+        let parts = parts(texts).expect(&rt, "three parts");
+        check(&rt, totalled(ticket, &parts) == input(of_total), of_total);
+        check(&rt, sum(&parts).ok() == input(of_sum), of_sum);
     }
-    let most = input("99999999999999").expect(&rt, "a part");
-    let two = input("2").expect(&rt, "a part");
-    assert!(rt; sum(&[most, two]).is_err() && sum(&[]).ok() == input("0"));
+    check(&rt, sum(&[]).ok() == input("0"), "no parts");
 }

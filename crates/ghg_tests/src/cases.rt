@@ -1,8 +1,20 @@
-//! Quantities as the tables of cases write them.
+//! What the tables of cases share: how they write quantities, and how a case fails.
 
 use ghg_cell::Input;
 use ghg_interval::{Interval, LIMIT};
 use ghg_units::read_decimal;
+use std::process::Abort;
+use std::str;
+
+/// Fails the test where a case does not hold, and says which.
+pub fn check(rt: &impl Abort, holds: bool, case: &str) {
+    assert!(rt; holds, "{case}");
+}
+
+/// A text that was written.
+pub fn word(text: &[u8]) -> &str {
+    str::from_utf8(text).unwrap_or("?")
+}
 
 /// A decimal, in 10^-12 of its unit.
 pub fn number(text: &str) -> Option<i128> {
