@@ -126,7 +126,8 @@ is_leaf_of c = not (list_any (λ d. option_map_or (λ p. is_same p c) (parent_of
 -- the second is the first, or stands above it by no more than so many levels
 abbrev pub stands_within : ℕ → Category → Category → Bool
 stands_within zero c above = is_same c above
-stands_within (suc n) c above = is_same c above || option_map_or (λ p. stands_within n p above) (parent_of c) false
+stands_within (suc n) c above =
+    is_same c above || option_map_or (λ p. stands_within n p above) (parent_of c) false
 
 -- the second is the first, or stands above it
 unfoldable pub stands_under : Category → Category → Bool

@@ -4,16 +4,14 @@ ghost use Rattle.std.specs.Prelude.{◌≡◌, [], ◌∷◌};
 ghost use Rattle.ghg_equations.specs.declared.eq_id.EqId.TheVariants as EqId;
 ghost use Rattle.ghg_cell.specs.Values.{equation_value};
 
-use ghg_cell::{Input, Ticket, Value};
+use ghg_cell::{Input, Ticket, Value, known};
 use ghg_interval::Over;
 
 /// CO2 of fuel burnt, in Gg: the fuel `fc` in TJ times the emission factor `ef` in kg/TJ (Equation 2.1).
 pub fn q10(ticket: Ticket, fc: &Input, ef: &Input) -> Result<Value, Over>
     ensures { result ≡ equation_value EqId.Q10 (fc.now ∷ ef.now ∷ []) }
 {
-    let (Some(fc), Some(ef)) = (fc.figures(), ef.figures()) else {
-        return Ok(Value::blank(ticket));
-    };
+    known!(ticket, fc, ef);
     let value = fc.mul(&ef)?.scale(1, 1_000_000)?;
     Ok(Value::known(ticket, value))
 }
@@ -37,9 +35,7 @@ pub fn q12(ticket: Ticket, fc: &Input, ef: &Input) -> Result<Value, Over>
 pub fn q13(ticket: Ticket, fm: &Input, ncv: &Input) -> Result<Value, Over>
     ensures { result ≡ equation_value EqId.Q13 (fm.now ∷ ncv.now ∷ []) }
 {
-    let (Some(fm), Some(ncv)) = (fm.figures(), ncv.figures()) else {
-        return Ok(Value::blank(ticket));
-    };
+    known!(ticket, fm, ncv);
     let value = fm.scale(1, 1_000)?.mul(&ncv)?;
     Ok(Value::known(ticket, value))
 }

@@ -4,7 +4,7 @@ ghost use Rattle.std.specs.Prelude.{◌≡◌, [], ◌∷◌};
 ghost use Rattle.ghg_equations.specs.declared.eq_id.EqId.TheVariants as EqId;
 ghost use Rattle.ghg_cell.specs.Values.{equation_value};
 
-use ghg_cell::{Input, Ticket, Value};
+use ghg_cell::{Input, Ticket, Value, known};
 use ghg_interval::Over;
 
 /// CH4 of coal mining, in Gg: the coal `p` in t times the emission factor `ef` in m3/t, at 0.67 kg of CH4 in a m3
@@ -12,9 +12,7 @@ use ghg_interval::Over;
 pub fn q14(ticket: Ticket, p: &Input, ef: &Input) -> Result<Value, Over>
     ensures { result ≡ equation_value EqId.Q14 (p.now ∷ ef.now ∷ []) }
 {
-    let (Some(p), Some(ef)) = (p.figures(), ef.figures()) else {
-        return Ok(Value::blank(ticket));
-    };
+    known!(ticket, p, ef);
     let value = p.mul(&ef)?.scale(67, 100)?.scale(1, 1_000_000)?;
     Ok(Value::known(ticket, value))
 }
@@ -23,9 +21,7 @@ pub fn q14(ticket: Ticket, p: &Input, ef: &Input) -> Result<Value, Over>
 pub fn q15(ticket: Ticket, a: &Input, ef: &Input) -> Result<Value, Over>
     ensures { result ≡ equation_value EqId.Q15 (a.now ∷ ef.now ∷ []) }
 {
-    let (Some(a), Some(ef)) = (a.figures(), ef.figures()) else {
-        return Ok(Value::blank(ticket));
-    };
+    known!(ticket, a, ef);
     let value = a.mul(&ef)?.scale(1, 1_000_000)?;
     Ok(Value::known(ticket, value))
 }

@@ -4,7 +4,7 @@ ghost use Rattle.std.specs.Prelude.{◌≡◌, [], ◌∷◌};
 ghost use Rattle.ghg_equations.specs.declared.eq_id.EqId.TheVariants as EqId;
 ghost use Rattle.ghg_cell.specs.Values.{equation_value};
 
-use ghg_cell::{Input, Ticket, Value};
+use ghg_cell::{Input, Ticket, Value, known};
 use ghg_interval::Over;
 
 /// Apparent consumption of a primary fuel, in t: production `pr` and imports `im`, less exports `ex`, international
@@ -19,15 +19,7 @@ pub fn q20(
 ) -> Result<Value, Over>
     ensures { result ≡ equation_value EqId.Q20 (pr.now ∷ im.now ∷ ex.now ∷ ib.now ∷ sc.now ∷ []) }
 {
-    let (Some(pr), Some(im), Some(ex), Some(ib), Some(sc)) = (
-        pr.figures(),
-        im.figures(),
-        ex.figures(),
-        ib.figures(),
-        sc.figures(),
-    ) else {
-        return Ok(Value::blank(ticket));
-    };
+    known!(ticket, pr, im, ex, ib, sc);
     let value = pr.add(&im)?.sub(&ex)?.sub(&ib)?.sub(&sc)?;
     Ok(Value::known(ticket, value))
 }
@@ -37,14 +29,7 @@ pub fn q20(
 pub fn q21(ticket: Ticket, im: &Input, ex: &Input, ib: &Input, sc: &Input) -> Result<Value, Over>
     ensures { result ≡ equation_value EqId.Q21 (im.now ∷ ex.now ∷ ib.now ∷ sc.now ∷ []) }
 {
-    let (Some(im), Some(ex), Some(ib), Some(sc)) = (
-        im.figures(),
-        ex.figures(),
-        ib.figures(),
-        sc.figures(),
-    ) else {
-        return Ok(Value::blank(ticket));
-    };
+    known!(ticket, im, ex, ib, sc);
     let value = im.sub(&ex)?.sub(&ib)?.sub(&sc)?;
     Ok(Value::known(ticket, value))
 }
@@ -75,9 +60,7 @@ pub fn q23(ticket: Ticket, im: &Input, ex: &Input, ib: &Input, sc: &Input) -> Re
 pub fn q24(ticket: Ticket, a: &Input, cc: &Input) -> Result<Value, Over>
     ensures { result ≡ equation_value EqId.Q24 (a.now ∷ cc.now ∷ []) }
 {
-    let (Some(a), Some(cc)) = (a.figures(), cc.figures()) else {
-        return Ok(Value::blank(ticket));
-    };
+    known!(ticket, a, cc);
     let value = a.mul(&cc)?.scale(1, 1_000)?;
     Ok(Value::known(ticket, value))
 }
@@ -95,15 +78,7 @@ pub fn q25(
 ) -> Result<Value, Over>
     ensures { result ≡ equation_value EqId.Q25 (ac.now ∷ conv.now ∷ cc.now ∷ xc.now ∷ cof.now ∷ []) }
 {
-    let (Some(ac), Some(conv), Some(cc), Some(xc), Some(cof)) = (
-        ac.figures(),
-        conv.figures(),
-        cc.figures(),
-        xc.figures(),
-        cof.figures(),
-    ) else {
-        return Ok(Value::blank(ticket));
-    };
+    known!(ticket, ac, conv, cc, xc, cof);
     let energy = ac.scale(1, 1_000)?.mul(&conv)?;
     let carbon = energy.mul(&cc)?.scale(1, 1_000)?.sub(&xc)?;
     let value = carbon.mul(&cof)?.scale(44, 12)?;
@@ -115,14 +90,7 @@ pub fn q25(
 pub fn q26(ticket: Ticket, ac: &Input, cc: &Input, xc: &Input, cof: &Input) -> Result<Value, Over>
     ensures { result ≡ equation_value EqId.Q26 (ac.now ∷ cc.now ∷ xc.now ∷ cof.now ∷ []) }
 {
-    let (Some(ac), Some(cc), Some(xc), Some(cof)) = (
-        ac.figures(),
-        cc.figures(),
-        xc.figures(),
-        cof.figures(),
-    ) else {
-        return Ok(Value::blank(ticket));
-    };
+    known!(ticket, ac, cc, xc, cof);
     let carbon = ac.mul(&cc)?.scale(1, 1_000)?.sub(&xc)?;
     let value = carbon.mul(&cof)?.scale(44, 12)?;
     Ok(Value::known(ticket, value))

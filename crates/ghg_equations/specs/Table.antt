@@ -291,7 +291,13 @@ pub record Row : Type 0 where
   pub output : Output
 
 abbrev pub row : EqId → Row
-row id = record { id = id; code = code id; sector = sector_of id; parameters = parameters id; output = output id }
+row id = record {
+  id = id;
+  code = code id;
+  sector = sector_of id;
+  parameters = parameters id;
+  output = output id;
+}
 
 abbrev pub seen : Equation → Row
 seen e = record {

@@ -4,7 +4,7 @@ ghost use Rattle.std.specs.Prelude.{◌≡◌, [], ◌∷◌};
 ghost use Rattle.ghg_equations.specs.declared.eq_id.EqId.TheVariants as EqId;
 ghost use Rattle.ghg_cell.specs.Values.{equation_value};
 
-use ghg_cell::{Figures, Input, Ticket, Value};
+use ghg_cell::{Figures, Input, Ticket, Value, known};
 use ghg_interval::Over;
 
 /// CO2 of ammonia, in Gg: the ammonia produced `ap` in t times the fuel that it takes `fr` in TJ/Gg, the carbon content
@@ -20,15 +20,7 @@ pub fn q37(
 ) -> Result<Value, Over>
     ensures { result ≡ equation_value EqId.Q37 (ap.now ∷ fr.now ∷ ccf.now ∷ cof.now ∷ r.now ∷ []) }
 {
-    let (Some(ap), Some(fr), Some(ccf), Some(cof), Some(r)) = (
-        ap.figures(),
-        fr.figures(),
-        ccf.figures(),
-        cof.figures(),
-        r.figures(),
-    ) else {
-        return Ok(Value::blank(ticket));
-    };
+    known!(ticket, ap, fr, ccf, cof, r);
     let carbon = ap.mul(&fr)?.mul(&ccf)?.mul(&cof)?;
     let value = carbon.scale(44, 12)?.scale(1, 1_000_000)?.sub(&r)?;
     Ok(Value::known(ticket, value))
@@ -39,9 +31,7 @@ pub fn q37(
 pub fn q38(ticket: Ticket, ef: &Input, p: &Input) -> Result<Value, Over>
     ensures { result ≡ equation_value EqId.Q38 (ef.now ∷ p.now ∷ []) }
 {
-    let (Some(ef), Some(p)) = (ef.figures(), p.figures()) else {
-        return Ok(Value::blank(ticket));
-    };
+    known!(ticket, ef, p);
     let value = ef.mul(&p)?.scale(1, 1_000)?;
     Ok(Value::known(ticket, value))
 }
@@ -52,14 +42,7 @@ pub fn q38(ticket: Ticket, ef: &Input, p: &Input) -> Result<Value, Over>
 pub fn q39(ticket: Ticket, ef: &Input, p: &Input, df: &Input, asuf: &Input) -> Result<Value, Over>
     ensures { result ≡ equation_value EqId.Q39 (ef.now ∷ p.now ∷ df.now ∷ asuf.now ∷ []) }
 {
-    let (Some(ef), Some(p), Some(df), Some(asuf)) = (
-        ef.figures(),
-        p.figures(),
-        df.figures(),
-        asuf.figures(),
-    ) else {
-        return Ok(Value::blank(ticket));
-    };
+    known!(ticket, ef, p, df, asuf);
     let formed = ef.mul(&p)?;
     let emitted = Figures::whole(1)?.sub(&df.mul(&asuf)?)?;
     let value = formed.mul(&emitted)?.scale(1, 1_000)?;

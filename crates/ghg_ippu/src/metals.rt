@@ -4,7 +4,7 @@ ghost use Rattle.std.specs.Prelude.{◌≡◌, [], ◌∷◌};
 ghost use Rattle.ghg_equations.specs.declared.eq_id.EqId.TheVariants as EqId;
 ghost use Rattle.ghg_cell.specs.Values.{equation_value};
 
-use ghg_cell::{Input, Ticket, Value};
+use ghg_cell::{Input, Ticket, Value, known};
 use ghg_interval::Over;
 
 /// CO2 of steel, in Gg: the steel of basic oxygen furnaces `bof`, of electric arc furnaces `eaf` and of open hearth
@@ -20,16 +20,7 @@ pub fn q40(
 ) -> Result<Value, Over>
     ensures { result ≡ equation_value EqId.Q40 (bof.now ∷ efb.now ∷ eaf.now ∷ efe.now ∷ ohf.now ∷ efo.now ∷ []) }
 {
-    let (Some(bof), Some(efb), Some(eaf), Some(efe), Some(ohf), Some(efo)) = (
-        bof.figures(),
-        efb.figures(),
-        eaf.figures(),
-        efe.figures(),
-        ohf.figures(),
-        efo.figures(),
-    ) else {
-        return Ok(Value::blank(ticket));
-    };
+    known!(ticket, bof, efb, eaf, efe, ohf, efo);
     let oxygen_and_arc = bof.mul(&efb)?.add(&eaf.mul(&efe)?)?;
     let hearth = ohf.mul(&efo)?;
     let value = oxygen_and_arc.add(&hearth)?.scale(1, 1_000)?;
@@ -47,14 +38,7 @@ pub fn q41(
 ) -> Result<Value, Over>
     ensures { result ≡ equation_value EqId.Q41 (efp.now ∷ mpp.now ∷ efs.now ∷ mps.now ∷ []) }
 {
-    let (Some(efp), Some(mpp), Some(efs), Some(mps)) = (
-        efp.figures(),
-        mpp.figures(),
-        efs.figures(),
-        mps.figures(),
-    ) else {
-        return Ok(Value::blank(ticket));
-    };
+    known!(ticket, efp, mpp, efs, mps);
     let prebake = efp.mul(&mpp)?;
     let soderberg = efs.mul(&mps)?;
     let value = prebake.add(&soderberg)?.scale(1, 1_000)?;
@@ -66,9 +50,7 @@ pub fn q41(
 pub fn q42(ticket: Ticket, ef: &Input, mp: &Input) -> Result<Value, Over>
     ensures { result ≡ equation_value EqId.Q42 (ef.now ∷ mp.now ∷ []) }
 {
-    let (Some(ef), Some(mp)) = (ef.figures(), mp.figures()) else {
-        return Ok(Value::blank(ticket));
-    };
+    known!(ticket, ef, mp);
     let value = ef.mul(&mp)?.scale(1, 1_000)?;
     Ok(Value::known(ticket, value))
 }
@@ -78,9 +60,7 @@ pub fn q42(ticket: Ticket, ef: &Input, mp: &Input) -> Result<Value, Over>
 pub fn q44(ticket: Ticket, s: &Input, aem: &Input, mp: &Input) -> Result<Value, Over>
     ensures { result ≡ equation_value EqId.Q44 (s.now ∷ aem.now ∷ mp.now ∷ []) }
 {
-    let (Some(s), Some(aem), Some(mp)) = (s.figures(), aem.figures(), mp.figures()) else {
-        return Ok(Value::blank(ticket));
-    };
+    known!(ticket, s, aem, mp);
     let value = s.mul(&aem)?.mul(&mp)?.scale(1, 1_000_000)?;
     Ok(Value::known(ticket, value))
 }
@@ -90,9 +70,7 @@ pub fn q44(ticket: Ticket, s: &Input, aem: &Input, mp: &Input) -> Result<Value, 
 pub fn q45(ticket: Ticket, cf: &Input, f: &Input) -> Result<Value, Over>
     ensures { result ≡ equation_value EqId.Q45 (cf.now ∷ f.now ∷ []) }
 {
-    let (Some(cf), Some(f)) = (cf.figures(), f.figures()) else {
-        return Ok(Value::blank(ticket));
-    };
+    known!(ticket, cf, f);
     let value = cf.mul(&f)?;
     Ok(Value::known(ticket, value))
 }

@@ -4,16 +4,14 @@ ghost use Rattle.std.specs.Prelude.{◌≡◌, [], ◌∷◌};
 ghost use Rattle.ghg_equations.specs.declared.eq_id.EqId.TheVariants as EqId;
 ghost use Rattle.ghg_cell.specs.Values.{equation_value};
 
-use ghg_cell::{Figures, Input, Ticket, Value};
+use ghg_cell::{Figures, Input, Ticket, Value, known};
 use ghg_interval::Over;
 
 /// Clinker of a cement, in t: the cement produced `mc` in t times its clinker fraction `ccl` (a term of Equation 2.1).
 pub fn q30(ticket: Ticket, mc: &Input, ccl: &Input) -> Result<Value, Over>
     ensures { result ≡ equation_value EqId.Q30 (mc.now ∷ ccl.now ∷ []) }
 {
-    let (Some(mc), Some(ccl)) = (mc.figures(), ccl.figures()) else {
-        return Ok(Value::blank(ticket));
-    };
+    known!(ticket, mc, ccl);
     let value = mc.mul(&ccl)?;
     Ok(Value::known(ticket, value))
 }
@@ -23,14 +21,7 @@ pub fn q30(ticket: Ticket, mc: &Input, ccl: &Input) -> Result<Value, Over>
 pub fn q31(ticket: Ticket, cl: &Input, im: &Input, ex: &Input, ef: &Input) -> Result<Value, Over>
     ensures { result ≡ equation_value EqId.Q31 (cl.now ∷ im.now ∷ ex.now ∷ ef.now ∷ []) }
 {
-    let (Some(cl), Some(im), Some(ex), Some(ef)) = (
-        cl.figures(),
-        im.figures(),
-        ex.figures(),
-        ef.figures(),
-    ) else {
-        return Ok(Value::blank(ticket));
-    };
+    known!(ticket, cl, im, ex, ef);
     let clinker = cl.sub(&im)?.add(&ex)?;
     let value = clinker.mul(&ef)?.scale(1, 1_000)?;
     Ok(Value::known(ticket, value))
@@ -41,9 +32,7 @@ pub fn q31(ticket: Ticket, cl: &Input, im: &Input, ex: &Input, ef: &Input) -> Re
 pub fn q32(ticket: Ticket, mcl: &Input, ef: &Input, cf: &Input) -> Result<Value, Over>
     ensures { result ≡ equation_value EqId.Q32 (mcl.now ∷ ef.now ∷ cf.now ∷ []) }
 {
-    let (Some(mcl), Some(ef), Some(cf)) = (mcl.figures(), ef.figures(), cf.figures()) else {
-        return Ok(Value::blank(ticket));
-    };
+    known!(ticket, mcl, ef, cf);
     let value = mcl.mul(&ef)?.mul(&cf)?.scale(1, 1_000)?;
     Ok(Value::known(ticket, value))
 }
@@ -53,14 +42,7 @@ pub fn q32(ticket: Ticket, mcl: &Input, ef: &Input, cf: &Input) -> Result<Value,
 pub fn q33(ticket: Ticket, ef: &Input, ml: &Input, cf: &Input, ch: &Input) -> Result<Value, Over>
     ensures { result ≡ equation_value EqId.Q33 (ef.now ∷ ml.now ∷ cf.now ∷ ch.now ∷ []) }
 {
-    let (Some(ef), Some(ml), Some(cf), Some(ch)) = (
-        ef.figures(),
-        ml.figures(),
-        cf.figures(),
-        ch.figures(),
-    ) else {
-        return Ok(Value::blank(ticket));
-    };
+    known!(ticket, ef, ml, cf, ch);
     let value = ef.mul(&ml)?.mul(&cf)?.mul(&ch)?.scale(1, 1_000)?;
     Ok(Value::known(ticket, value))
 }
@@ -70,9 +52,7 @@ pub fn q33(ticket: Ticket, ef: &Input, ml: &Input, cf: &Input, ch: &Input) -> Re
 pub fn q34(ticket: Ticket, mg: &Input, ef: &Input, cr: &Input) -> Result<Value, Over>
     ensures { result ≡ equation_value EqId.Q34 (mg.now ∷ ef.now ∷ cr.now ∷ []) }
 {
-    let (Some(mg), Some(ef), Some(cr)) = (mg.figures(), ef.figures(), cr.figures()) else {
-        return Ok(Value::blank(ticket));
-    };
+    known!(ticket, mg, ef, cr);
     let gross = mg.mul(&ef)?;
     let raw = Figures::whole(1)?.sub(&cr)?;
     let value = gross.mul(&raw)?.scale(1, 1_000)?;
@@ -84,9 +64,7 @@ pub fn q34(ticket: Ticket, mg: &Input, ef: &Input, cr: &Input) -> Result<Value, 
 pub fn q35(ticket: Ticket, m: &Input, efls: &Input, efd: &Input) -> Result<Value, Over>
     ensures { result ≡ equation_value EqId.Q35 (m.now ∷ efls.now ∷ efd.now ∷ []) }
 {
-    let (Some(m), Some(efls), Some(efd)) = (m.figures(), efls.figures(), efd.figures()) else {
-        return Ok(Value::blank(ticket));
-    };
+    known!(ticket, m, efls, efd);
     let factor = efls.scale(85, 100)?.add(&efd.scale(15, 100)?)?;
     let value = m.mul(&factor)?.scale(1, 1_000)?;
     Ok(Value::known(ticket, value))
@@ -103,14 +81,7 @@ pub fn q36(
 ) -> Result<Value, Over>
     ensures { result ≡ equation_value EqId.Q36 (mls.now ∷ efls.now ∷ md.now ∷ efd.now ∷ []) }
 {
-    let (Some(mls), Some(efls), Some(md), Some(efd)) = (
-        mls.figures(),
-        efls.figures(),
-        md.figures(),
-        efd.figures(),
-    ) else {
-        return Ok(Value::blank(ticket));
-    };
+    known!(ticket, mls, efls, md, efd);
     let limestone = mls.mul(&efls)?;
     let dolomite = md.mul(&efd)?;
     let value = limestone.add(&dolomite)?.scale(1, 1_000)?;

@@ -4,7 +4,7 @@ ghost use Rattle.std.specs.Prelude.{◌≡◌, [], ◌∷◌};
 ghost use Rattle.ghg_equations.specs.declared.eq_id.EqId.TheVariants as EqId;
 ghost use Rattle.ghg_cell.specs.Values.{equation_value};
 
-use ghg_cell::{Figures, Input, Ticket, Value};
+use ghg_cell::{Figures, Input, Ticket, Value, known};
 use ghg_interval::Over;
 
 /// Carbon that biomass gains by growth, in GgC: the area `a` in ha times the growth above ground `gw` in t/ha and year,
@@ -13,14 +13,7 @@ use ghg_interval::Over;
 pub fn q78(ticket: Ticket, a: &Input, gw: &Input, r: &Input, cf: &Input) -> Result<Value, Over>
     ensures { result ≡ equation_value EqId.Q78 (a.now ∷ gw.now ∷ r.now ∷ cf.now ∷ []) }
 {
-    let (Some(a), Some(gw), Some(r), Some(cf)) = (
-        a.figures(),
-        gw.figures(),
-        r.figures(),
-        cf.figures(),
-    ) else {
-        return Ok(Value::blank(ticket));
-    };
+    known!(ticket, a, gw, r, cf);
     let above = a.mul(&gw)?;
     let with_roots = Figures::whole(1)?.add(&r)?;
     let value = above.mul(&with_roots)?.mul(&cf)?.scale(1, 1_000)?;
@@ -40,15 +33,7 @@ pub fn q79(
 ) -> Result<Value, Over>
     ensures { result ≡ equation_value EqId.Q79 (a.now ∷ iv.now ∷ bcef.now ∷ r.now ∷ cf.now ∷ []) }
 {
-    let (Some(a), Some(iv), Some(bcef), Some(r), Some(cf)) = (
-        a.figures(),
-        iv.figures(),
-        bcef.figures(),
-        r.figures(),
-        cf.figures(),
-    ) else {
-        return Ok(Value::blank(ticket));
-    };
+    known!(ticket, a, iv, bcef, r, cf);
     let above = a.mul(&iv)?.mul(&bcef)?;
     let with_roots = Figures::whole(1)?.add(&r)?;
     let value = above.mul(&with_roots)?.mul(&cf)?.scale(1, 1_000)?;
@@ -60,14 +45,7 @@ pub fn q79(
 pub fn q80(ticket: Ticket, h: &Input, bcef: &Input, r: &Input, cf: &Input) -> Result<Value, Over>
     ensures { result ≡ equation_value EqId.Q80 (h.now ∷ bcef.now ∷ r.now ∷ cf.now ∷ []) }
 {
-    let (Some(h), Some(bcef), Some(r), Some(cf)) = (
-        h.figures(),
-        bcef.figures(),
-        r.figures(),
-        cf.figures(),
-    ) else {
-        return Ok(Value::blank(ticket));
-    };
+    known!(ticket, h, bcef, r, cf);
     let above = h.mul(&bcef)?;
     let with_roots = Figures::whole(1)?.add(&r)?;
     let value = above.mul(&with_roots)?.mul(&cf)?.scale(1, 1_000)?;
@@ -88,16 +66,7 @@ pub fn q81(
 ) -> Result<Value, Over>
     ensures { result ≡ equation_value EqId.Q81 (ft.now ∷ bcef.now ∷ r.now ∷ fp.now ∷ d.now ∷ cf.now ∷ []) }
 {
-    let (Some(ft), Some(bcef), Some(r), Some(fp), Some(d), Some(cf)) = (
-        ft.figures(),
-        bcef.figures(),
-        r.figures(),
-        fp.figures(),
-        d.figures(),
-        cf.figures(),
-    ) else {
-        return Ok(Value::blank(ticket));
-    };
+    known!(ticket, ft, bcef, r, fp, d, cf);
     let above = ft.mul(&bcef)?;
     let with_roots = Figures::whole(1)?.add(&r)?;
     let trees = above.mul(&with_roots)?;
@@ -119,15 +88,7 @@ pub fn q82(
 ) -> Result<Value, Over>
     ensures { result ≡ equation_value EqId.Q82 (a.now ∷ bw.now ∷ r.now ∷ cf.now ∷ fd.now ∷ []) }
 {
-    let (Some(a), Some(bw), Some(r), Some(cf), Some(fd)) = (
-        a.figures(),
-        bw.figures(),
-        r.figures(),
-        cf.figures(),
-        fd.figures(),
-    ) else {
-        return Ok(Value::blank(ticket));
-    };
+    known!(ticket, a, bw, r, cf, fd);
     let above = a.mul(&bw)?;
     let with_roots = Figures::whole(1)?.add(&r)?;
     let value = above.mul(&with_roots)?.mul(&cf)?.mul(&fd)?.scale(1, 1_000)?;

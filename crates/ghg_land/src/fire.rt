@@ -4,7 +4,7 @@ ghost use Rattle.std.specs.Prelude.{◌≡◌, [], ◌∷◌};
 ghost use Rattle.ghg_equations.specs.declared.eq_id.EqId.TheVariants as EqId;
 ghost use Rattle.ghg_cell.specs.Values.{equation_value};
 
-use ghg_cell::{Input, Ticket, Value};
+use ghg_cell::{Input, Ticket, Value, known};
 use ghg_interval::Over;
 
 /// CH4 of a fire, in Gg: the area burnt `a` in ha times the fuel there `mb` in t/ha, the fraction of it that burns `cb`
@@ -12,14 +12,7 @@ use ghg_interval::Over;
 pub fn q88(ticket: Ticket, a: &Input, mb: &Input, cb: &Input, gef: &Input) -> Result<Value, Over>
     ensures { result ≡ equation_value EqId.Q88 (a.now ∷ mb.now ∷ cb.now ∷ gef.now ∷ []) }
 {
-    let (Some(a), Some(mb), Some(cb), Some(gef)) = (
-        a.figures(),
-        mb.figures(),
-        cb.figures(),
-        gef.figures(),
-    ) else {
-        return Ok(Value::blank(ticket));
-    };
+    known!(ticket, a, mb, cb, gef);
     let value = a.mul(&mb)?.mul(&cb)?.mul(&gef)?.scale(1, 1_000)?;
     Ok(Value::known(ticket, value))
 }

@@ -4,16 +4,14 @@ ghost use Rattle.std.specs.Prelude.{◌≡◌, [], ◌∷◌};
 ghost use Rattle.ghg_equations.specs.declared.eq_id.EqId.TheVariants as EqId;
 ghost use Rattle.ghg_cell.specs.Values.{equation_value};
 
-use ghg_cell::{Figures, Input, Ticket, Value};
+use ghg_cell::{Figures, Input, Ticket, Value, known};
 use ghg_interval::Over;
 
 /// Change of a carbon stock in a year, in GgC: the gains `g` less the losses `l`, each in GgC (Equation 2.7).
 pub fn q83(ticket: Ticket, g: &Input, l: &Input) -> Result<Value, Over>
     ensures { result ≡ equation_value EqId.Q83 (g.now ∷ l.now ∷ []) }
 {
-    let (Some(g), Some(l)) = (g.figures(), l.figures()) else {
-        return Ok(Value::blank(ticket));
-    };
+    known!(ticket, g, l);
     let value = g.sub(&l)?;
     Ok(Value::known(ticket, value))
 }
@@ -23,9 +21,7 @@ pub fn q83(ticket: Ticket, g: &Input, l: &Input) -> Result<Value, Over>
 pub fn q84(ticket: Ticket, c: &Input) -> Result<Value, Over>
     ensures { result ≡ equation_value EqId.Q84 (c.now ∷ []) }
 {
-    let Some(c) = c.figures() else {
-        return Ok(Value::blank(ticket));
-    };
+    known!(ticket, c);
     let value = Figures::whole(0)?.sub(&c)?.scale(44, 12)?;
     Ok(Value::known(ticket, value))
 }
@@ -43,15 +39,7 @@ pub fn q85(
 ) -> Result<Value, Over>
     ensures { result ≡ equation_value EqId.Q85 (sref.now ∷ flu.now ∷ fmg.now ∷ fi.now ∷ a.now ∷ []) }
 {
-    let (Some(sref), Some(flu), Some(fmg), Some(fi), Some(a)) = (
-        sref.figures(),
-        flu.figures(),
-        fmg.figures(),
-        fi.figures(),
-        a.figures(),
-    ) else {
-        return Ok(Value::blank(ticket));
-    };
+    known!(ticket, sref, flu, fmg, fi, a);
     let value = sref
         .mul(&flu)?
         .mul(&fmg)?
@@ -66,9 +54,7 @@ pub fn q85(
 pub fn q86(ticket: Ticket, s0: &Input, st: &Input) -> Result<Value, Over>
     ensures { result ≡ equation_value EqId.Q86 (s0.now ∷ st.now ∷ []) }
 {
-    let (Some(s0), Some(st)) = (s0.figures(), st.figures()) else {
-        return Ok(Value::blank(ticket));
-    };
+    known!(ticket, s0, st);
     let value = s0.sub(&st)?.scale(1, 20)?;
     Ok(Value::known(ticket, value))
 }
@@ -78,9 +64,7 @@ pub fn q86(ticket: Ticket, s0: &Input, st: &Input) -> Result<Value, Over>
 pub fn q87(ticket: Ticket, a: &Input, ef: &Input) -> Result<Value, Over>
     ensures { result ≡ equation_value EqId.Q87 (a.now ∷ ef.now ∷ []) }
 {
-    let (Some(a), Some(ef)) = (a.figures(), ef.figures()) else {
-        return Ok(Value::blank(ticket));
-    };
+    known!(ticket, a, ef);
     let value = a.mul(&ef)?.scale(1, 1_000)?;
     Ok(Value::known(ticket, value))
 }

@@ -4,7 +4,7 @@ ghost use Rattle.std.specs.Prelude.{◌≡◌, [], ◌∷◌};
 ghost use Rattle.ghg_equations.specs.declared.eq_id.EqId.TheVariants as EqId;
 ghost use Rattle.ghg_cell.specs.Values.{equation_value};
 
-use ghg_cell::{Input, Ticket, Value};
+use ghg_cell::{Input, Ticket, Value, known};
 use ghg_interval::Over;
 
 /// CH4 of enteric fermentation or of manure, in Gg: the emission factor `ef` in kg/head and year times the animals `n`
@@ -12,9 +12,7 @@ use ghg_interval::Over;
 pub fn q55(ticket: Ticket, ef: &Input, n: &Input) -> Result<Value, Over>
     ensures { result ≡ equation_value EqId.Q55 (ef.now ∷ n.now ∷ []) }
 {
-    let (Some(ef), Some(n)) = (ef.figures(), n.figures()) else {
-        return Ok(Value::blank(ticket));
-    };
+    known!(ticket, ef, n);
     let value = ef.mul(&n)?.scale(1, 1_000_000)?;
     Ok(Value::known(ticket, value))
 }
@@ -24,9 +22,7 @@ pub fn q55(ticket: Ticket, ef: &Input, n: &Input) -> Result<Value, Over>
 pub fn q56(ticket: Ticket, ge: &Input, ym: &Input) -> Result<Value, Over>
     ensures { result ≡ equation_value EqId.Q56 (ge.now ∷ ym.now ∷ []) }
 {
-    let (Some(ge), Some(ym)) = (ge.figures(), ym.figures()) else {
-        return Ok(Value::blank(ticket));
-    };
+    known!(ticket, ge, ym);
     let value = ge.mul(&ym)?.scale(36_500, 5_565)?;
     Ok(Value::known(ticket, value))
 }
@@ -36,9 +32,7 @@ pub fn q56(ticket: Ticket, ge: &Input, ym: &Input) -> Result<Value, Over>
 pub fn q57(ticket: Ticket, mcf: &Input, ms: &Input) -> Result<Value, Over>
     ensures { result ≡ equation_value EqId.Q57 (mcf.now ∷ ms.now ∷ []) }
 {
-    let (Some(mcf), Some(ms)) = (mcf.figures(), ms.figures()) else {
-        return Ok(Value::blank(ticket));
-    };
+    known!(ticket, mcf, ms);
     let value = mcf.mul(&ms)?;
     Ok(Value::known(ticket, value))
 }
@@ -49,9 +43,7 @@ pub fn q57(ticket: Ticket, mcf: &Input, ms: &Input) -> Result<Value, Over>
 pub fn q58(ticket: Ticket, vs: &Input, bo: &Input, sm: &Input) -> Result<Value, Over>
     ensures { result ≡ equation_value EqId.Q58 (vs.now ∷ bo.now ∷ sm.now ∷ []) }
 {
-    let (Some(vs), Some(bo), Some(sm)) = (vs.figures(), bo.figures(), sm.figures()) else {
-        return Ok(Value::blank(ticket));
-    };
+    known!(ticket, vs, bo, sm);
     let solids = vs.scale(365, 1)?;
     let methane = bo.scale(67, 100)?.mul(&sm)?;
     let value = solids.mul(&methane)?;

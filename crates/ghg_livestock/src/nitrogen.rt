@@ -4,7 +4,7 @@ ghost use Rattle.std.specs.Prelude.{◌≡◌, [], ◌∷◌};
 ghost use Rattle.ghg_equations.specs.declared.eq_id.EqId.TheVariants as EqId;
 ghost use Rattle.ghg_cell.specs.Values.{equation_value};
 
-use ghg_cell::{Figures, Input, Ticket, Value};
+use ghg_cell::{Figures, Input, Ticket, Value, known};
 use ghg_interval::Over;
 
 /// Direct N2O of manure management, in Gg: the animals `n` times the nitrogen that one excretes `nex` in kg/head and
@@ -12,14 +12,7 @@ use ghg_interval::Over;
 pub fn q59(ticket: Ticket, n: &Input, nex: &Input, ms: &Input, ef3: &Input) -> Result<Value, Over>
     ensures { result ≡ equation_value EqId.Q59 (n.now ∷ nex.now ∷ ms.now ∷ ef3.now ∷ []) }
 {
-    let (Some(n), Some(nex), Some(ms), Some(ef3)) = (
-        n.figures(),
-        nex.figures(),
-        ms.figures(),
-        ef3.figures(),
-    ) else {
-        return Ok(Value::blank(ticket));
-    };
+    known!(ticket, n, nex, ms, ef3);
     let value = n
         .mul(&nex)?
         .mul(&ms)?
@@ -35,14 +28,7 @@ pub fn q59(ticket: Ticket, n: &Input, nex: &Input, ms: &Input, ef3: &Input) -> R
 pub fn q60(ticket: Ticket, n: &Input, nex: &Input, ms: &Input, fr: &Input) -> Result<Value, Over>
     ensures { result ≡ equation_value EqId.Q60 (n.now ∷ nex.now ∷ ms.now ∷ fr.now ∷ []) }
 {
-    let (Some(n), Some(nex), Some(ms), Some(fr)) = (
-        n.figures(),
-        nex.figures(),
-        ms.figures(),
-        fr.figures(),
-    ) else {
-        return Ok(Value::blank(ticket));
-    };
+    known!(ticket, n, nex, ms, fr);
     let value = n.mul(&nex)?.mul(&ms)?.mul(&fr)?.scale(1, 1_000)?;
     Ok(Value::known(ticket, value))
 }
@@ -52,9 +38,7 @@ pub fn q60(ticket: Ticket, n: &Input, nex: &Input, ms: &Input, fr: &Input) -> Re
 pub fn q61(ticket: Ticket, nv: &Input, ef: &Input) -> Result<Value, Over>
     ensures { result ≡ equation_value EqId.Q61 (nv.now ∷ ef.now ∷ []) }
 {
-    let (Some(nv), Some(ef)) = (nv.figures(), ef.figures()) else {
-        return Ok(Value::blank(ticket));
-    };
+    known!(ticket, nv, ef);
     let value = nv.mul(&ef)?.scale(44, 28)?.scale(1, 1_000)?;
     Ok(Value::known(ticket, value))
 }
@@ -64,9 +48,7 @@ pub fn q61(ticket: Ticket, nv: &Input, ef: &Input) -> Result<Value, Over>
 pub fn q62(ticket: Ticket, nr: &Input, tam: &Input) -> Result<Value, Over>
     ensures { result ≡ equation_value EqId.Q62 (nr.now ∷ tam.now ∷ []) }
 {
-    let (Some(nr), Some(tam)) = (nr.figures(), tam.figures()) else {
-        return Ok(Value::blank(ticket));
-    };
+    known!(ticket, nr, tam);
     let value = nr.mul(&tam)?.scale(1, 1_000)?.scale(365, 1)?;
     Ok(Value::known(ticket, value))
 }
@@ -85,15 +67,7 @@ pub fn q63(
 ) -> Result<Value, Over>
     ensures { result ≡ equation_value EqId.Q63 (n.now ∷ nex.now ∷ ms.now ∷ fl.now ∷ nb.now ∷ []) }
 {
-    let (Some(n), Some(nex), Some(ms), Some(fl), Some(nb)) = (
-        n.figures(),
-        nex.figures(),
-        ms.figures(),
-        fl.figures(),
-        nb.figures(),
-    ) else {
-        return Ok(Value::blank(ticket));
-    };
+    known!(ticket, n, nex, ms, fl, nb);
     let excreted = n.mul(&nex)?.mul(&ms)?;
     let kept = Figures::whole(1)?.sub(&fl)?;
     let manure = excreted.mul(&kept)?;
@@ -107,9 +81,7 @@ pub fn q63(
 pub fn q64(ticket: Ticket, n: &Input, nex: &Input, ms: &Input) -> Result<Value, Over>
     ensures { result ≡ equation_value EqId.Q64 (n.now ∷ nex.now ∷ ms.now ∷ []) }
 {
-    let (Some(n), Some(nex), Some(ms)) = (n.figures(), nex.figures(), ms.figures()) else {
-        return Ok(Value::blank(ticket));
-    };
+    known!(ticket, n, nex, ms);
     let value = n.mul(&nex)?.mul(&ms)?.scale(1, 1_000)?;
     Ok(Value::known(ticket, value))
 }

@@ -4,7 +4,7 @@ ghost use Rattle.std.specs.Prelude.{◌≡◌, [], ◌∷◌};
 ghost use Rattle.ghg_equations.specs.declared.eq_id.EqId.TheVariants as EqId;
 ghost use Rattle.ghg_cell.specs.Values.{equation_value};
 
-use ghg_cell::{Input, Ticket, Value};
+use ghg_cell::{Input, Ticket, Value, known};
 use ghg_interval::Over;
 
 /// CO2 of lime on soils, in Gg: the limestone `ml` and the dolomite `md` in t, each times its emission factor `efl` and
@@ -12,14 +12,7 @@ use ghg_interval::Over;
 pub fn q74(ticket: Ticket, ml: &Input, efl: &Input, md: &Input, efd: &Input) -> Result<Value, Over>
     ensures { result ≡ equation_value EqId.Q74 (ml.now ∷ efl.now ∷ md.now ∷ efd.now ∷ []) }
 {
-    let (Some(ml), Some(efl), Some(md), Some(efd)) = (
-        ml.figures(),
-        efl.figures(),
-        md.figures(),
-        efd.figures(),
-    ) else {
-        return Ok(Value::blank(ticket));
-    };
+    known!(ticket, ml, efl, md, efd);
     let limestone = ml.mul(&efl)?;
     let dolomite = md.mul(&efd)?;
     let value = limestone.add(&dolomite)?.scale(44, 12)?.scale(1, 1_000)?;
@@ -31,9 +24,7 @@ pub fn q74(ticket: Ticket, ml: &Input, efl: &Input, md: &Input, efd: &Input) -> 
 pub fn q75(ticket: Ticket, m: &Input, ef: &Input) -> Result<Value, Over>
     ensures { result ≡ equation_value EqId.Q75 (m.now ∷ ef.now ∷ []) }
 {
-    let (Some(m), Some(ef)) = (m.figures(), ef.figures()) else {
-        return Ok(Value::blank(ticket));
-    };
+    known!(ticket, m, ef);
     let value = m.mul(&ef)?.scale(44, 12)?.scale(1, 1_000)?;
     Ok(Value::known(ticket, value))
 }

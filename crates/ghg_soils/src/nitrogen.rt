@@ -4,7 +4,7 @@ ghost use Rattle.std.specs.Prelude.{◌≡◌, [], ◌∷◌};
 ghost use Rattle.ghg_equations.specs.declared.eq_id.EqId.TheVariants as EqId;
 ghost use Rattle.ghg_cell.specs.Values.{equation_value};
 
-use ghg_cell::{Figures, Input, Ticket, Value};
+use ghg_cell::{Figures, Input, Ticket, Value, known};
 use ghg_interval::Over;
 
 /// Organic nitrogen applied to soils, in t: that of animal manure `fam`, sewage `fsew`, compost `fcomp` and other
@@ -18,14 +18,7 @@ pub fn q67(
 ) -> Result<Value, Over>
     ensures { result ≡ equation_value EqId.Q67 (fam.now ∷ fsew.now ∷ fcomp.now ∷ fooa.now ∷ []) }
 {
-    let (Some(fam), Some(fsew), Some(fcomp), Some(fooa)) = (
-        fam.figures(),
-        fsew.figures(),
-        fcomp.figures(),
-        fooa.figures(),
-    ) else {
-        return Ok(Value::blank(ticket));
-    };
+    known!(ticket, fam, fsew, fcomp, fooa);
     let value = fam.add(&fsew)?.add(&fcomp)?.add(&fooa)?;
     Ok(Value::known(ticket, value))
 }
@@ -35,14 +28,7 @@ pub fn q67(
 pub fn q68(ticket: Ticket, na: &Input, ff: &Input, fu: &Input, fc: &Input) -> Result<Value, Over>
     ensures { result ≡ equation_value EqId.Q68 (na.now ∷ ff.now ∷ fu.now ∷ fc.now ∷ []) }
 {
-    let (Some(na), Some(ff), Some(fu), Some(fc)) = (
-        na.figures(),
-        ff.figures(),
-        fu.figures(),
-        fc.figures(),
-    ) else {
-        return Ok(Value::blank(ticket));
-    };
+    known!(ticket, na, ff, fu, fc);
     let used = ff.add(&fu)?.add(&fc)?;
     let value = na.mul(&Figures::whole(1)?.sub(&used)?)?;
     Ok(Value::known(ticket, value))
@@ -61,15 +47,7 @@ pub fn q69(
 ) -> Result<Value, Over>
     ensures { result ≡ equation_value EqId.Q69 (fsn.now ∷ fon.now ∷ fcr.now ∷ fsom.now ∷ ef1.now ∷ []) }
 {
-    let (Some(fsn), Some(fon), Some(fcr), Some(fsom), Some(ef1)) = (
-        fsn.figures(),
-        fon.figures(),
-        fcr.figures(),
-        fsom.figures(),
-        ef1.figures(),
-    ) else {
-        return Ok(Value::blank(ticket));
-    };
+    known!(ticket, fsn, fon, fcr, fsom, ef1);
     let inputs = fsn.add(&fon)?.add(&fcr)?.add(&fsom)?;
     let value = inputs.mul(&ef1)?.scale(44, 28)?.scale(1, 1_000)?;
     Ok(Value::known(ticket, value))
@@ -80,9 +58,7 @@ pub fn q69(
 pub fn q70(ticket: Ticket, a: &Input, ef2: &Input) -> Result<Value, Over>
     ensures { result ≡ equation_value EqId.Q70 (a.now ∷ ef2.now ∷ []) }
 {
-    let (Some(a), Some(ef2)) = (a.figures(), ef2.figures()) else {
-        return Ok(Value::blank(ticket));
-    };
+    known!(ticket, a, ef2);
     let value = a.mul(&ef2)?.scale(44, 28)?.scale(1, 1_000)?;
     Ok(Value::known(ticket, value))
 }
@@ -92,9 +68,7 @@ pub fn q70(ticket: Ticket, a: &Input, ef2: &Input) -> Result<Value, Over>
 pub fn q71(ticket: Ticket, fp: &Input, ef3: &Input) -> Result<Value, Over>
     ensures { result ≡ equation_value EqId.Q71 (fp.now ∷ ef3.now ∷ []) }
 {
-    let (Some(fp), Some(ef3)) = (fp.figures(), ef3.figures()) else {
-        return Ok(Value::blank(ticket));
-    };
+    known!(ticket, fp, ef3);
     let value = fp.mul(&ef3)?.scale(44, 28)?.scale(1, 1_000)?;
     Ok(Value::known(ticket, value))
 }
@@ -113,16 +87,7 @@ pub fn q72(
 ) -> Result<Value, Over>
     ensures { result ≡ equation_value EqId.Q72 (fsn.now ∷ fg.now ∷ fon.now ∷ fp.now ∷ fm.now ∷ ef4.now ∷ []) }
 {
-    let (Some(fsn), Some(fg), Some(fon), Some(fp), Some(fm), Some(ef4)) = (
-        fsn.figures(),
-        fg.figures(),
-        fon.figures(),
-        fp.figures(),
-        fm.figures(),
-        ef4.figures(),
-    ) else {
-        return Ok(Value::blank(ticket));
-    };
+    known!(ticket, fsn, fg, fon, fp, fm, ef4);
     let fertiliser = fsn.mul(&fg)?;
     let organic = fon.add(&fp)?.mul(&fm)?;
     let volatilised = fertiliser.add(&organic)?;
@@ -145,17 +110,7 @@ pub fn q73(
 ) -> Result<Value, Over>
     ensures { result ≡ equation_value EqId.Q73 (fsn.now ∷ fon.now ∷ fp.now ∷ fcr.now ∷ fsom.now ∷ fl.now ∷ ef5.now ∷ []) }
 {
-    let (Some(fsn), Some(fon), Some(fp), Some(fcr), Some(fsom), Some(fl), Some(ef5)) = (
-        fsn.figures(),
-        fon.figures(),
-        fp.figures(),
-        fcr.figures(),
-        fsom.figures(),
-        fl.figures(),
-        ef5.figures(),
-    ) else {
-        return Ok(Value::blank(ticket));
-    };
+    known!(ticket, fsn, fon, fp, fcr, fsom, fl, ef5);
     let inputs = fsn.add(&fon)?.add(&fp)?.add(&fcr)?.add(&fsom)?;
     let value = inputs.mul(&fl)?.mul(&ef5)?.scale(44, 28)?.scale(1, 1_000)?;
     Ok(Value::known(ticket, value))

@@ -4,7 +4,7 @@ ghost use Rattle.std.specs.Prelude.{◌≡◌, [], ◌∷◌};
 ghost use Rattle.ghg_equations.specs.declared.eq_id.EqId.TheVariants as EqId;
 ghost use Rattle.ghg_cell.specs.Values.{equation_value};
 
-use ghg_cell::{Input, Ticket, Value};
+use ghg_cell::{Input, Ticket, Value, known};
 use ghg_interval::Over;
 
 /// Emission factor of rice, in kg of CH4 for a ha and day: that of fields flooded throughout `efc` in kg/ha/day, scaled
@@ -20,15 +20,7 @@ pub fn q76(
 ) -> Result<Value, Over>
     ensures { result ≡ equation_value EqId.Q76 (efc.now ∷ sfw.now ∷ sfp.now ∷ sfo.now ∷ sfs.now ∷ []) }
 {
-    let (Some(efc), Some(sfw), Some(sfp), Some(sfo), Some(sfs)) = (
-        efc.figures(),
-        sfw.figures(),
-        sfp.figures(),
-        sfo.figures(),
-        sfs.figures(),
-    ) else {
-        return Ok(Value::blank(ticket));
-    };
+    known!(ticket, efc, sfw, sfp, sfo, sfs);
     let value = efc.mul(&sfw)?.mul(&sfp)?.mul(&sfo)?.mul(&sfs)?;
     Ok(Value::known(ticket, value))
 }
@@ -38,9 +30,7 @@ pub fn q76(
 pub fn q77(ticket: Ticket, ef: &Input, t: &Input, a: &Input) -> Result<Value, Over>
     ensures { result ≡ equation_value EqId.Q77 (ef.now ∷ t.now ∷ a.now ∷ []) }
 {
-    let (Some(ef), Some(t), Some(a)) = (ef.figures(), t.figures(), a.figures()) else {
-        return Ok(Value::blank(ticket));
-    };
+    known!(ticket, ef, t, a);
     let value = ef.mul(&t)?.mul(&a)?.scale(1, 1_000_000)?;
     Ok(Value::known(ticket, value))
 }

@@ -11,7 +11,7 @@ use ghg_interval::{Interval, Over};
 pub(crate) fn interval_of(parts: i128, over: u64, under: u64) -> Result<Interval, Over>
     requires over_in { IsRatioPart over }
     requires under_in { IsRatioPart under }
-    ensures { OkIff result (AreBounded (scaled over under (exactly parts))) (scaled over under (exactly parts)) }
+    ensures { let b = scaled over under (exactly parts) in OkIff result (AreBounded b) b }
 {
     // A product that leaves 128 bits leaves the limit of intervals by far, also divided.
     match parts.checked_mul(i128::from(over)) {
