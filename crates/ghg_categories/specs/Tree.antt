@@ -1,6 +1,6 @@
 -- The table of categories: the code of each, and the one just above it.
 -- Source: 2006 IPCC Guidelines, Volume 1, Chapter 8, Table 8.2.
-use Rattle.std.specs.Prelude.{ℕ, zero, suc, Bool, false, ◌||◌, not, List, [], ◌∷◌, ◌++◌, codes, Option, Some, None}
+use Rattle.std.specs.Prelude.{ℕ, zero, suc, Bool, false, ◌||◌, not, List, ◌++◌, codes, Option, Some, None}
 use Rattle.std.specs.Option.{option_map_or}
 use Rattle.std.specs.List.{find, list_any}
 use Rattle.std.specs.Str.{bytes_eq}

@@ -101,8 +101,9 @@ pub fn equation(id: EqId) -> &'static Equation
         EqId::Q71 => row!(Q71 Soils: FP Mass, EF3 Ratio; Emission N2o),
         EqId::Q72 =>
             row!(Q72 Soils: FSN Mass, FG Ratio, FON Mass, FP Mass, FM Ratio, EF4 Ratio; Emission N2o),
-        EqId::Q73 =>
-            row!(Q73 Soils: FSN Mass, FON Mass, FP Mass, FCR Mass, FSOM Mass, FL Ratio, EF5 Ratio; Emission N2o),
+        EqId::Q73 => row!(
+            Q73 Soils: FSN Mass, FON Mass, FP Mass, FCR Mass, FSOM Mass, FL Ratio, EF5 Ratio; Emission N2o
+        ),
         EqId::Q74 => row!(Q74 Soils: ML Mass, EFL Ratio, MD Mass, EFD Ratio; Emission Co2),
         EqId::Q75 => row!(Q75 Soils: M Mass, EF Ratio; Emission Co2),
         EqId::Q76 =>

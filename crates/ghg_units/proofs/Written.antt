@@ -1,5 +1,5 @@
 -- A text reads as a decimal exactly where it writes that decimal.
-use Rattle.std.proofs.Common.{◌≡◌, ◌≢◌, ◌<◌, ◌≤◌, ◌+◌, ◌-◌, ◌*◌, ◌^◌, ◌++◌, ◌∷◌, [], ◌∙◌, ◌==◌, ◌&&◌, cond, ℕ, zero, suc, ℤ, pos, neg_ℤ, Bool, true, false, List, length, take, drop, get_or, Option, Some, None, refl, sym, ap, arith, nat_lt, nat_le, length-append, take-append-drop}
+use Rattle.std.proofs.Common.{◌≡◌, ◌≢◌, ◌<◌, ◌≤◌, ◌+◌, ◌-◌, ◌*◌, ◌^◌, ◌++◌, ◌∷◌, [], ◌∙◌, ◌==◌, ◌&&◌, cond, ℕ, ℤ, pos, neg_ℤ, Bool, true, false, List, length, take, drop, get_or, Option, Some, None, refl, sym, ap, arith, nat_lt, nat_le, length-append, take-append-drop}
 use Rattle.std.proofs.lemmas.Bool.Decides.{nat_tests}
 use Rattle.std.proofs.lemmas.List.{append-nil, drop_more}
 use Rattle.std.proofs.lemmas.List.Folds.{list_all-append}
