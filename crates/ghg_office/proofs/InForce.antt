@@ -1,28 +1,36 @@
 -- The data in force break no rule, and the bounds that are printed of them hold.
-use Rattle.std.proofs.Common.{◌≡◌, ◌+◌, ℕ, Bool, true, false, nat_lt, List, length, Option, Some, None, Result, Ok, Err, if◌then◌else◌, refl, sym, subst}
+use Rattle.std.proofs.Common.{◌≡◌, ◌+◌, ◌∙◌, ℕ, Bool, true, false, if◌then◌else◌, List, [], ◌∷◌, length, Option, Some, None, Result, Ok, Err, inl, inr, refl, sym, ap, subst, lit≤}
 use Rattle.std.specs.FinMap.{empty}
-use Rattle.std.specs.Str.{bytes_eq}
 use Rattle.ghg_data.proofs.Empty.{is_acyclic, is_workbook}
-use Rattle.ghg_definitions.specs.Compilation.{overflow}
-use Rattle.ghg_definitions.specs.Data.{Data}
+use Rattle.ghg_definitions.specs.Compilation.{compilation, is_year_of, overflow}
+use Rattle.ghg_definitions.specs.Data.{Data, span}
 use Rattle.ghg_definitions.specs.Rules.{arranged}
 use Rattle.ghg_definitions.specs.Rings.{IsAcyclic}
 use Rattle.ghg_definitions.specs.Sound.{IsWorkbook}
 use Rattle.ghg_definitions.proofs.Rings.{arranged_keeps}
 use Rattle.ghg_engine.proofs.Nothing.{nothing_compiled}
-use Rattle.ghg_import.specs.Body.{max_body}
-use Rattle.ghg_import.specs.Reading.{Reading, reading_of}
+use Rattle.ghg_import.specs.Reading.{reading_of}
 use Rattle.ghg_import.proofs.Formed.{all_formed}
+use Rattle.ghg_tables.specs.declared.table.Table.{Table}
+use Rattle.ghg_tables.specs.Names.{table_in}
+use Rattle.ghg_tables.specs.SoundTexts.{IsSoundText}
+use Rattle.ghg_tables.specs.Tables.{table_text}
 use Rattle.ghg_tables.proofs.Sound.{texts_sound}
 use Rattle.ghg_units.specs.declared.node.Node.{Node}
 use Rattle.ghg_units.specs.declared.rule.Rule.{Rule}
-use Rattle.ghg_units.specs.declared.rule.Rule.TheVariants.{BadId, BodyTooLong, IdReused}
-use Rattle.ghg_office.specs.Accepted.{Kept, kept_bytes, kept_from}
-use Rattle.ghg_office.specs.Id.{is_id}
-use Rattle.ghg_office.specs.declared.reply.Reply.TheVariants.{Repeated}
-use Rattle.ghg_office.specs.Laws.{BoundsHoldInForce, IsInForce, StatesStayInForce}
-use Rattle.ghg_office.specs.Office.{State, compiled, decided, entered, judged, once, refused, start, submitted, within_limits}
-use Rattle.ghg_office.proofs.Entered.{entered-overflow}
+use Rattle.ghg_office.specs.Accepted.{Submission, kept_bytes}
+use Rattle.ghg_office.specs.declared.reply.Reply.TheVariants.{NoTable, Table as Shown}
+use Rattle.ghg_office.specs.Laws.{BoundsHoldInForce, IsInForce, StatesStayInForce, state_after_all}
+use Rattle.ghg_office.specs.Office.{State, asked, compiled, decided, entered, requested, start, submitted, within_limits}
+use Rattle.ghg_office.specs.Sound.{IsSoundReply}
+use Rattle.ghg_office.proofs.Cases.{submitted_cases}
+use Rattle.ghg_office.proofs.Entered.{entered-bytes, entered-overflow}
+use Rattle.ghg_office.proofs.Kept.{kept_bytes-push}
+
+-- what holds of a state and stays with each submission holds of each state that submissions lead to from there
+pub reached : (P : State → Type 0) → ((s : State) (id body : List ℕ) → P s → P (submitted s id body).after) → (s : State) (given : List Submission) → P s → P (state_after_all s given)
+reached P stays s [] h = h
+reached P stays s (x ∷ given) h = reached P stays (submitted s x.id x.body).after given (stays s x.id x.body h)
 
 -- data that rows leave are a workbook without a ring
 entered_keeps : (m n : Data) (body : List ℕ) (bytes : ℕ) → IsWorkbook m → entered m (reading_of body) bytes ≡ Ok n → IsWorkbook n × IsAcyclic n
@@ -38,40 +46,50 @@ entered_keeps m n body bytes w e = by (arranged m (reading_of body).rows (readin
     by (Err rule) a e = absurd (cc)
 
 module _ (s : State) (id body : List ℕ) (h : IsInForce s) where
-  decided_stays : (r : Result Data Rule) → entered s.content (reading_of body) (kept_bytes s.accepted + length body) ≡ r → IsInForce (decided s id body r).after
-  decided_stays (Err rule) e = h
-  decided_stays (Ok m) e =
+  accepted_stays : (m : Data) → entered s.content (reading_of body) (kept_bytes s.accepted + length body) ≡ Ok m → IsInForce (decided s id body (Ok m)).after
+  accepted_stays m e =
       let kept = entered_keeps s.content m body (kept_bytes s.accepted + length body) h.workbook e in
-      record { workbook = kept.0; acyclic = kept.1; fits = entered-overflow s.content m (reading_of body) (kept_bytes s.accepted + length body) e }
-
-  judged_stays : IsInForce (judged s id body).after
-  judged_stays = by (nat_lt max_body (length body))
-    where
-      by : (long : Bool) → IsInForce (if long then refused s BodyTooLong else decided s id body (entered s.content (reading_of body) (kept_bytes s.accepted + length body))).after
-      by true = h
-      by false = decided_stays (entered s.content (reading_of body) (kept_bytes s.accepted + length body)) refl
-
-  once_stays : (kept : Option Kept) → IsInForce (once s id body kept).after
-  once_stays None = judged_stays
-  once_stays (Some kept) = by (bytes_eq kept.body body)
-    where
-      by : (same : Bool) → IsInForce (if same then record { reply = Repeated kept.seq; after = s } else refused s (IdReused kept.seq)).after
-      by true = h
-      by false = h
+      record {
+        workbook = kept.0;
+        acyclic = kept.1;
+        fits = entered-overflow s.content m (reading_of body) (kept_bytes s.accepted + length body) e;
+        kept = rw (kept_bytes-push s.accepted (record { id = id; body = body })) (entered-bytes s.content m (reading_of body) (kept_bytes s.accepted + length body) e);
+      }
 
   submitted_stays : IsInForce (submitted s id body).after
-  unfolding submitted
-  submitted_stays = by (is_id id)
-    where
-      by : (good : Bool) → IsInForce (if good then once s id body (kept_from 1 id s.accepted) else refused s BadId).after
-      by true = once_stays (kept_from 1 id s.accepted)
-      by false = h
+  submitted_stays = elim (submitted_cases s id body) [
+    | inl left ↦ subst IsInForce (sym left.after) h
+    | inr new ↦ subst (λ answer. IsInForce answer.after) (sym new.answers) (accepted_stays new.content new.made)
+  ]
 
-pub states_stay : StatesStayInForce
+-- the start is in force, and so is what a submission to a state in force leads to
+pub record Stays : Type 0 where
+  pub first : IsInForce start
+  pub later : (s : State) (id body : List ℕ) → IsInForce s → IsInForce (submitted s id body).after
+
+pub states_stay : Stays
 states_stay = record {
-  first = record { workbook = is_workbook; acyclic = is_acyclic; fits = (nothing_compiled start.content empty refl refl).none_over };
+  first = record { workbook = is_workbook; acyclic = is_acyclic; fits = (nothing_compiled start.content empty refl refl).none_over; kept = lit≤ tt };
   later = λ s id body h. submitted_stays s id body h;
 }
 
-pub bounds_hold : BoundsHoldInForce
+pub states_in_force : StatesStayInForce
+states_in_force given = reached IsInForce states_stay.later start given states_stay.first
+
+-- the text of each table of the data in force is sound
+pub bounds_hold : (s : State) → IsInForce s → (table : Table) (year : ℕ) → IsSoundText table s.content year (table_text table s.content (compilation s.content) year)
 bounds_hold s h table year = texts_sound s.content h.workbook h.acyclic table year
+
+-- and so is the reply to each request for one
+pub requested_sound : BoundsHoldInForce
+unfolding requested
+requested_sound s h name year = by (table_in name) refl
+  where
+    shown : (table : Table) → table_in name ≡ Some table → (within : Bool) → is_year_of (span s.content) year ≡ within
+        → requested s name year ≡ asked s year (Some table) → IsSoundReply s name year (if within then Shown (table_text table s.content (compilation s.content) year) else NoTable)
+    shown table named true within is = record { table = table; named = named; within = within; sound = bounds_hold s h table year }
+    shown table named false without is = is ∙ ap (λ b. if b then Shown (table_text table s.content (compilation s.content) year) else NoTable) without
+
+    by : (found : Option Table) → table_in name ≡ found → IsSoundReply s name year (asked s year found)
+    by None unknown = ap (asked s year) unknown
+    by (Some table) named = shown table named (is_year_of (span s.content) year) refl (ap (asked s year) named)

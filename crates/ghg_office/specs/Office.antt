@@ -73,9 +73,13 @@ judged s id body =
     else decided s id body (entered s.content (reading_of body) (kept_bytes s.accepted + length body))
 
 -- the same id and body again changes nothing
+abbrev pub repeated : State → ℕ → Answer
+repeated s seq = record { reply = Repeated seq; after = s }
+
+-- a submission whose id may be kept
 abbrev pub once : State → List ℕ → List ℕ → Option Kept → Answer
 once s id body None = judged s id body
-once s id body (Some kept) = if bytes_eq kept.body body then record { reply = Repeated kept.seq; after = s } else refused s (IdReused kept.seq)
+once s id body (Some kept) = if bytes_eq kept.body body then repeated s kept.seq else refused s (IdReused kept.seq)
 
 unfoldable pub submitted : State → List ℕ → List ℕ → Answer
 submitted s id body = if is_id id then once s id body (kept_from 1 id s.accepted) else refused s BadId

@@ -7,6 +7,8 @@ mod laws;
 mod office;
 mod reply;
 
-pub use laws::{bounds_hold_in_force, states_stay_in_force};
+pub use laws::{
+    accepted_lists_rebuild_states, bounds_hold_in_force, repeats_act_once, states_stay_in_force,
+};
 pub use office::Office;
 pub use reply::{Reply, append_reply};

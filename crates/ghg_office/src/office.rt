@@ -15,6 +15,7 @@ ghost use Rattle.ghg_engine.specs.Proposals.{IsProposed};
 ghost use Rattle.ghg_office.specs.Accepted.{kept_bytes, kept_from};
 ghost use Rattle.ghg_office.specs.Office.{IsRead, decided, entered, evaluations, evaluations_of, requested, start, submitted};
 ghost use Rattle.ghg_office.specs.Replies.{Answers, Shows, reply_of};
+ghost use Rattle.ghg_office.specs.Sound.{IsSoundReply};
 
 use crate::accepted::Accepted;
 use crate::id::SubmissionId;
@@ -117,6 +118,8 @@ impl Office {
     #[tactic(auto, unfolding(crate::specs::Office::requested))]
     pub fn show(&self, alloc: Global, table: &[u8], year: u32) -> Reply
         ensures table { Shows (requested self.now table.now year) result }
+        // In a table the bounds hold the exact values of its nodes.
+        ensures bounds { result ≢ Reply.Memory → IsSoundReply self.now table.now year result }
         // Only a table that there is takes memory.
         ensures memory { result ≡ Reply.Memory → requested self.now table.now year ≢ Reply.NoTable }
     {

@@ -1,5 +1,5 @@
-use Rattle.ghg_office.proofs.InForce.{bounds_hold}
+use Rattle.ghg_office.proofs.InForce.{requested_sound}
 use Rattle.ghg_office.proofs.laws.bounds_hold_in_force.Goals as goal
 
 pub returns : goal.returns
-returns c = bounds_hold
+returns c = requested_sound

@@ -1,0 +1,28 @@
+-- What the replies to requests for tables say of the data in force: the bounds in each table hold the exact values of
+-- its nodes.
+use Rattle.std.specs.Prelude.{◌≡◌, ℕ, true, List, Some}
+use Rattle.ghg_definitions.specs.Compilation.{is_year_of}
+use Rattle.ghg_definitions.specs.Data.{span}
+use Rattle.ghg_office.specs.declared.reply.Reply.{Reply}
+use Rattle.ghg_office.specs.declared.reply.Reply.TheVariants.{Accepted, Repeated, Refused, NoTable, Memory, Table as Shown}
+use Rattle.ghg_office.specs.Office.{State, requested}
+use Rattle.ghg_tables.specs.declared.table.Table.{Table}
+use Rattle.ghg_tables.specs.Names.{table_in}
+use Rattle.ghg_tables.specs.SoundTexts.{IsSoundText}
+
+-- The text is the table of that name for a year of the data in force, and wherever the inputs are within their supplied
+-- bounds, the exact value of each node is within the bounds that stand in it.
+pub record IsSoundTable (s : State) (name : List ℕ) (year : ℕ) (text : List ℕ) : Type 0 where
+  pub table : Table
+  pub named : table_in name ≡ Some table
+  pub within : is_year_of (span s.content) year ≡ true
+  pub sound : IsSoundText table s.content year text
+
+-- the reply is such a table, or that there is none
+abbrev pub IsSoundReply : State → List ℕ → ℕ → Reply → Type 0
+IsSoundReply s name year (Shown text) = IsSoundTable s name year text
+IsSoundReply s name year NoTable = requested s name year ≡ NoTable
+IsSoundReply s name year (Accepted seq) = ⊥
+IsSoundReply s name year (Repeated seq) = ⊥
+IsSoundReply s name year (Refused rule) = ⊥
+IsSoundReply s name year Memory = ⊥
