@@ -1,4 +1,5 @@
-//! What a workbook is: its records, what rows do to them, the rules that they keep, and the value of each line.
+//! What a workbook is: its records, what rows do to them, the rules that they keep, and the value of each
+//! line.
 //!
 //! The definitions stand in `specs/`. The types that code and definitions share are Rust's.
 #![tactic(auto)]

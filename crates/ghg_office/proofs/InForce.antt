@@ -21,7 +21,7 @@ use Rattle.ghg_units.specs.declared.rule.Rule.{Rule}
 use Rattle.ghg_office.specs.Accepted.{Submission, kept_bytes}
 use Rattle.ghg_office.specs.declared.reply.Reply.TheVariants.{NoTable, Table as Shown}
 use Rattle.ghg_office.specs.Laws.{BoundsHoldInForce, IsInForce, StatesStayInForce, state_after_all}
-use Rattle.ghg_office.specs.Office.{State, asked, compiled, decided, entered, requested, start, submitted, within_limits}
+use Rattle.ghg_office.specs.Office.{State, asked, compiled, decided, entered, entered_by, requested, start, submitted, within_limits}
 use Rattle.ghg_office.specs.Sound.{IsSoundReply}
 use Rattle.ghg_office.proofs.Cases.{submitted_cases}
 use Rattle.ghg_office.proofs.Entered.{entered-bytes, entered-overflow}
@@ -46,7 +46,7 @@ entered_keeps m n body bytes w e = by (arranged m (reading_of body).rows (readin
     by (Err rule) a e = absurd (cc)
 
 module _ (s : State) (id body : List ℕ) (h : IsInForce s) where
-  accepted_stays : (m : Data) → entered s.content (reading_of body) (kept_bytes s.accepted + length body) ≡ Ok m → IsInForce (decided s id body (Ok m)).after
+  accepted_stays : (m : Data) → entered_by s body ≡ Ok m → IsInForce (decided s id body (Ok m)).after
   accepted_stays m e =
       let kept = entered_keeps s.content m body (kept_bytes s.accepted + length body) h.workbook e in
       record {

@@ -16,7 +16,8 @@ abbrev pub state_after_all : State → List Submission → State
 state_after_all s [] = s
 state_after_all s (given ∷ rest) = state_after_all (submitted s given.id given.body).after rest
 
--- The data are a workbook without a ring in which nothing is beyond the limits, and neither are the accepted bodies.
+-- The data are a workbook without a ring in which nothing is beyond the limits, and the accepted bodies are
+-- not beyond theirs.
 pub record IsInForce (s : State) : Type 0 where
   pub workbook : IsWorkbook s.content
   pub acyclic : IsAcyclic s.content
@@ -29,7 +30,7 @@ StatesStayInForce = (given : List Submission) → IsInForce (state_after_all sta
 
 -- ---- repeats
 
--- A submission that was accepted is Repeated with its number whenever it is given again, and then changes nothing.
+-- A submission that was accepted is Repeated with its number whenever it is given again, and changes nothing.
 abbrev pub RepeatsActOnce : Type 0
 RepeatsActOnce = (s : State) (id body : List ℕ) (seq : ℕ) (others : List Submission) →
     (submitted s id body).reply ≡ Accepted seq →
@@ -58,4 +59,5 @@ AcceptedListsRebuildStates = (given : List Submission) → IsRebuilt (state_afte
 
 -- The reply to each request for a table of the data in force is sound.
 abbrev pub BoundsHoldInForce : Type 0
-BoundsHoldInForce = (s : State) → IsInForce s → (name : List ℕ) (year : ℕ) → IsSoundReply s name year (requested s name year)
+BoundsHoldInForce = (s : State) → IsInForce s → (name : List ℕ) (year : ℕ) →
+    IsSoundReply s name year (requested s name year)

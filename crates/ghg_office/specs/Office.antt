@@ -30,7 +30,8 @@ pub record State : Type 0 where
 
 abbrev pub state_code : Coded RecordKey → Coded Record → Coded State
 state_code key entry =
-    code_by (Data × List Submission) (coded× (code key entry) (coded_list submission_code)) (λ s. (s.content, s.accepted)) (λ p. record { content = p.0; accepted = p.1 }) (λ _. refl)
+    code_by (Data × List Submission) (coded× (code key entry) (coded_list submission_code))
+    (λ s. (s.content, s.accepted)) (λ p. record { content = p.0; accepted = p.1 }) (λ _. refl)
 
 abbrev pub start : State
 start = record { content = empty; accepted = [] }
@@ -49,6 +50,10 @@ compiled (Ok m) = within_limits m (overflow m)
 -- the data once the rows of a body are entered, or the first rule that the rows or these data break
 unfoldable pub entered : Data → Reading → ℕ → Result Data Rule
 entered m reading kept_bytes = compiled (arranged m reading.rows reading.rest kept_bytes)
+
+-- the same of a body that is submitted in a state
+abbrev pub entered_by : State → List ℕ → Result Data Rule
+entered_by s body = entered s.content (reading_of body) (kept_bytes s.accepted + length body)
 
 -- an answer, and the state after it
 pub record Answer : Type 0 where
@@ -70,7 +75,7 @@ decided s id body (Ok m) = record {
 abbrev pub judged : State → List ℕ → List ℕ → Answer
 judged s id body =
     if nat_lt max_body (length body) then refused s BodyTooLong
-    else decided s id body (entered s.content (reading_of body) (kept_bytes s.accepted + length body))
+    else decided s id body (entered_by s body)
 
 -- the same id and body again changes nothing
 abbrev pub repeated : State → ℕ → Answer
@@ -79,7 +84,8 @@ repeated s seq = record { reply = Repeated seq; after = s }
 -- a submission whose id may be kept
 abbrev pub once : State → List ℕ → List ℕ → Option Kept → Answer
 once s id body None = judged s id body
-once s id body (Some kept) = if bytes_eq kept.body body then repeated s kept.seq else refused s (IdReused kept.seq)
+once s id body (Some kept) =
+    if bytes_eq kept.body body then repeated s kept.seq else refused s (IdReused kept.seq)
 
 unfoldable pub submitted : State → List ℕ → List ℕ → Answer
 submitted s id body = if is_id id then once s id body (kept_from 1 id s.accepted) else refused s BadId
@@ -91,11 +97,16 @@ abbrev pub evaluations_of : Result Data Rule → ℕ
 evaluations_of (Err rule) = 0
 evaluations_of (Ok m) = length (nodes m)
 
+-- the data with the rows of a body that is submitted in a state, before they are compiled
+abbrev pub arranged_by : State → List ℕ → Result Data Rule
+arranged_by s body =
+    arranged s.content (reading_of body).rows (reading_of body).rest (kept_bytes s.accepted + length body)
+
 -- of a submission with an id that is not kept
 abbrev pub new_evaluations : State → List ℕ → ℕ
 new_evaluations s body =
     if nat_lt max_body (length body) then 0
-    else evaluations_of (arranged s.content (reading_of body).rows (reading_of body).rest (kept_bytes s.accepted + length body))
+    else evaluations_of (arranged_by s body)
 
 -- a repeat asks for none, and neither does an id that is reused
 abbrev pub evaluations_once : State → List ℕ → Option Kept → ℕ
@@ -116,7 +127,9 @@ pub record IsRead (s : State) (id body : List ℕ) : Type 0 where
 -- the text of a table of a year of the span, printed from the compilation of the data in force
 abbrev pub asked : State → ℕ → Option Table → Reply
 asked s year None = NoTable
-asked s year (Some table) = if is_year_of (span s.content) year then Shown (table_text table s.content (compilation s.content) year) else NoTable
+asked s year (Some table) =
+    if is_year_of (span s.content) year then Shown (table_text table s.content (compilation s.content) year)
+    else NoTable
 
 unfoldable pub requested : State → List ℕ → ℕ → Reply
 requested s table year = asked s year (table_in table)

@@ -1,5 +1,5 @@
--- What the replies to requests for tables say of the data in force: the bounds in each table hold the exact values of
--- its nodes.
+-- What the replies to requests for tables say of the data in force: the bounds in each table hold the exact
+-- values of its nodes.
 use Rattle.std.specs.Prelude.{◌≡◌, ℕ, true, List, Some}
 use Rattle.ghg_definitions.specs.Compilation.{is_year_of}
 use Rattle.ghg_definitions.specs.Data.{span}
@@ -10,8 +10,8 @@ use Rattle.ghg_tables.specs.declared.table.Table.{Table}
 use Rattle.ghg_tables.specs.Names.{table_in}
 use Rattle.ghg_tables.specs.SoundTexts.{IsSoundText}
 
--- The text is the table of that name for a year of the data in force, and wherever the inputs are within their supplied
--- bounds, the exact value of each node is within the bounds that stand in it.
+-- The text is the table of that name for a year of the data in force, and wherever the inputs are within
+-- their supplied bounds, the exact value of each node is within the bounds that stand in it.
 pub record IsSoundTable (s : State) (name : List ℕ) (year : ℕ) (text : List ℕ) : Type 0 where
   pub table : Table
   pub named : table_in name ≡ Some table

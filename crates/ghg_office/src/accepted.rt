@@ -32,7 +32,10 @@ impl Model for Accepted {
 
     ghost view = { λ a. record { list = map submission a.bodies.entries; spare = spare a.bodies } };
 
-    ghost invariant = { λ a. (a.bytes ≡ kept_bytes (map submission a.bodies.entries)) × (a.bytes ≤ most_kept_bytes) × (length a.bodies.entries < 2 ^ 64) };
+    ghost invariant = { λ a.
+        (a.bytes ≡ kept_bytes (map submission a.bodies.entries)) ×
+        (a.bytes ≤ most_kept_bytes) ×
+        (length a.bodies.entries < 2 ^ 64) };
 }
 
 impl Accepted {
@@ -48,7 +51,8 @@ impl Accepted {
 
     /// The number and the body of the submission under an id.
     pub(crate) fn find(&self, id: &SubmissionId) -> Option<(u64, &Text)>
-        ensures { option_map (λ found. record { seq = found.0; body = found.1.now }) result ≡ kept_from 1 id.now self.now.list }
+        ensures { option_map (λ found. record { seq = found.0; body = found.1.now }) result ≡
+            kept_from 1 id.now self.now.list }
     {
         let (index, _, body) = self.bodies.get_full(id)?;
         Some((index as u64 + 1, body))

@@ -12,8 +12,8 @@ ghost use Rattle.ghg_data.specs.Refusal.{IfRule};
 ghost use Rattle.ghg_import.specs.Body.{max_body};
 ghost use Rattle.ghg_import.specs.Reading.{reading_of};
 ghost use Rattle.ghg_engine.specs.Proposals.{IsProposed};
-ghost use Rattle.ghg_office.specs.Accepted.{kept_bytes, kept_from};
-ghost use Rattle.ghg_office.specs.Office.{IsRead, decided, entered, evaluations, evaluations_of, requested, start, submitted};
+ghost use Rattle.ghg_office.specs.Accepted.{kept_from};
+ghost use Rattle.ghg_office.specs.Office.{IsRead, arranged_by, decided, entered, entered_by, evaluations, evaluations_of, requested, start, submitted};
 ghost use Rattle.ghg_office.specs.Replies.{Answers, Shows, reply_of};
 ghost use Rattle.ghg_office.specs.Sound.{IsSoundReply};
 
@@ -60,7 +60,9 @@ impl Office {
         }
     }
 
-    /// Answers a submission. With any answer but that it is accepted, the data and the accepted submissions are as before.
+    /// Answers a submission.
+    ///
+    /// With any answer but that it is accepted, the data and the accepted submissions are as before.
     #[tactic(auto, unfolding(crate::specs::Office::submitted, crate::specs::Office::evaluations))]
     pub fn submit<L: Ledger>(
         &mut self,
@@ -72,8 +74,8 @@ impl Office {
         ensures answer { Answers (submitted self.old id.now body.now) result self.old self.new }
         // Only a new submission whose body is read takes memory.
         ensures memory { result ≡ Reply.Memory → IsRead self.old id.now body.now }
-        // With any answer no more nodes are evaluated than the data with its rows have, and none for a repeat or where
-        // a rule before the last is broken.
+        // With any answer no more nodes are evaluated than the data with its rows have, and none for a repeat
+        // or where a rule before the last is broken.
         ensures steps { steps.new ≤ steps.old + evaluations self.old id.now body.now }
     {
         let Some(id) = SubmissionId::new(id) else {
@@ -102,8 +104,8 @@ impl Office {
     ) -> Result<u64, PlanRefusal>
         requires new_id { kept_from 1 id self.old.accepted ≡ None }
         requires short { length body.now ≤ max_body }
-        ensures steps { steps.new ≤ steps.old + evaluations_of (arranged self.old.content (reading_of body.now).rows (reading_of body.now).rest (kept_bytes self.old.accepted + length body.now)) }
-        ensures answer { Answers (decided self.old id body.now (entered self.old.content (reading_of body.now) (kept_bytes self.old.accepted + length body.now))) (reply_of result) self.old self.new }
+        ensures steps { steps.new ≤ steps.old + evaluations_of (arranged_by self.old body.now) }
+        ensures answer { Answers (decided self.old id body.now (entered_by self.old body.now)) (reply_of result) self.old self.new }
     {
         let rows = read_rows(alloc, body)?;
         let kept_bytes = self.accepted.kept_bytes() + body.len() as u64;
@@ -157,9 +159,14 @@ fn propose<L: Ledger>(
 ) -> Result<Proposal, PlanRefusal>
     requires { AllByRecursion IsWellFormed rows.rows.items }
     ensures kept { engine.new.content ≡ engine.old.content }
-    ensures steps { steps.new ≤ steps.old + evaluations_of (arranged engine.old.content rows.rows.items rows.rest kept_bytes) }
+    ensures steps { steps.new ≤ steps.old +
+        evaluations_of (arranged engine.old.content rows.rows.items rows.rest kept_bytes) }
     ensures proposed { IfOk result (IsProposed engine.new) }
-    ensures entered { MatchResult result (λ p. entered engine.old.content (record { rows = rows.rows.items; rest = rows.rest }) kept_bytes ≡ Ok (applied engine.old.content p.edits)) (IfRule (λ rule. entered engine.old.content (record { rows = rows.rows.items; rest = rows.rest }) kept_bytes ≡ Err rule)) }
+    ensures entered { let made =
+        entered engine.old.content (record { rows = rows.rows.items; rest = rows.rest }) kept_bytes in
+        MatchResult result
+        (λ p. made ≡ Ok (applied engine.old.content p.edits))
+        (IfRule (λ rule. made ≡ Err rule)) }
 {
     let edits = engine.plan(alloc, &rows.rows, rows.rest, kept_bytes)?;
     match engine.propose(alloc, edits, steps) {

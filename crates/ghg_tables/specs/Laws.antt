@@ -12,10 +12,6 @@ use Rattle.ghg_cell.specs.declared.input.Input.TheVariants.{Known}
 use Rattle.ghg_cell.specs.Values.{equation_value, then}
 use Rattle.ghg_units.specs.declared.node.Node.{Node}
 use Rattle.ghg_units.specs.declared.node.Node.TheVariants as node
-use Rattle.ghg_definitions.specs.declared.record.RecordKey.{RecordKey}
-use Rattle.ghg_definitions.specs.Choices.{IsChoice}
-use Rattle.ghg_definitions.specs.Compilation.{compilation}
-use Rattle.ghg_definitions.specs.Containment.{IsValuation}
 use Rattle.ghg_definitions.specs.Data.{Data, line}
 use Rattle.ghg_tables.specs.declared.precision.Precision.{Precision}
 use Rattle.ghg_tables.specs.declared.precision.Precision.TheVariants.{Thousandths}
@@ -35,7 +31,8 @@ pub record PrintHolds (p : Precision) (point range : Bounds) (f : Fraction) : Ty
   pub holds : Holds low high (places_of p) f
 
 abbrev pub BoundsHold : Type 0
-BoundsHold = (p : Precision) (point range : Bounds) (f : Fraction) → Inside range f → PrintHolds p point range f
+BoundsHold = (p : Precision) (point range : Bounds) (f : Fraction) → Inside range f →
+    PrintHolds p point range f
 
 -- how finely a line is printed
 abbrev pub line_precision : Option EqId → Precision
@@ -48,11 +45,6 @@ node_precision m (node.Line name year) = line_precision (line m name)
 node_precision m (node.Equiv name year) = Thousandths
 node_precision m (node.Total c year) = Thousandths
 node_precision m (node.Gross year) = Thousandths
-
--- Wherever the inputs are within their supplied bounds, the exact value of each known node is within its printed ones.
-abbrev pub PrintedBoundsHold : Data → Type 0
-PrintedBoundsHold m = (choice : RecordKey → Fraction) → IsChoice m choice → (fractions : Node → Fraction) → IsValuation m choice fractions →
-    (n : Node) (point range : Bounds) → compilation m n ≡ Some (Ok (Known point range)) → PrintHolds (node_precision m n) point range (fractions n)
 
 -- n is off z / d by no more than half, and where it is off by half it is the one farther from zero
 pub record IsNearest (d : ℕ) (z n : ℤ) : Type 0 where
@@ -76,10 +68,14 @@ abbrev pub activity : Input
 activity = exact (pos 1000000000000000)
 
 abbrev pub factor : Input
-factor = Known (exactly (pos 56100000000000000)) (record { lo = pos 54300000000000000; hi = pos 58300000000000000 })
+factor =
+    Known
+    (exactly (pos 56100000000000000))
+    (record { lo = pos 54300000000000000; hi = pos 58300000000000000 })
 
 abbrev pub PowerPlantPrints : Type 0
-PowerPlantPrints = row_text (codes "ELEC.GAS") Q10 (equation_value Q10 (activity ∷ factor ∷ [])) ≡ Some (codes "ELEC.GAS,1A1a,Q10,CO2,Gg,56.100,54.300,58.300\n")
+PowerPlantPrints = row_text (codes "ELEC.GAS") Q10 (equation_value Q10 (activity ∷ factor ∷ [])) ≡
+    Some (codes "ELEC.GAS,1A1a,Q10,CO2,Gg,56.100,54.300,58.300\n")
 
 -- the energy of 2000 t of a fuel of 48 TJ/Gg
 abbrev pub energy : Result Input Over
@@ -90,7 +86,9 @@ abbrev pub emission : Result Input Over
 emission = then energy (λ e. equation_value Q10 (e ∷ exact (pos 56100000000000000) ∷ []))
 
 abbrev pub BurntFuelPrints : Type 0
-BurntFuelPrints = (row_text (codes "CONV") Q13 energy ≡ Some (codes "CONV,1A1a,Q13,-,TJ,96.000000,96.000000,96.000000\n")) × (row_text (codes "GAS") Q10 emission ≡ Some (codes "GAS,1A1a,Q10,CO2,Gg,5.386,5.385,5.386\n"))
+BurntFuelPrints =
+    (row_text (codes "CONV") Q13 energy ≡ Some (codes "CONV,1A1a,Q13,-,TJ,96.000000,96.000000,96.000000\n")) ×
+    (row_text (codes "GAS") Q10 emission ≡ Some (codes "GAS,1A1a,Q10,CO2,Gg,5.386,5.385,5.386\n"))
 
 -- the text of a value that is known exactly
 abbrev pub exact_text : ℤ → List ℕ
@@ -98,4 +96,6 @@ exact_text z = figures_text Thousandths (exact z)
 
 -- 0.0005 and -0.0005
 abbrev pub SmallestPrints : Type 0
-SmallestPrints = (exact_text (pos 500000000) ≡ codes "0.001,0.000,0.001") × (exact_text (negsuc 499999999) ≡ codes "-0.001,-0.001,0.000")
+SmallestPrints =
+    (exact_text (pos 500000000) ≡ codes "0.001,0.000,0.001") ×
+    (exact_text (negsuc 499999999) ≡ codes "-0.001,-0.001,0.000")

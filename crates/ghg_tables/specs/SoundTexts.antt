@@ -1,5 +1,5 @@
--- What the bytes of a table say of the nodes of the data: each row stands for one or two, and the bounds in it hold
--- their exact values.
+-- What the bytes of a table say of the nodes of the data: each row stands for one or two, and the bounds in
+-- it hold their exact values.
 use Rattle.std.specs.Prelude.{◌≡◌, ℕ, ◌+◌, ◌-◌, ℤ, List, [], ◌∷◌, ◌++◌, map, codes, decimal, Option, Some}
 use Rattle.std.specs.List.{flat_map}
 use Rattle.ghg_categories.specs.declared.category.Category.{Category}
@@ -26,14 +26,16 @@ use Rattle.ghg_tables.specs.Texts.{cell_words, field, three_decimals}
 
 -- ---- the figures of a node
 
--- a value and its bounds: wherever the inputs are within their supplied bounds, the exact value of the node is within
--- those that are written
+-- a value and its bounds: wherever the inputs are within their supplied bounds, the exact value of the node
+-- is within those that are written
 pub record AreBoundsOf (m : Data) (n : Node) (figures : List ℕ) : Type 0 where
   pub value : ℤ
   pub low : ℤ
   pub high : ℤ
   pub written : figures ≡ three_decimals (node_precision m n) value low high
-  pub hold : (choice : RecordKey → Fraction) → IsChoice m choice → (fractions : Node → Fraction) → IsValuation m choice fractions → Holds low high (places_of (node_precision m n)) (fractions n)
+  pub hold : (choice : RecordKey → Fraction) → IsChoice m choice →
+      (fractions : Node → Fraction) → IsValuation m choice fractions →
+      Holds low high (places_of (node_precision m n)) (fractions n)
 
 -- of a node that is known, and else no numbers
 abbrev pub AreFiguresOf : Data → Node → Option Input → List ℕ → Type 0
@@ -44,7 +46,8 @@ AreFiguresOf m n _ figures = figures ≡ codes "NE,NE,NE"
 abbrev pub AreFigures : Data → List Node → List ℕ → Type 0
 AreFigures m [] figures = figures ≡ []
 AreFigures m (n ∷ []) figures = AreFiguresOf m n (value_of (compilation m n)) figures
-AreFigures m (n ∷ k ∷ ns) figures = (first rest : List ℕ) × (figures ≡ field first ++ rest) × AreFiguresOf m n (value_of (compilation m n)) first × AreFigures m (k ∷ ns) rest
+AreFigures m (n ∷ k ∷ ns) figures = (first rest : List ℕ) × (figures ≡ field first ++ rest) ×
+    AreFiguresOf m n (value_of (compilation m n)) first × AreFigures m (k ∷ ns) rest
 
 -- ---- rows
 
@@ -59,12 +62,14 @@ IsRowOf m s row = (figures : List ℕ) × (row ≡ s.words ++ figures ++ 10 ∷ 
 -- a row of each in turn, and nothing else
 abbrev pub AreRowsOf : Data → List Subject → List ℕ → Type 0
 AreRowsOf m [] text = text ≡ []
-AreRowsOf m (s ∷ ss) text = (row rest : List ℕ) × (text ≡ row ++ rest) × IsRowOf m s row × AreRowsOf m ss rest
+AreRowsOf m (s ∷ ss) text = (row rest : List ℕ) × (text ≡ row ++ rest) ×
+    IsRowOf m s row × AreRowsOf m ss rest
 
 -- ---- tables
 
 abbrev pub line_subject : ℕ → Name → Option Category → Option EqId → List Subject
-line_subject year name (Some c) (Some e) = record { words = cell_words name c e; nodes = node.Line name year ∷ [] } ∷ []
+line_subject year name (Some c) (Some e) =
+    record { words = cell_words name c e; nodes = node.Line name year ∷ [] } ∷ []
 line_subject year name _ _ = []
 
 abbrev pub total_subject : ℕ → Category → Subject
@@ -74,14 +79,17 @@ abbrev pub gross_subject : ℕ → Subject
 gross_subject year = record { words = field (codes "gross"); nodes = node.Gross year ∷ [] }
 
 abbrev pub year_subject : ℕ → Subject
-year_subject year = record { words = field (decimal year); nodes = node.Total National year ∷ node.Gross year ∷ [] }
+year_subject year =
+    record { words = field (decimal year); nodes = node.Total National year ∷ node.Gross year ∷ [] }
 
--- what the rows of a table are of: each line, each category and the gross total, or each year from the first one
+-- what the rows of a table are of: each line, each category and the gross total, or each year from the first
 abbrev pub subjects : Table → Data → ℕ → List Subject
-subjects Cells m year = flat_map (λ name. line_subject year name (category m name) (line m name)) (line_names m)
+subjects Cells m year =
+    flat_map (λ name. line_subject year name (category m name) (line m name)) (line_names m)
 subjects Summary m year = map (total_subject year) tree ++ gross_subject year ∷ []
 subjects Series m year = map year_subject (years_from (first_year (span m)) (year + 1 - first_year (span m)))
 
 -- The text is the header and those rows, and each bound in it holds the exact value of its node.
 unfoldable pub IsSoundText : Table → Data → ℕ → List ℕ → Type 0
-IsSoundText table m year text = (rows : List ℕ) × (text ≡ header table ++ rows) × AreRowsOf m (subjects table m year) rows
+IsSoundText table m year text =
+    (rows : List ℕ) × (text ≡ header table ++ rows) × AreRowsOf m (subjects table m year) rows

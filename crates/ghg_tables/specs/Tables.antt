@@ -38,7 +38,8 @@ present_text name (Some c) (Some e) value = cell_text name c e value
 present_text name _ _ value = []
 
 unfoldable pub line_row : Data → Outcomes → ℕ → Name → List ℕ
-line_row m outcomes year name = present_text name (category m name) (line m name) (shown outcomes (node.Line name year))
+line_row m outcomes year name =
+    present_text name (category m name) (line m name) (shown outcomes (node.Line name year))
 
 unfoldable pub cells_text : Data → Outcomes → ℕ → List ℕ
 cells_text m outcomes year = header Cells ++ flat_map (line_row m outcomes year) (line_names m)
@@ -52,15 +53,18 @@ unfoldable pub gross_row : Outcomes → ℕ → List ℕ
 gross_row outcomes year = total_text (codes "gross") (shown outcomes (node.Gross year))
 
 unfoldable pub summary_text : Outcomes → ℕ → List ℕ
-summary_text outcomes year = header Summary ++ flat_map (category_row outcomes year) tree ++ gross_row outcomes year
+summary_text outcomes year =
+    header Summary ++ flat_map (category_row outcomes year) tree ++ gross_row outcomes year
 
 -- ---- series: each year from a first one to this one
 
 unfoldable pub year_row : Outcomes → ℕ → List ℕ
-year_row outcomes year = year_text year (shown outcomes (node.Total National year)) (shown outcomes (node.Gross year))
+year_row outcomes year =
+    year_text year (shown outcomes (node.Total National year)) (shown outcomes (node.Gross year))
 
 unfoldable pub series_text : ℕ → Outcomes → ℕ → List ℕ
-series_text first outcomes year = header Series ++ flat_map (year_row outcomes) (years_from first (year + 1 - first))
+series_text first outcomes year =
+    header Series ++ flat_map (year_row outcomes) (years_from first (year + 1 - first))
 
 -- ---- each table
 

@@ -28,7 +28,8 @@ number_text p n = fixed_text n (places_of p)
 
 -- a value and two bounds, in units of the last decimal
 abbrev pub three_decimals : Precision → ℤ → ℤ → ℤ → List ℕ
-three_decimals p value low high = field (number_text p value) ++ field (number_text p low) ++ number_text p high
+three_decimals p value low high =
+    field (number_text p value) ++ field (number_text p low) ++ number_text p high
 
 unfoldable pub known_text : Precision → Bounds → Bounds → List ℕ
 known_text p point range = three_decimals p (reported p point) (low_of p range) (high_of p range)
@@ -56,7 +57,8 @@ identity_text name c e = field name ++ field (code_of c) ++ field (code e)
 
 -- what stands before the value of a line
 abbrev pub cell_words : Name → Category → EqId → List ℕ
-cell_words name c e = identity_text name c e ++ field (gas_word_of (output e)) ++ field (unit_word_of (output e))
+cell_words name c e =
+    identity_text name c e ++ field (gas_word_of (output e)) ++ field (unit_word_of (output e))
 
 -- a line and its value
 unfoldable pub cell_text : Name → Category → EqId → Input → List ℕ
@@ -68,4 +70,6 @@ total_text name total = field name ++ figures_text Thousandths total ++ 10 ∷ [
 
 -- a year with its national and its gross total
 unfoldable pub year_text : ℕ → Input → Input → List ℕ
-year_text year total gross = field (decimal year) ++ field (figures_text Thousandths total) ++ figures_text Thousandths gross ++ 10 ∷ []
+year_text year total gross =
+    field (decimal year) ++ field (figures_text Thousandths total) ++
+    figures_text Thousandths gross ++ 10 ∷ []

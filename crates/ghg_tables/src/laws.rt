@@ -17,7 +17,8 @@ pub fn power_plant_prints()
     ensures { PowerPlantPrints }
 {}
 
-/// The rows of a line that gives the energy of 2000 t of fuel at 48 TJ/Gg, and of one that burns it at 56100 kg/TJ.
+/// The row of a line that gives the energy of 2000 t of fuel at 48 TJ/Gg, and of one that burns it at
+/// 56100 kg/TJ.
 pub fn burnt_fuel_prints()
     ensures { BurntFuelPrints }
 {}

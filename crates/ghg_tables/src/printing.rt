@@ -15,7 +15,8 @@ use ghg_graph::Cells;
 use ghg_units::{Name, Node, Text};
 use std::alloc::{AllocError, Global};
 
-// Room for a row. None is longer: each of three figures takes at most 23 bytes, and with the commas between them 71.
+// Room for a row. None is longer: each of three figures takes at most 23 bytes, and with the commas between
+// them 71.
 
 /// With the words of a line and their commas, which take at most 53.
 const LONGEST_CELL: usize = 128;
@@ -28,8 +29,8 @@ const LONGEST_YEAR: usize = 160;
 
 /// The text of a table for a year of the span.
 ///
-/// Wherever the inputs are within their supplied bounds, the exact value of each node is within the bounds that are
-/// printed of it. Want of memory is the only error.
+/// Wherever the inputs are within their supplied bounds, the exact value of each node is within the bounds
+/// that are printed of it. The only error is that memory ran out.
 pub fn print<C: Cells>(
     alloc: Global,
     table: Table,
@@ -37,7 +38,8 @@ pub fn print<C: Cells>(
     cells: &C,
 ) -> Result<Text, AllocError>
     requires { is_year_of (span (C.content cells.now)) year ≡ true }
-    ensures text { IfOk result (λ text. text ≡ table_text table (C.content cells.now) (compilation (C.content cells.now)) year) }
+    ensures text { IfOk result (λ text.
+        text ≡ table_text table (C.content cells.now) (compilation (C.content cells.now)) year) }
     ensures bounds { IfOk result (IsSoundText table (C.content cells.now) year) }
 {
     let first = cells.book().span().unwrap().first;
@@ -51,7 +53,8 @@ pub fn print<C: Cells>(
 // The value of each line, by name.
 #[tactic(auto, unfolding(crate::specs::Tables::cells_text))]
 fn print_cells<C: Cells>(alloc: Global, year: u32, cells: &C) -> Result<Text, AllocError>
-    ensures { IfOk result (λ text. text ≡ cells_text (C.content cells.now) (compilation (C.content cells.now)) year) }
+    ensures { IfOk result (λ text.
+        text ≡ cells_text (C.content cells.now) (compilation (C.content cells.now)) year) }
 {
     let header = b"code,category,equation,gas,unit,value,low,high\n";
     let names = cells.book().lines(alloc)?;
@@ -70,7 +73,8 @@ fn append_line<C: Cells>(
     name: &Name,
     year: u32,
 ) -> Result<(), AllocError>
-    ensures { OnOk result (out.new.items ≡ out.old.items ++ line_row (C.content cells.now) (compilation (C.content cells.now)) year name.now) }
+    ensures { OnOk result (out.new.items ≡ out.old.items ++
+        line_row (C.content cells.now) (compilation (C.content cells.now)) year name.now) }
 {
     match cells.book().line(name) {
         Some((category, id)) => {
@@ -104,7 +108,8 @@ fn append_category<C: Cells>(
     category: Category,
     year: u32,
 ) -> Result<(), AllocError>
-    ensures { OnOk result (out.new.items ≡ out.old.items ++ category_row (compilation (C.content cells.now)) year category) }
+    ensures { OnOk result (out.new.items ≡ out.old.items ++
+        category_row (compilation (C.content cells.now)) year category) }
 {
     let total = shown(cells, &Node::Total(category, year));
     append_total(out, code(category).as_bytes(), &total)
@@ -112,7 +117,8 @@ fn append_category<C: Cells>(
 
 #[tactic(auto, unfolding(crate::specs::Tables::gross_row))]
 fn append_gross<C: Cells>(out: &mut Vec<u8>, cells: &C, year: u32) -> Result<(), AllocError>
-    ensures { OnOk result (out.new.items ≡ out.old.items ++ gross_row (compilation (C.content cells.now)) year) }
+    ensures { OnOk result (out.new.items ≡ out.old.items ++
+        gross_row (compilation (C.content cells.now)) year) }
 {
     append_total(out, b"gross", &shown(cells, &Node::Gross(year)))
 }
@@ -140,7 +146,8 @@ fn print_series<C: Cells>(
 
 #[tactic(auto, unfolding(crate::specs::Tables::year_row))]
 fn append_totals<C: Cells>(out: &mut Vec<u8>, cells: &C, year: u32) -> Result<(), AllocError>
-    ensures { OnOk result (out.new.items ≡ out.old.items ++ year_row (compilation (C.content cells.now)) year) }
+    ensures { OnOk result (out.new.items ≡ out.old.items ++
+        year_row (compilation (C.content cells.now)) year) }
 {
     let total = shown(cells, &Node::Total(Category::National, year));
     let gross = shown(cells, &Node::Gross(year));
