@@ -1,21 +1,20 @@
 -- What a row says is well formed.
 use Rattle.std.specs.Option.{ok_or, option_map}
-use Rattle.std.specs.List.{AllByRecursion}
-use Rattle.std.proofs.Common.{sym, ap, subst, ◌≡◌, ◌≤ℤ◌, ◌∙◌, ◌==◌, ◌+◌, ℤ, unsigned_abs, ◌&&◌, ◌||◌, ℕ, List, [], ◌∷◌, length, Option, Some, None, Result, Ok, Err, Bool, true, false, cond, refl, arith, is_err, nat_le, nat_lt, int_lt, option_and_then, if◌then◌else◌, IfOk}
-use Rattle.std.specs.List.{list_all}
-use Rattle.std.proofs.lemmas.Bool.{leb-true, ltb-false}
+use Rattle.std.specs.List.{AllByRecursion, list_all}
+use Rattle.std.proofs.Common.{sym, ap, subst, ◌≡◌, ◌≤ℤ◌, ◌∙◌, ◌==◌, ◌+◌, ℤ, unsigned_abs, ◌&&◌, ℕ, List, [], ◌∷◌, length, Option, Some, None, Result, Ok, Err, Bool, true, false, cond, refl, arith, is_err, is_some, nat_le, int_le, option_and_then, if◌then◌else◌, IfOk, IfSome}
+use Rattle.std.proofs.lemmas.Bool.{leb-true}
 use Rattle.ghg_categories.specs.declared.category.Category.{Category}
 use Rattle.ghg_categories.specs.Tree.{is_leaf_of, named_in}
+use Rattle.ghg_equations.specs.declared.eq_id.EqId.{EqId}
+use Rattle.ghg_equations.specs.Table.{named}
 use Rattle.ghg_interval.specs.Bounds.{AreBounded, Bounds, bound_limit}
 use Rattle.ghg_interval.specs.declared.Over.{Over}
 use Rattle.ghg_interval.specs.Operations.{is_bounded_by}
 use Rattle.ghg_units.specs.declared.decimal.Decimal.{Decimal}
 use Rattle.ghg_units.specs.declared.row.Act.{Act}
-use Rattle.ghg_equations.specs.Table.{named}
-use Rattle.ghg_units.specs.declared.row.Amount.{Amount}
+use Rattle.ghg_units.specs.declared.row.Act.TheVariants.{Enter, Correct, Withdraw}
 use Rattle.ghg_units.specs.declared.row.Binding.{Binding}
 use Rattle.ghg_units.specs.declared.row.Binding.TheVariants as bound
-use Rattle.ghg_units.specs.declared.row.Figure.{Figure}
 use Rattle.ghg_units.specs.declared.row.NotationKey.{NotationKey}
 use Rattle.ghg_units.specs.declared.row.Row.{Row}
 use Rattle.ghg_units.specs.declared.row.RowForm.{RowForm}
@@ -26,41 +25,53 @@ use Rattle.ghg_units.specs.declared.unit.Unit.{Unit as UnitWord}
 use Rattle.ghg_units.specs.Decimal.{decimal_in, number_of}
 use Rattle.ghg_units.specs.Name.{factor_name_in, is_digit, is_name, is_potential_name, name_in, plain_name_in}
 use Rattle.ghg_units.specs.Parameter.{parameter_in}
+use Rattle.ghg_units.specs.Steps as option
 use Rattle.ghg_units.specs.Units.{converted, interval_in, unit_in}
-use Rattle.ghg_units.specs.WellFormed.{IsAmountOf, IsBinding, IsFactorName, IsForm, IsLeaf, IsPlainName, IsSum, IsWellFormed, IsYear, withdraws}
+use Rattle.ghg_units.specs.WellFormed.{IsAmountOf, IsBinding, IsFactorName, IsFigure, IsForm, IsLeaf, IsPlainName, IsSpan, IsSum, IsWellFormed, IsYear, withdraws}
 use Rattle.ghg_units.specs.Words.{act_in, key_in}
 use Rattle.ghg_units.specs.Year.{year_in}
 use Rattle.ghg_import.specs.declared.fault.Fault.{Fault}
 use Rattle.ghg_import.specs.declared.fault.Fault.TheVariants.{Shape}
-use Rattle.ghg_import.specs.declared.form.DatedFigure.{DatedFigure}
 use Rattle.ghg_import.specs.declared.kind.BindingForm.{BindingForm}
 use Rattle.ghg_import.specs.declared.kind.BindingForm.TheVariants as targets
+use Rattle.ghg_import.specs.declared.kind.Chosen.{Chosen}
 use Rattle.ghg_import.specs.declared.kind.Kind.{Kind}
 use Rattle.ghg_import.specs.declared.kind.Kind.TheVariants as kinds
-use Rattle.ghg_import.specs.Fault.{◌>>=◌}
-use Rattle.ghg_import.specs.Forms.{IsDated, activity_in, amount_in, bind_in, content_in, dated_figure_in, empty_at, factor_in, form_in, key_alone_in, key_or, known_in, is_sum, leaf_in, line_in, names_in, no_value_in, parts_of, quantity_in, span_in, target_in}
+use Rattle.ghg_import.specs.declared.kind.Manner.{Manner}
+use Rattle.ghg_import.specs.declared.kind.Manner.TheVariants.{Withdraws, Keyed, Valued}
+use Rattle.ghg_import.specs.declared.rows.Rows.{Rows}
 use Rattle.ghg_import.specs.Body.{records_of}
+use Rattle.ghg_import.specs.Content.{amount_in, bound_in, content_of, figure_in, form_in, form_of, known_in, line_in, span_in, unless_withdrawn, unless_wrong}
+use Rattle.ghg_import.specs.Fault.{◌>>=◌}
+use Rattle.ghg_import.specs.Forms.{binding_in, is_sum, leaf_in, names_in, parts_of, quantity_in, target_in}
 use Rattle.ghg_import.specs.Kinds.{binding_form_in, kind_in}
-use Rattle.ghg_import.specs.Reading.{Reading, is_header, no_header, numbered, reading_of, row_content, row_in, rows_from, then_rows, under_header}
+use Rattle.ghg_import.specs.Reading.{Reading, content_in, is_header, no_header, numbered, reading_of, row_content, row_in, rows_from, then_rows, under_header}
 use Rattle.ghg_import.specs.Shape.{Texts, columns_in}
+use Rattle.ghg_import.specs.Table.{chosen_in, manner_of, wrong_column}
+use Rattle.ghg_import.specs.Told.{Tells}
 use Rattle.ghg_import.proofs.Sums.{sum_formed}
 
 -- ---- steps
 
--- what holds of each result of the second step holds of what both give
-step : {A B : Type 0} (r : Result A Fault) (f : A → Result B Fault) (P : B → Type 0) → ((a : A) → r ≡ Ok a → IfOk (f a) P) → IfOk (r >>= f) P
-step (Ok a) f P k = k a refl
-step (Err e) f P k = tt
+-- what holds of each result of what follows holds of both
+reads : {A B : Type 0} (o : Option A) (f : A → Option B) (P : B → Type 0) → ((a : A) → o ≡ Some a → IfSome (f a) P) → IfSome (option_and_then f o) P
+reads (Some a) f P k = k a refl
+reads None f P k = tt
 
--- a step that reads a text
-reads : {A B : Type 0} (o : Option A) (e : Fault) (f : A → Result B Fault) (P : B → Type 0) → ((a : A) → o ≡ Some a → IfOk (f a) P) → IfOk (ok_or o e >>= f) P
-reads (Some a) e f P k = k a refl
-reads None e f P k = tt
+-- the same of what keeps Q
+keeps : {A B : Type 0} (o : Option A) (Q : A → Type 0) → IfSome o Q → (f : A → Option B) (P : B → Type 0) → ((a : A) → Q a → IfSome (f a) P) → IfSome (option_and_then f o) P
+keeps (Some a) Q good f P k = k a good
+keeps None Q good f P k = tt
 
--- either branch
-either : {A : Type 0} (b : Bool) (x y : Result A Fault) (P : A → Type 0) → (b ≡ true → IfOk x P) → (b ≡ false → IfOk y P) → IfOk (if b then x else y) P
-either true x y P first second = first refl
-either false x y P first second = second refl
+-- of a test
+passes : {A : Type 0} (b : Bool) (x : A) (P : A → Type 0) → (b ≡ true → P x) → IfSome (if b then Some x else None) P
+passes true x P k = k refl
+passes false x P k = tt
+
+-- of another value
+mapped : {A B : Type 0} (f : A → B) (o : Option A) (P : B → Type 0) → ((a : A) → o ≡ Some a → P (f a)) → IfSome (option_map f o) P
+mapped f (Some a) P k = k a refl
+mapped f None P k = tt
 
 -- ---- texts
 
@@ -132,153 +143,135 @@ bounded u text d e = by (decimal_in text) e
     by None e = absurd (cc)
     by (Some x) e = taken x (is_err (interval_in u x)) refl e
 
-or_first : (a b : Bool) → a || b ≡ false → a ≡ false
-or_first true b e = absurd (cc)
-or_first false b e = refl
+bound_bounded : (u : UnitWord) (value d : Decimal) (text : List ℕ) → AreBounded (converted u value value) → bound_in u value text ≡ Some d → AreBounded (converted u d d)
+unfolding bound_in
+bound_bounded u value d text is e = by (length text == 0) e
+  where
+    by : (b : Bool) → (if b then Some value else quantity_in u text) ≡ Some d → AreBounded (converted u d d)
+    by true e = let same : value ≡ d = cc in subst (λ (x : Decimal). AreBounded (converted u x x)) same is
+    by false e = bounded u text d e
 
-or_second : (a b : Bool) → a || b ≡ false → b ≡ false
-or_second true b e = absurd (cc)
-or_second false b e = e
+in_order : (x y : ℤ) → int_le x y ≡ true → x ≤ℤ y
+in_order x y e = grind (arith, e)
 
-not_before : (x y : ℤ) → int_lt x y ≡ false → y ≤ℤ x
-not_before x y e = grind (arith, e)
-
-itself : (x : ℤ) → x ≤ℤ x
-itself x = grind arith
-
-known_formed : (u : UnitWord) (row : Texts) → IfOk (known_in u row) (IsAmountOf u)
+known_formed : (u : UnitWord) (row : Texts) → IfSome (known_in u row) (IsAmountOf u)
 unfolding known_in
 known_formed u row =
-    reads (quantity_in u row.value) _ _ (IsAmountOf u) (λ value v.
-    either ((length row.low == 0) && (length row.high == 0)) _ _ (IsAmountOf u)
-    (λ alone. (itself value.scaled, itself value.scaled, bounded u row.value value v))
-    (λ both.
-    reads (quantity_in u row.low) _ _ (IsAmountOf u) (λ low l.
-    reads (quantity_in u row.high) _ _ (IsAmountOf u) (λ high h.
-    either (int_lt value.scaled low.scaled || int_lt high.scaled value.scaled) _ _ (IsAmountOf u)
-    (λ wrong. tt)
-    (λ ordered. (
-      not_before _ _ (or_first (int_lt value.scaled low.scaled) _ ordered),
-      not_before _ _ (or_second (int_lt value.scaled low.scaled) (int_lt high.scaled value.scaled) ordered),
-      record { lo = (bounded u row.low low l).lo; hi = (bounded u row.high high h).hi },
-    ))))))
+    reads (quantity_in u row.value) _ (IsAmountOf u) (λ value v.
+    reads (bound_in u value row.low) _ (IsAmountOf u) (λ low l.
+    reads (bound_in u value row.high) _ (IsAmountOf u) (λ high h.
+    passes (int_le low.scaled value.scaled && int_le value.scaled high.scaled) _ (IsAmountOf u) (λ ordered.
+    let is = bounded u row.value value v in (
+      in_order _ _ (and_first (int_le low.scaled value.scaled) _ ordered),
+      in_order _ _ (and_second (int_le low.scaled value.scaled) _ ordered),
+      record { lo = (bound_bounded u value low row.low is l).lo; hi = (bound_bounded u value high row.high is h).hi },
+    )))))
 
-amount_formed : (u : UnitWord) (row : Texts) → IfOk (amount_in u row) (IsAmountOf u)
-unfolding amount_in
-amount_formed u row = by (key_in row.value)
-  where
-    by : (o : Option NotationKey) → IfOk (key_or o (known_in u row)) (IsAmountOf u)
-    by None = known_formed u row
-    by (Some key) = tt
+amount_formed : (m : Manner) (u : UnitWord) (row : Texts) → IfSome (amount_in m u row) (IsAmountOf u)
+amount_formed Withdraws u row = known_formed u row
+amount_formed Keyed u row = mapped _ (key_in row.value) (IsAmountOf u) (λ key e. tt)
+amount_formed Valued u row = known_formed u row
 
-dated_formed : (act : Act) (row : Texts) → IfOk (dated_figure_in act row) (λ f. IsDated (withdraws act) f.year f.figure)
-unfolding dated_figure_in
-dated_formed act row =
-    let P : DatedFigure → Type 0 = λ f. IsDated (withdraws act) f.year f.figure in
-    either (withdraws act) _ _ P
-    (λ away. step (no_value_in row) _ P (λ _ _. reads (year_in row.year) _ _ P (λ y e. (away, year row.year y e))))
-    (λ here. step (key_alone_in row) _ P (λ _ _. reads (unit_in row.unit) _ _ P (λ u _. reads (year_in row.year) _ _ P (λ y e.
-    amount_step u (amount_in u row) (amount_formed u row) (λ a. record { year = y; figure = Some (record { unit = u; amount = a }) }) P (λ a good. (here, year row.year y e, good))))))
-  where
-    amount_step : (u : UnitWord) (r : Result Amount Fault) → IfOk r (IsAmountOf u) → (f : Amount → DatedFigure) (P : DatedFigure → Type 0) → ((a : Amount) → IsAmountOf u a → P (f a)) → IfOk (r >>= λ a. Ok (f a)) P
-    amount_step u (Ok a) good f P k = k a good
-    amount_step u (Err e) good f P k = tt
+figure_formed : (c : Chosen) (row : Texts) → IfSome (figure_in c row) IsFigure
+unfolding figure_in
+figure_formed c row = reads c.unit _ IsFigure (λ u e. keeps (amount_in c.manner u row) (IsAmountOf u) (amount_formed c.manner u row) _ IsFigure (λ a good. good))
 
--- ---- forms
-
-activity_form : (away : Bool) (name : List ℕ) → IsPlainName name → (f : DatedFigure) → IsDated away f.year f.figure → IsForm away (forms.Activity name f.year f.figure)
-activity_form away name plain f is = by f.figure is
-  where
-    by : (o : Option Figure) → IsDated away f.year o → IsForm away (forms.Activity name f.year o)
-    by None is = (is.0, plain, is.1)
-    by (Some figure) is = (is.0, plain, is.1, is.2)
-
-factor_form : (away : Bool) (name : List ℕ) → IsFactorName name → (f : DatedFigure) → IsDated away f.year f.figure → IsForm away (forms.Factor name f.year f.figure)
-factor_form away name named f is = by f.figure is
-  where
-    by : (o : Option Figure) → IsDated away f.year o → IsForm away (forms.Factor name f.year o)
-    by None is = (is.0, named, is.1)
-    by (Some figure) is = (is.0, named, is.1, is.2)
-
-figure_step : (away : Bool) (r : Result DatedFigure Fault) → IfOk r (λ f. IsDated away f.year f.figure) → (form : DatedFigure → RowForm) → ((f : DatedFigure) → IsDated away f.year f.figure → IsForm away (form f)) → IfOk (r >>= λ f. Ok (form f)) (IsForm away)
-figure_step away (Ok f) good form k = k f good
-figure_step away (Err e) good form k = tt
-
-activity_formed : (act : Act) (row : Texts) → IfOk (activity_in act row) (IsForm (withdraws act))
-unfolding activity_in
-activity_formed act row =
-    let P = IsForm (withdraws act) in
-    step (empty_at columns.Subject row.subject) _ P (λ _ _. reads (plain_name_in row.name) _ _ P (λ name n.
-    figure_step (withdraws act) (dated_figure_in act row) (dated_formed act row) (λ f. forms.Activity name f.year f.figure) (activity_form (withdraws act) name (plain_name row.name name n))))
-
-factor_formed : (act : Act) (row : Texts) → IfOk (factor_in act row) (IsForm (withdraws act))
-unfolding factor_in
-factor_formed act row =
-    let P = IsForm (withdraws act) in
-    step (empty_at columns.Subject row.subject) _ P (λ _ _. reads (factor_name_in row.name) _ _ P (λ name n.
-    figure_step (withdraws act) (dated_figure_in act row) (dated_formed act row) (λ f. forms.Factor name f.year f.figure) (factor_form (withdraws act) name (factor_name row.name name n))))
-
-span_formed : (act : Act) (row : Texts) → IfOk (span_in act row) (IsForm (withdraws act))
+span_formed : (row : Texts) → IfSome (span_in row) IsSpan
 unfolding span_in
-span_formed act row =
-    let P = IsForm (withdraws act) in
-    step (empty_at columns.Subject row.subject) _ P (λ _ _. step (empty_at columns.Name row.name) _ P (λ _ _.
-    either (withdraws act) _ _ P
-    (λ away. step (empty_at columns.Year row.year) _ P (λ _ _. step (no_value_in row) _ P (λ _ _. away)))
-    (λ here. step (empty_at columns.High row.high) _ P (λ _ _. step (empty_at columns.Unit row.unit) _ P (λ _ _.
-    reads (year_in row.year) _ _ P (λ first f. reads (year_in row.value) _ _ P (λ last l. reads (year_in row.low) _ _ P (λ base b.
-    either (nat_lt base first || nat_lt last base) _ _ P
-    (λ wrong. tt)
-    (λ ordered. (here, (year row.year first f, year row.value last l, ltb-false _ _ (or_first (nat_lt base first) _ ordered), ltb-false _ _ (or_second (nat_lt base first) (nat_lt last base) ordered))))))))))))
+span_formed row =
+    reads (year_in row.year) _ IsSpan (λ first f. reads (year_in row.value) _ IsSpan (λ last l. reads (year_in row.low) _ IsSpan (λ base b.
+    passes (nat_le first base && nat_le base last) _ IsSpan (λ ordered. (
+      year row.year first f,
+      year row.value last l,
+      leb-true _ _ (and_first (nat_le first base) _ ordered),
+      leb-true _ _ (and_second (nat_le first base) _ ordered),
+    )))))
 
-line_formed : (act : Act) (row : Texts) → IfOk (line_in act row) (IsForm (withdraws act))
+line_formed : (row : Texts) → IfSome (line_in row) (λ l. IsLeaf l.0)
 unfolding line_in
-line_formed act row =
-    let P = IsForm (withdraws act) in
-    either (withdraws act) _ _ P
-    (λ away. step (empty_at columns.Subject row.subject) _ P (λ _ _. reads (plain_name_in row.name) _ _ P (λ name n.
-    step (empty_at columns.Year row.year) _ P (λ _ _. step (no_value_in row) _ P (λ _ _. (away, plain_name row.name name n))))))
-    (λ here. reads (leaf_in row.subject) _ _ P (λ c l. reads (plain_name_in row.name) _ _ P (λ name n.
-    step (empty_at columns.Year row.year) _ P (λ _ _. reads (named row.value) _ _ P (λ e _.
-    step (empty_at columns.Low row.low) _ P (λ _ _. step (empty_at columns.High row.high) _ P (λ _ _. step (empty_at columns.Unit row.unit) _ P (λ _ _.
-    (here, plain_name row.name name n, leaf row.subject c l)))))))))
-
--- a binding to what was read
-bound_to : {A : Type 0} (f : A → Binding) (o : Option A) (b : Binding) → option_map f o ≡ Some b → (x : A) × (o ≡ Some x) × (f x ≡ b)
-bound_to f None b e = absurd (cc)
-bound_to f (Some x) b e = (x, refl, cc)
+line_formed row =
+    let P : Category × EqId → Type 0 = λ l. IsLeaf l.0 in
+    reads (leaf_in row.subject) _ P (λ c l. reads (named row.value) _ P (λ e _. leaf row.subject c l))
 
 sum_named : (text : List ℕ) (names : List (List ℕ)) → names_in text ≡ Some names → IsSum names
 unfolding names_in
 sum_named text names e = let test = chosen (is_sum (parts_of text)) (parts_of text) names e in subst IsSum test.1 (sum_formed (parts_of text) test.0)
 
-target_formed : (form : BindingForm) (text : List ℕ) (b : Binding) → target_in form text ≡ Some b → IsBinding b
+target_formed : (form : BindingForm) (text : List ℕ) → IfSome (target_in form text) IsBinding
 unfolding target_in
-target_formed targets.Activity text b e = let to = bound_to bound.Activity (plain_name_in text) b e in subst IsBinding to.2 (plain_name text to.0 to.1)
-target_formed targets.Factor text b e = let to = bound_to bound.Factor (plain_name_in text) b e in subst IsBinding to.2 (plain_name text to.0 to.1)
-target_formed targets.Line text b e = let to = bound_to bound.Line (plain_name_in text) b e in subst IsBinding to.2 (plain_name text to.0 to.1)
-target_formed targets.Prev text b e = let to = bound_to bound.Prev (plain_name_in text) b e in subst IsBinding to.2 (plain_name text to.0 to.1)
-target_formed targets.Sum text b e = let to = bound_to bound.Sum (names_in text) b e in subst IsBinding to.2 (sum_named text to.0 to.1)
-target_formed targets.Key text b e = let to = bound_to bound.Key (key_in text) b e in subst IsBinding to.2 tt
+target_formed targets.Activity text = mapped bound.Activity (plain_name_in text) IsBinding (plain_name text)
+target_formed targets.Factor text = mapped bound.Factor (plain_name_in text) IsBinding (plain_name text)
+target_formed targets.Line text = mapped bound.Line (plain_name_in text) IsBinding (plain_name text)
+target_formed targets.Prev text = mapped bound.Prev (plain_name_in text) IsBinding (plain_name text)
+target_formed targets.Sum text = mapped bound.Sum (names_in text) IsBinding (sum_named text)
+target_formed targets.Key text = mapped bound.Key (key_in text) IsBinding (λ key e. tt)
 
-bind_formed : (act : Act) (row : Texts) → IfOk (bind_in act row) (IsForm (withdraws act))
-unfolding bind_in
-bind_formed act row =
-    let P = IsForm (withdraws act) in
-    reads (plain_name_in row.subject) _ _ P (λ line l. reads (parameter_in row.name) _ _ P (λ parameter _. step (empty_at columns.Year row.year) _ P (λ _ _.
-    either (withdraws act) _ _ P
-    (λ away. step (no_value_in row) _ P (λ _ _. (away, plain_name row.subject line l)))
-    (λ here. reads (binding_form_in row.value) _ _ P (λ form _. reads (target_in form row.low) _ _ P (λ b t.
-    step (empty_at columns.High row.high) _ P (λ _ _. step (empty_at columns.Unit row.unit) _ P (λ _ _.
-    (here, plain_name row.subject line l, target_formed form row.low b t)))))))))
+binding_formed : (row : Texts) → IfSome (binding_in row) IsBinding
+unfolding binding_in
+binding_formed row = reads (binding_form_in row.value) _ IsBinding (λ form e. target_formed form row.low)
+
+-- ---- forms
+
+abbrev is_away : Manner → Bool
+is_away Withdraws = true
+is_away Keyed = false
+is_away Valued = false
+
+away : (act : Act) (row : Texts) → is_away (manner_of act row) ≡ withdraws act
+away Withdraw row = refl
+away Enter row = by (is_some (key_in row.value))
+  where
+    by : (b : Bool) → is_away (if b then Keyed else Valued) ≡ false
+    by true = refl
+    by false = refl
+away Correct row = by (is_some (key_in row.value))
+  where
+    by : (b : Bool) → is_away (if b then Keyed else Valued) ≡ false
+    by true = refl
+    by false = refl
+
+-- what is said behind a key
+behind : {A : Type 0} (m : Manner) (said : Option A) (Q : A → Type 0) → IfSome said Q → (f : Option A → RowForm) → IsForm true (f None) → ((a : A) → Q a → IsForm false (f (Some a)))
+    → IfSome (option_map f (unless_withdrawn m said)) (IsForm (is_away m))
+behind Withdraws said Q good f gone here = gone
+behind Keyed None Q good f gone here = tt
+behind Keyed (Some a) Q good f gone here = here a good
+behind Valued None Q good f gone here = tt
+behind Valued (Some a) Q good f gone here = here a good
+
+said_formed : (kind : Kind) (c : Chosen) (row : Texts) → IfSome (content_of kind c row) (IsForm (is_away c.manner))
+unfolding content_of
+said_formed kinds.Span c row = behind c.manner (span_in row) IsSpan (span_formed row) forms.Span refl (λ s ok. (refl, ok))
+said_formed kinds.Activity c row =
+    let P = IsForm (is_away c.manner) in
+    reads (plain_name_in row.name) _ P (λ name n. reads (year_in row.year) _ P (λ y e.
+    let plain = plain_name row.name name n in
+    let is = year row.year y e in
+    behind c.manner (figure_in c row) IsFigure (figure_formed c row) (forms.Activity name y) (refl, plain, is) (λ f ok. (refl, plain, is, ok))))
+said_formed kinds.Factor c row =
+    let P = IsForm (is_away c.manner) in
+    reads (factor_name_in row.name) _ P (λ name n. reads (year_in row.year) _ P (λ y e.
+    let own = factor_name row.name name n in
+    let is = year row.year y e in
+    behind c.manner (figure_in c row) IsFigure (figure_formed c row) (forms.Factor name y) (refl, own, is) (λ f ok. (refl, own, is, ok))))
+said_formed kinds.Line c row =
+    reads (plain_name_in row.name) _ (IsForm (is_away c.manner)) (λ name n.
+    let plain = plain_name row.name name n in
+    behind c.manner (line_in row) (λ l. IsLeaf l.0) (line_formed row) (forms.Line name) (refl, plain) (λ l ok. (refl, plain, ok)))
+said_formed kinds.Bind c row =
+    let P = IsForm (is_away c.manner) in
+    reads (plain_name_in row.subject) _ P (λ line l. reads (parameter_in row.name) _ P (λ parameter _.
+    let plain = plain_name row.subject line l in
+    behind c.manner (binding_in row) IsBinding (binding_formed row) (forms.Bind line parameter) (refl, plain) (λ b ok. (refl, plain, ok))))
 
 form_formed : (kind : Kind) (act : Act) (row : Texts) → IfOk (form_in kind act row) (IsForm (withdraws act))
-unfolding form_in
-form_formed kinds.Span act row = span_formed act row
-form_formed kinds.Activity act row = activity_formed act row
-form_formed kinds.Factor act row = factor_formed act row
-form_formed kinds.Line act row = line_formed act row
-form_formed kinds.Bind act row = bind_formed act row
+unfolding form_of
+form_formed kind act row = by (wrong_column kind (chosen_in act row) row) (content_of kind (chosen_in act row) row) (said_formed kind (chosen_in act row) row)
+  where
+    by : (fault : Option Fault) (o : Option RowForm) → IfSome o (IsForm (is_away (manner_of act row))) → IfOk (unless_wrong fault o) (IsForm (withdraws act))
+    by (Some fault) o good = tt
+    by None None good = tt
+    by None (Some form) good = subst (λ b. IsForm b form) (away act row) good
 
 -- ---- rows
 
@@ -286,8 +279,12 @@ content_formed : (row : Texts) → IfOk (content_in row) (λ (c : Act × RowForm
 unfolding content_in
 content_formed row =
     let P : Act × RowForm → Type 0 = λ c. IsForm (withdraws c.0) c.1 in
-    reads (act_in row.act) _ _ P (λ act _. reads (kind_in row.kind) _ _ P (λ kind _. pair act (form_in kind act row) (form_formed kind act row)))
+    named (act_in row.act) _ _ P (λ act. named (kind_in row.kind) _ _ P (λ kind. pair act (form_in kind act row) (form_formed kind act row)))
   where
+    named : {A B : Type 0} (o : Option A) (e : Fault) (f : A → Result B Fault) (P : B → Type 0) → ((a : A) → IfOk (f a) P) → IfOk (ok_or o e >>= f) P
+    named (Some a) e f P k = k a
+    named None e f P k = tt
+
     pair : (act : Act) (r : Result RowForm Fault) → IfOk r (IsForm (withdraws act)) → IfOk {T = Act × RowForm} (r >>= λ form. Ok (act, form)) (λ c. IsForm (withdraws c.0) c.1)
     pair act (Ok form) good = good
     pair act (Err e) good = tt
@@ -324,3 +321,8 @@ all_formed body = by (records_of body)
     by : (records : List (List (List ℕ))) → AllByRecursion IsWellFormed (under_header records).rows
     by [] = tt
     by (header ∷ records) = headed records (is_header header)
+
+-- rows that tell a body are well formed
+pub told_formed : {E : Type 0} (r : Result Rows E) (body : List ℕ) → IfOk r (λ rows. Tells rows (reading_of body)) → IfOk r (λ rows. AllByRecursion IsWellFormed rows.rows.items)
+told_formed (Ok rows) body told = subst (AllByRecursion IsWellFormed) (sym told.0) (all_formed body)
+told_formed (Err e) body told = tt

@@ -5,11 +5,12 @@ use Rattle.csv.specs.Reading.{default_config, is_flexible, reader_config, reader
 use Rattle.csv.specs.declared.parser.State.{State}
 use Rattle.csv.specs.declared.reader.Reader.{Reader}
 use Rattle.csv.specs.declared.reader.Trim.TheVariants as trims
+use Rattle.ghg_import.specs.declared.rows.TheConstants.{MAX_BODY}
 use denote.Ref.{Bor}
 
--- the most bytes of a body
+-- the most bytes of a body, as the code has it
 abbrev pub max_body : ℕ
-max_body = 4194304
+max_body = MAX_BODY
 
 -- the fields of each record of a body, the header's first
 abbrev pub records_of : List ℕ → List (List (List ℕ))

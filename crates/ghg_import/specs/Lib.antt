@@ -3,8 +3,9 @@ pub mod Fault
 pub mod Shape
 pub mod Kinds
 pub mod Forms
+pub mod Table
+pub mod Content
 pub mod Reading
 pub mod Told
 pub mod Failing
-pub mod Table
 pub mod Laws

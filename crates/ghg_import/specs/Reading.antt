@@ -9,17 +9,27 @@ use Rattle.ghg_units.specs.declared.rule.Column.TheVariants as columns
 use Rattle.ghg_units.specs.declared.rule.Rule.{Rule}
 use Rattle.ghg_units.specs.declared.rule.Rule.TheVariants.{BadShape}
 use Rattle.ghg_units.specs.Refusals.{column_word}
+use Rattle.ghg_units.specs.Words.{act_in}
 use Rattle.ghg_import.specs.declared.fault.Fault.{Fault}
-use Rattle.ghg_import.specs.declared.fault.Fault.TheVariants.{Shape}
+use Rattle.ghg_import.specs.declared.fault.Fault.TheVariants.{Shape, Word}
 use Rattle.ghg_import.specs.Body.{records_of}
 use Rattle.ghg_import.specs.Fault.{◌>>=◌, rule_at}
-use Rattle.ghg_import.specs.Forms.{content_in}
-use Rattle.ghg_import.specs.Shape.{columns_in, field}
+use Rattle.ghg_import.specs.Content.{form_in}
+use Rattle.ghg_import.specs.Kinds.{kind_in}
+use Rattle.ghg_import.specs.Shape.{Texts, columns_in, field}
 
 -- the rows before the first that breaks a rule, and that rule
 pub record Reading : Type 0 where
   pub rows : List Row
   pub rest : Option Rule
+
+-- what a row says: its act, its kind, and what the kind makes of its other columns
+unfoldable pub content_in : Texts → Result (Act × RowForm) Fault
+content_in row = do
+  act ← ok_or (act_in row.act) (Word columns.Act)
+  kind ← ok_or (kind_in row.kind) (Word columns.Kind)
+  form ← form_in kind act row
+  Ok (act, form)
 
 -- the row of a record's fields, or the first rule that they break
 unfoldable pub row_content : List (List ℕ) → Result (Act × RowForm) Fault

@@ -1,7 +1,7 @@
--- The forms of rows as a table: what each column of a kind may hold, and which column a row is refused for.
-use Rattle.std.specs.Prelude.{ℕ, Bool, true, false, not, List, [], ◌∷◌, length, ◌==◌, ◌||◌, ◌&&◌, Option, Some, None, Result, Ok, Err, is_some, option_map}
+-- The forms of rows as a table: what each column may hold, kind by kind, and for which one a row is refused.
+use Rattle.std.specs.Prelude.{ℕ, Bool, true, false, not, List, [], ◌∷◌, length, ◌==◌, ◌||◌, ◌&&◌, Option, Some, None, is_some, if◌then◌else◌}
 use Rattle.std.specs.List.{find}
-use Rattle.std.specs.Option.{option_or}
+use Rattle.std.specs.Option.{option_map, option_or}
 use Rattle.ghg_equations.specs.Table.{named}
 use Rattle.ghg_units.specs.declared.row.Act.{Act}
 use Rattle.ghg_units.specs.declared.rule.Column.{Column}
@@ -14,58 +14,61 @@ use Rattle.ghg_units.specs.WellFormed.{withdraws}
 use Rattle.ghg_units.specs.Words.{key_in}
 use Rattle.ghg_units.specs.Year.{year_in}
 use Rattle.ghg_import.specs.declared.fault.Fault.{Fault}
-use Rattle.ghg_import.specs.declared.fault.Fault.TheVariants.{Shape, Word, Number, Disorder}
-use Rattle.ghg_import.specs.declared.kind.BindingForm.{BindingForm}
+use Rattle.ghg_import.specs.declared.fault.Fault.TheVariants.{Word, Number}
+use Rattle.ghg_import.specs.declared.kind.Chosen.{Chosen}
 use Rattle.ghg_import.specs.declared.kind.Kind.{Kind}
 use Rattle.ghg_import.specs.declared.kind.Kind.TheVariants as kinds
-use Rattle.ghg_import.specs.Forms.{leaf_in, quantity_in, target_in}
+use Rattle.ghg_import.specs.declared.kind.Manner.{Manner}
+use Rattle.ghg_import.specs.declared.kind.Manner.TheVariants.{Withdraws, Keyed, Valued}
+use Rattle.ghg_import.specs.declared.table.Holding.{Holding}
+use Rattle.ghg_import.specs.declared.table.Holding.TheVariants.{Empty, LeafCategory, PlainName, FactorName, Parameter, Equation, Form, Target, NotationKey, UnitWord, Year, Figure, Bound}
+use Rattle.ghg_import.specs.declared.table.Holdings.{Holdings}
+use Rattle.ghg_import.specs.Forms.{binding_in, leaf_in, quantity_in}
 use Rattle.ghg_import.specs.Kinds.{binding_form_in}
-use Rattle.ghg_import.specs.Shape.{Texts}
+use Rattle.ghg_import.specs.Shape.{Texts, text_of}
 
--- what a column may hold: nothing, a word, or a number
-pub data Holding : Type 0 where
-  Empty : Holding
-  LeafCategory : Holding
-  PlainName : Holding
-  FactorName : Holding
-  Parameter : Holding
-  Equation : Holding
-  Form : Holding
-  Target : Holding
-  NotationKey : Holding
-  UnitWord : Holding
-  Year : Holding
-  Figure : Holding
-  Bound : Holding
-
--- the columns from the subject to the unit
-pub record Holdings : Type 0 where
-  pub subject : Holding
-  pub name : Holding
-  pub year : Holding
-  pub value : Holding
-  pub low : Holding
-  pub high : Holding
-  pub unit : Holding
+-- ---- the table
 
 abbrev pub columns_of : Holding → Holding → Holding → Holding → Holding → Holding → Holding → Holdings
-columns_of subject name year value low high unit = record { subject = subject; name = name; year = year; value = value; low = low; high = high; unit = unit }
+columns_of subject name year value low high unit =
+    record { subject = subject; name = name; year = year; value = value; low = low; high = high; unit = unit }
 
--- the table: for each kind the columns of its key, which alone a row that withdraws fills, and the columns of another
--- row; last, whether the value is a notation key, which has no bounds
-abbrev pub holdings_of : Kind → (withdraws is_key : Bool) → Holdings
-holdings_of kinds.Span true _ = columns_of Empty Empty Empty Empty Empty Empty Empty
-holdings_of kinds.Span false _ = columns_of Empty Empty Year Year Year Empty Empty
-holdings_of kinds.Activity true _ = columns_of Empty PlainName Year Empty Empty Empty Empty
-holdings_of kinds.Activity false true = columns_of Empty PlainName Year NotationKey Empty Empty UnitWord
-holdings_of kinds.Activity false false = columns_of Empty PlainName Year Figure Bound Bound UnitWord
-holdings_of kinds.Factor true _ = columns_of Empty FactorName Year Empty Empty Empty Empty
-holdings_of kinds.Factor false true = columns_of Empty FactorName Year NotationKey Empty Empty UnitWord
-holdings_of kinds.Factor false false = columns_of Empty FactorName Year Figure Bound Bound UnitWord
-holdings_of kinds.Line true _ = columns_of Empty PlainName Empty Empty Empty Empty Empty
-holdings_of kinds.Line false _ = columns_of LeafCategory PlainName Empty Equation Empty Empty Empty
-holdings_of kinds.Bind true _ = columns_of PlainName Parameter Empty Empty Empty Empty Empty
-holdings_of kinds.Bind false _ = columns_of PlainName Parameter Empty Form Target Empty Empty
+-- For each kind the columns of its key, which alone a row that withdraws fills, and the columns of another
+-- row. A notation key has no bounds.
+abbrev pub holdings_of : Kind → Manner → Holdings
+holdings_of kinds.Span Withdraws = columns_of Empty Empty Empty Empty Empty Empty Empty
+holdings_of kinds.Span _ = columns_of Empty Empty Year Year Year Empty Empty
+holdings_of kinds.Activity Withdraws = columns_of Empty PlainName Year Empty Empty Empty Empty
+holdings_of kinds.Activity Keyed = columns_of Empty PlainName Year NotationKey Empty Empty UnitWord
+holdings_of kinds.Activity Valued = columns_of Empty PlainName Year Figure Bound Bound UnitWord
+holdings_of kinds.Factor Withdraws = columns_of Empty FactorName Year Empty Empty Empty Empty
+holdings_of kinds.Factor Keyed = columns_of Empty FactorName Year NotationKey Empty Empty UnitWord
+holdings_of kinds.Factor Valued = columns_of Empty FactorName Year Figure Bound Bound UnitWord
+holdings_of kinds.Line Withdraws = columns_of Empty PlainName Empty Empty Empty Empty Empty
+holdings_of kinds.Line _ = columns_of LeafCategory PlainName Empty Equation Empty Empty Empty
+holdings_of kinds.Bind Withdraws = columns_of PlainName Parameter Empty Empty Empty Empty Empty
+holdings_of kinds.Bind _ = columns_of PlainName Parameter Empty Form Target Empty Empty
+
+abbrev pub holding_at : Holdings → Column → Holding
+holding_at h columns.Subject = h.subject
+holding_at h columns.Name = h.name
+holding_at h columns.Year = h.year
+holding_at h columns.Value = h.value
+holding_at h columns.Low = h.low
+holding_at h columns.High = h.high
+holding_at h columns.Unit = h.unit
+holding_at h _ = Empty
+
+-- ---- what a row's words choose for its other columns
+
+abbrev pub manner_of : Act → Texts → Manner
+manner_of act row = if withdraws act then Withdraws else if is_some (key_in row.value) then Keyed else Valued
+
+abbrev pub chosen_in : Act → Texts → Chosen
+chosen_in act row =
+    record { manner = manner_of act row; unit = unit_in row.unit; binds = is_some (binding_in row) }
+
+-- ---- what a column may hold
 
 abbrev pub is_number : Holding → Bool
 is_number Year = true
@@ -73,72 +76,50 @@ is_number Figure = true
 is_number Bound = true
 is_number _ = false
 
--- whether a text is a target of the form that the value names
-abbrev pub is_target : Option BindingForm → List ℕ → Bool
-is_target None text = false
-is_target (Some form) text = is_some (target_in form text)
-
 -- whether a text is a number that is within the limit, in the unit that the row names
 abbrev pub is_quantity : Option measures.Unit → List ℕ → Bool
 is_quantity None text = false
 is_quantity (Some u) text = is_some (quantity_in u text)
 
 -- whether a text is what a column may hold in its row
-abbrev pub is_held : Holding → Texts → List ℕ → Bool
-is_held Empty row text = length text == 0
-is_held LeafCategory row text = is_some (leaf_in text)
-is_held PlainName row text = is_some (plain_name_in text)
-is_held FactorName row text = is_some (factor_name_in text)
-is_held Parameter row text = is_some (parameter_in text)
-is_held Equation row text = is_some (named text)
-is_held Form row text = is_some (binding_form_in text)
-is_held Target row text = is_target (binding_form_in row.value) text
-is_held NotationKey row text = is_some (key_in text)
-is_held UnitWord row text = is_some (unit_in text)
-is_held Year row text = is_some (year_in text)
-is_held Figure row text = is_quantity (unit_in row.unit) text
-is_held Bound row text = ((length row.low == 0) && (length row.high == 0)) || is_quantity (unit_in row.unit) text
+abbrev pub is_held : Holding → Chosen → Texts → List ℕ → Bool
+is_held Empty c row text = length text == 0
+is_held LeafCategory c row text = is_some (leaf_in text)
+is_held PlainName c row text = is_some (plain_name_in text)
+is_held FactorName c row text = is_some (factor_name_in text)
+is_held Parameter c row text = is_some (parameter_in text)
+is_held Equation c row text = is_some (named text)
+is_held Form c row text = is_some (binding_form_in text)
+is_held Target c row text = c.binds
+is_held NotationKey c row text = is_some (key_in text)
+is_held UnitWord c row text = is_some c.unit
+is_held Year c row text = is_some (year_in text)
+is_held Figure c row text = is_quantity c.unit text
+is_held Bound c row text = ((length row.low == 0) && (length row.high == 0)) || is_quantity c.unit text
 
--- a column, what it may hold, and its text
-pub record Place : Type 0 where
-  pub column : Column
-  pub holding : Holding
-  pub text : List ℕ
+-- ---- the column that a row is refused for
 
-abbrev pub place : Column → Holding → List ℕ → Place
-place column holding text = record { column = column; holding = holding; text = text }
+-- the columns that the kind decides, from left to right
+abbrev pub decided : List Column
+decided =
+    columns.Subject ∷ columns.Name ∷ columns.Year ∷ columns.Value
+    ∷ columns.Low ∷ columns.High ∷ columns.Unit ∷ []
 
--- from left to right
-abbrev pub places : Holdings → Texts → List Place
-places h row =
-    place columns.Subject h.subject row.subject
-    ∷ place columns.Name h.name row.name
-    ∷ place columns.Year h.year row.year
-    ∷ place columns.Value h.value row.value
-    ∷ place columns.Low h.low row.low
-    ∷ place columns.High h.high row.high
-    ∷ place columns.Unit h.unit row.unit
-    ∷ []
+-- the column should be empty or hold a word, and does not
+abbrev pub is_wrong_word : Holdings → Chosen → Texts → Column → Bool
+is_wrong_word h c row column =
+    not (is_number (holding_at h column)) && not (is_held (holding_at h column) c row (text_of row column))
 
--- the leftmost column that should be empty or hold a word, and does not
-abbrev pub wrong_word : Texts → List Place → Option Fault
-wrong_word row ps = option_map (λ p. Word p.column) (find (λ p. not (is_number p.holding) && not (is_held p.holding row p.text)) ps)
+-- the column should hold a number, and does not
+abbrev pub is_wrong_number : Holdings → Chosen → Texts → Column → Bool
+is_wrong_number h c row column =
+    is_number (holding_at h column) && not (is_held (holding_at h column) c row (text_of row column))
 
--- the leftmost column that should hold a number, and does not
-abbrev pub wrong_number : Texts → List Place → Option Fault
-wrong_number row ps = option_map (λ p. Number p.column) (find (λ p. is_number p.holding && not (is_held p.holding row p.text)) ps)
+-- the leftmost wrong word, and else the leftmost wrong number
+abbrev pub wrong_among : Holdings → Chosen → Texts → Option Fault
+wrong_among h c row =
+    option_or (option_map Word (find (is_wrong_word h c row) decided))
+    (option_map Number (find (is_wrong_number h c row) decided))
 
--- a wrong word, and else a wrong number
-abbrev pub wrong_among : Texts → List Place → Option Fault
-wrong_among row ps = option_or (wrong_word row ps) (wrong_number row ps)
-
-abbrev pub wrong_column : Kind → Act → Texts → Option Fault
-wrong_column kind act row = wrong_among row (places (holdings_of kind (withdraws act) (is_some (key_in row.value))) row)
-
--- the column that a reading is refused for
-abbrev pub column_fault : {A : Type 0} → Result A Fault → Option Fault
-column_fault (Ok x) = None
-column_fault (Err (Word column)) = Some (Word column)
-column_fault (Err (Number column)) = Some (Number column)
-column_fault (Err Shape) = None
-column_fault (Err Disorder) = None
+unfoldable pub wrong_column : Kind → Chosen → Texts → Option Fault
+wrong_column kind c row = wrong_among (holdings_of kind c.manner) c row

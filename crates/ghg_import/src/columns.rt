@@ -4,7 +4,7 @@ ghost use Rattle.std.specs.Prelude.{◌≡◌, option_map, unwrap_or, []};
 ghost use Rattle.std.specs.Str.{is_utf8};
 ghost use Rattle.csv.specs.Records.{field_at, fields_of};
 ghost use Rattle.ghg_import.specs.Reading.{is_header, names_the_figure, names_the_record};
-ghost use Rattle.ghg_import.specs.Shape.{columns_in, field, is_text, texts};
+ghost use Rattle.ghg_import.specs.Shape.{columns_in, field, is_text, text_of, texts};
 
 use csv::ByteRecord;
 use ghg_units::Column;
@@ -22,6 +22,26 @@ pub(crate) struct Columns<'a> {
     pub(crate) low: &'a [u8],
     pub(crate) high: &'a [u8],
     pub(crate) unit: &'a [u8],
+}
+
+impl<'a> Columns<'a> {
+    /// The text of a column; that of the note is not read.
+    pub(crate) fn text(self, column: Column) -> &'a [u8]
+        ensures { result.now ≡ text_of (texts self.entry) column }
+    {
+        match column {
+            Column::Act => self.act,
+            Column::Kind => self.kind,
+            Column::Subject => self.subject,
+            Column::Name => self.name,
+            Column::Year => self.year,
+            Column::Value => self.value,
+            Column::Low => self.low,
+            Column::High => self.high,
+            Column::Unit => self.unit,
+            Column::Note => &[],
+        }
+    }
 }
 
 /// The columns of a record, if it has ten fields, each of them UTF-8.

@@ -3,6 +3,8 @@
 ghost use Rattle.std.specs.Prelude.{◌≡◌};
 ghost use Rattle.ghg_import.specs.Kinds.{binding_form_in, kind_in};
 
+use ghg_units::Unit;
+
 /// What a row is about, as its kind column names it.
 #[derive(Clone, Copy, Debug, PartialEq, Eq, Drop)]
 pub(crate) enum Kind {
@@ -62,4 +64,25 @@ pub(crate) fn binding_form_named(text: &[u8]) -> Option<BindingForm>
     } else {
         None
     }
+}
+
+/// How a row is filled.
+#[derive(Clone, Copy, Debug, PartialEq, Eq, Drop)]
+pub(crate) enum Manner {
+    /// It withdraws its record, and has the columns of the key alone.
+    Withdraws,
+    /// Its value is a notation key.
+    Keyed,
+    /// It has any other value.
+    Valued,
+}
+
+/// What a row's words choose for its other columns.
+#[derive(Clone, Copy, Drop)]
+pub(crate) struct Chosen {
+    pub(crate) manner: Manner,
+    /// The unit of its figures, if it names one.
+    pub(crate) unit: Option<Unit>,
+    /// Whether it names a form of a binding and a target of that form.
+    pub(crate) binds: bool,
 }

@@ -9,6 +9,7 @@ mod laws;
 mod reader;
 mod rows;
 mod sum;
+mod table;
 
-pub use laws::{each_form_is_its_row_of_the_table, rows_are_well_formed};
+pub use laws::rows_are_well_formed;
 pub use rows::{MAX_BODY, Rows, is_too_long, read_rows};

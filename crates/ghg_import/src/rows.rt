@@ -3,7 +3,7 @@
 ghost use Rattle.std.specs.Prelude.{◌≡◌, ◌≤◌, ◌+◌, ◌<◌, ◌↔◌, length, IfOk, IsTrue, OnOk, if◌then◌else◌};
 ghost use Rattle.std.specs.List.{AllByRecursion};
 ghost use Rattle.csv.specs.Records.{fields_of};
-ghost use Rattle.ghg_units.specs.WellFormed.{IsForm, IsWellFormed, withdraws};
+ghost use Rattle.ghg_units.specs.WellFormed.{IsWellFormed};
 ghost use Rattle.ghg_import.specs.Body.{max_body};
 ghost use Rattle.ghg_import.specs.Fault.{Gives};
 ghost use Rattle.ghg_import.specs.Reading.{no_header, reading_of, row_content, rows_from, under_header};
@@ -36,11 +36,12 @@ pub struct Rows {
     pub rest: Option<Rule>,
 }
 
-/// The rows of a body, up to the first that breaks a rule which its body alone shows: its shape, its words, its numbers
-/// or the order of its bounds.
+/// The rows of a body, up to the first that breaks a rule which its body alone shows: its shape, its words, its
+/// numbers or the order of its bounds.
 ///
-/// Rows are the records that `csv` cuts the body into: the header has the number 0, and an empty line has none. A word is
-/// tested before a number and a number before the order of bounds; of each sort the leftmost wrong column is named.
+/// Rows are the records that `csv` cuts the body into: the header has the number 0, and an empty line has none.
+/// A word is tested before a number and a number before the order of bounds; of each sort the leftmost wrong column
+/// is named.
 #[tactic(auto, unfolding(crate::specs::Reading::reading_of))]
 pub fn read_rows(alloc: Global, body: &[u8]) -> Result<Rows, AllocError>
     requires { length body.now ≤ max_body }
@@ -77,8 +78,7 @@ fn rows_under_header(
     mut fields: ByteRecord,
 ) -> Result<Rows, AllocError>
     requires { length records ≤ max_body }
-    ensures reads { IfOk result (λ rows. Tells rows (rows_from 1 records.entry)) }
-    ensures keeps { IfOk result (λ rows. AllByRecursion IsWellFormed rows.rows.items) }
+    ensures { IfOk result (λ rows. Tells rows (rows_from 1 records.entry)) }
 {
     let mut rows = Vec::new(alloc);
     let mut number = 1;
@@ -99,8 +99,7 @@ fn rows_under_header(
 // What a record says, or the first rule that it breaks.
 #[tactic(auto, unfolding(crate::specs::Reading::row_content))]
 fn row_content(alloc: Global, fields: &ByteRecord) -> Result<(Act, RowForm), ReadError>
-    ensures reads { Gives result (row_content (fields_of fields.now)) }
-    ensures keeps { IfOk result (λ content. IsForm (withdraws content.0) content.1) }
+    ensures { Gives result (row_content (fields_of fields.now)) }
 {
     let columns = columns_of(fields).ok_or(Fault::Shape)?;
     content(alloc, columns)

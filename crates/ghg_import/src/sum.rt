@@ -1,27 +1,23 @@
 //! The lines that a sum adds.
 
-ghost use Rattle.std.specs.Prelude.{◌≡◌, ◌==◌, map, take, Some, None, if◌then◌else◌, is_some, IfOk, IfSome};
+ghost use Rattle.std.specs.Prelude.{◌≡◌, ◌+◌, ◌==◌, map, take, Some, None, if◌then◌else◌, is_some, IfOk};
 ghost use Rattle.std.specs.List.{list_all};
 ghost use Rattle.std.specs.Option.{option_map};
 ghost use Rattle.ghg_units.specs.Name.{plain_name_in};
-ghost use Rattle.ghg_units.specs.WellFormed.{IsSum, are_different};
+ghost use Rattle.ghg_units.specs.WellFormed.{are_different, most_parts};
 ghost use Rattle.ghg_import.specs.Forms.{names_in, parts_of};
 
-use ghg_units::{Name, Names};
+use ghg_units::{MOST_PARTS, Name, Names};
 use std::alloc::{AllocError, Global};
 use std::collections::BTreeSet;
 
-// The most lines of a sum.
-const MAX_NAMES: usize = 400;
-
-/// The names that a text is: 1 to 400 different plain ones, with one space between two of them.
+/// The names that a text is: 1 to `MOST_PARTS` different plain ones, with one space between two of them.
 #[tactic(auto, unfolding(crate::specs::Forms::names_in))]
 pub(crate) fn names_named(alloc: Global, text: &[u8]) -> Result<Option<Names>, AllocError>
-    ensures reads { IfOk result (λ names. names ≡ names_in text.now) }
-    ensures keeps { IfOk result (λ names. IfSome names IsSum) }
+    ensures { IfOk result (λ names. names ≡ names_in text.now) }
 {
     let parts = first_parts(alloc, text)?;
-    if parts.len() > MAX_NAMES {
+    if parts.len() > MOST_PARTS {
         return Ok(None);
     }
     let Some(names) = plain_names(alloc, &parts)? else {
@@ -35,10 +31,10 @@ pub(crate) fn names_named(alloc: Global, text: &[u8]) -> Result<Option<Names>, A
 
 // The texts between the spaces of a text, and of more than a sum may have one too many.
 fn first_parts(alloc: Global, text: &[u8]) -> Result<Vec<&[u8]>, AllocError>
-    ensures { IfOk result (λ parts. map (λ part. part.now) parts.items ≡ take 401 (parts_of text.now)) }
+    ensures { IfOk result (λ parts. map (λ part. part.now) parts.items ≡ take (most_parts + 1) (parts_of text.now)) }
 {
     text.split(|b| *b == b' ')
-        .take(MAX_NAMES + 1)
+        .take(MOST_PARTS + 1)
         .collect(alloc)
 }
 

@@ -1,0 +1,271 @@
+//! The forms of rows as a table: what each column may hold, kind by kind.
+
+ghost use Rattle.std.specs.Prelude.{◌≡◌, find};
+ghost use Rattle.ghg_import.specs.Forms.{leaf_in, quantity_in};
+ghost use Rattle.ghg_import.specs.Shape.{texts};
+ghost use Rattle.ghg_import.specs.Table.{columns_of, decided, holding_at, holdings_of, is_held, is_number, is_quantity, is_wrong_number, is_wrong_word, wrong_among, wrong_column};
+
+use crate::columns::Columns;
+use crate::fault::Fault;
+use crate::kind::{Chosen, Kind, Manner, binding_form_named};
+use ghg_categories::{Category, is_leaf};
+use ghg_equations::eq_named;
+use ghg_units::{
+    Column, Decimal, Name, ParamName, Unit, key_named, read_decimal, read_year, to_interval,
+};
+
+/// What a column may hold: nothing, a word, or a number.
+#[derive(Clone, Copy, Debug, PartialEq, Eq, Drop)]
+pub(crate) enum Holding {
+    /// Nothing.
+    Empty,
+    /// The code of a category that has no children.
+    LeafCategory,
+    /// A name that is not that of a global warming potential.
+    PlainName,
+    /// A plain name, or that of a global warming potential.
+    FactorName,
+    /// A parameter's name.
+    Parameter,
+    /// The code of an equation.
+    Equation,
+    /// The form of a binding.
+    Form,
+    /// The target of the form that the value names.
+    Target,
+    /// A notation key.
+    NotationKey,
+    /// A unit.
+    UnitWord,
+    /// A year.
+    Year,
+    /// A number within the limit of intervals, in the row's unit.
+    Figure,
+    /// Such a number, or nothing where the other bound has nothing either.
+    Bound,
+}
+
+/// What the columns from the subject to the unit may hold.
+#[derive(Clone, Copy, Drop)]
+pub(crate) struct Holdings {
+    subject: Holding,
+    name: Holding,
+    year: Holding,
+    value: Holding,
+    low: Holding,
+    high: Holding,
+    unit: Holding,
+}
+
+fn columns_of(
+    subject: Holding,
+    name: Holding,
+    year: Holding,
+    value: Holding,
+    low: Holding,
+    high: Holding,
+    unit: Holding,
+) -> Holdings
+    ensures { result ≡ columns_of subject name year value low high unit }
+{
+    Holdings {
+        subject,
+        name,
+        year,
+        value,
+        low,
+        high,
+        unit,
+    }
+}
+
+// The table: for each kind the columns of its key, which alone a row that withdraws fills, and the columns of
+// another row.
+fn holdings_of(kind: Kind, manner: Manner) -> Holdings
+    ensures { result ≡ holdings_of kind manner }
+{
+    use Holding::*;
+    match (kind, manner) {
+        (Kind::Span, Manner::Withdraws) => columns_of(
+            Empty, Empty, Empty, Empty, Empty, Empty, Empty,
+        ),
+        (Kind::Span, _) => columns_of(Empty, Empty, Year, Year, Year, Empty, Empty),
+        (Kind::Activity, Manner::Withdraws) => {
+            columns_of(Empty, PlainName, Year, Empty, Empty, Empty, Empty)
+        }
+        (Kind::Activity, Manner::Keyed) => {
+            columns_of(Empty, PlainName, Year, NotationKey, Empty, Empty, UnitWord)
+        }
+        (Kind::Activity, Manner::Valued) => {
+            columns_of(Empty, PlainName, Year, Figure, Bound, Bound, UnitWord)
+        }
+        (Kind::Factor, Manner::Withdraws) => {
+            columns_of(Empty, FactorName, Year, Empty, Empty, Empty, Empty)
+        }
+        (Kind::Factor, Manner::Keyed) => {
+            columns_of(Empty, FactorName, Year, NotationKey, Empty, Empty, UnitWord)
+        }
+        (Kind::Factor, Manner::Valued) => {
+            columns_of(Empty, FactorName, Year, Figure, Bound, Bound, UnitWord)
+        }
+        (Kind::Line, Manner::Withdraws) => {
+            columns_of(Empty, PlainName, Empty, Empty, Empty, Empty, Empty)
+        }
+        (Kind::Line, _) => {
+            columns_of(
+                LeafCategory,
+                PlainName,
+                Empty,
+                Equation,
+                Empty,
+                Empty,
+                Empty,
+            )
+        }
+        (Kind::Bind, Manner::Withdraws) => {
+            columns_of(PlainName, Parameter, Empty, Empty, Empty, Empty, Empty)
+        }
+        (Kind::Bind, _) => columns_of(PlainName, Parameter, Empty, Form, Target, Empty, Empty),
+    }
+}
+
+// What a column may hold.
+fn holding_at(holdings: Holdings, column: Column) -> Holding
+    ensures { result ≡ holding_at holdings column }
+{
+    match column {
+        Column::Subject => holdings.subject,
+        Column::Name => holdings.name,
+        Column::Year => holdings.year,
+        Column::Value => holdings.value,
+        Column::Low => holdings.low,
+        Column::High => holdings.high,
+        Column::Unit => holdings.unit,
+        _ => Holding::Empty,
+    }
+}
+
+fn is_number(holding: Holding) -> bool
+    ensures { result ≡ is_number holding }
+{
+    matches!(holding, Holding::Year | Holding::Figure | Holding::Bound)
+}
+
+/// The category that a text is the code of, where it has no children: lines stand at leaves alone.
+#[tactic(auto, unfolding(crate::specs::Forms::leaf_in))]
+pub(crate) fn leaf_named(text: &[u8]) -> Option<Category>
+    ensures { result ≡ leaf_in text.now }
+{
+    let category = ghg_categories::named(text)?;
+    if is_leaf(category) {
+        Some(category)
+    } else {
+        None
+    }
+}
+
+/// The decimal that a text writes, where it is within the limit of intervals in the base unit.
+#[tactic(auto, unfolding(crate::specs::Forms::quantity_in))]
+pub(crate) fn quantity(text: &[u8], unit: Unit) -> Option<Decimal>
+    ensures { result ≡ quantity_in unit text.now }
+{
+    let decimal = read_decimal(text)?;
+    if to_interval(decimal, unit).is_err() {
+        return None;
+    }
+    Some(decimal)
+}
+
+fn is_quantity(unit: Option<Unit>, text: &[u8]) -> bool
+    ensures { result ≡ is_quantity unit text.now }
+{
+    match unit {
+        Some(unit) => quantity(text, unit).is_some(),
+        None => false,
+    }
+}
+
+// Whether a text is what a column may hold in its row.
+fn is_held(holding: Holding, chosen: Chosen, row: Columns<'_>, text: &[u8]) -> bool
+    ensures { result ≡ is_held holding chosen (texts row.entry) text.now }
+{
+    match holding {
+        Holding::Empty => text.is_empty(),
+        Holding::LeafCategory => leaf_named(text).is_some(),
+        Holding::PlainName => Name::plain(text).is_some(),
+        Holding::FactorName => Name::of_factor(text).is_some(),
+        Holding::Parameter => ParamName::new(text).is_some(),
+        Holding::Equation => eq_named(text).is_some(),
+        Holding::Form => binding_form_named(text).is_some(),
+        Holding::Target => chosen.binds,
+        Holding::NotationKey => key_named(text).is_some(),
+        Holding::UnitWord => chosen.unit.is_some(),
+        Holding::Year => read_year(text).is_some(),
+        Holding::Figure => is_quantity(chosen.unit, text),
+        Holding::Bound => {
+            row.low.is_empty() && row.high.is_empty() || is_quantity(chosen.unit, text)
+        }
+    }
+}
+
+// The columns that the kind decides, from left to right.
+const DECIDED: [Column; 7] = [
+    Column::Subject,
+    Column::Name,
+    Column::Year,
+    Column::Value,
+    Column::Low,
+    Column::High,
+    Column::Unit,
+];
+
+// Whether the column should be empty or hold a word, and does not.
+fn is_wrong_word(holdings: Holdings, chosen: Chosen, row: Columns<'_>, column: Column) -> bool
+    ensures { result ≡ is_wrong_word holdings chosen (texts row.entry) column }
+{
+    let holding = holding_at(holdings, column);
+    !is_number(holding) && !is_held(holding, chosen, row, row.text(column))
+}
+
+// Whether the column should hold a number, and does not.
+fn is_wrong_number(holdings: Holdings, chosen: Chosen, row: Columns<'_>, column: Column) -> bool
+    ensures { result ≡ is_wrong_number holdings chosen (texts row.entry) column }
+{
+    let holding = holding_at(holdings, column);
+    is_number(holding) && !is_held(holding, chosen, row, row.text(column))
+}
+
+// The leftmost wrong word.
+fn wrong_word(holdings: Holdings, chosen: Chosen, row: Columns<'_>) -> Option<Column>
+    ensures { result ≡ find (is_wrong_word holdings chosen (texts row.entry)) decided }
+{
+    DECIDED
+        .iter()
+        .copied()
+        .find(|column| is_wrong_word(holdings, chosen, row, *column))
+}
+
+// The leftmost wrong number.
+fn wrong_number(holdings: Holdings, chosen: Chosen, row: Columns<'_>) -> Option<Column>
+    ensures { result ≡ find (is_wrong_number holdings chosen (texts row.entry)) decided }
+{
+    DECIDED
+        .iter()
+        .copied()
+        .find(|column| is_wrong_number(holdings, chosen, row, *column))
+}
+
+/// What is wrong with a column: the leftmost wrong word, and else the leftmost wrong number.
+#[tactic(auto, unfolding(crate::specs::Table::wrong_column))]
+pub(crate) fn wrong_column(kind: Kind, chosen: Chosen, row: Columns<'_>) -> Option<Fault>
+    ensures { result ≡ wrong_column kind chosen (texts row.entry) }
+{
+    let holdings = holdings_of(kind, chosen.manner);
+    match wrong_word(holdings, chosen, row) {
+        Some(column) => Some(Fault::Word(column)),
+        None => match wrong_number(holdings, chosen, row) {
+            Some(column) => Some(Fault::Number(column)),
+            None => None,
+        },
+    }
+}
