@@ -1,16 +1,12 @@
--- What holds of every script.
-use Rattle.std.specs.Prelude.{◌≡◌, List, ℕ, [], ◌++◌, None}
-use Rattle.ghg.specs.declared.command.Request.{Request}
-use Rattle.ghg.specs.Script.{reading_of, with_more}
+-- What holds of every session.
+use Rattle.std.specs.Prelude.{List}
+use Rattle.ghg_office.specs.Laws.{IsInForce}
+use Rattle.ghg_office.specs.Office.{State}
+use Rattle.ghg_session.specs.declared.command.Request.{Request}
+use Rattle.ghg_session.specs.Replies.{protocol}
+use Rattle.ghg_session.specs.Session.{replies}
+use Rattle.ghg.specs.Bounds.{AreSoundReplies}
 
--- a text is a script of these requests, and ends with the line of END
-pub record IsScript (text : List ℕ) (requests : List Request) : Type 0 where
-  pub reads : reading_of text ≡ record { requests = requests; wrong = None; rest = [] }
-
--- what follows the line of END changes nothing
-abbrev pub ReadsLocally : Type 0
-ReadsLocally = (bytes more : List ℕ) → (reading_of bytes).wrong ≡ None → reading_of (bytes ++ more) ≡ with_more more (reading_of bytes)
-
--- the same bytes begin with one script at most
-abbrev pub ReadsOnce : Type 0
-ReadsOnce = (a b behind_a behind_b : List ℕ) (xs ys : List Request) → IsScript a xs → IsScript b ys → a ++ behind_a ≡ b ++ behind_b → (a ≡ b) × (xs ≡ ys)
+-- From a state in force, the bounds in each table among the replies to any requests hold the exact values.
+abbrev pub RepliesAreSound : Type 0
+RepliesAreSound = (s : State) → IsInForce s → (requests : List Request) → AreSoundReplies s requests (replies protocol s requests)

@@ -1,11 +1,4 @@
 pub mod Bounds
-pub mod Calls
 pub mod Laws
-pub mod Reader
-pub mod Replies
 pub mod Run
-pub mod Script
-pub mod Session
-pub mod Turns
 pub mod Words
-pub mod Evaluations

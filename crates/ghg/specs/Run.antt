@@ -1,50 +1,67 @@
 -- What the program owes for its words and its input.
-use Rattle.std.specs.Prelude.{◌≡◌, ℕ, ◌⊎◌, Bool, ◌||◌, ◌==◌, List, ◌++◌, Option, Some, None, IfSome, codes}
-use Rattle.std.specs.Io.KnownBytes.{Appends, IsAtEnd}
-use Rattle.ghg.specs.declared.words.Task.{Task}
-use Rattle.ghg.specs.declared.words.Task.TheVariants.{Compile}
-use Rattle.ghg.specs.Reader.{Took}
-use Rattle.ghg.specs.Replies.{line_of}
-use Rattle.ghg.specs.Script.{reading_of}
-use Rattle.ghg.specs.Session.{Outcome, session_of}
-use Rattle.ghg.specs.Turns.{AppendsFront}
-use Rattle.ghg.specs.Words.{task_in}
+use Rattle.std.specs.Prelude.{◌≡◌, ◌≢◌, ℕ, ◌⊎◌, true, Bool, ◌||◌, ◌==◌, List, Result, codes}
+use Rattle.ghg_office.specs.Office.{State}
+use Rattle.ghg_outer.specs.Tape.{Appends, Consumes, Rose, Tape}
+use Rattle.ghg_session.specs.declared.session.End.{End}
+use Rattle.ghg_session.specs.declared.stop.Stop.{Stop}
+use Rattle.ghg_session.specs.Interruptions.{AnswersScript, IsBegun, IsCutShort, IsDone, IsLeftBehind, IsUnfinished, SpendsWithin}
+use Rattle.ghg_session.specs.Replies.{protocol}
+use Rattle.ghg_session.specs.Session.{Snapshot, beginning, line_of, result_status}
+use Rattle.ghg_session.specs.Writing.{StoppedWriting, stop_status}
+use Rattle.ghg.specs.Bounds.{IsSoundPrefix, IsSoundSession}
 
--- the words are no command
-abbrev pub bad_command_line : Outcome
-bad_command_line = record { output = line_of (codes "bad command line"); status = 2 }
+-- ---- whatever the words
 
--- what comes of a task with this input
-abbrev pub outcome_of : Option Task → List ℕ → Outcome
-outcome_of None bytes = bad_command_line
-outcome_of (Some Compile) bytes = session_of bytes
+-- the tape changed by reading alone
+abbrev pub ChangesByReading : Tape → Tape → Type 0
+ChangesByReading before after = (text : List ℕ) × Consumes before after text
 
--- what is to be written, and the status, where these words are given and these bytes are left to be read
-abbrev pub due : List (List ℕ) → List ℕ → Outcome
-due words bytes = outcome_of (task_in words) bytes
+-- the tape changed by writing alone
+abbrev pub ChangesByWriting : Tape → Tape → Type 0
+ChangesByWriting before after = (text : List ℕ) × Appends before after text
 
--- that was written, and nothing else, and this is the status
-abbrev pub IsDone : List (List ℕ) → Option (List ℕ) → Option (List ℕ) → Option (List ℕ) → ℕ → Type 0
-IsDone words left before after status = IfSome left (λ bytes. Appends before after (due words bytes).output × ((due words bytes).status ≡ status))
+-- ---- words that are no command
 
--- a front of that was written, and nothing else
-abbrev pub IsBegun : List (List ℕ) → Option (List ℕ) → Option (List ℕ) → Option (List ℕ) → Type 0
-IsBegun words left before after = IfSome left (λ bytes. AppendsFront before after (due words bytes).output)
+abbrev pub bad_command_line : List ℕ
+bad_command_line = line_of (codes "bad command line")
 
--- what stands behind END is left
-abbrev pub IsLeftBehind : Option (List ℕ) → Option (List ℕ) → Type 0
-IsLeftBehind old new = IfSome old (λ bytes. new ≡ Some (reading_of bytes).rest)
+-- Nothing was read and no step taken. The line was written, or a proper prefix of it.
+pub record NoCommandRun (before after : Snapshot State) (status : ℕ) : Type 0 where
+  pub usage : status ≡ 2 → Appends before.output after.output bad_command_line
+  pub stopped : (stop : Stop) → status ≡ stop_status stop → StoppedWriting before.output after.output bad_command_line stop
+  pub whole : (Rose before.output after.output → ⊥) → status ≢ 8 → status ≡ 2
+  pub only : (status ≡ 2) ⊎ ((stop : Stop) × (status ≡ stop_status stop))
+  pub rest : after ≡ record before { output = after.output }
 
--- what was read is no script: nothing is left, or it is none whatever follows it
-pub record IsNoScript {S : Type 0} (left taken : S → Option (List ℕ)) (old new : S) : Type 0 where
-  pub text : List ℕ
-  pub took : Took left taken old new text
-  pub wrong : (session_of text).status ≡ 3
-  pub final : IsAtEnd (left new) ⊎ ((more : List ℕ) → (session_of (text ++ more)).status ≡ 3)
+-- ---- `compile`
 
 -- the statuses of a session that came to its end
 abbrev pub is_end : ℕ → Bool
 is_end status = (status == 0) || (status == 3)
+
+-- The script that the input holds was answered. Where the input tells what is left, `due` is the session of that.
+pub record CompileRun (before after : Snapshot State) (status : ℕ) : Type 0 where
+  -- The session ended, or it was interrupted: what was read of it, what was written, and the state of the office.
+  pub session : (result : Result End Stop) × AnswersScript protocol (beginning before) after result
+      × (status ≡ result_status result)
+  -- With statuses 0 and 3 all that is due was written. One of them comes where neither the input nor the output failed
+  -- and memory did not run out.
+  pub done : is_end status ≡ true → IsDone protocol (beginning before) after status
+  pub complete : (Rose before.input after.input → ⊥) → (Rose before.output after.output → ⊥) → status ≢ 8
+      → is_end status ≡ true
+  -- With status 0 what stands behind END is left.
+  pub behind : status ≡ 0 → IsLeftBehind protocol (beginning before) after
+  -- With status 4 each whole request that was read was answered, and nothing more was written.
+  pub unfinished : status ≡ 4 → IsUnfinished protocol (beginning before) after
+  -- With status 5 not all that is due was written, and with every status a prefix of it.
+  pub short : status ≡ 5 → IsCutShort protocol (beginning before) after
+  pub begun : IsBegun protocol (beginning before) after
+  -- No more steps were taken than the requests ask for that were read.
+  pub steps : SpendsWithin protocol (beginning before) after
+  -- In each table the bounds hold the exact values of the nodes of the data then in force, wherever the inputs are
+  -- within their supplied bounds.
+  pub bounds : is_end status ≡ true → IsSoundSession before after
+  pub bounds_begun : IsSoundPrefix before after
 
 -- every status of the program
 abbrev pub is_status : ℕ → Bool

@@ -1,14 +1,9 @@
-//! Laws of scripts.
+//! Laws of sessions.
 
-ghost use Rattle.ghg.specs.Laws.{ReadsLocally, ReadsOnce};
+ghost use Rattle.ghg.specs.Laws.{RepliesAreSound};
 
-/// What stands behind the line of END changes nothing of what bytes read as.
-#[tactic(auto, using(crate::proofs::Local::reads_locally))]
-pub fn reads_locally()
-    ensures { ReadsLocally }
-{}
-
-/// No bytes begin with two scripts.
-pub fn reads_once()
-    ensures { ReadsOnce }
+/// The bounds that a session prints hold the exact values of the data in force.
+#[tactic(auto, using(crate::proofs::Held::sound_replies))]
+pub fn replies_are_sound()
+    ensures { RepliesAreSound }
 {}

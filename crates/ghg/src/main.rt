@@ -4,21 +4,14 @@
 
 ghost use Rattle.std.specs.Prelude.{◌≡◌, ◌<◌};
 
-mod command;
 mod laws;
-mod line;
-mod reading;
-mod reply;
 mod run;
-mod session;
-mod stop;
 #[cfg(test)]
 mod tests;
 mod words;
-mod writing;
 
-use crate::stop::Stop;
 use ghg_outer::{InputSource, OutputSink};
+use ghg_session::Stop;
 use ghg_steps::Steps;
 use std::io::{BufReader, ErrorKind};
 use std::marker::Brand;

@@ -5,13 +5,7 @@ use Rattle.std.specs.Prelude.{ℕ, ◌+◌, ◌-◌, ◌^◌, ◌≤◌, min}
 abbrev pub raised : ℕ → ℕ
 raised count = min (count + 1) (2 ^ 64 - 1)
 
--- The count is greater than it was, or stands at its last value.
--- At its last value every call meets this. So a premise that shuts faults out says that the count did not rise,
--- and never that it is the same as before.
-abbrev pub Rose : ℕ → ℕ → Type 0
-Rose before now = raised before ≤ now
-
 -- the count does not fall, and it rose where the call failed
 pub record IsCounted (before now : ℕ) (failed : Type 0) : Type 0 where
   pub later : before ≤ now
-  pub rose : failed → Rose before now
+  pub rose : failed → raised before ≤ now

@@ -1,3 +1,4 @@
 pub mod Bytes
 pub mod Counts
 pub mod Plans
+pub mod Tape

@@ -3,6 +3,7 @@ use Rattle.std.specs.Prelude.{ℕ, Bool, if◌then◌else◌, List, ◌==◌}
 use Rattle.std.specs.List.{list_any}
 use Rattle.ghg_outer.specs.Bytes.{SourceBytes}
 use Rattle.ghg_outer.specs.Counts.{raised}
+use Rattle.ghg_outer.specs.Tape.{Tape, sink_tape, source_tape}
 
 -- the numbers of the calls that are to fail, how many calls were made, and how many of them failed
 pub record Plan : Type 0 where
@@ -34,3 +35,10 @@ pub record PlannedSource : Type 0 where
 pub record PlannedSink : Type 0 where
   pub written : List ℕ
   pub plan : Plan
+
+-- what they tell
+abbrev pub planned_source_tape : PlannedSource → Tape
+planned_source_tape s = source_tape s.bytes.left s.bytes.taken s.plan.faults
+
+abbrev pub planned_sink_tape : PlannedSink → Tape
+planned_sink_tape s = sink_tape s.written s.plan.faults

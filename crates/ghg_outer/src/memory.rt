@@ -1,10 +1,8 @@
 // Forms in memory whose calls fail by a list.
-ghost use Rattle.std.specs.Prelude.{◌≡◌, ◌↔◌, ◌<◌, ◌≤◌, [], length, IfOk, IsTrue, IsErr, IsErrOf, Some, None};
+ghost use Rattle.std.specs.Prelude.{◌≡◌, ◌↔◌, ◌<◌, ◌≤◌, [], length, IfOk, IsTrue, IsErr, IsErrOf};
 ghost use Rattle.std.specs.Io.{ReadsAtMost};
-ghost use Rattle.std.specs.Io.KnownBytes.{Keeps, ReadConsumes, WriteAppends};
-ghost use Rattle.ghg_outer.specs.Bytes.{ReadTakes};
-ghost use Rattle.ghg_outer.specs.Counts.{IsCounted};
-ghost use Rattle.ghg_outer.specs.Plans.{planned, fails_next, after_call};
+ghost use Rattle.ghg_outer.specs.Plans.{planned, planned_sink_tape, planned_source_tape, fails_next, after_call};
+ghost use Rattle.ghg_outer.specs.Tape.{IsAtEnd, Reads, Rose, Writes};
 
 use crate::{Failed, FaultPlan, Sink, Source, SteadySink, SteadySource, Told, WriteError};
 use std::alloc::Global;
@@ -39,24 +37,16 @@ impl MemorySource {
 }
 
 impl Told for MemorySource {
-    ghost left = { λ s. Some s.bytes.left };
-
-    ghost taken = { λ s. Some s.bytes.taken };
-
-    ghost written = { λ _. None };
-
-    ghost faults = { λ s. s.plan.faults };
+    ghost tape = { planned_source_tape };
 }
 
 impl Source for MemorySource {
     fn read(&mut self, buf: &mut [u8]) -> Result<usize, Failed>
         requires { 0 < length buf.old }
         ensures bound { ReadsAtMost result buf.new }
-        ensures left { ReadConsumes (Some self.old.bytes.left)
-            (Some self.new.bytes.left) result buf.new }
-        ensures taken { ReadTakes (Some self.old.bytes.taken)
-            (Some self.new.bytes.taken) result buf.new }
-        ensures faults { IsCounted self.old.plan.faults self.new.plan.faults (IsErr result) }
+        ensures read { Reads (planned_source_tape self.old) (planned_source_tape self.new) result buf.new }
+        ensures end { IfOk result (λ n. n ≡ 0 → IsAtEnd (planned_source_tape self.new)) }
+        ensures failed { IsErr result → Rose (planned_source_tape self.old) (planned_source_tape self.new) }
         ensures fails { IsErr result ↔ IsTrue (fails_next self.old.plan) }
         ensures plan { self.new.plan ≡ after_call self.old.plan }
     {
@@ -104,13 +94,7 @@ impl MemorySink {
 }
 
 impl Told for MemorySink {
-    ghost left = { λ _. None };
-
-    ghost taken = { λ _. None };
-
-    ghost written = { λ s. Some s.written };
-
-    ghost faults = { λ s. s.plan.faults };
+    ghost tape = { planned_sink_tape };
 }
 
 impl Sink for MemorySink {
@@ -118,10 +102,9 @@ impl Sink for MemorySink {
         requires { 0 < length piece.now }
         ensures some { IfOk result (λ n. 0 < n) }
         ensures bound { IfOk result (λ n. n ≤ length piece.now) }
-        ensures written { WriteAppends (Some self.old.written)
-            (Some self.new.written) result piece.now }
-        ensures faults { IsCounted self.old.plan.faults self.new.plan.faults
-            (IsErrOf result WriteError.Failed) }
+        ensures wrote { Writes (planned_sink_tape self.old) (planned_sink_tape self.new) result piece.now }
+        ensures failed { IsErrOf result WriteError.Failed
+            → Rose (planned_sink_tape self.old) (planned_sink_tape self.new) }
         ensures fails { IsErrOf result WriteError.Failed ↔ IsTrue (fails_next self.old.plan) }
         ensures plan { self.new.plan ≡ after_call self.old.plan }
     {

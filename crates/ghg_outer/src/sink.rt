@@ -1,6 +1,5 @@
 ghost use Rattle.std.specs.Prelude.{◌<◌, ◌≤◌, length, IfOk, IsErrOf};
-ghost use Rattle.std.specs.Io.KnownBytes.{Keeps, WriteAppends};
-ghost use Rattle.ghg_outer.specs.Counts.{IsCounted};
+ghost use Rattle.ghg_outer.specs.Tape.{Rose, Writes};
 
 use crate::Told;
 
@@ -23,10 +22,6 @@ pub trait Sink: Told {
         requires { 0 < length piece.now }
         ensures some { IfOk result (λ n. 0 < n) }
         ensures bound { IfOk result (λ n. n ≤ length piece.now) }
-        ensures written { WriteAppends (Self.written self.old)
-            (Self.written self.new) result piece.now }
-        ensures left { Keeps (Self.left self.old) (Self.left self.new) }
-        ensures taken { Keeps (Self.taken self.old) (Self.taken self.new) }
-        ensures faults { IsCounted (Self.faults self.old) (Self.faults self.new)
-            (IsErrOf result WriteError.Failed) };
+        ensures wrote { Writes (Self.tape self.old) (Self.tape self.new) result piece.now }
+        ensures failed { IsErrOf result WriteError.Failed → Rose (Self.tape self.old) (Self.tape self.new) };
 }

@@ -1,8 +1,6 @@
-ghost use Rattle.std.specs.Prelude.{◌<◌, length, IsErr};
+ghost use Rattle.std.specs.Prelude.{◌≡◌, ◌<◌, length, IfOk, IsErr};
 ghost use Rattle.std.specs.Io.{ReadsAtMost};
-ghost use Rattle.std.specs.Io.KnownBytes.{Keeps, ReadConsumes};
-ghost use Rattle.ghg_outer.specs.Bytes.{ReadTakes};
-ghost use Rattle.ghg_outer.specs.Counts.{IsCounted};
+ghost use Rattle.ghg_outer.specs.Tape.{IsAtEnd, Reads, Rose};
 
 use crate::Told;
 
@@ -19,8 +17,7 @@ pub trait Source: Told {
     fn read(&mut self, buf: &mut [u8]) -> Result<usize, Failed>
         requires { 0 < length buf.old }
         ensures bound { ReadsAtMost result buf.new }
-        ensures left { ReadConsumes (Self.left self.old) (Self.left self.new) result buf.new }
-        ensures taken { ReadTakes (Self.taken self.old) (Self.taken self.new) result buf.new }
-        ensures written { Keeps (Self.written self.old) (Self.written self.new) }
-        ensures faults { IsCounted (Self.faults self.old) (Self.faults self.new) (IsErr result) };
+        ensures read { Reads (Self.tape self.old) (Self.tape self.new) result buf.new }
+        ensures end { IfOk result (λ n. n ≡ 0 → IsAtEnd (Self.tape self.new)) }
+        ensures failed { IsErr result → Rose (Self.tape self.old) (Self.tape self.new) };
 }

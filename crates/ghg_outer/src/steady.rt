@@ -1,5 +1,6 @@
 // Forms in memory whose calls do not fail.
-ghost use Rattle.std.specs.Prelude.{◌≡◌, ◌≤◌, ◌<◌, ◌+◌, ◌-◌, ◌++◌, [], min, length, take, drop, OnOk, OnErr, Some, None};
+ghost use Rattle.std.specs.Prelude.{◌≡◌, ◌≤◌, ◌<◌, ◌+◌, ◌-◌, ◌++◌, [], min, length, take, drop, OnOk, OnErr};
+ghost use Rattle.ghg_outer.specs.Tape.{sink_tape, source_tape};
 
 use crate::{Failed, Sink, Source, Told, WriteError};
 use std::alloc::{AllocError, Global};
@@ -60,13 +61,7 @@ fn copy_front(bytes: &[u8], at: usize, buf: &mut [u8]) -> usize
 }
 
 impl Told for SteadySource {
-    ghost left = { λ s. Some s.left };
-
-    ghost taken = { λ s. Some s.taken };
-
-    ghost written = { λ _. None };
-
-    ghost faults = { λ _. 0 };
+    ghost tape = { λ s. source_tape s.left s.taken 0 };
 }
 
 impl Source for SteadySource {
@@ -117,13 +112,7 @@ impl SteadySink {
 }
 
 impl Told for SteadySink {
-    ghost left = { λ _. None };
-
-    ghost taken = { λ _. None };
-
-    ghost written = { λ s. Some s };
-
-    ghost faults = { λ _. 0 };
+    ghost tape = { λ s. sink_tape s 0 };
 }
 
 impl Sink for SteadySink {

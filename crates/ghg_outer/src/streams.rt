@@ -1,12 +1,16 @@
 // The process's own input and output, which are the trusted edge.
-ghost use Rattle.std.specs.Prelude.{◌≡◌, ◌<◌, ◌≤◌, length, IfOk, IfErr, IsErr, None};
-ghost use Rattle.std.specs.Io.KnownBytes.{WriteAppends};
-ghost use Rattle.ghg_outer.specs.Counts.{IsCounted};
+ghost use Rattle.std.specs.Prelude.{◌≡◌, ◌≢◌, ◌<◌, ◌≤◌, length, IfOk, IfErr, IsErr, None};
+ghost use Rattle.std.specs.Io.{ReadsAtMost, WritesAtMost};
+ghost use Rattle.std.specs.Io.KnownBytes.{ReadConsumes, WriteAppends};
+ghost use Rattle.std.specs.IoError.{error_kind};
+ghost use Rattle.ghg_outer.specs.Tape.{Rose, Writes};
 
 use crate::{Failed, Sink, Source, Told, WriteError};
-use std::io::{Read, Write};
+use std::io;
+use std::io::{ErrorKind, Read, Write};
 
-/// A reader of std, as standard input, with a count of its errors.
+/// A reader of std, as standard input, with a count of its errors. A call that a signal interrupted is made again, and is
+/// no error.
 ///
 /// It is part of the trusted edge: std's contracts do not say what standard input gives, so there this source tells
 /// nothing of its bytes, and it is proved that each error is counted. Over a reader that tells what it has left,
@@ -20,26 +24,20 @@ pub struct InputSource<R: Read + Drop> {
 impl<R: Read + Drop> InputSource<R> {
     /// A source over the reader, with no fault yet.
     pub fn new(reader: R) -> InputSource<R>
-        ensures left { ⟦<InputSource<R> as Told>⟧.left result ≡ R.remaining reader }
-        ensures faults { ⟦<InputSource<R> as Told>⟧.faults result ≡ 0 }
+        ensures { ⟦<InputSource<R> as Told>⟧.tape result
+            ≡ record { left = R.remaining reader; taken = None; written = None; faults = 0 } }
     {
         InputSource { reader, faults: 0 }
     }
 }
 
 impl<R: Read + Drop> Told for InputSource<R> {
-    ghost left = { λ s. R.remaining s.reader };
-
-    ghost taken = { λ _. None };
-
-    ghost written = { λ _. None };
-
-    ghost faults = { λ s. s.faults };
+    ghost tape = { λ s. record { left = R.remaining s.reader; taken = None; written = None; faults = s.faults } };
 }
 
 impl<R: Read + Drop> Source for InputSource<R> {
     fn read(&mut self, buf: &mut [u8]) -> Result<usize, Failed> {
-        match self.reader.read(buf) {
+        match read_again(&mut self.reader, buf) {
             Ok(count) => Ok(count),
             Err(_) => {
                 self.faults = self.faults.saturating_add(1);
@@ -49,8 +47,24 @@ impl<R: Read + Drop> Source for InputSource<R> {
     }
 }
 
+// Reads as the reader does, and again where a signal interrupted that.
+// Where that was so 2^64 - 1 times, the call timed out.
+fn read_again<R: Read>(reader: &mut R, buf: &mut [u8]) -> io::Result<usize>
+    ensures bound { ReadsAtMost result buf.new }
+    ensures bytes { ReadConsumes (R.remaining reader.old) (R.remaining reader.new) result buf.new }
+    ensures retried { IfErr result (λ error. error_kind error ≢ ErrorKind.Interrupted) }
+{
+    for _ in 0..u64::MAX {
+        match reader.read(buf) {
+            Err(error) if error.kind() == ErrorKind::Interrupted => {}
+            other => return other,
+        }
+    }
+    Err(io::Error::from(ErrorKind::TimedOut))
+}
+
 /// A writer of std, as standard output, with a count of its errors. Where the writer takes nothing of a piece, that
-/// is an error too.
+/// is an error too. A call that a signal interrupted is made again, and is no error.
 ///
 /// It is part of the trusted edge: std's contracts do not say where standard output's bytes go, so there this sink
 /// tells nothing of them, and it is proved that each error is counted. Over a writer that tells what it holds, as a
@@ -64,21 +78,15 @@ pub struct OutputSink<W: Write + Drop> {
 impl<W: Write + Drop> OutputSink<W> {
     /// A sink over the writer, with no fault yet.
     pub fn new(writer: W) -> OutputSink<W>
-        ensures written { ⟦<OutputSink<W> as Told>⟧.written result ≡ W.contents writer }
-        ensures faults { ⟦<OutputSink<W> as Told>⟧.faults result ≡ 0 }
+        ensures { ⟦<OutputSink<W> as Told>⟧.tape result
+            ≡ record { left = None; taken = None; written = W.contents writer; faults = 0 } }
     {
         OutputSink { writer, faults: 0 }
     }
 }
 
 impl<W: Write + Drop> Told for OutputSink<W> {
-    ghost left = { λ _. None };
-
-    ghost taken = { λ _. None };
-
-    ghost written = { λ s. W.contents s.writer };
-
-    ghost faults = { λ s. s.faults };
+    ghost tape = { λ s. record { left = None; taken = None; written = W.contents s.writer; faults = s.faults } };
 }
 
 impl<W: Write + Drop> Sink for OutputSink<W> {
@@ -86,13 +94,13 @@ impl<W: Write + Drop> Sink for OutputSink<W> {
         requires { 0 < length piece.now }
         ensures some { IfOk result (λ n. 0 < n) }
         ensures bound { IfOk result (λ n. n ≤ length piece.now) }
-        ensures written { WriteAppends (⟦<OutputSink<W> as Told>⟧.written self.old)
-            (⟦<OutputSink<W> as Told>⟧.written self.new) result piece.now }
-        ensures faults { IsCounted (⟦<OutputSink<W> as Told>⟧.faults self.old)
-            (⟦<OutputSink<W> as Told>⟧.faults self.new) (IsErr result) }
-        ensures failed { IfErr result (λ error. error ≡ WriteError.Failed) }
+        ensures wrote { Writes (⟦<OutputSink<W> as Told>⟧.tape self.old)
+            (⟦<OutputSink<W> as Told>⟧.tape self.new) result piece.now }
+        ensures failed { IsErr result → Rose (⟦<OutputSink<W> as Told>⟧.tape self.old)
+            (⟦<OutputSink<W> as Told>⟧.tape self.new) }
+        ensures only { IfErr result (λ error. error ≡ WriteError.Failed) }
     {
-        match self.writer.write(piece) {
+        match write_again(&mut self.writer, piece) {
             Ok(count) if count > 0 => Ok(count),
             _ => {
                 self.faults = self.faults.saturating_add(1);
@@ -100,4 +108,20 @@ impl<W: Write + Drop> Sink for OutputSink<W> {
             }
         }
     }
+}
+
+// Writes as the writer does, and again where a signal interrupted that.
+// Where that was so 2^64 - 1 times, the call timed out.
+fn write_again<W: Write>(writer: &mut W, piece: &[u8]) -> io::Result<usize>
+    ensures bound { WritesAtMost result piece.now }
+    ensures bytes { WriteAppends (W.contents writer.old) (W.contents writer.new) result piece.now }
+    ensures retried { IfErr result (λ error. error_kind error ≢ ErrorKind.Interrupted) }
+{
+    for _ in 0..u64::MAX {
+        match writer.write(piece) {
+            Err(error) if error.kind() == ErrorKind::Interrupted => {}
+            other => return other,
+        }
+    }
+    Err(io::Error::from(ErrorKind::TimedOut))
 }

@@ -1,11 +1,11 @@
-ghost use Rattle.std.specs.Prelude.{◌<◌, length};
+ghost use Rattle.std.specs.Prelude.{◌<◌, ◌≤◌, length, IfOk};
 
 use crate::{
     Failed, FaultPlan, InputSource, MemorySink, MemorySource, OutputSink, Sink, Source, SteadySink,
     SteadySource, WriteError,
 };
 use std::io;
-use std::io::{ErrorKind, Read};
+use std::io::{ErrorKind, Read, Write};
 use std::test::Fail;
 
 // Three reads through the bound, of at most two bytes each, and what the last gave.
@@ -83,4 +83,47 @@ fn streams_fail_as_their_inner_ones(rt: HostRuntime) {
     let mut output = OutputSink::new(room.as_mut_slice());
     assert_eq!(rt; write_twice(&mut output, b"ab"), [Ok(2), Ok(1)]);
     assert_eq!(rt; output.write(b"ab"), Err(WriteError::Failed));
+}
+
+// A reader and a writer of which each second call is interrupted by a signal, from the first on.
+#[derive(Drop)]
+struct Signalled {
+    interrupted: bool,
+}
+
+impl Signalled {
+    fn count(&mut self, most: usize) -> io::Result<usize>
+        ensures { IfOk result (λ count. count ≤ most) }
+    {
+        self.interrupted = !self.interrupted;
+        if self.interrupted {
+            Err(io::Error::from(ErrorKind::Interrupted))
+        } else {
+            Ok(most)
+        }
+    }
+}
+
+impl Read for Signalled {
+    fn read(&mut self, buf: &mut [u8]) -> io::Result<usize> {
+        self.count(buf.len())
+    }
+}
+
+impl Write for Signalled {
+    fn write(&mut self, buf: &[u8]) -> io::Result<usize> {
+        self.count(buf.len())
+    }
+
+    fn flush(&mut self) -> io::Result<()> {
+        Ok(())
+    }
+}
+
+#[test]
+fn interrupted_calls_are_made_again(rt: HostRuntime) {
+    let mut input = InputSource::new(Signalled { interrupted: false });
+    assert_eq!(rt; read_thrice(&mut input).0, [Ok(2), Ok(2), Ok(2)]);
+    let mut output = OutputSink::new(Signalled { interrupted: false });
+    assert_eq!(rt; write_twice(&mut output, b"ab"), [Ok(2), Ok(2)]);
 }

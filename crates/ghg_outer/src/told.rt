@@ -1,20 +1,10 @@
-ghost use Rattle.std.specs.Prelude.{List, ℕ, Option};
+ghost use Rattle.ghg_outer.specs.Tape.{Tape};
 
 /// What an object of the outside tells. Sources and sinks share it, so that of a link, which is both, a contract
 /// can say that a read leaves what was written.
 ///
-/// An object that tells nothing of some bytes has `None` for them. All else that a call is not said to change
-/// stays as it is.
+/// All else that a call is not said to change stays as it is.
 pub trait Told {
-    /// The bytes that are left to be read.
-    ghost left: { Self → Option (List ℕ) };
-
-    /// The bytes that were read.
-    ghost taken: { Self → Option (List ℕ) };
-
-    /// The bytes that were written.
-    ghost written: { Self → Option (List ℕ) };
-
-    /// How many calls failed.
-    ghost faults: { Self → ℕ };
+    /// What is left, taken and written, where that is known, and how many calls failed.
+    ghost tape: { Self → Tape };
 }

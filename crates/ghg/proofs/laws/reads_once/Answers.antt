@@ -1,5 +1,0 @@
-use Rattle.ghg.proofs.Local.{reads_once}
-use Rattle.ghg.proofs.laws.reads_once.Goals as goal
-
-pub returns : goal.returns
-returns c = reads_once

@@ -1,0 +1,9 @@
+mod Answering
+mod Bodies
+mod Commands
+mod Lines
+mod Local
+mod Readings
+mod Turns
+pub mod Whole
+mod Writings

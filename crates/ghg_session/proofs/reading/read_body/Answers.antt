@@ -1,0 +1,36 @@
+use Rattle.std.proofs.Common.{◌<◌, ◌≤◌, ◌+◌, drop, length, length-take, refl, sym, arith}
+use Rattle.std.proofs.lemmas.Result.{err_from_is_err_and}
+use Rattle.std.proofs.lemmas.List.{take-append-le}
+use Rattle.ghg_session.proofs.Bodies.{kept_is_short, body_grows, body_ends, body_fails, body_stops}
+use Rattle.ghg_session.proofs.reading.read_body.Goals as goal
+
+pub returns-in-Ok-eq0 : goal.returns-in-Ok-eq0
+returns-in-Ok-eq0 g c =
+    let none = c.in-Ok-eq0.field-0-test in
+    let short : c.pieces.at < c.args.count = omega arith in
+    let read = rw none at c.in-Ok-eq0.ensures.read in
+    (c.in-Ok-eq0.ensures.end none, body_ends _ _ _ _ _ _ c.pieces.invariant.took read short)
+
+pub returns-in-Err : goal.returns-in-Err
+returns-in-Err g c =
+    let short : c.pieces.at < c.args.count = omega arith in
+    body_fails _ _ _ _ _ _ c.pieces.invariant.took c.in-Err.ensures.read (c.in-Err.ensures.failed refl) short
+
+pub keep_front-requires : goal.keep_front-requires
+keep_front-requires g c = kept_is_short _ _ c.pieces.invariant.took.front
+
+pub pieces-preserved : goal.pieces-preserved
+pieces-preserved g c =
+    let bound = c.in-Ok.ensures.bound in
+    let kept = rw (take-append-le c.in-Ok.given c.read.new.buf (drop c.min-wanted.result c.pieces.block) bound.0) at c.in_ok-keep_front-in-Ok.ensures in
+    record {
+      took = body_grows _ _ _ _ _ _ _ _ c.pieces.invariant.took c.in-Ok.ensures.read (sym bound.1) kept;
+      within = omega (arith, length-take c.min-wanted.result c.pieces.block);
+    }
+
+pub returns-in_err-keep_front-in-Ok : goal.returns-in_err-keep_front-in-Ok
+returns-in_err-keep_front-in-Ok g c =
+    let bound = c.in-Ok.ensures.bound in
+    let within : c.pieces.at + c.in-Ok.given ≤ c.args.count = omega (arith, length-take c.min-wanted.result c.pieces.block) in
+    let p = err_from_is_err_and c.from_residual.result c.from_residual.ensures.1 in
+    rw (p.1, p.2) (body_stops _ _ _ _ _ _ _ _ c.pieces.invariant.took c.in-Ok.ensures.read (sym bound.1) within)

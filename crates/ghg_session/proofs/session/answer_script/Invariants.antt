@@ -1,0 +1,8 @@
+use Rattle.ghg_session.specs.Replies.{protocol}
+use Rattle.ghg_session.specs.Session.{Continues, beginning, position, snapshot}
+use Rattle.ghg_session.proofs.session.answer_script.Given as goal
+
+abbrev pub invariant-commands : goal.invariant-commands
+invariant-commands g l = Continues protocol
+    (beginning (snapshot l.fn.office (g.S.Told.tape l.fn.input) (g.W.Told.tape l.fn.out) l.fn.steps))
+    (position l.done (snapshot l.office (g.S.Told.tape l.input) (g.W.Told.tape l.out) l.steps))

@@ -1,0 +1,115 @@
+-- Sessions that stop before their end: the requests that were answered, and what was done of the next command.
+use Rattle.std.specs.Prelude.{◌≡◌, ⊤, ℕ, ◌+◌, ◌≤◌, ◌<◌, true, ◌⊎◌, List, ◌++◌, length, Option, Some, IfSome, Result, MatchResult, MatchOption}
+use Rattle.ghg_outer.specs.Tape.{Appends, AppendsPrefix, AppendsProperPrefix, Consumes, IsAtEnd, Rose, Tape}
+use Rattle.ghg_session.specs.declared.command.Command.TheVariants as command
+use Rattle.ghg_session.specs.declared.session.End.{End}
+use Rattle.ghg_session.specs.declared.stop.Stop.{Stop}
+use Rattle.ghg_session.specs.declared.stop.Stop.TheVariants.{Input, Output, Memory}
+use Rattle.ghg_session.specs.Protocol.{Protocol}
+use Rattle.ghg_session.specs.Reader.{Found, Stopped}
+use Rattle.ghg_session.specs.Script.{most_commands, no_command}
+use Rattle.ghg_session.specs.Session.{Continues, Ends, SessionPosition, Snapshot, position, reading_from, replies, session_from, state_after, steps_of, wrong_line}
+
+-- In the middle of a command, of which nothing was answered. What was read of it before a fault is no command.
+pub record StopsInCommand {State Request : Type 0} (p : Protocol State Request) (from : SessionPosition State)
+    (after : Snapshot State) (stop : Stop) : Type 0 where
+  pub allowed : from.answered < most_commands
+  pub stopped : Stopped p.commands from.at.input after.input stop
+  pub rest : after ≡ record from.at { input = after.input }
+
+-- The office answered a request with this state: it changed as the request asks, or memory ran out before that.
+abbrev pub Answered : {State Request : Type 0} → Protocol State Request → State → Request → State → Type 0
+Answered p s asked new = (new ≡ p.next_state s asked) ⊎ ((new ≡ s) × (p.takes_memory s asked ≡ true))
+
+-- In the reply to a request, of which a proper prefix was written. Nothing was read behind the request.
+pub record StopsInReply {State Request : Type 0} (p : Protocol State Request) (from : SessionPosition State)
+    (after : Snapshot State) (stop : Stop) : Type 0 where
+  pub allowed : from.answered < most_commands
+  pub request : Request
+  pub found : Found p.commands from.at.input after.input (command.Request request)
+  pub wrote : AppendsProperPrefix from.at.output after.output (p.reply from.at.state request)
+  pub state : Answered p from.at.state request after.state
+  pub spent : after.steps ≤ from.at.steps + p.steps from.at.state request
+  pub only : stop ≡ Input → ⊥
+
+-- What was read is no command, or one too many: nothing is left, or it is none whatever follows.
+pub record NextIsNone {State Request : Type 0} (p : Protocol State Request) (from : SessionPosition State)
+    (after : Tape) : Type 0 where
+  pub text : List ℕ
+  pub read : Consumes from.at.input after text
+  pub none : (IsAtEnd after × (reading_from p from text ≡ no_command (from.answered + 1) text))
+      ⊎ ((more : List ℕ) → reading_from p from (text ++ more) ≡ no_command (from.answered + 1) (text ++ more))
+  pub near : length text ≤ p.commands.reach text
+
+-- In the line that names the command that is none, of which a proper prefix was written.
+pub record StopsInRefusal {State Request : Type 0} (p : Protocol State Request) (from : SessionPosition State)
+    (after : Snapshot State) (stop : Stop) : Type 0 where
+  pub missing : NextIsNone p from after.input
+  pub wrote : AppendsProperPrefix from.at.output after.output (wrong_line (from.answered + 1))
+  pub rest : after ≡ record from.at { input = after.input; output = after.output }
+  pub only : stop ≡ Input → ⊥
+
+-- why: a count of faults rose; that memory ran out has no cause that is told
+abbrev pub IsCaused : {State : Type 0} → Snapshot State → Snapshot State → Stop → Type 0
+IsCaused before after Input = Rose before.input after.input
+IsCaused before after Output = Rose before.output after.output
+IsCaused before after Memory = ⊤
+
+-- Requests were read and answered, each before the next was read, and then the session stopped at a command.
+pub record Interrupted {State Request : Type 0} (p : Protocol State Request) (from : SessionPosition State)
+    (after : Snapshot State) (stop : Stop) : Type 0 where
+  pub last : SessionPosition State
+  pub answered : Continues p from last
+  pub stops : StopsInCommand p last after stop ⊎ (StopsInReply p last after stop ⊎ StopsInRefusal p last after stop)
+  pub cause : IsCaused from.at after stop
+
+-- one more request was answered, or the session ended, or it was interrupted
+abbrev pub TakesTurn : {State Request : Type 0} → Protocol State Request → SessionPosition State → Snapshot State
+    → Result (Option End) Stop → Type 0
+TakesTurn p from after result = MatchResult result
+    (λ end. MatchOption end (Continues p from (position (from.answered + 1) after)) (Ends p from after))
+    (Interrupted p from after)
+
+-- the session ended, or it was interrupted
+abbrev pub AnswersScript : {State Request : Type 0} → Protocol State Request → SessionPosition State → Snapshot State
+    → Result End Stop → Type 0
+AnswersScript p from after result = MatchResult result (Ends p from after) (Interrupted p from after)
+
+-- ---- what follows of it
+
+-- What was read is no script so far. Each request that was read whole was answered, and nothing more was written.
+pub record IsUnfinished {State Request : Type 0} (p : Protocol State Request) (from : SessionPosition State)
+    (after : Snapshot State) : Type 0 where
+  pub text : List ℕ
+  pub read : Consumes from.at.input after.input text
+  pub wrong : (number : ℕ) × ((reading_from p from text).wrong ≡ Some number)
+  pub wrote : Appends from.at.output after.output (replies p from.at.state (reading_from p from text).requests)
+  pub state : after.state ≡ state_after p from.at.state (reading_from p from text).requests
+
+-- Some text was read, and no more steps were taken than the requests that it reads as ask for.
+pub record SpendsWithin {State Request : Type 0} (p : Protocol State Request) (from : SessionPosition State)
+    (after : Snapshot State) : Type 0 where
+  pub text : List ℕ
+  pub read : Consumes from.at.input after.input text
+  pub spent : after.steps ≤ from.at.steps + steps_of p from.at.state (reading_from p from text).requests
+
+-- Where the input tells what is left: the output of the session of these bytes was written, and this is its status.
+abbrev pub IsDone : {State Request : Type 0} → Protocol State Request → SessionPosition State → Snapshot State → ℕ → Type 0
+IsDone p from after status = IfSome from.at.input.left (λ bytes.
+    Appends from.at.output after.output (session_from p from bytes).output
+    × ((session_from p from bytes).status ≡ status))
+
+-- a prefix of it was written
+abbrev pub IsBegun : {State Request : Type 0} → Protocol State Request → SessionPosition State → Snapshot State → Type 0
+IsBegun p from after =
+    IfSome from.at.input.left (λ bytes. AppendsPrefix from.at.output after.output (session_from p from bytes).output)
+
+-- a proper prefix of it was written
+abbrev pub IsCutShort : {State Request : Type 0} → Protocol State Request → SessionPosition State → Snapshot State → Type 0
+IsCutShort p from after = IfSome from.at.input.left
+    (λ bytes. AppendsProperPrefix from.at.output after.output (session_from p from bytes).output)
+
+-- what stands behind END is left
+abbrev pub IsLeftBehind : {State Request : Type 0} → Protocol State Request → SessionPosition State → Snapshot State → Type 0
+IsLeftBehind p from after =
+    IfSome from.at.input.left (λ bytes. after.input.left ≡ Some (reading_from p from bytes).rest)

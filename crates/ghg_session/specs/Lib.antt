@@ -1,0 +1,9 @@
+pub mod Commands
+pub mod Interruptions
+pub mod Laws
+pub mod Protocol
+pub mod Reader
+pub mod Replies
+pub mod Script
+pub mod Session
+pub mod Writing

@@ -1,0 +1,76 @@
+-- What the office replies to requests, as bytes, and its state after them.
+use Rattle.std.specs.Prelude.{ℕ, Bool, false, ◌&&◌, List, ◌++◌, ◌==◌, length, codes, count_by, is_none, nat_le}
+use Rattle.std.specs.Fmt.{decimal}
+use Rattle.ghg_import.specs.Body.{max_body}
+use Rattle.ghg_session.specs.declared.command.Request.{Request}
+use Rattle.ghg_session.specs.declared.command.Request.TheVariants.{Submit, Show}
+use Rattle.ghg_session.specs.declared.reply.Lines.{Lines}
+use Rattle.ghg_office.specs.Accepted.{kept_from}
+use Rattle.ghg_office.specs.Id.{is_id}
+use Rattle.ghg_office.specs.Office.{Answer, State, evaluations, submitted, requested}
+use Rattle.ghg_office.specs.Replies.{reply_text}
+use Rattle.ghg_office.specs.declared.reply.Reply.{Reply}
+use Rattle.ghg_office.specs.declared.reply.Reply.TheVariants.{Table}
+use Rattle.ghg_session.specs.Commands.{commands}
+use Rattle.ghg_session.specs.Protocol.{Protocol}
+use Rattle.ghg_session.specs.Session.{line_of}
+
+-- how many lines a text has, each of which a line feed ends
+abbrev pub line_count : List ℕ → ℕ
+line_count text = count_by (λ b. b == 10) text
+
+-- the line that a table stands under
+unfoldable pub heading : List ℕ → ℕ → List ℕ → List ℕ
+heading table year text =
+    line_of (codes "table " ++ table ++ codes " " ++ decimal year ++ codes " rows " ++ decimal (line_count text))
+
+-- the lines of a reply to a request for a table: the table under its heading, or one line
+abbrev pub table_lines : List ℕ → ℕ → Reply → List ℕ
+table_lines table year (Table text) = heading table year text ++ text
+table_lines table year reply = line_of (reply_text reply)
+
+-- the bytes of lines
+abbrev pub bytes_of : Lines → List ℕ
+bytes_of lines = lines.first.items ++ lines.below
+
+-- the office's answer to a request, and the state after it
+abbrev pub answer_of : State → Request → Answer
+answer_of s (Submit id body) = submitted s id body
+answer_of s (Show table year) = record { reply = requested s table year; after = s }
+
+abbrev pub lines_of : Request → Reply → List ℕ
+lines_of (Submit id body) reply = line_of (reply_text reply)
+lines_of (Show table year) reply = table_lines table year reply
+
+-- the lines that reply to a request
+unfoldable pub reply_of : State → Request → List ℕ
+reply_of s asked = lines_of asked (answer_of s asked).reply
+
+-- the state after a request
+unfoldable pub state_after : State → Request → State
+state_after s asked = (answer_of s asked).after
+
+-- ---- the protocol of the office
+
+-- the submission is a new one whose body is read
+abbrev pub is_read : State → List ℕ → List ℕ → Bool
+is_read s id body = is_id id && is_none (kept_from 1 id s.accepted) && nat_le (length body) max_body
+
+-- A new submission takes memory to be entered. A repeat does not, and neither does a table, which changes nothing.
+unfoldable pub takes_memory : State → Request → Bool
+takes_memory s (Submit id body) = is_read s id body
+takes_memory s (Show table year) = false
+
+-- A step is the evaluation of a node. A table evaluates none.
+unfoldable pub steps_for : State → Request → ℕ
+steps_for s (Submit id body) = evaluations s id body
+steps_for s (Show table year) = 0
+
+abbrev pub protocol : Protocol State Request
+protocol = record {
+  commands = commands;
+  reply = reply_of;
+  next_state = state_after;
+  takes_memory = takes_memory;
+  steps = steps_for;
+}

@@ -1,0 +1,120 @@
+//! Reads the commands of a script from a source, and takes no byte behind them.
+
+ghost use Rattle.std.specs.Prelude.{◌≡◌, ◌-◌, ◌≤◌, [], ◌∷◌, ◌++◌, length, take, MatchOption, MatchResult, OnOk};
+ghost use Rattle.ghg_outer.specs.Tape.{Consumes, IsAtEnd};
+ghost use Rattle.ghg_session.specs.Commands.{commands, lines, most_kept};
+ghost use Rattle.ghg_session.specs.Reader.{Found, Missing, Parses, StoppedAtOnce, StoppedInBody, StoppedInLine, TookBody, TookFewer};
+
+use crate::command::{Command, Line, Request};
+use crate::line::read_form;
+use crate::stop::Stop;
+use ghg_outer::Source;
+use ghg_units::Text;
+use std::alloc::{AllocError, Global};
+
+/// The next command, or nothing where what is left begins with none.
+pub fn next_command<S: Source>(
+    alloc: Global,
+    source: &mut S,
+) -> Result<Option<Command<Request>>, Stop>
+    ensures { Parses commands (S.tape source.old) (S.tape source.new) result }
+{
+    let Some(text) = read_line(alloc, source)? else {
+        return Ok(None);
+    };
+    match read_form(alloc, &text)? {
+        None => Ok(None),
+        Some(Line::End) => Ok(Some(Command::End)),
+        Some(Line::Show { table, year }) => {
+            Ok(Some(Command::Request(Request::Show { table, year })))
+        }
+        Some(Line::Submit { id, length }) => match read_body(alloc, source, length as usize)? {
+            None => Ok(None),
+            Some(body) => {
+                let body = Text::new(body);
+                Ok(Some(Command::Request(Request::Submit { id, body })))
+            }
+        },
+    }
+}
+
+/// The most bytes that a line has before its line feed.
+const LONGEST_LINE: usize = 120;
+
+// The next line without its line feed, or nothing where no line ends within its limit.
+fn read_line<S: Source>(alloc: Global, source: &mut S) -> Result<Option<Vec<u8>>, Stop>
+    ensures { MatchResult result
+        (λ found. MatchOption found (Missing lines (S.tape source.old) (S.tape source.new))
+        (λ line. Found lines (S.tape source.old) (S.tape source.new) line.items))
+        (StoppedInLine (S.tape source.old) (S.tape source.new)) }
+{
+    let mut line = Vec::new(alloc);
+    'bytes: while line.len() <= LONGEST_LINE {
+        match next_byte(source)? {
+            None => return Ok(None),
+            Some(b'\n') => return Ok(Some(line)),
+            Some(byte) => line.push(byte)?,
+        }
+    }
+    Ok(None)
+}
+
+// The next byte, or nothing at the end of the input.
+fn next_byte<S: Source>(source: &mut S) -> Result<Option<u8>, Stop>
+    ensures { MatchResult result
+        (λ next. MatchOption next
+        (IsAtEnd (S.tape source.new) × Consumes (S.tape source.old) (S.tape source.new) [])
+        (λ b. Consumes (S.tape source.old) (S.tape source.new) (b ∷ [])))
+        (StoppedAtOnce (S.tape source.old) (S.tape source.new)) }
+{
+    let mut byte = [0];
+    match source.read(&mut byte) {
+        Ok(0) => Ok(None),
+        Ok(_) => Ok(Some(byte[0])),
+        Err(_) => Err(Stop::Input),
+    }
+}
+
+/// How many bytes of a body are read at once.
+const BLOCK: usize = 4096;
+
+// A body of so many bytes, of which the front is kept, or nothing where the input ends before.
+fn read_body<S: Source>(
+    alloc: Global,
+    source: &mut S,
+    count: usize,
+) -> Result<Option<Vec<u8>>, Stop>
+    ensures { MatchResult result
+        (λ found. MatchOption found
+        (IsAtEnd (S.tape source.new) × TookFewer (S.tape source.old) (S.tape source.new) count)
+        (λ body. TookBody (S.tape source.old) (S.tape source.new) count body.items))
+        (StoppedInBody (S.tape source.old) (S.tape source.new) count) }
+{
+    let mut body = Vec::new(alloc);
+    let mut block = [0; BLOCK];
+    let mut at = 0;
+    'pieces: while at < count {
+        let wanted = BLOCK.min(count - at);
+        match source.read(&mut block[..wanted]) {
+            Ok(0) => return Ok(None),
+            Ok(given) => {
+                keep_front(&mut body, &block[..given])?;
+                at += given;
+            }
+            Err(_) => return Err(Stop::Input),
+        }
+    }
+    Ok(Some(body))
+}
+
+/// Of a body one byte more is kept than the longest that is taken, so that it is seen to be too long.
+const MOST_KEPT: usize = 4_194_305;
+
+// Appends as much of the piece as is kept of a body.
+fn keep_front(body: &mut Vec<u8>, piece: &[u8]) -> Result<(), AllocError>
+    requires { length body.old.items ≤ most_kept }
+    ensures { OnOk result (body.new.items ≡ body.old.items ++ take (most_kept - length body.old.items) piece.now) }
+{
+    let room = MOST_KEPT - body.len();
+    body.extend_from_slice(&piece[..room.min(piece.len())])
+}

@@ -1,0 +1,82 @@
+//! The lines that reply to requests.
+
+ghost use Rattle.std.specs.Prelude.{◌≡◌, ◌≢◌, IfOk, OnOk};
+ghost use Rattle.ghg_office.specs.Replies.{reply_text};
+ghost use Rattle.ghg_session.specs.Replies.{bytes_of, heading, line_count, table_lines};
+ghost use Rattle.ghg_session.specs.Session.{line_of};
+
+use ghg_office::{Reply, append_reply};
+use ghg_units::Text;
+use std::alloc::{AllocError, Global};
+
+/// The lines of a reply: the first one, and the text of a table that stands under it.
+#[derive(Drop)]
+pub struct Lines {
+    pub first: Vec<u8>,
+    pub below: Text,
+}
+
+/// The lines that reply to a request for a table. That memory ran out is no reply.
+pub fn table_lines(
+    alloc: Global,
+    table: &[u8],
+    year: u32,
+    reply: Reply,
+) -> Result<Lines, AllocError>
+    ensures lines { IfOk result (λ lines. bytes_of lines ≡ table_lines table.now year reply) }
+    ensures answered { OnOk result (reply ≢ Reply.Memory) }
+{
+    match reply {
+        Reply::Table(text) => {
+            let first = heading(alloc, table, year, text.as_slice())?;
+            Ok(Lines { first, below: text })
+        }
+        other => one_line(alloc, &other),
+    }
+}
+
+// The line that a table stands under.
+#[tactic(auto, unfolding(crate::specs::Replies::heading))]
+fn heading(alloc: Global, table: &[u8], year: u32, text: &[u8]) -> Result<Vec<u8>, AllocError>
+    ensures { IfOk result (λ line. line.items ≡ heading table.now year text.now) }
+{
+    let count = line_count(text);
+    let rest = format!(in alloc; " {year} rows {count}\n")?;
+    let mut line = b"table ".to_vec(alloc)?;
+    line.extend_from_slice(table)?;
+    line.extend_from_slice(rest.as_bytes())?;
+    Ok(line)
+}
+
+// Each line of a text ends with a line feed.
+fn line_count(text: &[u8]) -> usize
+    ensures { result ≡ line_count text.now }
+{
+    text.iter().filter(|b| **b == b'\n').count()
+}
+
+/// The line of a reply, with nothing under it. That memory ran out is no reply.
+pub fn one_line(alloc: Global, reply: &Reply) -> Result<Lines, AllocError>
+    ensures line { IfOk result (λ lines. bytes_of lines ≡ line_of (reply_text reply.now)) }
+    ensures answered { OnOk result (reply.now ≢ Reply.Memory) }
+{
+    let first = reply_line(alloc, reply)?;
+    let below = Text::new(Vec::new(alloc));
+    Ok(Lines { first, below })
+}
+
+// The line of a reply. That memory ran out is no reply.
+fn reply_line(alloc: Global, reply: &Reply) -> Result<Vec<u8>, AllocError>
+    ensures line { IfOk result (λ line. line.items ≡ line_of (reply_text reply.now)) }
+    ensures answered { OnOk result (reply.now ≢ Reply.Memory) }
+{
+    match reply {
+        Reply::Memory => Err(AllocError),
+        _ => {
+            let mut line = Vec::new(alloc);
+            append_reply(&mut line, reply)?;
+            line.push(b'\n')?;
+            Ok(line)
+        }
+    }
+}

@@ -1,0 +1,161 @@
+//! Answers a whole script.
+
+ghost use Rattle.std.specs.Prelude.{◌≡◌, ◌+◌, ◌<◌, ◌≤◌, ◌^◌, IfOk, OnErr, OnOk};
+ghost use Rattle.ghg_session.specs.Interruptions.{Answered, AnswersScript, TakesTurn};
+ghost use Rattle.ghg_session.specs.Replies.{bytes_of, protocol, reply_of, state_after, steps_for};
+ghost use Rattle.ghg_session.specs.Script.{most_commands};
+ghost use Rattle.ghg_session.specs.Session.{beginning, end_status, position, snapshot, wrong_line};
+ghost use Rattle.ghg_session.specs.Writing.{WritesAll};
+
+use crate::command::{Command, Request};
+use crate::reading::next_command;
+use crate::reply::{Lines, one_line, table_lines};
+use crate::stop::Stop;
+use crate::writing::write_all;
+use ghg_office::Office;
+use ghg_outer::{Sink, Source};
+use ghg_steps::Steps;
+use std::alloc::{AllocError, Global};
+use std::sync::ledger::Ledger;
+
+/// How a session ends.
+#[derive(Clone, Copy, Debug, PartialEq, Eq, Drop)]
+pub enum End {
+    /// The script was answered to its end.
+    Script,
+    /// The input is no script: a command of it is none.
+    NoScript,
+}
+
+impl End {
+    /// The status that the program ends with.
+    pub fn status(self) -> u8
+        ensures { result ≡ end_status self }
+    {
+        match self {
+            End::Script => 0,
+            End::NoScript => 3,
+        }
+    }
+}
+
+/// The most commands of a script, its end included.
+const MOST_COMMANDS: u32 = 1_000_000;
+
+/// Answers a script to its end, command by command: each reply is written whole before the next command is read.
+pub fn answer_script<S: Source, W: Sink, L: Ledger>(
+    alloc: Global,
+    input: &mut S,
+    out: &mut W,
+    office: &mut Office,
+    steps: &mut Steps<L>,
+) -> Result<End, Stop>
+    ensures { AnswersScript protocol
+        (beginning (snapshot office.old (S.tape input.old) (W.tape out.old) steps.old))
+        (snapshot office.new (S.tape input.new) (W.tape out.new) steps.new) result }
+{
+    'commands: for done in 0..MOST_COMMANDS {
+        match turn(alloc, input, out, office, done, steps) {
+            Ok(None) => {}
+            Ok(Some(end)) => return Ok(end),
+            Err(stop) => return Err(stop),
+        }
+    }
+    match refuse(alloc, out, MOST_COMMANDS + 1) {
+        Ok(()) => Ok(End::NoScript),
+        Err(stop) => Err(stop),
+    }
+}
+
+// Answers the next command, or says how the session ended.
+fn turn<S: Source, W: Sink, L: Ledger>(
+    alloc: Global,
+    input: &mut S,
+    out: &mut W,
+    office: &mut Office,
+    done: u32,
+    steps: &mut Steps<L>,
+) -> Result<Option<End>, Stop>
+    requires { done < most_commands }
+    ensures { TakesTurn protocol
+        (position done (snapshot office.old (S.tape input.old) (W.tape out.old) steps.old))
+        (snapshot office.new (S.tape input.new) (W.tape out.new) steps.new) result }
+{
+    match next_command(alloc, input)? {
+        None => match refuse(alloc, out, done + 1) {
+            Ok(()) => Ok(Some(End::NoScript)),
+            Err(stop) => Err(stop),
+        },
+        Some(Command::End) => Ok(Some(End::Script)),
+        Some(Command::Request(request)) => match reply(alloc, out, office, &request, steps) {
+            Ok(()) => Ok(None),
+            Err(stop) => Err(stop),
+        },
+    }
+}
+
+// Writes that the command of this number is none.
+fn refuse<W: Sink>(alloc: Global, out: &mut W, number: u32) -> Result<(), Stop>
+    ensures { WritesAll (W.tape out.old) (W.tape out.new) (wrong_line number) result }
+{
+    let line = refusal(alloc, number)?;
+    write_all(out, &line)
+}
+
+fn refusal(alloc: Global, number: u32) -> Result<Vec<u8>, AllocError>
+    ensures { IfOk result (λ line. line.items ≡ wrong_line number) }
+{
+    Ok(format!(in alloc; "not a script: command {number}\n")?.into_bytes())
+}
+
+// Writes the office's reply to a request.
+fn reply<W: Sink, L: Ledger>(
+    alloc: Global,
+    out: &mut W,
+    office: &mut Office,
+    request: &Request,
+    steps: &mut Steps<L>,
+) -> Result<(), Stop>
+    ensures wrote { WritesAll (W.tape out.old) (W.tape out.new) (reply_of office.old request.now) result }
+    ensures after { OnOk result (office.new ≡ state_after office.old request.now) }
+    ensures stopped { OnErr result (Answered protocol office.old request.now office.new) }
+    ensures steps { steps.new ≤ steps.old + steps_for office.old request.now }
+{
+    let lines = answer(alloc, office, request, steps)?;
+    write_lines(out, &lines)
+}
+
+// Writes all lines.
+fn write_lines<W: Sink>(out: &mut W, lines: &Lines) -> Result<(), Stop>
+    ensures { WritesAll (W.tape out.old) (W.tape out.new) (bytes_of lines.now) result }
+{
+    match write_all(out, &lines.first) {
+        Ok(()) => write_all(out, lines.below.as_slice()),
+        Err(stop) => Err(stop),
+    }
+}
+
+// The lines that reply to a request.
+#[tactic(auto, unfolding(crate::specs::Replies::reply_of, crate::specs::Replies::state_after, crate::specs::Replies::steps_for))]
+fn answer<L: Ledger>(
+    alloc: Global,
+    office: &mut Office,
+    request: &Request,
+    steps: &mut Steps<L>,
+) -> Result<Lines, AllocError>
+    ensures lines { IfOk result (λ lines. bytes_of lines ≡ reply_of office.old request.now) }
+    ensures after { OnOk result (office.new ≡ state_after office.old request.now) }
+    ensures stopped { OnErr result (Answered protocol office.old request.now office.new) }
+    ensures steps { steps.new ≤ steps.old + steps_for office.old request.now }
+{
+    match request {
+        Request::Submit { id, body } => {
+            let reply = office.submit(alloc, id.as_slice(), body.as_slice(), steps);
+            one_line(alloc, &reply)
+        }
+        Request::Show { table, year } => {
+            let reply = office.show(alloc, table.as_slice(), *year);
+            table_lines(alloc, table.as_slice(), *year, reply)
+        }
+    }
+}
