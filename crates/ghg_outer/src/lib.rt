@@ -11,8 +11,6 @@ mod sink;
 mod source;
 mod steady;
 mod streams;
-#[cfg(test)]
-mod tests;
 mod told;
 
 pub use fault_plan::FaultPlan;
