@@ -6,16 +6,8 @@ ghost use Rattle.ghg_definitions.specs.Data.{line_names};
 ghost use Rattle.ghg_definitions.specs.Rules.{is_long, limit_fault, passed_limit};
 
 use crate::draft::Draft;
+use ghg_definitions::{LONGEST_SPAN, MOST_KEPT_BYTES, MOST_LINES, MOST_RECORDS};
 use ghg_units::{Limit, Rule, Span};
-
-const MOST_LINES: usize = 5_000;
-
-const MOST_RECORDS: usize = 500_000;
-
-// How many years the last may be after the first.
-const LONGEST_SPAN: u32 = 150;
-
-const MOST_KEPT_BYTES: u64 = 536_870_912;
 
 fn is_long(span: Option<Span>) -> bool
     ensures { result ≡ is_long span }

@@ -5,6 +5,7 @@
 #![tactic(auto)]
 
 mod laws;
+mod limits;
 mod place;
 mod record;
 
@@ -13,5 +14,6 @@ pub use laws::{
     have_one_trial, inputs_hold_their_figures, overflows_are_least, overflows_break,
     plans_keep_workbooks, rings_are_named, trials_are_finite, valuations_are_equal,
 };
+pub use limits::{LONGEST_SPAN, MOST_KEPT_BYTES, MOST_LINES, MOST_RECORDS};
 pub use place::Place;
 pub use record::{Record, RecordKey};
