@@ -175,85 +175,19 @@ pub enum Category {
     RA,
 }
 
+// Categories by their names.
+macro_rules! categories {
+    [$($category:ident)+] => { [$(Category::$category),+] };
+}
+
 impl Category {
     /// Each category of the tree, in the order of the codes' bytes.
-    pub(crate) const TREE: [Category; 76] = [
-        Category::National,
-        Category::C1,
-        Category::C1A,
-        Category::C1A1,
-        Category::C1A1a,
-        Category::C1A1b,
-        Category::C1A1c,
-        Category::C1A2,
-        Category::C1A3,
-        Category::C1A3a,
-        Category::C1A3b,
-        Category::C1A3c,
-        Category::C1A3d,
-        Category::C1A3e,
-        Category::C1A4,
-        Category::C1A4a,
-        Category::C1A4b,
-        Category::C1A4c,
-        Category::C1A5,
-        Category::C1B,
-        Category::C1B1,
-        Category::C1B2,
-        Category::C1B3,
-        Category::C1C,
-        Category::C2,
-        Category::C2A,
-        Category::C2A1,
-        Category::C2A2,
-        Category::C2A3,
-        Category::C2A4,
-        Category::C2B,
-        Category::C2B1,
-        Category::C2B2,
-        Category::C2B3,
-        Category::C2C,
-        Category::C2C1,
-        Category::C2C3,
-        Category::C2D,
-        Category::C2D1,
-        Category::C2D2,
-        Category::C3,
-        Category::C3A,
-        Category::C3A1,
-        Category::C3A2,
-        Category::C3B,
-        Category::C3B1,
-        Category::C3B2,
-        Category::C3B3,
-        Category::C3B4,
-        Category::C3B5,
-        Category::C3B6,
-        Category::C3C,
-        Category::C3C1,
-        Category::C3C2,
-        Category::C3C3,
-        Category::C3C4,
-        Category::C3C5,
-        Category::C3C6,
-        Category::C3C7,
-        Category::C3C8,
-        Category::C3D,
-        Category::C3D1,
-        Category::C3D2,
-        Category::C4,
-        Category::C4A,
-        Category::C4B,
-        Category::C4C,
-        Category::C4C1,
-        Category::C4C2,
-        Category::C4D,
-        Category::C4D1,
-        Category::C4D2,
-        Category::C4E,
-        Category::C5,
-        Category::C5A,
-        Category::C5B,
+    pub(crate) const TREE: [Category; 76] = categories![
+        National C1 C1A C1A1 C1A1a C1A1b C1A1c C1A2 C1A3 C1A3a C1A3b C1A3c C1A3d C1A3e C1A4 C1A4a
+        C1A4b C1A4c C1A5 C1B C1B1 C1B2 C1B3 C1C C2 C2A C2A1 C2A2 C2A3 C2A4 C2B C2B1 C2B2 C2B3 C2C
+        C2C1 C2C3 C2D C2D1 C2D2 C3 C3A C3A1 C3A2 C3B C3B1 C3B2 C3B3 C3B4 C3B5 C3B6 C3C C3C1 C3C2
+        C3C3 C3C4 C3C5 C3C6 C3C7 C3C8 C3D C3D1 C3D2 C4 C4A C4B C4C C4C1 C4C2 C4D C4D1 C4D2 C4E C5
+        C5A C5B
     ];
 
     /// Those outside the tree.

@@ -134,72 +134,16 @@ pub enum EqId {
     Q89,
 }
 
+// Codes by their names.
+macro_rules! codes {
+    [$($code:ident)+] => { [$(EqId::$code),+] };
+}
+
 impl EqId {
     /// Every code, in the order of the table.
-    pub const ALL: [EqId; 64] = [
-        EqId::Q10,
-        EqId::Q11,
-        EqId::Q12,
-        EqId::Q13,
-        EqId::Q14,
-        EqId::Q15,
-        EqId::Q16,
-        EqId::Q17,
-        EqId::Q20,
-        EqId::Q21,
-        EqId::Q22,
-        EqId::Q23,
-        EqId::Q24,
-        EqId::Q25,
-        EqId::Q26,
-        EqId::Q30,
-        EqId::Q31,
-        EqId::Q32,
-        EqId::Q33,
-        EqId::Q34,
-        EqId::Q35,
-        EqId::Q36,
-        EqId::Q37,
-        EqId::Q38,
-        EqId::Q39,
-        EqId::Q40,
-        EqId::Q41,
-        EqId::Q42,
-        EqId::Q44,
-        EqId::Q45,
-        EqId::Q46,
-        EqId::Q55,
-        EqId::Q56,
-        EqId::Q57,
-        EqId::Q58,
-        EqId::Q59,
-        EqId::Q60,
-        EqId::Q61,
-        EqId::Q62,
-        EqId::Q63,
-        EqId::Q64,
-        EqId::Q67,
-        EqId::Q68,
-        EqId::Q69,
-        EqId::Q70,
-        EqId::Q71,
-        EqId::Q72,
-        EqId::Q73,
-        EqId::Q74,
-        EqId::Q75,
-        EqId::Q76,
-        EqId::Q77,
-        EqId::Q78,
-        EqId::Q79,
-        EqId::Q80,
-        EqId::Q81,
-        EqId::Q82,
-        EqId::Q83,
-        EqId::Q84,
-        EqId::Q85,
-        EqId::Q86,
-        EqId::Q87,
-        EqId::Q88,
-        EqId::Q89,
+    pub const ALL: [EqId; 64] = codes![
+        Q10 Q11 Q12 Q13 Q14 Q15 Q16 Q17 Q20 Q21 Q22 Q23 Q24 Q25 Q26 Q30 Q31 Q32 Q33 Q34 Q35 Q36
+        Q37 Q38 Q39 Q40 Q41 Q42 Q44 Q45 Q46 Q55 Q56 Q57 Q58 Q59 Q60 Q61 Q62 Q63 Q64 Q67 Q68 Q69
+        Q70 Q71 Q72 Q73 Q74 Q75 Q76 Q77 Q78 Q79 Q80 Q81 Q82 Q83 Q84 Q85 Q86 Q87 Q88 Q89
     ];
 }
