@@ -13,20 +13,16 @@ use Rattle.ghg_interval.specs.Operations.{is_bounded_by}
 use Rattle.ghg_units.specs.declared.decimal.Decimal.{Decimal}
 use Rattle.ghg_units.specs.declared.row.Act.{Act}
 use Rattle.ghg_units.specs.declared.row.Act.TheVariants.{Enter, Correct, Withdraw}
-use Rattle.ghg_units.specs.declared.row.Binding.{Binding}
 use Rattle.ghg_units.specs.declared.row.Binding.TheVariants as bound
-use Rattle.ghg_units.specs.declared.row.NotationKey.{NotationKey}
 use Rattle.ghg_units.specs.declared.row.Row.{Row}
 use Rattle.ghg_units.specs.declared.row.RowForm.{RowForm}
 use Rattle.ghg_units.specs.declared.row.RowForm.TheVariants as forms
-use Rattle.ghg_units.specs.declared.rule.Column.TheVariants as columns
 use Rattle.ghg_units.specs.declared.rule.Rule.{Rule}
 use Rattle.ghg_units.specs.declared.unit.Unit.{Unit as UnitWord}
 use Rattle.ghg_units.specs.Decimal.{decimal_in, number_of}
 use Rattle.ghg_units.specs.Name.{factor_name_in, is_digit, is_name, is_potential_name, name_in, plain_name_in}
 use Rattle.ghg_units.specs.Parameter.{parameter_in}
-use Rattle.ghg_units.specs.Steps as option
-use Rattle.ghg_units.specs.Units.{converted, interval_in, unit_in}
+use Rattle.ghg_units.specs.Units.{converted, interval_in}
 use Rattle.ghg_units.specs.WellFormed.{IsAmountOf, IsBinding, IsFactorName, IsFigure, IsForm, IsLeaf, IsPlainName, IsSpan, IsSum, IsWellFormed, IsYear, withdraws}
 use Rattle.ghg_units.specs.Words.{act_in, key_in}
 use Rattle.ghg_units.specs.Year.{year_in}

@@ -1,5 +1,5 @@
 -- What a row says, where none of its columns is wrong.
-use Rattle.std.specs.Prelude.{ℕ, List, length, ◌==◌, ◌&&◌, nat_le, int_le, Option, Some, None, Result, Ok, Err, if◌then◌else◌}
+use Rattle.std.specs.Prelude.{ℕ, List, length, ◌==◌, ◌&&◌, nat_le, int_le, Option, Some, None, Result, Err, if◌then◌else◌}
 use Rattle.std.specs.Option.{ok_or, option_map}
 use Rattle.ghg_categories.specs.declared.category.Category.{Category}
 use Rattle.ghg_equations.specs.declared.eq_id.EqId.{EqId}
@@ -24,7 +24,7 @@ use Rattle.ghg_import.specs.declared.kind.Chosen.{Chosen}
 use Rattle.ghg_import.specs.declared.kind.Kind.{Kind}
 use Rattle.ghg_import.specs.declared.kind.Kind.TheVariants as kinds
 use Rattle.ghg_import.specs.declared.kind.Manner.{Manner}
-use Rattle.ghg_import.specs.declared.kind.Manner.TheVariants.{Withdraws, Keyed, Valued}
+use Rattle.ghg_import.specs.declared.kind.Manner.TheVariants.{Withdraws, Keyed}
 use Rattle.ghg_import.specs.Forms.{binding_in, leaf_in, quantity_in}
 use Rattle.ghg_import.specs.Shape.{Texts}
 use Rattle.ghg_import.specs.Table.{chosen_in, wrong_column}

@@ -7,17 +7,17 @@ ghost use Rattle.ghg_units.specs.Name.{plain_name_in};
 ghost use Rattle.ghg_units.specs.WellFormed.{are_different, most_parts};
 ghost use Rattle.ghg_import.specs.Forms.{names_in, parts_of};
 
-use ghg_units::{MOST_PARTS, Name, Names};
+use ghg_units::{MOST_NAMES, Name, Names};
 use std::alloc::{AllocError, Global};
 use std::collections::BTreeSet;
 
-/// The names that a text is: 1 to `MOST_PARTS` different plain ones, with one space between two of them.
+/// The names that a text is: 1 to `MOST_NAMES` different plain ones, with one space between two of them.
 #[tactic(auto, unfolding(crate::specs::Forms::names_in))]
 pub(crate) fn names_named(alloc: Global, text: &[u8]) -> Result<Option<Names>, AllocError>
     ensures { IfOk result (λ names. names ≡ names_in text.now) }
 {
     let parts = first_parts(alloc, text)?;
-    if parts.len() > MOST_PARTS {
+    if parts.len() > MOST_NAMES {
         return Ok(None);
     }
     let Some(names) = plain_names(alloc, &parts)? else {
@@ -34,7 +34,7 @@ fn first_parts(alloc: Global, text: &[u8]) -> Result<Vec<&[u8]>, AllocError>
     ensures { IfOk result (λ parts. map (λ part. part.now) parts.items ≡ take (most_parts + 1) (parts_of text.now)) }
 {
     text.split(|b| *b == b' ')
-        .take(MOST_PARTS + 1)
+        .take(MOST_NAMES + 1)
         .collect(alloc)
 }
 

@@ -18,25 +18,25 @@ whole text parts seen n first len few same =
     let small : length (texts_of parts) ≤ most_parts = rw (← as_many parts n len) few in
     (ap texts_of same ∙ all_parts (parts_of text) (texts_of parts) first small, rw same small)
 
-pub returns-then-len-gt-MOST_PARTS : goal.returns-then-len-gt-MOST_PARTS
-returns-then-len-gt-MOST_PARTS c =
-    let many : most_parts < length (texts_of c.in_ok-parts.parts.items) = rw (← as_many c.in_ok-parts.parts.items c.len.result (c.len.ensures ∙ c.in_ok-parts.parts.ok.0)) c.if-len-gt-MOST_PARTS.true in
+pub returns-then-len-gt-MOST_NAMES : goal.returns-then-len-gt-MOST_NAMES
+returns-then-len-gt-MOST_NAMES c =
+    let many : most_parts < length (texts_of c.in_ok-parts.parts.items) = rw (← as_many c.in_ok-parts.parts.items c.len.result (c.len.ensures ∙ c.in_ok-parts.parts.ok.0)) c.if-len-gt-MOST_NAMES.true in
     no_names c.args.text.now (too_many (parts_of c.args.text.now) _ c.in_ok-parts.ensures many)
 
 pub returns-in_default : goal.returns-in_default
 returns-in_default c =
-    let all = whole c.args.text.now c.in_ok-parts.parts.items c.deref.result.now c.len.result c.in_ok-parts.ensures (c.len.ensures ∙ c.in_ok-parts.parts.ok.0) c.if-len-gt-MOST_PARTS.false c.deref.ensures.value in
+    let all = whole c.args.text.now c.in_ok-parts.parts.items c.deref.result.now c.len.result c.in_ok-parts.ensures (c.len.ensures ∙ c.in_ok-parts.parts.ok.0) c.if-len-gt-MOST_NAMES.false c.deref.ensures.value in
     let strange = none_named (λ v. v.items) _ _ c.in_ok-names.field-0 c.in_ok-names.ensures c.in_default.is in
     no_names c.args.text.now (strange_name (parts_of c.args.text.now) (ap (list_all (λ name. is_some (plain_name_in name))) (sym all.0) ∙ strange))
 
 pub returns-then-not-branch : goal.returns-then-not-branch
 returns-then-not-branch c =
-    let all = whole c.args.text.now c.in_ok-parts.parts.items c.deref.result.now c.len.result c.in_ok-parts.ensures (c.len.ensures ∙ c.in_ok-parts.parts.ok.0) c.if-len-gt-MOST_PARTS.false c.deref.ensures.value in
+    let all = whole c.args.text.now c.in_ok-parts.parts.items c.deref.result.now c.len.result c.in_ok-parts.ensures (c.len.ensures ∙ c.in_ok-parts.parts.ok.0) c.if-len-gt-MOST_NAMES.false c.deref.ensures.value in
     let read = some_named (λ v. v.items) _ _ c.in_ok-names.field-0 c.in-Some.names c.in_ok-names.ensures c.in-Some.is in
     no_names c.args.text.now (repeated_name (parts_of c.args.text.now) (ap are_different (sym (c.deref-2.ensures.value ∙ read.1 ∙ all.0)) ∙ sym c.in_ok-are_different.ensures ∙ c.if-not-branch.true))
 
 pub returns : goal.returns
 returns c =
-    let all = whole c.args.text.now c.in_ok-parts.parts.items c.deref.result.now c.len.result c.in_ok-parts.ensures (c.len.ensures ∙ c.in_ok-parts.parts.ok.0) c.if-len-gt-MOST_PARTS.false c.deref.ensures.value in
+    let all = whole c.args.text.now c.in_ok-parts.parts.items c.deref.result.now c.len.result c.in_ok-parts.ensures (c.len.ensures ∙ c.in_ok-parts.parts.ok.0) c.if-len-gt-MOST_NAMES.false c.deref.ensures.value in
     let read = some_named (λ v. v.items) _ _ c.in_ok-names.field-0 c.in-Some.names c.in_ok-names.ensures c.in-Some.is in
     named c.args.text.now (texts_of c.deref.result.now) c.new.result all.0 all.1 read.0 (c.new.ensures ∙ read.1) (ap are_different (c.new.ensures ∙ sym c.deref-2.ensures.value) ∙ sym c.in_ok-are_different.ensures ∙ c.if-not-branch.false)
