@@ -64,7 +64,7 @@ fewer p (x ∷ xs) = by (p x) (fewer p xs)
     by true h = omega arith
     by false h = omega arith
 
-pub few_at : (m : Data) (test : Category → Bool) → IsWorkbook m → length (gas_lines_at test m) ≤ 5000
+pub few_at : (m : Data) (test : Category → Bool) → IsWorkbook m → length (gas_lines_at test m) ≤ most_lines
 few_at m test workbook =
     let all = few_lines m workbook.limits in
     let some = fewer (emits m) (line_names m) in
@@ -72,14 +72,14 @@ few_at m test workbook =
     omega (arith, all, some, at)
 
 -- a binding takes no more values than a sum may have parts
-pub few_taken : (m : Data) (first year : ℕ) (b : Option Binding) → IfSome b IsBinding → length (nodes_in (map_operand (given m) (bound_to m first year b))) ≤ 5000
+pub few_taken : (m : Data) (first year : ℕ) (b : Option Binding) → IfSome b IsBinding → length (nodes_in (map_operand (given m) (bound_to m first year b))) ≤ most_lines
 few_taken m first year None h = omega arith
 few_taken m first year (Some (bound.Activity name)) h = omega arith
 few_taken m first year (Some (bound.Factor name)) h = omega arith
 few_taken m first year (Some (bound.Line name)) h = omega arith
 few_taken m first year (Some (bound.Prev name)) h = by (nat_le year first)
   where
-    by : (b : Bool) → length (nodes_in (map_operand (given m) (previous b name year))) ≤ 5000
+    by : (b : Bool) → length (nodes_in (map_operand (given m) (previous b name year))) ≤ most_lines
     by true = omega arith
     by false = omega arith
 few_taken m first year (Some (bound.Sum names)) h = rw length-map (omega (arith, h.1))

@@ -11,6 +11,7 @@ ghost use Rattle.ghg_definitions.specs.Data.{span};
 ghost use Rattle.ghg_definitions.specs.Formulas.{Outcome, gather, nodes_in, operand_outcome};
 ghost use Rattle.ghg_definitions.specs.Sound.{IsWorkbook};
 ghost use Rattle.ghg_definitions.specs.Lookups.{zero_input};
+ghost use Rattle.ghg_definitions.specs.Rules.{most_lines};
 ghost use Rattle.ghg_graph.specs.Operands.{operand_of};
 ghost use Rattle.ghg_engine.specs.Arguments.{AreGathered, IsArgument, IsHeld, IsTaken, param_outcomes, parameter_outcomes, sum_outcome};
 ghost use Rattle.ghg_engine.specs.Orders.{outcome_in};
@@ -170,7 +171,7 @@ fn argument(
     operand: &Operand<'_>,
     parts: &mut Vec<Input>,
 ) -> Result<Option<Taken>, AllocError>
-    requires { length (nodes_in (operand_of operand.now)) ≤ 5000 }
+    requires { length (nodes_in (operand_of operand.now)) ≤ most_lines }
     ensures { IfOk result (IsArgument (operand_outcome (outcome_in cells.now) (operand_of operand.now))) }
 {
     match operand {
@@ -187,7 +188,7 @@ fn sum_of(
     year: u32,
     parts: &mut Vec<Input>,
 ) -> Result<Option<Taken>, AllocError>
-    requires { length names.now ≤ 5000 }
+    requires { length names.now ≤ most_lines }
     ensures { IfOk result (IsArgument (sum_outcome cells.now (nodes_for Part.Line names.now year))) }
 {
     if !gather_parts(cells, Part::Line, names, year, parts)? {

@@ -6,6 +6,7 @@ ghost use Rattle.ghg_definitions.specs.Data.{span};
 ghost use Rattle.ghg_definitions.specs.Nodes.{lesser_node};
 ghost use Rattle.ghg_definitions.specs.Rings.{IsAcyclic};
 ghost use Rattle.ghg_definitions.specs.Sound.{IsWorkbook};
+ghost use Rattle.ghg_definitions.specs.Rules.{most_lines};
 ghost use Rattle.ghg_engine.specs.Breaking.{least_with};
 ghost use Rattle.ghg_engine.specs.Evaluation.{IsEvaluatedAt, IsEvaluatedSum};
 ghost use Rattle.ghg_engine.specs.Grouping.{IsGrouping};
@@ -200,7 +201,7 @@ fn sum(
     ticket: Ticket,
     parts: &mut Vec<Input>,
 ) -> Result<Evaluated, AllocError>
-    requires { length names.now ≤ 5000 }
+    requires { length names.now ≤ most_lines }
     ensures { IfOk result (IsEvaluatedSum cells.now (nodes_for Part.Equivalent names.now year)) }
 {
     if gather_parts(cells, Part::Equivalent, names, year, parts)? {

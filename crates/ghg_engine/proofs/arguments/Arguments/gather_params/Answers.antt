@@ -11,6 +11,7 @@ use Rattle.ghg_cell.specs.declared.input.Input.{Input}
 use Rattle.ghg_definitions.specs.Compilation.{bound_to}
 use Rattle.ghg_definitions.specs.Formulas.{Operand, gather, map_operand, nodes_in, operand_outcome}
 use Rattle.ghg_definitions.specs.Lookups.{given}
+use Rattle.ghg_definitions.specs.Rules.{most_lines}
 use Rattle.ghg_engine.specs.Arguments.{IsArgument, IsHeld, IsTaken, param_outcomes}
 use Rattle.ghg_engine.specs.Orders.{outcome_in}
 use Rattle.ghg_engine.proofs.Facts.{bound_is, few_taken}
@@ -39,7 +40,7 @@ argument-requires g c =
     let m = g.R.Records.content c.args.records.now in
     let b : Option Binding = option_copied c.bound.result in
     let is : IfSome b IsBinding = subst (λ o. IfSome o IsBinding) (sym c.bound.ensures) (bound_is m c.args.line.now _ c.requires.workbook) in
-    subst (λ (a : Operand Input). length (nodes_in a) ≤ 5000) (sym c.bound_operand-operand.ensures.operand) (few_taken m c.args.first c.args.year b is)
+    subst (λ (a : Operand Input). length (nodes_in a) ≤ most_lines) (sym c.bound_operand-operand.ensures.operand) (few_taken m c.args.first c.args.year b is)
 
 pub returns-in_default : goal.returns-in_default
 unfolding none
