@@ -25,7 +25,7 @@ use Rattle.ghg_units.specs.Parameter.{parameter_in}
 use Rattle.ghg_units.specs.Units.{converted, interval_in}
 use Rattle.ghg_units.specs.WellFormed.{IsAmountOf, IsBinding, IsFactorName, IsFigure, IsForm, IsLeaf, IsPlainName, IsSpan, IsSum, IsWellFormed, IsYear, withdraws}
 use Rattle.ghg_units.specs.Words.{act_in, key_in}
-use Rattle.ghg_units.specs.Year.{year_in}
+use Rattle.ghg_units.specs.Year.{earliest_year, is_year, latest_year, year_in}
 use Rattle.ghg_import.specs.declared.fault.Fault.{Fault}
 use Rattle.ghg_import.specs.declared.fault.Fault.TheVariants.{Shape}
 use Rattle.ghg_import.specs.declared.kind.BindingForm.{BindingForm}
@@ -103,10 +103,10 @@ factor_name text name e = by (is_potential_name text) refl
 
 year : (text : List ℕ) (y : ℕ) → year_in text ≡ Some y → IsYear y
 year text y e =
-    let parts = chosen ((length text == 4) && list_all is_digit text && nat_le 1900 (number_of text) && nat_le (number_of text) 2100) (number_of text) y e in
-    let first = and_first ((length text == 4) && list_all is_digit text && nat_le 1900 (number_of text)) (nat_le (number_of text) 2100) parts.0 in
-    let from = and_second ((length text == 4) && list_all is_digit text) (nat_le 1900 (number_of text)) first in
-    let to = and_second ((length text == 4) && list_all is_digit text && nat_le 1900 (number_of text)) (nat_le (number_of text) 2100) parts.0 in
+    let parts = chosen ((length text == 4) && list_all is_digit text && is_year (number_of text)) (number_of text) y e in
+    let within = and_second ((length text == 4) && list_all is_digit text) (is_year (number_of text)) parts.0 in
+    let from = and_first (nat_le earliest_year (number_of text)) (nat_le (number_of text) latest_year) within in
+    let to = and_second (nat_le earliest_year (number_of text)) (nat_le (number_of text) latest_year) within in
     subst IsYear parts.1 (leb-true _ _ from, leb-true _ _ to)
 
 leaf : (text : List ℕ) (c : Category) → leaf_in text ≡ Some c → IsLeaf c
