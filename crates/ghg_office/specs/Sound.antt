@@ -4,7 +4,7 @@ use Rattle.std.specs.Prelude.{◌≡◌, ℕ, true, List, Some}
 use Rattle.ghg_definitions.specs.Compilation.{is_year_of}
 use Rattle.ghg_definitions.specs.Data.{span}
 use Rattle.ghg_office.specs.declared.reply.Reply.{Reply}
-use Rattle.ghg_office.specs.declared.reply.Reply.TheVariants.{Accepted, Repeated, Refused, NoTable, Memory, Table as Shown}
+use Rattle.ghg_office.specs.declared.reply.Reply.TheVariants.{NoTable, Table as Shown}
 use Rattle.ghg_office.specs.Office.{State, requested}
 use Rattle.ghg_tables.specs.declared.table.Table.{Table}
 use Rattle.ghg_tables.specs.Names.{table_in}
@@ -22,7 +22,4 @@ pub record IsSoundTable (s : State) (name : List ℕ) (year : ℕ) (text : List 
 abbrev pub IsSoundReply : State → List ℕ → ℕ → Reply → Type 0
 IsSoundReply s name year (Shown text) = IsSoundTable s name year text
 IsSoundReply s name year NoTable = requested s name year ≡ NoTable
-IsSoundReply s name year (Accepted seq) = ⊥
-IsSoundReply s name year (Repeated seq) = ⊥
-IsSoundReply s name year (Refused rule) = ⊥
-IsSoundReply s name year Memory = ⊥
+IsSoundReply s name year _ = ⊥
