@@ -105,8 +105,8 @@ impl Office {
         requires new_id { kept_from 1 id self.old.accepted ≡ None }
         requires short { length body.now ≤ max_body }
         ensures steps { steps.new ≤ steps.old + evaluations_of (arranged_by self.old body.now) }
-        ensures answer { Answers (decided self.old id body.now (entered_by self.old body.now)) (reply_of result)
-            self.old self.new }
+        ensures answer { Answers (decided self.old id body.now (entered_by self.old body.now))
+            (reply_of result) self.old self.new }
     {
         let rows = read_rows(alloc, body)?;
         let kept_bytes = self.accepted.kept_bytes() + body.len() as u64;
