@@ -1,5 +1,5 @@
 -- The parameters of equations, as the code has them and as the table names them.
-use Rattle.std.proofs.Common.{◌≡◌, Bool, true, false, cond, ◌||◌, ◌&&◌, List, [], ◌∷◌, map, Option, Some, None, is_some, refl, sym, ap, subst}
+use Rattle.std.proofs.Common.{◌≡◌, Bool, true, false, cond, not, ◌||◌, ◌&&◌, List, [], ◌∷◌, map, Option, Some, None, is_some, option_and_then, refl, ◌∙◌, sym, ap, subst}
 use Rattle.std.specs.List.{AllByRecursion, find, list_all, list_any}
 use Rattle.std.specs.Option.{option_map, option_map_or}
 use Rattle.std.specs.Str.{bytes_eq}
@@ -10,8 +10,11 @@ use Rattle.ghg_equations.specs.declared.row.Equation.{Equation}
 use Rattle.ghg_equations.specs.declared.row.Param.{Param}
 use Rattle.ghg_equations.specs.Table.{Quantity, parameters, row, seen}
 use Rattle.ghg_units.specs.Parameter.{is_parameter}
-use Rattle.ghg_definitions.specs.Data.{Name}
-use Rattle.ghg_data.specs.Faults.{takes}
+use Rattle.ghg_units.specs.declared.row.Binding.{Binding}
+use Rattle.ghg_definitions.specs.declared.place.Place.{Place}
+use Rattle.ghg_definitions.specs.Data.{Data, Name, binding, line}
+use Rattle.ghg_definitions.specs.Rules.{binds_parameter, is_bound, is_sound}
+use Rattle.ghg_data.specs.Faults.{dim_of_place, is_fault, takes}
 use Rattle.ghg_data.specs.Parameters.{quantity}
 
 pub parameters_seen : (e : Equation) (id : EqId) → seen e ≡ row id → map quantity e.params.now ≡ parameters id
@@ -38,16 +41,36 @@ any_found p (q ∷ qs) = by (p q) (any_found p qs)
 pub takes_found : (id : EqId) (n : Name) → is_some (option_map (λ (q : Quantity). q.dim) (find (λ q. bytes_eq q.name n) (parameters id))) ≡ takes id n
 takes_found id n = any_found (λ q. bytes_eq q.name n) (parameters id)
 
-pub by_dim : (f : Dim → Bool) (o : Option Quantity) (d : Dim) → Some d ≡ option_map (λ (q : Quantity). q.dim) o → f d ≡ option_map_or (λ q. f q.dim) o false
-by_dim f None d e = absurd (cc)
-by_dim f (Some q) d e = ap f (same d q.dim e)
-  where
-    same : (a b : Dim) → Some a ≡ Some b → a ≡ b
-    same a b e = cc
+-- ---- a place is a fault by what its parameter measures
 
-pub by_none : (f : Dim → Bool) (o : Option Quantity) → None ≡ option_map (λ (q : Quantity). q.dim) o → false ≡ option_map_or (λ q. f q.dim) o false
-by_none f None e = refl
-by_none f (Some q) e = absurd (cc)
+named_alone : (x : Bool) → (x || false) && true ≡ x
+named_alone true = refl
+named_alone false = refl
+
+taken_too : (x y : Bool) → (x || true) && y ≡ y
+taken_too true y = refl
+taken_too false y = refl
+
+module _ (m : Data) (p : Place) (b : Option Binding) where
+  abbrev dim_in : Option Quantity → Option Dim
+  dim_in = option_map (λ (q : Quantity). q.dim)
+
+  by_found : (e : EqId) (o : Option Quantity) → is_some (dim_in o) ≡ takes e p.parameter
+      → (is_some b || takes e p.parameter) && not (option_map_or (λ q. is_bound m q.dim b) o false) ≡ option_map_or (λ d. not (is_bound m d b)) (dim_in o) (is_some b)
+  by_found e None t = ap (λ x. (is_some b || x) && true) (sym t) ∙ named_alone (is_some b)
+  by_found e (Some q) t = ap (λ x. (is_some b || x) && not (is_bound m q.dim b)) (sym t) ∙ taken_too (is_some b) _
+
+  by_line : (l : Option EqId) → (is_some b || option_map_or (λ e. takes e p.parameter) l false) && not (option_map_or (λ e. binds_parameter m e p.parameter b) l false)
+      ≡ option_map_or (λ d. not (is_bound m d b)) (option_and_then (λ e. dim_in (find (λ q. bytes_eq q.name p.parameter) (parameters e))) l) (is_some b)
+  by_line None = named_alone (is_some b)
+  by_line (Some e) = by_found e (find (λ q. bytes_eq q.name p.parameter) (parameters e)) (takes_found e p.parameter)
+
+pub fault_at : (m : Data) (p : Place) (d : Option Dim) → d ≡ dim_of_place m p
+    → is_fault m p ≡ option_map_or (λ k. not (is_bound m k (binding m p.line p.parameter))) d (is_some (binding m p.line p.parameter))
+unfolding is_sound
+fault_at m p d e =
+    let b = binding m p.line p.parameter in
+    by_line m p b (line m p.line) ∙ ap (λ o. option_map_or (λ k. not (is_bound m k b)) o (is_some b)) (sym e)
 
 -- each parameter's name is one, by computation, each code in a case of its own
 named_parameters : (id : EqId) → list_all (λ q. is_parameter q.name) (parameters id) ≡ true

@@ -1,9 +1,10 @@
 -- Places with an unsound binding, and the least among several.
-use Rattle.std.specs.Prelude.{Bool, false, not, ◌&&◌, ◌||◌, is_some, if◌then◌else◌, List, Option, Some}
-use Rattle.std.specs.List.{list_any}
-use Rattle.std.specs.Option.{option_map_or}
+use Rattle.std.specs.Prelude.{Bool, false, not, ◌&&◌, ◌||◌, is_some, option_and_then, if◌then◌else◌, List, Option, Some}
+use Rattle.std.specs.List.{find, list_any}
+use Rattle.std.specs.Option.{option_map, option_map_or}
 use Rattle.std.specs.Str.{bytes_eq}
 use Rattle.ghg_equations.specs.declared.eq_id.EqId.{EqId}
+use Rattle.ghg_equations.specs.declared.quantity.Dim.{Dim}
 use Rattle.ghg_equations.specs.Table.{parameters}
 use Rattle.ghg_definitions.specs.declared.place.Place.{Place}
 use Rattle.ghg_definitions.specs.declared.record.RecordKey.{RecordKey}
@@ -14,6 +15,11 @@ use Rattle.ghg_definitions.specs.Rules.{is_sound, lesser_place, places_in}
 -- the equation has the parameter
 abbrev pub takes : EqId → Name → Bool
 takes e parameter = list_any (λ q. bytes_eq q.name parameter) (parameters e)
+
+-- what a parameter measures, where its line is present and takes it
+abbrev pub dim_of_place : Data → Place → Option Dim
+dim_of_place m p =
+    option_and_then (λ e. option_map (λ q. q.dim) (find (λ q. bytes_eq q.name p.parameter) (parameters e))) (line m p.line)
 
 -- a line that is present takes the parameter, or a binding names it
 abbrev pub is_place : Data → Place → Bool

@@ -7,10 +7,10 @@ ghost use Rattle.std.specs.Str.{bytes_eq};
 ghost use Rattle.ghg_equations.specs.Table.{parameters};
 ghost use Rattle.ghg_units.specs.Parameter.{is_parameter};
 ghost use Rattle.ghg_definitions.specs.Data.{first_name, line, line_names};
-ghost use Rattle.ghg_definitions.specs.Rules.{activities, are_of, binds_parameter, dim_of_output, factors, gives_decay, gives_dimension, is_bound, is_line_of, is_sound, lesser_place, places_in, unsound_place};
+ghost use Rattle.ghg_definitions.specs.Rules.{activities, are_of, dim_of_output, factors, gives_decay, gives_dimension, is_bound, is_line_of, lesser_place, places_in, unsound_place};
 ghost use Rattle.ghg_definitions.specs.Sound.{IsConsistent, IsWorkbook};
 ghost use Rattle.ghg_data.specs.Changes.{applied};
-ghost use Rattle.ghg_data.specs.Faults.{considered, is_place, key_places, line_places};
+ghost use Rattle.ghg_data.specs.Faults.{considered, dim_of_place, is_fault, key_places, line_places};
 ghost use Rattle.ghg_data.specs.Settling.{unsettled_places};
 
 use crate::draft::{Draft, equation_in};
@@ -121,41 +121,22 @@ fn dim_in(params: &[Param], parameter: &ParamName) -> Option<Dim>
         .map(|param| param.dim)
 }
 
-// The parameter is one of the equation's, and is bound.
-fn binds_parameter(
-    draft: &Draft<'_>,
-    id: EqId,
-    parameter: &ParamName,
-    binding: Option<&Binding>,
-) -> bool
-    ensures { result ≡ binds_parameter draft.now id parameter.now (option_copied binding.entry) }
+// What the parameter of a place measures, where its line is present and takes it.
+fn dim_of_place(draft: &Draft<'_>, place: &Place) -> Option<Dim>
+    ensures { result ≡ dim_of_place draft.now place.now }
 {
-    match dim_of_parameter(id, parameter) {
-        Some(dim) => is_bound(draft, dim, binding),
-        None => false,
-    }
+    dim_of_parameter(draft.line(&place.line)?, &place.parameter)
 }
 
-#[tactic(auto, unfolding(ghg_definitions::specs::Rules::is_sound))]
-fn is_sound(draft: &Draft<'_>, place: &Place) -> bool
-    ensures { result ≡ is_sound draft.now place.now }
+// The line takes the parameter, which is not bound to what it measures; or a binding names it, and no line takes it.
+fn is_fault(draft: &Draft<'_>, place: &Place) -> bool
+    ensures { result ≡ is_fault draft.now place.now }
 {
     let binding = draft.binding(&place.line, &place.parameter);
-    match draft.line(&place.line) {
-        Some(id) => binds_parameter(draft, id, &place.parameter, binding),
-        None => false,
+    match dim_of_place(draft, place) {
+        Some(dim) => !is_bound(draft, dim, binding),
+        None => binding.is_some(),
     }
-}
-
-// A line that is present takes the parameter, or a binding names it.
-fn is_place(draft: &Draft<'_>, place: &Place) -> bool
-    ensures { result ≡ is_place draft.now place.now }
-{
-    draft.binding(&place.line, &place.parameter).is_some()
-        || match draft.line(&place.line) {
-            Some(id) => dim_of_parameter(id, &place.parameter).is_some(),
-            None => false,
-        }
 }
 
 fn lesser_place(place: &Place, least: &Option<Place>) -> Place
@@ -171,7 +152,7 @@ fn lesser_place(place: &Place, least: &Option<Place>) -> Place
 fn consider(draft: &Draft<'_>, least: &mut Option<Place>, place: &Place)
     ensures { least.new ≡ considered draft.now least.old place.now }
 {
-    if is_place(draft, place) && !is_sound(draft, place) {
+    if is_fault(draft, place) {
         *least = Some(lesser_place(place, least));
     }
 }

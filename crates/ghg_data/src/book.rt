@@ -86,7 +86,8 @@ impl Book {
     ///
     /// `rest` is the rule that stopped the reading of the rows, and `kept_bytes` how many bytes all kept bodies have with this one.
     /// The first rule that is broken is answered: that of the first row that breaks one on units or presence, `rest`,
-    /// the least unsound binding, and the first limit. The records stay with every answer.
+    /// the least unsound binding, and the first limit. Each key of the edits is that of some row, and there are no more
+    /// edits than rows. The records stay with every answer.
     pub fn plan(
         &mut self,
         alloc: Global,
