@@ -37,8 +37,8 @@ AreSoundReplies s [] output = output ≡ []
 AreSoundReplies s (asked ∷ rest) output = (lines more : List ℕ) × (output ≡ lines ++ more)
     × IsSoundReply s asked lines × AreSoundReplies (state_after s asked) rest more
 
--- Where the input tells what is left: the session of that was written, such replies to its requests and the line that
--- names the command that is none.
+-- Where the input tells what is left: the session of that was written, such replies to its requests and
+-- the line that names the command that is none.
 abbrev pub IsSoundSession : Snapshot State → Snapshot State → Type 0
 IsSoundSession before after = IfSome before.input.left (λ bytes. (output : List ℕ)
     × Appends before.output after.output (output ++ last_line (reading_of commands bytes).wrong)

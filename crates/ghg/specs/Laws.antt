@@ -9,4 +9,5 @@ use Rattle.ghg.specs.Bounds.{AreSoundReplies}
 
 -- From a state in force, the bounds in each table among the replies to any requests hold the exact values.
 abbrev pub RepliesAreSound : Type 0
-RepliesAreSound = (s : State) → IsInForce s → (requests : List Request) → AreSoundReplies s requests (replies protocol s requests)
+RepliesAreSound = (s : State) → IsInForce s → (requests : List Request)
+    → AreSoundReplies s requests (replies protocol s requests)

@@ -28,7 +28,8 @@ bad_command_line = line_of (codes "bad command line")
 -- Nothing was read and no step taken. The line was written, or a proper prefix of it.
 pub record NoCommandRun (before after : Snapshot State) (status : ℕ) : Type 0 where
   pub usage : status ≡ 2 → Appends before.output after.output bad_command_line
-  pub stopped : (stop : Stop) → status ≡ stop_status stop → StoppedWriting before.output after.output bad_command_line stop
+  pub stopped : (stop : Stop) → status ≡ stop_status stop
+      → StoppedWriting before.output after.output bad_command_line stop
   pub whole : (Rose before.output after.output → ⊥) → status ≢ 8 → status ≡ 2
   pub only : (status ≡ 2) ⊎ ((stop : Stop) × (status ≡ stop_status stop))
   pub rest : after ≡ record before { output = after.output }
@@ -39,13 +40,15 @@ pub record NoCommandRun (before after : Snapshot State) (status : ℕ) : Type 0 
 abbrev pub is_end : ℕ → Bool
 is_end status = (status == 0) || (status == 3)
 
--- The script that the input holds was answered. Where the input tells what is left, `due` is the session of that.
+-- The script that the input holds was answered. Where the input tells what it has left, what is due is the
+-- session of that.
 pub record CompileRun (before after : Snapshot State) (status : ℕ) : Type 0 where
-  -- The session ended, or it was interrupted: what was read of it, what was written, and the state of the office.
+  -- The session ended, or it was interrupted: what was read of it, what was written, and the state of the
+  -- office.
   pub session : (result : Result End Stop) × AnswersScript protocol (beginning before) after result
       × (status ≡ result_status result)
-  -- With statuses 0 and 3 all that is due was written. One of them comes where neither the input nor the output failed
-  -- and memory did not run out.
+  -- With statuses 0 and 3 all that is due was written. One of them comes where neither the input nor the
+  -- output failed and memory did not run out.
   pub done : is_end status ≡ true → IsDone protocol (beginning before) after status
   pub complete : (Rose before.input after.input → ⊥) → (Rose before.output after.output → ⊥) → status ≢ 8
       → is_end status ≡ true
@@ -58,8 +61,8 @@ pub record CompileRun (before after : Snapshot State) (status : ℕ) : Type 0 wh
   pub begun : IsBegun protocol (beginning before) after
   -- No more steps were taken than the requests ask for that were read.
   pub steps : SpendsWithin protocol (beginning before) after
-  -- In each table the bounds hold the exact values of the nodes of the data then in force, wherever the inputs are
-  -- within their supplied bounds.
+  -- In each table the bounds hold the exact values of the nodes of the data then in force, wherever the
+  -- inputs are within their supplied bounds.
   pub bounds : is_end status ≡ true → IsSoundSession before after
   pub bounds_begun : IsSoundPrefix before after
 

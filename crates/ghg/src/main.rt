@@ -1,5 +1,8 @@
-//! Compiles national greenhouse gas inventories after the 2006 IPCC Guidelines: answers a script of submissions and
-//! requests for tables.
+//! Compiles national greenhouse gas inventories after the 2006 IPCC Guidelines: answers a script of
+//! submissions and requests for tables.
+//!
+//! [`run::run`] does all that the program does, and its contract says what that is. `main` hands it the process's
+//! words, input and output, and ends with its status.
 #![tactic(auto)]
 
 ghost use Rattle.std.specs.Prelude.{◌≡◌, ◌<◌};
@@ -41,7 +44,8 @@ fn answer<L: Ledger>(rt: HostRuntime, blank: Blank) -> Result<u8, Stop>
     Ok(run::run(alloc, &words, &mut input, &mut out, &mut steps))
 }
 
-// The words behind the program's name. There are none where one of them is not UTF-8, which is no command either.
+// The words behind the program's name. There are none where one of them is not UTF-8, which is no command
+// either.
 fn read_words(rt: &HostRuntime) -> Result<Vec<String>, Stop> {
     let alloc = rt.alloc();
     match env::args(rt) {

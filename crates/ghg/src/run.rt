@@ -35,8 +35,8 @@ pub fn run<S: Source, W: Sink, L: Ledger>(
     out: &mut W,
     steps: &mut Steps<L>,
 ) -> u8
-    // What was done, by the words. For words that are no command nothing is read. A script is answered by an office that
-    // accepted nothing so far.
+    // What was done, by the words. For words that are no command nothing is read. A script is answered by
+    // an office that accepted nothing so far.
     ensures no_command { task_in (map string_bytes words.now) ≡ None → NoCommandRun
         (snapshot start (S.tape input.old) (W.tape out.old) steps.old)
         (snapshot start (S.tape input.new) (W.tape out.new) steps.new) result }

@@ -1,4 +1,5 @@
--- The count of the faults of an object of the outside. It is 64 bits wide, and stands still at its last value.
+-- The count of the faults of an object of the outside. It is 64 bits wide, and stands still at its last
+-- value.
 use Rattle.std.specs.Prelude.{ℕ, ◌+◌, ◌-◌, ◌^◌, ◌≤◌, min}
 
 -- one more, or the last value again

@@ -3,23 +3,24 @@ use Rattle.std.specs.Prelude.{ℕ, ◌≤◌, ◌<◌, List, [], length, take, O
 use Rattle.std.specs.Io.KnownBytes as known
 use Rattle.ghg_outer.specs.Counts.{raised}
 
--- The bytes that are left to be read, those that were taken, and those that were written, where they are known; and how
--- many calls failed. An object that tells nothing of some bytes has `None` for them.
+-- The bytes that are left to be read, those that were taken, and those that were written, where they are
+-- known; and how many calls failed. An object that tells nothing of some bytes has `None` for them.
 pub record Tape : Type 0 where
   pub left : Option (List ℕ)
   pub taken : Option (List ℕ)
   pub written : Option (List ℕ)
   pub faults : ℕ
 
--- The text was taken from the front of what was left, and stands behind what was taken before. Nothing was written, and
--- the count of faults did not fall.
+-- The text was taken from the front of what was left, and stands behind what was taken before. Nothing
+-- was written, and the count of faults did not fall.
 pub record Consumes (before after : Tape) (text : List ℕ) : Type 0 where
   pub left : known.Consumes before.left after.left text
   pub taken : known.Appends before.taken after.taken text
   pub written : known.Keeps before.written after.written
   pub counts : before.faults ≤ after.faults
 
--- The text was written behind what was written before. Nothing was taken, and the count of faults did not fall.
+-- The text was written behind what was written before. Nothing was taken, and the count of faults did not
+-- fall.
 pub record Appends (before after : Tape) (text : List ℕ) : Type 0 where
   pub left : known.Keeps before.left after.left
   pub taken : known.Keeps before.taken after.taken
@@ -42,14 +43,15 @@ abbrev pub IsAtEnd : Tape → Type 0
 IsAtEnd tape = known.IsAtEnd tape.left
 
 -- The count of faults is greater than it was, or stands at its last value.
--- At its last value every call meets this. So a premise that shuts faults out says that the count did not rise,
--- and never that it is the same as before.
+-- At its last value every call meets this. So a premise that shuts faults out says that the count did not
+-- rise, and never that it is the same as before.
 abbrev pub Rose : Tape → Tape → Type 0
 Rose before after = raised before.faults ≤ after.faults
 
 -- `read(buf)` consumed the n bytes that it gave at `Ok(n)`, and nothing at `Err`
 abbrev pub Reads : {E : Type 0} → Tape → Tape → Result ℕ E → List ℕ → Type 0
-Reads before after result buf = MatchResult result (λ n. Consumes before after (take n buf)) (λ _. Consumes before after [])
+Reads before after result buf =
+    MatchResult result (λ n. Consumes before after (take n buf)) (λ _. Consumes before after [])
 
 -- `write(piece)` appended the n bytes that it took at `Ok(n)`, and nothing at `Err`
 abbrev pub Writes : {E : Type 0} → Tape → Tape → Result ℕ E → List ℕ → Type 0
@@ -58,7 +60,8 @@ Writes before after result piece =
 
 -- the tape of a source that tells its bytes
 abbrev pub source_tape : List ℕ → List ℕ → ℕ → Tape
-source_tape left taken faults = record { left = Some left; taken = Some taken; written = None; faults = faults }
+source_tape left taken faults =
+    record { left = Some left; taken = Some taken; written = None; faults = faults }
 
 -- the tape of a sink that tells its bytes
 abbrev pub sink_tape : List ℕ → ℕ → Tape

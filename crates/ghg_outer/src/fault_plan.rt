@@ -4,8 +4,9 @@ ghost use Rattle.ghg_outer.specs.Plans.{planned, fails_next, after_call};
 
 use std::marker::Model;
 
-/// Which calls of a form in memory fail: those whose numbers are listed. Calls count from 1, over all calls of the
-/// form that can answer `Failed`. The count of calls and that of faults stand still at their last value.
+/// Which calls of a form in memory fail: those whose numbers are listed. Calls count from 1, over all
+/// calls of the form that can answer `Failed`. The count of calls and that of faults stand still at their
+/// last value.
 #[derive(Drop)]
 pub struct FaultPlan {
     failing: Vec<u64>,

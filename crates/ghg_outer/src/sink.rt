@@ -14,8 +14,8 @@ pub enum WriteError {
 
 /// Where bytes go.
 pub trait Sink: Told {
-    /// Appends bytes from the front of the piece, which is not empty, and says how many: at least one, and maybe not
-    /// all.
+    /// Appends bytes from the front of the piece, which is not empty, and says how many: at least one,
+    /// and maybe not all.
     ///
     /// After an error nothing was appended.
     fn write(&mut self, piece: &[u8]) -> Result<usize, WriteError>

@@ -10,8 +10,8 @@ pub struct Failed;
 
 /// Where bytes come from.
 pub trait Source: Told {
-    /// Takes the next bytes into the front of the buffer, which is not empty, and says how many. They may be fewer
-    /// than there is room for.
+    /// Takes the next bytes into the front of the buffer, which is not empty, and says how many. They may
+    /// be fewer than there is room for.
     ///
     /// `Ok(0)` is the end of the input: nothing is left. After `Failed` nothing was taken.
     fn read(&mut self, buf: &mut [u8]) -> Result<usize, Failed>

@@ -9,12 +9,12 @@ use crate::{Failed, Sink, Source, Told, WriteError};
 use std::io;
 use std::io::{ErrorKind, Read, Write};
 
-/// A reader of std, as standard input, with a count of its errors. A call that a signal interrupted is made again, and is
-/// no error.
+/// A reader of std, as standard input, with a count of its errors. A call that a signal interrupted is
+/// made again, and is no error.
 ///
-/// It is part of the trusted edge: std's contracts do not say what standard input gives, so there this source tells
-/// nothing of its bytes, and it is proved that each error is counted. Over a reader that tells what it has left,
-/// as a slice, this source tells the same.
+/// It is part of the trusted edge: std's contracts do not say what standard input gives, so there this
+/// source tells nothing of its bytes, and it is proved that each error is counted. Over a reader that
+/// tells what it has left, as a slice, this source tells the same.
 #[derive(Drop)]
 pub struct InputSource<R: Read + Drop> {
     reader: R,
@@ -32,7 +32,12 @@ impl<R: Read + Drop> InputSource<R> {
 }
 
 impl<R: Read + Drop> Told for InputSource<R> {
-    ghost tape = { λ s. record { left = R.remaining s.reader; taken = None; written = None; faults = s.faults } };
+    ghost tape = { λ s. record {
+      left = R.remaining s.reader;
+      taken = None;
+      written = None;
+      faults = s.faults;
+    } };
 }
 
 impl<R: Read + Drop> Source for InputSource<R> {
@@ -63,12 +68,12 @@ fn read_again<R: Read>(reader: &mut R, buf: &mut [u8]) -> io::Result<usize>
     Err(io::Error::from(ErrorKind::TimedOut))
 }
 
-/// A writer of std, as standard output, with a count of its errors. Where the writer takes nothing of a piece, that
-/// is an error too. A call that a signal interrupted is made again, and is no error.
+/// A writer of std, as standard output, with a count of its errors. Where the writer takes nothing of a
+/// piece, that is an error too. A call that a signal interrupted is made again, and is no error.
 ///
-/// It is part of the trusted edge: std's contracts do not say where standard output's bytes go, so there this sink
-/// tells nothing of them, and it is proved that each error is counted. Over a writer that tells what it holds, as a
-/// vector, this sink tells the same.
+/// It is part of the trusted edge: std's contracts do not say where standard output's bytes go, so there
+/// this sink tells nothing of them, and it is proved that each error is counted. Over a writer that tells
+/// what it holds, as a vector, this sink tells the same.
 #[derive(Drop)]
 pub struct OutputSink<W: Write + Drop> {
     writer: W,
@@ -86,7 +91,12 @@ impl<W: Write + Drop> OutputSink<W> {
 }
 
 impl<W: Write + Drop> Told for OutputSink<W> {
-    ghost tape = { λ s. record { left = None; taken = None; written = W.contents s.writer; faults = s.faults } };
+    ghost tape = { λ s. record {
+      left = None;
+      taken = None;
+      written = W.contents s.writer;
+      faults = s.faults;
+    } };
 }
 
 impl<W: Write + Drop> Sink for OutputSink<W> {

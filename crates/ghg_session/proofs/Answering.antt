@@ -1,5 +1,5 @@
 -- What the office answers a request with, and its state then.
-use Rattle.std.proofs.Common.{◌≡◌, ℕ, ◌<◌, ◌≤◌, true, inl, inr, List, ◌++◌, length, length-append, refl, None, Some, Ok, Err, Result, OnOk, OnErr, nat_le, arith}
+use Rattle.std.proofs.Common.{◌≡◌, ℕ, ◌<◌, true, inl, inr, List, ◌++◌, length, length-append, refl, Ok, Err, Result, OnOk, OnErr, nat_le, arith}
 use Rattle.ghg_import.specs.Body.{max_body}
 use Rattle.ghg_office.specs.Office.{IsRead, State, submitted}
 use Rattle.ghg_office.specs.Replies.{Answers, reply_text}

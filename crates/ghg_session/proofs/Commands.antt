@@ -1,7 +1,7 @@
 -- A command that is read as a line, and perhaps a body.
 use Rattle.std.proofs.Common.{◌≡◌, ℕ, ◌+◌, ◌≤◌, ◌<◌, ◌⊎◌, inl, inr, true, false, List, [], ◌++◌, length, take, append_assoc, append-nil, length-append, refl, subst, ◌∙◌, arith, None, Some, nat_le}
 use Rattle.std.proofs.lemmas.List.{take_at, drop_at}
-use Rattle.ghg_outer.specs.Tape.{Consumes, IsAtEnd, Tape}
+use Rattle.ghg_outer.specs.Tape.{IsAtEnd, Tape}
 use Rattle.ghg_outer.proofs.Tapes.{consumes_more, rose_later}
 use Rattle.ghg_session.specs.declared.command.Command.{Command}
 use Rattle.ghg_session.specs.declared.command.Command.TheVariants as command
@@ -15,15 +15,15 @@ use Rattle.ghg_session.specs.Commands.{body_length, command_at, command_of, comm
 use Rattle.ghg_session.specs.Reader.{Found, Missing, Stopped, StoppedInBody, StoppedInLine, TookBody, TookFewer}
 use Rattle.ghg_session.proofs.Lines.{line_length}
 
-no_line : (bytes : List ℕ) → line_at bytes ≡ None → command_at bytes ≡ None
+pub no_line : (bytes : List ℕ) → line_at bytes ≡ None → command_at bytes ≡ None
 unfolding command_at
 no_line bytes e = rw e refl
 
-no_form : (bytes text rest : List ℕ) → line_at bytes ≡ Some (text, rest) → form_of text ≡ None → command_at bytes ≡ None
+pub no_form : (bytes text rest : List ℕ) → line_at bytes ≡ Some (text, rest) → form_of text ≡ None → command_at bytes ≡ None
 unfolding command_at
 no_form bytes text rest e f = rw (e, f) refl
 
-by_form : (bytes text rest : List ℕ) (form : Line) → line_at bytes ≡ Some (text, rest) → form_of text ≡ Some form
+pub by_form : (bytes text rest : List ℕ) (form : Line) → line_at bytes ≡ Some (text, rest) → form_of text ≡ Some form
     → command_at bytes ≡ command_of form rest
 unfolding command_at
 by_form bytes text rest form e f = rw (e, f) refl
@@ -86,7 +86,7 @@ pub found_line : (a b : Tape) (words : List ℕ) (form : Line) (found : Command 
 found_line a b words form found m f g =
     record { text = m.text; read = m.read; each = λ rest. by_form (m.text ++ rest) words rest form (m.each rest) f ∙ g rest }
 
-enough : (id body rest : List ℕ) (n : ℕ) → length body ≡ n
+pub enough : (id body rest : List ℕ) (n : ℕ) → length body ≡ n
     → command_of (line.Submit id n) (body ++ rest) ≡ Some (command.Request (request.Submit id (take most_kept body)), rest)
 enough id body rest n e =
     let fits : nat_le n (length (body ++ rest)) ≡ true = grind (arith, length-append body rest) in
@@ -102,7 +102,7 @@ found_body a b c words id kept n m f p = record {
       ∙ enough id p.text rest n p.whole);
 }
 
-too_few : (id bytes : List ℕ) (n : ℕ) → length bytes < n → command_of (line.Submit id n) bytes ≡ None
+pub too_few : (id bytes : List ℕ) (n : ℕ) → length bytes < n → command_of (line.Submit id n) bytes ≡ None
 too_few id bytes n h = let fails : nat_le n (length bytes) ≡ false = grind arith in rw fails refl
 
 -- fewer bytes than the line asked for

@@ -1,5 +1,5 @@
 -- A line that is read byte by byte.
-use Rattle.std.proofs.Common.{◌≡◌, ℕ, ◌+◌, ◌≤◌, ◌<◌, Bool, true, false, List, [], ◌∷◌, ◌++◌, length, take, drop, append_assoc, length-append, length-drop, length-take, refl, sym, ap, ◌∙◌, arith, None, Some, Option, nat_eq, nat_le, nat_lt, cond, inl, inr}
+use Rattle.std.proofs.Common.{◌≡◌, ℕ, ◌+◌, ◌≤◌, ◌<◌, Bool, true, false, List, [], ◌∷◌, ◌++◌, length, take, drop, append_assoc, length-append, length-drop, length-take, refl, sym, ap, ◌∙◌, arith, None, Some, nat_eq, nat_le, nat_lt, cond, inl, inr}
 use Rattle.ghg_outer.specs.Tape.{Consumes, IsAtEnd, Tape}
 use Rattle.ghg_outer.proofs.Tapes.{consumes_more, consumes_no_more, rose_later}
 use Rattle.std.specs.List.{position, position_or_len}

@@ -1,15 +1,14 @@
 -- One turn of a session, many, and what they leave of the whole.
-use Rattle.std.proofs.Common.{◌≡◌, ℕ, suc, ◌+◌, ◌≤◌, ◌<◌, ◌⊎◌, inl, inr, List, [], ◌∷◌, ◌++◌, length, append_assoc, append-nil, length-append, refl, sym, ap, subst, ◌∙◌, arith, None, Some, Option}
-use Rattle.ghg_outer.specs.Tape.{Appends, AppendsProperPrefix, Consumes, IsAtEnd, Tape}
+use Rattle.std.proofs.Common.{◌≡◌, ℕ, ◌+◌, ◌≤◌, ◌<◌, ◌⊎◌, inl, inr, List, [], ◌∷◌, ◌++◌, append_assoc, append-nil, length-append, refl, sym, ap, subst, ◌∙◌, arith, None, Some}
+use Rattle.ghg_outer.specs.Tape.{Appends, IsAtEnd, Tape}
 use Rattle.ghg_outer.proofs.Tapes.{appends_more, appends_nothing, consumes_more, consumes_nothing, rose_later}
-use Rattle.ghg_session.specs.declared.command.Command.{Command}
 use Rattle.ghg_session.specs.declared.command.Command.TheVariants as command
 use Rattle.ghg_session.specs.declared.session.End.{End}
 use Rattle.ghg_session.specs.declared.session.End.TheVariants.{Script, NoScript}
 use Rattle.ghg_session.specs.declared.stop.Stop.{Stop}
 use Rattle.ghg_session.specs.declared.stop.Stop.TheVariants.{Input, Output, Memory}
-use Rattle.ghg_session.specs.Interruptions.{Answered, Interrupted, IsCaused, NextIsNone, StopsInCommand, StopsInRefusal, StopsInReply}
-use Rattle.ghg_session.specs.Protocol.{Grammar, Protocol}
+use Rattle.ghg_session.specs.Interruptions.{Answered, Interrupted, IsCaused, NextIsNone}
+use Rattle.ghg_session.specs.Protocol.{Protocol}
 use Rattle.ghg_session.specs.Reader.{Found, Missing, Stopped}
 use Rattle.ghg_session.specs.Script.{Reading, after_requests, ended, most_commands, no_command, with_more}
 use Rattle.ghg_session.specs.Session.{Continues, Ends, SessionPosition, Snapshot, position, reading_from, replies, session_from, state_after, status_of, steps_of, wrong_line}

@@ -1,5 +1,5 @@
 -- What a session leaves of the whole that was due.
-use Rattle.std.proofs.Common.{◌≡◌, ℕ, ◌+◌, ◌≤◌, ◌<◌, ◌⊎◌, inl, inr, List, [], ◌∷◌, ◌++◌, append_assoc, append-nil, refl, sym, ap, subst, ◌∙◌, arith, None, Some, Option, IfSome}
+use Rattle.std.proofs.Common.{◌≡◌, ℕ, ◌+◌, ◌<◌, ◌⊎◌, inl, inr, List, [], ◌++◌, append_assoc, append-nil, refl, sym, ap, subst, ◌∙◌, arith, None, Some, Option, IfSome}
 use Rattle.std.specs.Io.KnownBytes as known
 use Rattle.ghg_outer.specs.Tape.{Appends, AppendsPrefix, AppendsProperPrefix, Consumes, IsAtEnd, Tape}
 use Rattle.ghg_outer.proofs.Tapes.{appends_more, appends_no_more, appends_nothing, consumes_more, longer_prefix, longer_proper, prefix_behind, proper_behind, proper_prefix, whole_prefix}
@@ -10,9 +10,8 @@ use Rattle.ghg_session.specs.declared.stop.Stop.{Stop}
 use Rattle.ghg_session.specs.declared.stop.Stop.TheVariants.{Input, Output}
 use Rattle.ghg_session.specs.Interruptions.{Interrupted, IsBegun, IsCutShort, IsDone, IsLeftBehind, IsUnfinished, NextIsNone, SpendsWithin, StopsInCommand, StopsInRefusal, StopsInReply}
 use Rattle.ghg_session.specs.Protocol.{Protocol}
-use Rattle.ghg_session.specs.Reader.{Found}
 use Rattle.ghg_session.specs.Script.{Reading, after_requests, most_commands, no_command, with_more}
-use Rattle.ghg_session.specs.Session.{Continues, Ends, SessionPosition, Snapshot, end_status, outcome, position, reading_from, replies, session_from, state_after, status_of, steps_of, wrong_line}
+use Rattle.ghg_session.specs.Session.{Continues, Ends, SessionPosition, Snapshot, end_status, outcome, position, reading_from, replies, session_from, status_of, steps_of, wrong_line}
 use Rattle.ghg_session.proofs.Readings.{from_none, from_request, output_after, steps_of-append}
 
 -- where the bytes that were left are known, those that follow what was read are known too

@@ -1,6 +1,6 @@
 -- Texts that are written piece by piece, and where that stops.
-use Rattle.std.proofs.Common.{◌≡◌, ℕ, ◌<◌, List, [], ◌∷◌, ◌++◌, length, length-append, Ok, Err, Result, arith}
-use Rattle.ghg_outer.specs.Tape.{Appends, Rose, Tape}
+use Rattle.std.proofs.Common.{ℕ, ◌<◌, List, [], ◌∷◌, ◌++◌, length, length-append, Ok, Err, Result, arith}
+use Rattle.ghg_outer.specs.Tape.{Appends, Tape}
 use Rattle.ghg_outer.proofs.Tapes.{appends_more, longer_proper, none_written, proper_behind, rose_later}
 use Rattle.ghg_session.specs.declared.stop.Stop.{Stop}
 use Rattle.ghg_session.specs.declared.stop.Stop.TheVariants.{Memory}

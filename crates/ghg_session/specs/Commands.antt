@@ -98,10 +98,12 @@ body_length (Some (line.Show table year)) = 0
 body_length (Some line.End) = 0
 body_length None = 0
 
--- A line is taken to its end, or to the byte that is one too many, and then no more than the body that it asks for.
+-- A line is taken to its end, or to the byte that is one too many, and then no more than the body that it
+-- asks for.
 unfoldable pub command_reach : List ℕ → ℕ
 command_reach bytes =
-    option_map_or (λ split. length split.0 + 1 + body_length (form_of split.0)) (line_at bytes) (longest_line + 1)
+    option_map_or (λ split. length split.0 + 1 + body_length (form_of split.0)) (line_at bytes)
+    (longest_line + 1)
 
 abbrev pub lines : Grammar (List ℕ)
 lines = record { parse = line_at; reach = λ _. longest_line + 1 }

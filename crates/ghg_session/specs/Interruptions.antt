@@ -1,4 +1,5 @@
--- Sessions that stop before their end: the requests that were answered, and what was done of the next command.
+-- Sessions that stop before their end: the requests that were answered, and what was done of the next
+-- command.
 use Rattle.std.specs.Prelude.{◌≡◌, ⊤, ℕ, ◌+◌, ◌≤◌, ◌<◌, true, ◌⊎◌, List, ◌++◌, length, Option, Some, IfSome, Result, MatchResult, MatchOption}
 use Rattle.ghg_outer.specs.Tape.{Appends, AppendsPrefix, AppendsProperPrefix, Consumes, IsAtEnd, Rose, Tape}
 use Rattle.ghg_session.specs.declared.command.Command.TheVariants as command
@@ -10,14 +11,16 @@ use Rattle.ghg_session.specs.Reader.{Found, Stopped}
 use Rattle.ghg_session.specs.Script.{most_commands, no_command}
 use Rattle.ghg_session.specs.Session.{Continues, Ends, SessionPosition, Snapshot, position, reading_from, replies, session_from, state_after, steps_of, wrong_line}
 
--- In the middle of a command, of which nothing was answered. What was read of it before a fault is no command.
+-- In the middle of a command, of which nothing was answered. What was read of it before a fault is no
+-- command.
 pub record StopsInCommand {State Request : Type 0} (p : Protocol State Request) (from : SessionPosition State)
     (after : Snapshot State) (stop : Stop) : Type 0 where
   pub allowed : from.answered < most_commands
   pub stopped : Stopped p.commands from.at.input after.input stop
   pub rest : after ≡ record from.at { input = after.input }
 
--- The office answered a request with this state: it changed as the request asks, or memory ran out before that.
+-- The office answered a request with this state: it changed as the request asks, or memory ran out before
+-- that.
 abbrev pub Answered : {State Request : Type 0} → Protocol State Request → State → Request → State → Type 0
 Answered p s asked new = (new ≡ p.next_state s asked) ⊎ ((new ≡ s) × (p.takes_memory s asked ≡ true))
 
@@ -55,35 +58,39 @@ IsCaused before after Input = Rose before.input after.input
 IsCaused before after Output = Rose before.output after.output
 IsCaused before after Memory = ⊤
 
--- Requests were read and answered, each before the next was read, and then the session stopped at a command.
+-- Requests were read and answered, and then the session stopped at a command. Behind that nothing was read.
+-- So a reply is complete before the next command is read.
 pub record Interrupted {State Request : Type 0} (p : Protocol State Request) (from : SessionPosition State)
     (after : Snapshot State) (stop : Stop) : Type 0 where
   pub last : SessionPosition State
   pub answered : Continues p from last
-  pub stops : StopsInCommand p last after stop ⊎ (StopsInReply p last after stop ⊎ StopsInRefusal p last after stop)
+  pub stops : StopsInCommand p last after stop
+      ⊎ (StopsInReply p last after stop ⊎ StopsInRefusal p last after stop)
   pub cause : IsCaused from.at after stop
 
 -- one more request was answered, or the session ended, or it was interrupted
-abbrev pub TakesTurn : {State Request : Type 0} → Protocol State Request → SessionPosition State → Snapshot State
-    → Result (Option End) Stop → Type 0
+abbrev pub TakesTurn : {State Request : Type 0} → Protocol State Request
+    → SessionPosition State → Snapshot State → Result (Option End) Stop → Type 0
 TakesTurn p from after result = MatchResult result
     (λ end. MatchOption end (Continues p from (position (from.answered + 1) after)) (Ends p from after))
     (Interrupted p from after)
 
 -- the session ended, or it was interrupted
-abbrev pub AnswersScript : {State Request : Type 0} → Protocol State Request → SessionPosition State → Snapshot State
-    → Result End Stop → Type 0
+abbrev pub AnswersScript : {State Request : Type 0} → Protocol State Request
+    → SessionPosition State → Snapshot State → Result End Stop → Type 0
 AnswersScript p from after result = MatchResult result (Ends p from after) (Interrupted p from after)
 
 -- ---- what follows of it
 
--- What was read is no script so far. Each request that was read whole was answered, and nothing more was written.
+-- What was read is no script so far. Each request that was read whole was answered, and nothing more was
+-- written.
 pub record IsUnfinished {State Request : Type 0} (p : Protocol State Request) (from : SessionPosition State)
     (after : Snapshot State) : Type 0 where
   pub text : List ℕ
   pub read : Consumes from.at.input after.input text
   pub wrong : (number : ℕ) × ((reading_from p from text).wrong ≡ Some number)
-  pub wrote : Appends from.at.output after.output (replies p from.at.state (reading_from p from text).requests)
+  pub wrote : Appends from.at.output after.output
+      (replies p from.at.state (reading_from p from text).requests)
   pub state : after.state ≡ state_after p from.at.state (reading_from p from text).requests
 
 -- Some text was read, and no more steps were taken than the requests that it reads as ask for.
@@ -93,23 +100,28 @@ pub record SpendsWithin {State Request : Type 0} (p : Protocol State Request) (f
   pub read : Consumes from.at.input after.input text
   pub spent : after.steps ≤ from.at.steps + steps_of p from.at.state (reading_from p from text).requests
 
--- Where the input tells what is left: the output of the session of these bytes was written, and this is its status.
-abbrev pub IsDone : {State Request : Type 0} → Protocol State Request → SessionPosition State → Snapshot State → ℕ → Type 0
+-- Where the input tells what is left: the output of the session of these bytes was written, and this is
+-- its status.
+abbrev pub IsDone : {State Request : Type 0} → Protocol State Request
+    → SessionPosition State → Snapshot State → ℕ → Type 0
 IsDone p from after status = IfSome from.at.input.left (λ bytes.
     Appends from.at.output after.output (session_from p from bytes).output
     × ((session_from p from bytes).status ≡ status))
 
 -- a prefix of it was written
-abbrev pub IsBegun : {State Request : Type 0} → Protocol State Request → SessionPosition State → Snapshot State → Type 0
-IsBegun p from after =
-    IfSome from.at.input.left (λ bytes. AppendsPrefix from.at.output after.output (session_from p from bytes).output)
+abbrev pub IsBegun : {State Request : Type 0} → Protocol State Request
+    → SessionPosition State → Snapshot State → Type 0
+IsBegun p from after = IfSome from.at.input.left
+    (λ bytes. AppendsPrefix from.at.output after.output (session_from p from bytes).output)
 
 -- a proper prefix of it was written
-abbrev pub IsCutShort : {State Request : Type 0} → Protocol State Request → SessionPosition State → Snapshot State → Type 0
+abbrev pub IsCutShort : {State Request : Type 0} → Protocol State Request
+    → SessionPosition State → Snapshot State → Type 0
 IsCutShort p from after = IfSome from.at.input.left
     (λ bytes. AppendsProperPrefix from.at.output after.output (session_from p from bytes).output)
 
 -- what stands behind END is left
-abbrev pub IsLeftBehind : {State Request : Type 0} → Protocol State Request → SessionPosition State → Snapshot State → Type 0
+abbrev pub IsLeftBehind : {State Request : Type 0} → Protocol State Request
+    → SessionPosition State → Snapshot State → Type 0
 IsLeftBehind p from after =
     IfSome from.at.input.left (λ bytes. after.input.left ≡ Some (reading_from p from bytes).rest)

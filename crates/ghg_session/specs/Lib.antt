@@ -6,4 +6,5 @@ pub mod Reader
 pub mod Replies
 pub mod Script
 pub mod Session
+pub mod Texts
 pub mod Writing

@@ -20,7 +20,8 @@ pub record Missing {T : Type 0} (g : Grammar T) (before after : Tape) : Type 0 w
   pub none : (IsAtEnd after × (g.parse text ≡ None)) ⊎ ((rest : List ℕ) → g.parse (text ++ rest) ≡ None)
   pub near : length text ≤ g.reach text
 
--- The source failed, where its count rose, or memory ran out. What was read before a fault is no text of a value.
+-- The source failed, where its count rose, or memory ran out. What was read before a fault is no text of
+-- a value.
 pub record Stopped {T : Type 0} (g : Grammar T) (before after : Tape) (stop : Stop) : Type 0 where
   pub text : List ℕ
   pub read : Consumes before after text
@@ -32,7 +33,8 @@ pub record Stopped {T : Type 0} (g : Grammar T) (before after : Tape) (stop : St
 -- a value was read, or that there is none, or the call stopped
 abbrev pub Parses : {T : Type 0} → Grammar T → Tape → Tape → Result (Option T) Stop → Type 0
 Parses g before after result =
-    MatchResult result (λ found. MatchOption found (Missing g before after) (Found g before after)) (Stopped g before after)
+    MatchResult result (λ found. MatchOption found (Missing g before after) (Found g before after))
+    (Stopped g before after)
 
 -- the source failed, where its count rose, and nothing was read
 pub record StoppedAtOnce (before after : Tape) (stop : Stop) : Type 0 where

@@ -22,7 +22,8 @@ line_count text = count_by (λ b. b == 10) text
 -- the line that a table stands under
 unfoldable pub heading : List ℕ → ℕ → List ℕ → List ℕ
 heading table year text =
-    line_of (codes "table " ++ table ++ codes " " ++ decimal year ++ codes " rows " ++ decimal (line_count text))
+    line_of (codes "table " ++ table ++ codes " " ++ decimal year ++ codes " rows "
+    ++ decimal (line_count text))
 
 -- the lines of a reply to a request for a table: the table under its heading, or one line
 abbrev pub table_lines : List ℕ → ℕ → Reply → List ℕ
@@ -56,7 +57,8 @@ state_after s asked = (answer_of s asked).after
 abbrev pub is_read : State → List ℕ → List ℕ → Bool
 is_read s id body = is_id id && is_none (kept_from 1 id s.accepted) && nat_le (length body) max_body
 
--- A new submission takes memory to be entered. A repeat does not, and neither does a table, which changes nothing.
+-- A new submission takes memory to be entered. A repeat does not, and neither does a table, which changes
+-- nothing.
 unfoldable pub takes_memory : State → Request → Bool
 takes_memory s (Submit id body) = is_read s id body
 takes_memory s (Show table year) = false

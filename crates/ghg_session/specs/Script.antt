@@ -28,7 +28,8 @@ after_requests requests reading = record reading { requests = requests ++ readin
 abbrev pub with_more : {Request : Type 0} → List ℕ → Reading Request → Reading Request
 with_more more reading = record reading { rest = reading.rest ++ more }
 
-abbrev pub read_on : {Request : Type 0} → (List ℕ → Reading Request) → Command Request → List ℕ → Reading Request
+abbrev pub read_on : {Request : Type 0} → (List ℕ → Reading Request) → Command Request → List ℕ
+    → Reading Request
 read_on later (command.Request asked) rest = after_requests (asked ∷ []) (later rest)
 read_on later command.End rest = ended rest
 

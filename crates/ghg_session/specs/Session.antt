@@ -1,5 +1,5 @@
--- What a session writes and how it ends, over any requests: as a function of the bytes that are read, and as what a
--- session has done so far.
+-- What a session writes and how it ends, over any requests: as a function of the bytes that are read, and
+-- as what a session has done so far.
 use Rattle.std.specs.Prelude.{◌≡◌, ℕ, ◌+◌, ◌-◌, ◌≤◌, ◌⊎◌, List, [], ◌∷◌, ◌++◌, length, Option, Some, None, Result, Ok, Err, codes}
 use Rattle.std.specs.Fmt.{decimal}
 use Rattle.ghg_outer.specs.Tape.{Appends, Consumes, IsAtEnd, Tape}
@@ -65,7 +65,10 @@ result_status (Err stop) = stop_status stop
 -- the replies to what was asked for, and the line that names the command that is none
 abbrev pub outcome : {State Request : Type 0} → Protocol State Request → State → Reading Request → Outcome
 outcome p s reading =
-    record { output = replies p s reading.requests ++ last_line reading.wrong; status = status_of reading.wrong }
+    record {
+      output = replies p s reading.requests ++ last_line reading.wrong;
+      status = status_of reading.wrong;
+    }
 
 -- the session of these bytes, from a state
 abbrev pub session_of : {State Request : Type 0} → Protocol State Request → State → List ℕ → Outcome
@@ -107,20 +110,22 @@ session_from p from bytes = outcome p from.at.state (reading_from p from bytes)
 
 -- ---- what a session has done
 
--- Requests were read and answered, each before the next was read, and the session goes on.
-pub record Continues {State Request : Type 0} (p : Protocol State Request) (from to : SessionPosition State) : Type 0 where
+-- Requests were read and answered, and the session goes on.
+pub record Continues {State Request : Type 0} (p : Protocol State Request)
+    (from to : SessionPosition State) : Type 0 where
   pub text : List ℕ
   pub requests : List Request
   pub read : Consumes from.at.input to.at.input text
-  pub each : (rest : List ℕ) → reading_from p from (text ++ rest) ≡ after_requests requests (reading_from p to rest)
+  pub each : (rest : List ℕ) → reading_from p from (text ++ rest)
+      ≡ after_requests requests (reading_from p to rest)
   pub wrote : Appends from.at.output to.at.output (replies p from.at.state requests)
   pub count : to.answered ≡ from.answered + length requests
   pub state : to.at.state ≡ state_after p from.at.state requests
   pub spent : to.at.steps ≤ from.at.steps + steps_of p from.at.state requests
 
--- The session of the text that was read is over: its output was written, and nothing else.
--- Nothing is left, or it is over whatever follows. Behind END nothing was read, and of a command that is none no more
--- than it takes to find that out.
+-- The session of the text that was read is over: its output was written, and nothing else. Nothing is
+-- left, or it is over whatever follows. Behind END nothing was read, and of a command that is none no
+-- more than it takes to find that out.
 pub record Ends {State Request : Type 0} (p : Protocol State Request) (from : SessionPosition State)
     (after : Snapshot State) (end : End) : Type 0 where
   pub text : List ℕ

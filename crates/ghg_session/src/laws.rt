@@ -1,6 +1,12 @@
 //! Laws of scripts.
 
 ghost use Rattle.ghg_session.specs.Laws.{ReadsLocally, ReadsOnce};
+ghost use Rattle.ghg_session.specs.Texts.{ParsesTexts};
+
+/// Bytes begin with a command exactly where its text stands at their front.
+pub fn parses_texts()
+    ensures { ParsesTexts }
+{}
 
 /// What stands behind the line of END changes nothing of what bytes read as.
 #[tactic(auto, using(crate::proofs::Local::reads_locally))]

@@ -113,7 +113,8 @@ const MOST_KEPT: usize = 4_194_305;
 // Appends as much of the piece as is kept of a body.
 fn keep_front(body: &mut Vec<u8>, piece: &[u8]) -> Result<(), AllocError>
     requires { length body.old.items ≤ most_kept }
-    ensures { OnOk result (body.new.items ≡ body.old.items ++ take (most_kept - length body.old.items) piece.now) }
+    ensures { OnOk result (body.new.items
+        ≡ body.old.items ++ take (most_kept - length body.old.items) piece.now) }
 {
     let room = MOST_KEPT - body.len();
     body.extend_from_slice(&piece[..room.min(piece.len())])

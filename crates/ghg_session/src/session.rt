@@ -42,7 +42,8 @@ impl End {
 /// The most commands of a script, its end included.
 const MOST_COMMANDS: u32 = 1_000_000;
 
-/// Answers a script to its end, command by command: each reply is written whole before the next command is read.
+/// Answers a script to its end, command by command: each reply is written whole before the next command
+/// is read.
 pub fn answer_script<S: Source, W: Sink, L: Ledger>(
     alloc: Global,
     input: &mut S,

@@ -1,4 +1,4 @@
-use Rattle.std.proofs.Common.{rules, ◌≡◌, ◌+◌, ◌≤◌, length, nat_eq, false, arith}
+use Rattle.std.proofs.Common.{rules, ◌≡◌, ◌≤◌, length, nat_eq, false, arith}
 use Rattle.std.proofs.lemmas.Grind.{common_steps}
 use Rattle.std.proofs.lemmas.Result.{err_from_is_err_and}
 use Rattle.ghg_outer.proofs.Tapes.{consumes_more, consumes_nothing}
