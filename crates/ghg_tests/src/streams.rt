@@ -3,7 +3,7 @@
 ghost use Rattle.std.specs.Prelude.{◌<◌, length};
 
 use ghg_outer::{
-    Failed, FaultPlan, InputSource, MemorySink, MemorySource, OutputSink, Sink, Source, SteadySink,
+    Failed, InputSource, MemorySink, MemorySource, OutputSink, Sink, Source, SteadySink,
     SteadySource, WriteError,
 };
 use std::io;
@@ -53,14 +53,6 @@ fn sinks_keep_what_is_written(rt: HostRuntime) -> Result<(), Fail> {
         [Err(WriteError::Failed), Ok(2)]
     );
     assert_eq!(rt; memory.bytes(), b"ab".as_slice());
-    Ok(())
-}
-
-#[test]
-fn plans_count_calls_from_one(rt: HostRuntime) -> Result<(), Fail> {
-    let mut plan = FaultPlan::new([1, 3].to_vec(rt.alloc())?);
-    let calls = [plan.next_call(), plan.next_call(), plan.next_call()];
-    assert_eq!(rt; calls, [true, false, true]);
     Ok(())
 }
 

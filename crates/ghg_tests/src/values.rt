@@ -25,22 +25,12 @@ pub fn permits(count: u64) -> Permits
     permits_of::<Brand>(Blank::new(1), count)
 }
 
-#[test]
-fn each_permit_gives_one_ticket(rt: HostRuntime) {
-    let mut left = permits(2);
-    let mut given = left.split(1);
-    check(&rt, given.ticket().is_some(), "the first that was given");
-    check(&rt, given.ticket().is_none(), "one more than were given");
-    check(&rt, left.ticket().is_some(), "the first that was left");
-    check(&rt, left.ticket().is_none(), "one more than were left");
-}
-
 // Whether figures are these; where there are none, a bound is beyond the limit.
 fn are(found: Result<Figures, Over>, want: &str) -> bool {
     found.ok().map(Input::known) == input(want)
 }
 
-// 1000 TJ at 56100 kg/TJ, from 54300 to 58300, are 56.1 Gg, from 54.3 to 58.3; and 10^12 · 1000 is above 10^14.
+// 1000 TJ at 56100 kg/TJ, from 54300 to 58300, are 56.1 Gg, from 54.3 to 58.3; 10^12 · 1000 is above 10^14.
 #[test]
 fn figures_go_with_their_ranges(rt: HostRuntime) {
     let (Some(factor), Some(fuel), Some(most)) = (
@@ -106,8 +96,8 @@ fn equivalents_weigh_lines(rt: HostRuntime) {
     }
 }
 
-// Three parts, their total and their sum; nothing where it is beyond the limit, of 10^9 Gg and of 10^14 units. A blank counts
-// as zero in a total alone.
+// Three parts, their total and their sum; nothing where it is beyond the limit, of 10^9 Gg and of 10^14 units. A
+// blank counts as zero in a total alone.
 const SUMS: &[([&str; 3], &str, &str)] = &[
     (["2,2,3", "NE", "-0.5,-0.5,0.1"], "1.5,1.5,3.1", "NE"),
     (

@@ -11,7 +11,6 @@ use ghg_units::{
     read_decimal, read_number, read_year, to_interval, unit_named, write_fixed,
 };
 use std::alloc::{AllocError, Global};
-use std::collections::HashMap;
 
 // A number, its decimal places, and how it is printed.
 const FIXED: &[(i128, u32, &str)] = &[
@@ -218,24 +217,6 @@ fn nodes_are_ordered(rt: HostRuntime) {
 }
 
 #[test]
-fn equal_names_are_one_key(rt: HostRuntime) {
-    let [a, ab, b] = three_names().expect(&rt, "three names");
-    let mut years = HashMap::new(rt.alloc());
-    check(&rt, years.insert(a, 1990).is_ok(), "memory");
-    check(&rt, years.insert(ab, 1991).is_ok(), "memory");
-    check(
-        &rt,
-        years.get(&a) == Some(&1990) && years.get(&ab) == Some(&1991),
-        "two keys",
-    );
-    check(
-        &rt,
-        years.get(&b).is_none() && a < ab && ab < b,
-        "no third key",
-    );
-}
-
-#[test]
 fn texts_and_lists_of_names_are_kept(rt: HostRuntime) {
     let names = three_names().expect(&rt, "three names");
     let list = Vec::from_slice(rt.alloc(), &names)
@@ -294,9 +275,9 @@ fn words_name_what_they_stand_for(rt: HostRuntime) {
     );
 }
 
-// A decimal, the word of its unit, what it measures, its ratio to the base unit, and the bounds of the figure in the base
-// unit; nothing where one is beyond the limit. By hand: 1 ktoe is 41.868 TJ, 5 GWh are 18 TJ, and 0.0000001 kg is a tenth
-// of 10^-12 Gg.
+// A decimal, the word of its unit, what it measures, its ratio to the base unit, and the bounds of the figure in the
+// base unit; nothing where one is beyond the limit. By hand: 1 ktoe is 41.868 TJ, 5 GWh are 18 TJ, and 0.0000001 kg
+// is a tenth of 10^-12 Gg.
 const FIGURES: &[(&str, &str, Dim, (u64, u64), Option<(i128, i128)>)] = &[
     (
         "0.5",

@@ -6,17 +6,18 @@ ghost use Rattle.ghg_units.specs.WellFormed.{IsWellFormed};
 
 use crate::cases::{check, input, word};
 use ghg_categories::Category;
+use ghg_cell::Input;
 use ghg_data::{Book, PlanRefusal, Records, after, params_of};
 use ghg_definitions::RecordKey;
 use ghg_engine::{Engine, EngineRefusal};
 use ghg_equations::EqId;
 use ghg_graph::{
-    Cells, CycleRefusal, Operand, Slot, bound_operand, check_acyclic, counts_in_gross, emitters,
+    Cells, CycleRefusal, Operand, bound_operand, check_acyclic, counts_in_gross, emitters,
     first_year, inputs_of, line_order, potential,
 };
 use ghg_import::{Rows, is_too_long, read_rows};
 use ghg_steps::Steps;
-use ghg_units::{Binding, Name, Node, NotationKey, ParamName, Row, RowForm, append_rule};
+use ghg_units::{Binding, Name, Node, ParamName, Row, append_rule};
 use std::alloc::{AllocError, Global};
 use std::marker::Brand;
 use std::process::Abort;
@@ -100,10 +101,10 @@ fn rows_are_planned_and_committed(rt: HostRuntime) {
     let gas = RecordKey::Activity(name(&rt, "GAS.TJ"), 1990);
     let Rows { rows, rest } = read(&rt, rt.alloc(), PLANT);
     let mut book = Book::new(rt.alloc());
-    let edits = book
-        .plan(rt.alloc(), &rows, rest, 291)
-        .ok()
-        .expect(&rt, "no rule is broken");
+    // No rule is broken.
+    let Ok(edits) = book.plan(rt.alloc(), &rows, rest, 291) else {
+        panic!(rt; "refused");
+    };
     check(
         &rt,
         edits.keys().len() == 6 && book.get(&gas).is_none(),
@@ -240,83 +241,7 @@ fn the_latest_start_year_is_in_force(rt: HostRuntime) {
     );
 }
 
-// The word of a form, and the names of its target.
-fn target_of(alloc: Global, form: &str, names: &[Name]) -> Result<Vec<u8>, AllocError> {
-    let mut text = Vec::from_slice(alloc, form.as_bytes())?;
-    for name in names {
-        text.push(b' ')?;
-        text.extend_from_slice(name.as_bytes())?;
-    }
-    Ok(text)
-}
-
-// The word of a binding's form and its target, with one space between two words.
-fn binding_text(alloc: Global, binding: &Binding) -> Result<Vec<u8>, AllocError> {
-    match binding {
-        Binding::Activity(name) => target_of(alloc, "activity", &[*name]),
-        Binding::Factor(name) => target_of(alloc, "factor", &[*name]),
-        Binding::Line(name) => target_of(alloc, "line", &[*name]),
-        Binding::Prev(name) => target_of(alloc, "prev", &[*name]),
-        Binding::Sum(names) => target_of(alloc, "sum", names.as_slice()),
-        Binding::Decay(name) => target_of(alloc, "decay", &[*name]),
-        Binding::Key(NotationKey::No) => Vec::from_slice(alloc, b"key NO"),
-        Binding::Key(NotationKey::Na) => Vec::from_slice(alloc, b"key NA"),
-        Binding::Key(NotationKey::Ie) => Vec::from_slice(alloc, b"key IE"),
-        Binding::Key(NotationKey::Ne) => Vec::from_slice(alloc, b"key NE"),
-    }
-}
-
-// A row that binds a parameter, and the word of its form with its target.
-const BINDINGS: &[(&str, &str)] = &[
-    ("enter,bind,LA,FC,,activity,GAS.TJ,,,\n", "activity GAS.TJ"),
-    ("enter,bind,LA,FC,,factor,GWP-CO2,,,\n", "factor GWP-CO2"),
-    ("enter,bind,LA,FC,,line,ELEC.GAS,,,\n", "line ELEC.GAS"),
-    (
-        "enter,bind,LA,FC,,line,ABCDEFGHIJKLMNOPQRSTUVWX,,,\n",
-        "line ABCDEFGHIJKLMNOPQRSTUVWX",
-    ),
-    ("enter,bind,LA,FC,,prev,LA,,,\n", "prev LA"),
-    ("enter,bind,LA,FC,,sum,B,,,\n", "sum B"),
-    (
-        "enter,bind,LA,FC,,sum,B A.1 C-2 A A_1,,,\n",
-        "sum B A.1 C-2 A A_1",
-    ),
-    ("enter,bind,LA,FC,,sum,AB ABC A,,,\n", "sum AB ABC A"),
-    ("enter,bind,LA,FC,,key,NO,,,\n", "key NO"),
-    ("enter,bind,LA,FC,,key,NA,,,\n", "key NA"),
-    ("enter,bind,LA,FC,,key,IE,,,\n", "key IE"),
-    ("enter,bind,LA,FC,,key,NE,,,\n", "key NE"),
-];
-
-// Whether the rows are one that binds a parameter to this.
-fn bind(alloc: Global, rows: &[Row], want: &str) -> bool {
-    match rows {
-        [
-            Row {
-                form: RowForm::Bind(_, _, Some(binding)),
-                ..
-            },
-        ] => match binding_text(alloc, binding) {
-            Ok(text) => word(&text) == want,
-            Err(_) => false,
-        },
-        _ => false,
-    }
-}
-
-#[test]
-fn a_parameter_is_bound_by_each_form(rt: HostRuntime) {
-    for (row, want) in BINDINGS {
-        let read = read(&rt, rt.alloc(), row);
-        check(
-            &rt,
-            read.rest.is_none() && bind(rt.alloc(), &read.rows, want),
-            row,
-        );
-    }
-}
-
-// Two balances of the energy of a fuel, A and B: A takes 1000 TJ of 1990, B, B of the year before, and B in a sum.
+// Two balances of the energy of a fuel: A takes 1000 TJ of 1990, B, B of the year before, and B in a sum.
 const BALANCES: &str = "enter,span,,,1990,1991,1990,,,\nenter,activity,,GAS.TJ,1990,1000,,,TJ,\n\
     enter,line,1A1a,B,,Q22,,,,\nenter,bind,B,PR,,key,NO,,,\nenter,bind,B,IM,,key,NO,,,\n\
     enter,bind,B,EX,,key,NO,,,\nenter,bind,B,IB,,key,NO,,,\nenter,bind,B,SC,,key,NO,,,\n\
@@ -366,63 +291,37 @@ fn lines_follow_those_that_they_take(rt: HostRuntime) {
     check(&rt, has_ring(rt.alloc(), &book, &[b]), "a ring of one line");
 }
 
-fn is_input(slot: Option<&Slot>, want: &str) -> bool {
-    match slot {
-        Some(Slot::Input(found)) => Some(*found) == input(want),
-        _ => false,
+// Whether a node takes so many operands.
+fn takes(alloc: Global, book: &Book, node: Node, count: usize) -> bool {
+    match inputs_of(alloc, book, &node) {
+        Ok(slots) => slots.len() == count,
+        Err(_) => false,
     }
 }
 
-fn is_node(slot: Option<&Slot>, node: Node) -> bool {
-    match slot {
-        Some(Slot::Node(found)) => *found == node,
-        _ => false,
+// What a parameter takes in the first year; nothing where that is no figure.
+fn taken(book: &Book, line: Name, parameter: &ParamName) -> Option<Input> {
+    match bound_operand(book, 1990, book.binding(&line, parameter), 1990) {
+        Operand::Given(input) => Some(input),
+        _ => None,
     }
-}
-
-fn is_sum(slot: Option<&Slot>, nodes: &[Node]) -> bool {
-    match slot {
-        Some(Slot::Sum(sum)) => sum.as_slice() == nodes,
-        _ => false,
-    }
-}
-
-// Whether A takes its activity, B, nothing of a year before, the sum of B, and nothing.
-fn are_of_first_year(slots: &[Slot], b: Name) -> bool {
-    slots.len() == 5
-        && is_input(slots.get(0), "1000")
-        && is_node(slots.get(1), Node::Line(b, 1990))
-        && is_input(slots.get(2), "0")
-        && is_sum(slots.get(3), &[Node::Line(b, 1990)])
-        && is_input(slots.get(4), "0")
-}
-
-// Whether A takes no activity, B, and B of the year before.
-fn are_of_second_year(slots: &[Slot], b: Name) -> bool {
-    is_input(slots.get(0), "NE")
-        && is_node(slots.get(1), Node::Line(b, 1991))
-        && is_node(slots.get(2), Node::Line(b, 1990))
-}
-
-fn slots_of(rt: &impl Abort, alloc: Global, book: &Book, node: Node) -> Vec<Slot> {
-    inputs_of(alloc, book, &node).ok().expect(rt, "memory")
 }
 
 #[test]
-fn a_line_takes_a_slot_for_each_parameter(rt: HostRuntime) {
-    let (a, b) = (name(&rt, "A"), name(&rt, "B"));
+fn a_line_takes_an_operand_for_each_parameter(rt: HostRuntime) {
+    let a = name(&rt, "A");
     let book = book_of(&rt, rt.alloc(), BALANCES);
-    let first = slots_of(&rt, rt.alloc(), &book, Node::Line(a, 1990));
-    check(&rt, are_of_first_year(&first, b), "the first year");
-    let second = slots_of(&rt, rt.alloc(), &book, Node::Line(a, 1991));
-    check(&rt, are_of_second_year(&second, b), "the second year");
+    check(&rt, takes(rt.alloc(), &book, Node::Line(a, 1990), 5), "A");
     check(&rt, first_year(&book) == 1990, "the first year");
-    let fuel = book.binding(&a, &parameter(&rt, "PR"));
-    let taken = bound_operand(&book, 1990, fuel, 1990);
     check(
         &rt,
-        matches!(taken, Operand::Given(found) if Some(found) == input("1000")),
+        taken(&book, a, &parameter(&rt, "PR")) == input("1000"),
         "PR",
+    );
+    check(
+        &rt,
+        taken(&book, a, &parameter(&rt, "EX")) == input("0"),
+        "EX",
     );
 }
 
@@ -432,26 +331,6 @@ const EMITTERS: &str = "enter,factor,,GWP.CO2,1990,1,,,1,\nenter,factor,,GWP.CH4
     enter,line,3B1,FOREST,,Q11,,,,\nenter,bind,FOREST,FC,,key,NO,,,\nenter,bind,FOREST,EF,,key,NO,,,\n\
     enter,line,1A2,BOILER,,Q11,,,,\nenter,bind,BOILER,FC,,key,NO,,,\nenter,bind,BOILER,EF,,key,NO,,,\n\
     enter,line,1A1a,FUEL,,Q13,,,,\nenter,bind,FUEL,FM,,key,NO,,,\nenter,bind,FUEL,NCV,,key,NO,,,\n";
-
-// Whether a node takes the sum of these nodes alone.
-fn adds(alloc: Global, book: &Book, node: Node, nodes: &[Node]) -> bool {
-    match inputs_of(alloc, book, &node) {
-        Ok(slots) => slots.len() == 1 && is_sum(slots.get(0), nodes),
-        Err(_) => false,
-    }
-}
-
-// Whether a line's equivalent takes it and a warming potential.
-fn weighs(alloc: Global, book: &Book, line: Name, want: &str) -> bool {
-    match inputs_of(alloc, book, &Node::Equiv(line, 1990)) {
-        Ok(slots) => {
-            slots.len() == 2
-                && is_node(slots.get(0), Node::Line(line, 1990))
-                && is_input(slots.get(1), want)
-        }
-        Err(_) => false,
-    }
-}
 
 // Whether these lines emit a gas, of all lines.
 fn emit(alloc: Global, book: &Book, lines: &[Name]) -> bool {
@@ -467,41 +346,14 @@ fn emit(alloc: Global, book: &Book, lines: &[Name]) -> bool {
 #[test]
 fn totals_take_equivalents_which_weigh_lines(rt: HostRuntime) {
     let (boiler, forest, plant) = (name(&rt, "BOILER"), name(&rt, "FOREST"), name(&rt, "PLANT"));
-    let of_boiler = Node::Equiv(boiler, 1990);
-    let of_forest = Node::Equiv(forest, 1990);
-    let of_plant = Node::Equiv(plant, 1990);
     let book = book_of(&rt, rt.alloc(), EMITTERS);
+    let equivalent = Node::Equiv(plant, 1990);
     check(
         &rt,
-        weighs(rt.alloc(), &book, forest, "28"),
-        "an equivalent",
+        takes(rt.alloc(), &book, equivalent, 2),
+        "a line and its warming potential",
     );
-    let all = [of_boiler, of_forest, of_plant];
-    check(
-        &rt,
-        adds(
-            rt.alloc(),
-            &book,
-            Node::Total(Category::National, 1990),
-            &all,
-        ),
-        "0",
-    );
-    check(
-        &rt,
-        adds(
-            rt.alloc(),
-            &book,
-            Node::Total(Category::C1A1, 1990),
-            &[of_plant],
-        ),
-        "1A1",
-    );
-    check(
-        &rt,
-        adds(rt.alloc(), &book, Node::Gross(1990), &[of_boiler, of_plant]),
-        "gross",
-    );
+    check(&rt, takes(rt.alloc(), &book, Node::Gross(1990), 1), "a sum");
     check(
         &rt,
         emit(rt.alloc(), &book, &[boiler, forest, plant]),
@@ -519,35 +371,35 @@ fn totals_take_equivalents_which_weigh_lines(rt: HostRuntime) {
     );
 }
 
-// Plans, proposes and accepts rows, with steps of a new ledger; the node that is over where one is.
+// Plans, proposes and accepts rows, with steps of a new ledger. An error has the node that is over, where one is.
 fn accept_with<L: Ledger>(
-    rt: &impl Abort,
     blank: Blank,
     alloc: Global,
     engine: &mut Engine,
-    rows: &str,
-) -> Option<Node>
+    rows: &[Row],
+) -> Result<(), Option<Node>>
+    requires rows { AllByRecursion IsWellFormed rows.now }
     requires name { blank.name ≡ L.name }
     requires parts { blank.parts ≡ L.parts }
     requires some { 0 < blank.parts }
 {
-    let Rows { rows, rest } = read(rt, alloc, rows);
-    let edits = engine
-        .plan(alloc, &rows, rest, 0)
-        .ok()
-        .expect(rt, "no rule is broken");
+    let Ok(edits) = engine.plan(alloc, rows, None, 0) else {
+        return Err(None);
+    };
     match engine.propose(alloc, edits, &mut Steps::<L>::new(blank)) {
         Ok(proposal) => {
             engine.accept(proposal);
-            None
+            Ok(())
         }
-        Err(EngineRefusal::Overflow(node)) => Some(node),
-        Err(EngineRefusal::Memory) => panic!(rt; "memory"),
+        Err(EngineRefusal::Overflow(node)) => Err(Some(node)),
+        Err(EngineRefusal::Memory) => Err(None),
     }
 }
 
-fn accept(rt: &impl Abort, alloc: Global, engine: &mut Engine, rows: &str) -> Option<Node> {
-    accept_with::<Brand>(rt, Blank::new(1), alloc, engine, rows)
+fn accept(alloc: Global, engine: &mut Engine, rows: &[Row]) -> Result<(), Option<Node>>
+    requires { AllByRecursion IsWellFormed rows.now }
+{
+    accept_with::<Brand>(Blank::new(1), alloc, engine, rows)
 }
 
 // Whether a node has this value; with no text it has none.
@@ -555,13 +407,13 @@ fn has_value(engine: &Engine, node: Node, want: &str) -> bool {
     engine.value(&node).map(|value| *value.input()) == input(want)
 }
 
-// The plant with a potential of 1 that may be 2, and 2000 TJ in the second year; a boiler of 500 TJ, and a fire of 100 TJ in
-// a forest.
+// The plant's second year, a potential of 1 that may be 2, a boiler of 500 TJ, and a fire of 100 TJ in a forest.
 const THREE_LINES: &str =
     "enter,activity,,GAS.TJ,1991,2000,,,TJ,\nenter,factor,,GWP.CO2,1990,1,1,2,1,\n\
     enter,activity,,FUEL.TJ,1990,500,,,TJ,\nenter,activity,,FIRE.TJ,1990,100,,,TJ,\n\
-    enter,line,1A2,BOILER,,Q10,,,,\nenter,bind,BOILER,FC,,activity,FUEL.TJ,,,\nenter,bind,BOILER,EF,,factor,GAS.EF,,,\n\
-    enter,line,3B1,FOREST,,Q10,,,,\nenter,bind,FOREST,FC,,activity,FIRE.TJ,,,\nenter,bind,FOREST,EF,,factor,GAS.EF,,,\n";
+    enter,line,1A2,BOILER,,Q10,,,,\nenter,bind,BOILER,FC,,activity,FUEL.TJ,,,\n\
+    enter,bind,BOILER,EF,,factor,GAS.EF,,,\nenter,line,3B1,FOREST,,Q10,,,,\n\
+    enter,bind,FOREST,FC,,activity,FIRE.TJ,,,\nenter,bind,FOREST,EF,,factor,GAS.EF,,,\n";
 
 // Codes, years, and the totals at them.
 const TOTALS: &[(Category, u32, &str)] = &[
@@ -571,18 +423,20 @@ const TOTALS: &[(Category, u32, &str)] = &[
     (Category::C3B, 1991, "0"),
 ];
 
-// 56.1 kg of CO2 for each GJ, from 54.3 to 58.3: so 1000 TJ emit 56.1 Gg, from 54.3 to 58.3, which weigh from 54.3 to 116.6.
+// 56.1 kg of CO2 for each GJ, from 54.3 to 58.3: 1000 TJ emit 54.3 to 58.3 Gg, which weigh from 54.3 to 116.6.
 #[test]
 fn nodes_have_their_values(rt: HostRuntime) {
     let mut engine = Engine::new(rt.alloc());
+    let first = read(&rt, rt.alloc(), PLANT);
     check(
         &rt,
-        accept(&rt, rt.alloc(), &mut engine, PLANT).is_none(),
+        accept(rt.alloc(), &mut engine, &first.rows).is_ok(),
         "a plant",
     );
+    let others = read(&rt, rt.alloc(), THREE_LINES);
     check(
         &rt,
-        accept(&rt, rt.alloc(), &mut engine, THREE_LINES).is_none(),
+        accept(rt.alloc(), &mut engine, &others.rows).is_ok(),
         "three lines",
     );
     let gas = name(&rt, "ELEC.GAS");
@@ -640,8 +494,13 @@ const GREAT_PLANT: &str = "enter,span,,,1990,1991,1990,,,\nenter,line,1A1a,ELEC.
 fn an_equivalent_beyond_the_limit_is_named(rt: HostRuntime) {
     let mut engine = Engine::new(rt.alloc());
     let gas = name(&rt, "ELEC.GAS");
-    let over = accept(&rt, rt.alloc(), &mut engine, GREAT_PLANT);
-    check(&rt, over == Some(Node::Equiv(gas, 1990)), "the equivalent");
+    let read = read(&rt, rt.alloc(), GREAT_PLANT);
+    let over = accept(rt.alloc(), &mut engine, &read.rows).err();
+    check(
+        &rt,
+        over == Some(Some(Node::Equiv(gas, 1990))),
+        "the equivalent",
+    );
     check(
         &rt,
         engine.value(&Node::Line(gas, 1990)).is_none(),
