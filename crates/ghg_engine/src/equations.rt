@@ -19,5 +19,6 @@ pub(crate) fn evaluate(id: EqId, ticket: Ticket, inputs: &[Input]) -> Result<Val
         Sector::Livestock => ghg_livestock::evaluate(id, ticket, inputs),
         Sector::Soils => ghg_soils::evaluate(id, ticket, inputs),
         Sector::Land => ghg_land::evaluate(id, ticket, inputs),
+        Sector::Waste => ghg_waste::evaluate(id, ticket, inputs),
     }
 }

@@ -1,5 +1,5 @@
 -- The table of equations: of each code its sector, its parameters, its output and its expression.
--- Source: 2006 IPCC Guidelines, Volumes 2 to 4.
+-- Source: 2006 IPCC Guidelines, Volumes 2 to 5.
 use Rattle.std.specs.Prelude.{ℕ, ◌+◌, List, [], ◌∷◌, map, codes, Option}
 use Rattle.std.specs.List.{find}
 use Rattle.std.specs.Str.{bytes_eq}
@@ -7,7 +7,7 @@ use Rattle.ghg_equations.specs.declared.eq_id.EqId.{EqId}
 use Rattle.ghg_equations.specs.declared.eq_id.EqId.TheVariants as q
 use Rattle.ghg_equations.specs.declared.eq_id.TheConstants.EqId.{ALL}
 use Rattle.ghg_equations.specs.declared.quantity.Dim.{Dim}
-use Rattle.ghg_equations.specs.declared.quantity.Dim.TheVariants.{Mass, Energy, Area, Volume, Head, Ratio, Day, EnFac, CarCon, Calor, GasVol, FluidFac, HeadFac, HeadDay, HeadEn, Excr, Yield, AreaFac, AreaDay, VolArea, Wood, Carbon, Gas, AnMin, Slope}
+use Rattle.ghg_equations.specs.declared.quantity.Dim.TheVariants.{Mass, Energy, Area, Volume, Head, Person, Ratio, Day, EnFac, CarCon, Calor, GasVol, FluidFac, HeadFac, HeadDay, HeadEn, Excr, Yield, AreaFac, AreaDay, VolArea, Wood, PersFac, PersDay, Carbon, Gas, AnMin, Slope, Decay}
 use Rattle.ghg_equations.specs.declared.quantity.Gas.TheVariants.{Co2, Ch4, N2o, Cf4, C2f6}
 use Rattle.ghg_equations.specs.declared.quantity.Output.{Output}
 use Rattle.ghg_equations.specs.declared.quantity.Output.TheVariants.{Emission, Aux}
@@ -264,6 +264,50 @@ entry q.Q88 = equation (codes "Q88") sector.Land (
 entry q.Q89 = equation (codes "Q89") sector.Land (
     codes "A" of Area ▸ λ A. codes "MB" of AreaFac ▸ λ MB. codes "CB" of Ratio ▸ λ CB.
     codes "GEF" of Ratio ▸ λ GEF. Emission N2o is Scaled (A ⊗ MB ⊗ CB ⊗ GEF) 1 1000)
+-- Landfills: Volume 5, Equations 3.1, 3.2 and 3.4 to 3.6. The previous year's stock decays.
+entry q.Q90 = equation (codes "Q90") sector.Waste (
+    codes "W" of Mass ▸ λ W. codes "DOC" of Ratio ▸ λ DOC. codes "DOCF" of Ratio ▸ λ DOCF.
+    codes "MCF" of Ratio ▸ λ MCF. Aux Carbon is Scaled (W ⊗ DOC ⊗ DOCF ⊗ MCF) 1 1000)
+entry q.Q91 = equation (codes "Q91") sector.Waste (
+    codes "DEP" of Carbon ▸ λ DEP. codes "PREV" of Carbon ▸ λ PREV. codes "D" of Decay ▸ λ D.
+    Aux Carbon is DEP ⊕ PREV ⊗ D)
+entry q.Q92 = equation (codes "Q92") sector.Waste (
+    codes "PREV" of Carbon ▸ λ PREV. codes "D" of Decay ▸ λ D. Aux Carbon is PREV ⊗ (Whole 1 ⊖ D))
+entry q.Q93 = equation (codes "Q93") sector.Waste (
+    codes "DEC" of Carbon ▸ λ DEC. codes "F" of Ratio ▸ λ F. Aux Gas is Scaled (DEC ⊗ F) 16 12)
+entry q.Q94 = equation (codes "Q94") sector.Waste (
+    codes "GEN" of Gas ▸ λ GEN. codes "R" of Gas ▸ λ R. codes "OX" of Ratio ▸ λ OX.
+    Emission Ch4 is (GEN ⊖ R) ⊗ (Whole 1 ⊖ OX))
+-- Biological treatment: Volume 5, Equations 4.1 and 4.2.
+entry q.Q95 = equation (codes "Q95") sector.Waste (
+    codes "M" of Mass ▸ λ M. codes "EF" of Ratio ▸ λ EF. codes "R" of Gas ▸ λ R.
+    Emission Ch4 is Scaled (M ⊗ EF) 1 1000 ⊖ R)
+entry q.Q96 = equation (codes "Q96") sector.Waste (
+    codes "M" of Mass ▸ λ M. codes "EF" of Ratio ▸ λ EF. Emission N2o is Scaled (M ⊗ EF) 1 1000)
+-- Incineration and open burning: Volume 5, Equation 5.1.
+entry q.Q97 = equation (codes "Q97") sector.Waste (
+    codes "SW" of Mass ▸ λ SW. codes "DM" of Ratio ▸ λ DM. codes "CF" of Ratio ▸ λ CF.
+    codes "FCF" of Ratio ▸ λ FCF. codes "OF" of Ratio ▸ λ OF.
+    Emission Co2 is Scaled (Scaled (SW ⊗ DM ⊗ CF ⊗ FCF ⊗ OF) 44 12) 1 1000)
+-- Wastewater: Volume 5, Equations 6.1 to 6.3, 6.7 and 6.8.
+entry q.Q98 = equation (codes "Q98") sector.Waste (
+    codes "BO" of Ratio ▸ λ BO. codes "MCF" of Ratio ▸ λ MCF. Aux Ratio is BO ⊗ MCF)
+entry q.Q99 = equation (codes "Q99") sector.Waste (
+    codes "P" of Person ▸ λ P. codes "BOD" of PersDay ▸ λ BOD. codes "I" of Ratio ▸ λ I.
+    Aux Mass is Scaled (Scaled (Scaled (P ⊗ BOD) 1 1000 ⊗ I) 365 1) 1 1000)
+entry q.Q100 = equation (codes "Q100") sector.Waste (
+    codes "X" of Ratio ▸ λ X. codes "TOW" of Mass ▸ λ TOW. codes "S" of Mass ▸ λ S.
+    codes "R" of Gas ▸ λ R. Emission Ch4 is Scaled (X ⊗ (TOW ⊖ S)) 1 1000 ⊖ R)
+entry q.Q101 = equation (codes "Q101") sector.Waste (
+    codes "U" of Ratio ▸ λ U. codes "T" of Ratio ▸ λ T. codes "EF" of Ratio ▸ λ EF.
+    Aux Ratio is U ⊗ T ⊗ EF)
+entry q.Q102 = equation (codes "Q102") sector.Waste (
+    codes "P" of Person ▸ λ P. codes "PR" of PersFac ▸ λ PR. codes "FNPR" of Ratio ▸ λ FNPR.
+    codes "FNON" of Ratio ▸ λ FNON. codes "FIND" of Ratio ▸ λ FIND. codes "NS" of Mass ▸ λ NS.
+    Aux Mass is Scaled (P ⊗ PR ⊗ FNPR ⊗ FNON ⊗ FIND) 1 1000 ⊖ NS)
+entry q.Q103 = equation (codes "Q103") sector.Waste (
+    codes "N" of Mass ▸ λ N. codes "EF" of Ratio ▸ λ EF.
+    Emission N2o is Scaled (Scaled (N ⊗ EF) 44 28) 1 1000)
 
 -- the code as it is written
 abbrev pub code : EqId → List ℕ

@@ -132,6 +132,34 @@ pub enum EqId {
     Q88,
     /// Land burnt, to N2O (Volume 4, Equation 2.27).
     Q89,
+    /// Degradable organic carbon of deposited waste that decays without air (Volume 5, Equation 3.2).
+    Q90,
+    /// Carbon in a landfill at the end of a year (Volume 5, Equation 3.4).
+    Q91,
+    /// Carbon of a landfill that decays in a year (Volume 5, Equation 3.5).
+    Q92,
+    /// Carbon decayed, to CH4 generated (Volume 5, Equation 3.6).
+    Q93,
+    /// CH4 generated, to CH4 emitted (Volume 5, Equation 3.1).
+    Q94,
+    /// Biological treatment of waste, to CH4 (Volume 5, Equation 4.1, a term of its sum).
+    Q95,
+    /// Biological treatment of waste, to N2O (Volume 5, Equation 4.2, a term of its sum).
+    Q96,
+    /// Waste incinerated or burnt, to CO2 (Volume 5, Equation 5.1, a term of its sum).
+    Q97,
+    /// Emission factor of a way of treating wastewater (Volume 5, Equation 6.2).
+    Q98,
+    /// Organic matter in domestic wastewater in a year (Volume 5, Equation 6.3).
+    Q99,
+    /// Organic matter in wastewater, to CH4 (Volume 5, Equation 6.1).
+    Q100,
+    /// Emission factor of a pathway of wastewater, by its shares (Volume 5, Equation 6.1, a term of its sum).
+    Q101,
+    /// Nitrogen in the effluent of wastewater in a year (Volume 5, Equation 6.8).
+    Q102,
+    /// Nitrogen in effluent, to N2O (Volume 5, Equation 6.7).
+    Q103,
 }
 
 // Codes by their names.
@@ -141,9 +169,10 @@ macro_rules! codes {
 
 impl EqId {
     /// Every code, in the order of the table.
-    pub const ALL: [EqId; 64] = codes![
+    pub const ALL: [EqId; 78] = codes![
         Q10 Q11 Q12 Q13 Q14 Q15 Q16 Q17 Q20 Q21 Q22 Q23 Q24 Q25 Q26 Q30 Q31 Q32 Q33 Q34 Q35 Q36
         Q37 Q38 Q39 Q40 Q41 Q42 Q44 Q45 Q46 Q55 Q56 Q57 Q58 Q59 Q60 Q61 Q62 Q63 Q64 Q67 Q68 Q69
         Q70 Q71 Q72 Q73 Q74 Q75 Q76 Q77 Q78 Q79 Q80 Q81 Q82 Q83 Q84 Q85 Q86 Q87 Q88 Q89
+        Q90 Q91 Q92 Q93 Q94 Q95 Q96 Q97 Q98 Q99 Q100 Q101 Q102 Q103
     ];
 }

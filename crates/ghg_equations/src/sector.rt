@@ -19,6 +19,8 @@ pub enum Sector {
     Soils,
     /// Volume 4, chapter 2.
     Land,
+    /// Volume 5.
+    Waste,
 }
 
 impl EqId {

@@ -123,5 +123,21 @@ pub fn equation(id: EqId) -> &'static Equation
         EqId::Q87 => row!(Q87 Land: A Area, EF AreaFac; Aux Carbon),
         EqId::Q88 => row!(Q88 Land: A Area, MB AreaFac, CB Ratio, GEF Ratio; Emission Ch4),
         EqId::Q89 => row!(Q89 Land: A Area, MB AreaFac, CB Ratio, GEF Ratio; Emission N2o),
+        EqId::Q90 => row!(Q90 Waste: W Mass, DOC Ratio, DOCF Ratio, MCF Ratio; Aux Carbon),
+        EqId::Q91 => row!(Q91 Waste: DEP Carbon, PREV Carbon, D Decay; Aux Carbon),
+        EqId::Q92 => row!(Q92 Waste: PREV Carbon, D Decay; Aux Carbon),
+        EqId::Q93 => row!(Q93 Waste: DEC Carbon, F Ratio; Aux Gas),
+        EqId::Q94 => row!(Q94 Waste: GEN Gas, R Gas, OX Ratio; Emission Ch4),
+        EqId::Q95 => row!(Q95 Waste: M Mass, EF Ratio, R Gas; Emission Ch4),
+        EqId::Q96 => row!(Q96 Waste: M Mass, EF Ratio; Emission N2o),
+        EqId::Q97 =>
+            row!(Q97 Waste: SW Mass, DM Ratio, CF Ratio, FCF Ratio, OF Ratio; Emission Co2),
+        EqId::Q98 => row!(Q98 Waste: BO Ratio, MCF Ratio; Aux Ratio),
+        EqId::Q99 => row!(Q99 Waste: P Person, BOD PersDay, I Ratio; Aux Mass),
+        EqId::Q100 => row!(Q100 Waste: X Ratio, TOW Mass, S Mass, R Gas; Emission Ch4),
+        EqId::Q101 => row!(Q101 Waste: U Ratio, T Ratio, EF Ratio; Aux Ratio),
+        EqId::Q102 =>
+            row!(Q102 Waste: P Person, PR PersFac, FNPR Ratio, FNON Ratio, FIND Ratio, NS Mass; Aux Mass),
+        EqId::Q103 => row!(Q103 Waste: N Mass, EF Ratio; Emission N2o),
     }
 }
