@@ -4,7 +4,7 @@ ghost use Rattle.std.specs.Prelude.{◌≡◌, [], ◌∷◌};
 ghost use Rattle.ghg_equations.specs.declared.eq_id.EqId.TheVariants as EqId;
 ghost use Rattle.ghg_cell.specs.Values.{equation_value};
 
-use ghg_cell::{Figures, Input, Ticket, Value};
+use ghg_cell::{Figures, Input, Ticket, Value, known};
 use ghg_interval::Over;
 
 /// Degradable organic carbon that decays without air, of the waste deposited in a year, in GgC: the waste `w`
@@ -13,14 +13,7 @@ use ghg_interval::Over;
 pub fn q90(ticket: Ticket, w: &Input, doc: &Input, docf: &Input, mcf: &Input) -> Result<Value, Over>
     ensures { result ≡ equation_value EqId.Q90 (w.now ∷ doc.now ∷ docf.now ∷ mcf.now ∷ []) }
 {
-    let (Some(w), Some(doc), Some(docf), Some(mcf)) = (
-        w.figures(),
-        doc.figures(),
-        docf.figures(),
-        mcf.figures(),
-    ) else {
-        return Ok(Value::blank(ticket));
-    };
+    known!(ticket, w, doc, docf, mcf);
     let value = w.mul(&doc)?.mul(&docf)?.mul(&mcf)?.scale(1, 1_000)?;
     Ok(Value::known(ticket, value))
 }
@@ -30,9 +23,7 @@ pub fn q90(ticket: Ticket, w: &Input, doc: &Input, docf: &Input, mcf: &Input) ->
 pub fn q91(ticket: Ticket, dep: &Input, prev: &Input, d: &Input) -> Result<Value, Over>
     ensures { result ≡ equation_value EqId.Q91 (dep.now ∷ prev.now ∷ d.now ∷ []) }
 {
-    let (Some(dep), Some(prev), Some(d)) = (dep.figures(), prev.figures(), d.figures()) else {
-        return Ok(Value::blank(ticket));
-    };
+    known!(ticket, dep, prev, d);
     let left = prev.mul(&d)?;
     let value = dep.add(&left)?;
     Ok(Value::known(ticket, value))
@@ -43,9 +34,7 @@ pub fn q91(ticket: Ticket, dep: &Input, prev: &Input, d: &Input) -> Result<Value
 pub fn q92(ticket: Ticket, prev: &Input, d: &Input) -> Result<Value, Over>
     ensures { result ≡ equation_value EqId.Q92 (prev.now ∷ d.now ∷ []) }
 {
-    let (Some(prev), Some(d)) = (prev.figures(), d.figures()) else {
-        return Ok(Value::blank(ticket));
-    };
+    known!(ticket, prev, d);
     let decayed = Figures::whole(1)?.sub(&d)?;
     let value = prev.mul(&decayed)?;
     Ok(Value::known(ticket, value))
@@ -56,9 +45,7 @@ pub fn q92(ticket: Ticket, prev: &Input, d: &Input) -> Result<Value, Over>
 pub fn q93(ticket: Ticket, dec: &Input, f: &Input) -> Result<Value, Over>
     ensures { result ≡ equation_value EqId.Q93 (dec.now ∷ f.now ∷ []) }
 {
-    let (Some(dec), Some(f)) = (dec.figures(), f.figures()) else {
-        return Ok(Value::blank(ticket));
-    };
+    known!(ticket, dec, f);
     let value = dec.mul(&f)?.scale(16, 12)?;
     Ok(Value::known(ticket, value))
 }
@@ -68,10 +55,7 @@ pub fn q93(ticket: Ticket, dec: &Input, f: &Input) -> Result<Value, Over>
 pub fn q94(ticket: Ticket, generated: &Input, r: &Input, ox: &Input) -> Result<Value, Over>
     ensures { result ≡ equation_value EqId.Q94 (generated.now ∷ r.now ∷ ox.now ∷ []) }
 {
-    let (Some(generated), Some(r), Some(ox)) = (generated.figures(), r.figures(), ox.figures())
-    else {
-        return Ok(Value::blank(ticket));
-    };
+    known!(ticket, generated, r, ox);
     let released = generated.sub(&r)?;
     let not_oxidised = Figures::whole(1)?.sub(&ox)?;
     let value = released.mul(&not_oxidised)?;

@@ -4,7 +4,7 @@ ghost use Rattle.std.specs.Prelude.{◌≡◌, [], ◌∷◌};
 ghost use Rattle.ghg_equations.specs.declared.eq_id.EqId.TheVariants as EqId;
 ghost use Rattle.ghg_cell.specs.Values.{equation_value};
 
-use ghg_cell::{Input, Ticket, Value};
+use ghg_cell::{Input, Ticket, Value, known};
 use ghg_interval::Over;
 
 /// CH4 of biological treatment of waste, in Gg: the waste treated `m` in t times the emission factor `ef` in
@@ -12,9 +12,7 @@ use ghg_interval::Over;
 pub fn q95(ticket: Ticket, m: &Input, ef: &Input, r: &Input) -> Result<Value, Over>
     ensures { result ≡ equation_value EqId.Q95 (m.now ∷ ef.now ∷ r.now ∷ []) }
 {
-    let (Some(m), Some(ef), Some(r)) = (m.figures(), ef.figures(), r.figures()) else {
-        return Ok(Value::blank(ticket));
-    };
+    known!(ticket, m, ef, r);
     let value = m.mul(&ef)?.scale(1, 1_000)?.sub(&r)?;
     Ok(Value::known(ticket, value))
 }
@@ -24,9 +22,7 @@ pub fn q95(ticket: Ticket, m: &Input, ef: &Input, r: &Input) -> Result<Value, Ov
 pub fn q96(ticket: Ticket, m: &Input, ef: &Input) -> Result<Value, Over>
     ensures { result ≡ equation_value EqId.Q96 (m.now ∷ ef.now ∷ []) }
 {
-    let (Some(m), Some(ef)) = (m.figures(), ef.figures()) else {
-        return Ok(Value::blank(ticket));
-    };
+    known!(ticket, m, ef);
     let value = m.mul(&ef)?.scale(1, 1_000)?;
     Ok(Value::known(ticket, value))
 }
@@ -44,15 +40,7 @@ pub fn q97(
 ) -> Result<Value, Over>
     ensures { result ≡ equation_value EqId.Q97 (sw.now ∷ dm.now ∷ cf.now ∷ fcf.now ∷ of.now ∷ []) }
 {
-    let (Some(sw), Some(dm), Some(cf), Some(fcf), Some(of)) = (
-        sw.figures(),
-        dm.figures(),
-        cf.figures(),
-        fcf.figures(),
-        of.figures(),
-    ) else {
-        return Ok(Value::blank(ticket));
-    };
+    known!(ticket, sw, dm, cf, fcf, of);
     let burnt = sw.mul(&dm)?.mul(&cf)?.mul(&fcf)?.mul(&of)?;
     let value = burnt.scale(44, 12)?.scale(1, 1_000)?;
     Ok(Value::known(ticket, value))

@@ -4,7 +4,7 @@ ghost use Rattle.std.specs.Prelude.{◌≡◌, [], ◌∷◌};
 ghost use Rattle.ghg_equations.specs.declared.eq_id.EqId.TheVariants as EqId;
 ghost use Rattle.ghg_cell.specs.Values.{equation_value};
 
-use ghg_cell::{Input, Ticket, Value};
+use ghg_cell::{Input, Ticket, Value, known};
 use ghg_interval::Over;
 
 /// Emission factor of a way of treating or discharging wastewater, in t of CH4 for a t of organic matter: the
@@ -12,9 +12,7 @@ use ghg_interval::Over;
 pub fn q98(ticket: Ticket, bo: &Input, mcf: &Input) -> Result<Value, Over>
     ensures { result ≡ equation_value EqId.Q98 (bo.now ∷ mcf.now ∷ []) }
 {
-    let (Some(bo), Some(mcf)) = (bo.figures(), mcf.figures()) else {
-        return Ok(Value::blank(ticket));
-    };
+    known!(ticket, bo, mcf);
     let value = bo.mul(&mcf)?;
     Ok(Value::known(ticket, value))
 }
@@ -24,9 +22,7 @@ pub fn q98(ticket: Ticket, bo: &Input, mcf: &Input) -> Result<Value, Over>
 pub fn q99(ticket: Ticket, p: &Input, bod: &Input, i: &Input) -> Result<Value, Over>
     ensures { result ≡ equation_value EqId.Q99 (p.now ∷ bod.now ∷ i.now ∷ []) }
 {
-    let (Some(p), Some(bod), Some(i)) = (p.figures(), bod.figures(), i.figures()) else {
-        return Ok(Value::blank(ticket));
-    };
+    known!(ticket, p, bod, i);
     let daily = p.mul(&bod)?.scale(1, 1_000)?.mul(&i)?;
     let value = daily.scale(365, 1)?.scale(1, 1_000)?;
     Ok(Value::known(ticket, value))
@@ -37,14 +33,7 @@ pub fn q99(ticket: Ticket, p: &Input, bod: &Input, i: &Input) -> Result<Value, O
 pub fn q100(ticket: Ticket, x: &Input, tow: &Input, s: &Input, r: &Input) -> Result<Value, Over>
     ensures { result ≡ equation_value EqId.Q100 (x.now ∷ tow.now ∷ s.now ∷ r.now ∷ []) }
 {
-    let (Some(x), Some(tow), Some(s), Some(r)) = (
-        x.figures(),
-        tow.figures(),
-        s.figures(),
-        r.figures(),
-    ) else {
-        return Ok(Value::blank(ticket));
-    };
+    known!(ticket, x, tow, s, r);
     let treated = tow.sub(&s)?;
     let value = x.mul(&treated)?.scale(1, 1_000)?.sub(&r)?;
     Ok(Value::known(ticket, value))
@@ -56,9 +45,7 @@ pub fn q100(ticket: Ticket, x: &Input, tow: &Input, s: &Input, r: &Input) -> Res
 pub fn q101(ticket: Ticket, u: &Input, t: &Input, ef: &Input) -> Result<Value, Over>
     ensures { result ≡ equation_value EqId.Q101 (u.now ∷ t.now ∷ ef.now ∷ []) }
 {
-    let (Some(u), Some(t), Some(ef)) = (u.figures(), t.figures(), ef.figures()) else {
-        return Ok(Value::blank(ticket));
-    };
+    known!(ticket, u, t, ef);
     let value = u.mul(&t)?.mul(&ef)?;
     Ok(Value::known(ticket, value))
 }
@@ -78,16 +65,7 @@ pub fn q102(
     ensures { result ≡ equation_value EqId.Q102
         (p.now ∷ pr.now ∷ fnpr.now ∷ fnon.now ∷ find.now ∷ ns.now ∷ []) }
 {
-    let (Some(p), Some(pr), Some(fnpr), Some(fnon), Some(find), Some(ns)) = (
-        p.figures(),
-        pr.figures(),
-        fnpr.figures(),
-        fnon.figures(),
-        find.figures(),
-        ns.figures(),
-    ) else {
-        return Ok(Value::blank(ticket));
-    };
+    known!(ticket, p, pr, fnpr, fnon, find, ns);
     let released = p.mul(&pr)?.mul(&fnpr)?.mul(&fnon)?.mul(&find)?;
     let value = released.scale(1, 1_000)?.sub(&ns)?;
     Ok(Value::known(ticket, value))
@@ -98,9 +76,7 @@ pub fn q102(
 pub fn q103(ticket: Ticket, n: &Input, ef: &Input) -> Result<Value, Over>
     ensures { result ≡ equation_value EqId.Q103 (n.now ∷ ef.now ∷ []) }
 {
-    let (Some(n), Some(ef)) = (n.figures(), ef.figures()) else {
-        return Ok(Value::blank(ticket));
-    };
+    known!(ticket, n, ef);
     let value = n.mul(&ef)?.scale(44, 28)?.scale(1, 1_000)?;
     Ok(Value::known(ticket, value))
 }
