@@ -21,7 +21,7 @@ pub fn number(text: &str) -> Option<i128> {
     read_decimal(text.as_bytes()).map(|decimal| decimal.scaled)
 }
 
-/// An interval: its low and high bound with a comma between them, one number for both, or `most` for the widest.
+/// An interval: its bounds with a comma between them, one number for both, or `most` for the widest.
 pub fn interval(text: &str) -> Option<Interval> {
     if text == "most" {
         return Interval::new(-LIMIT, LIMIT);
@@ -30,8 +30,8 @@ pub fn interval(text: &str) -> Option<Interval> {
     Interval::new(number(low)?, number(high)?)
 }
 
-/// A quantity: a value with its low and high bound, with commas between them; a value alone for all three; two
-/// bounds of both the point and the range, with a semicolon between them; or `NE` for a blank.
+/// A quantity: a value with its low and high bound, with commas between them; a value alone for all three;
+/// two bounds of both the point and the range, with a semicolon between them; or `NE` for a blank.
 pub fn input(text: &str) -> Option<Input> {
     if text == "NE" {
         return Some(Input::Blank);

@@ -1,8 +1,8 @@
 //! Tests of the public calls of the libraries below the program, as tables of cases.
 //!
-//! They show what no clause says: figures that were worked by hand, printed text, and that a call succeeds where
-//! there is memory. They stand in a crate of their own, so that each library is proved once. Sessions of the whole
-//! program stand in `tests/`.
+//! They show what no clause says: figures that were worked by hand, printed text, and that a call succeeds
+//! where there is memory. They stand in a crate of their own, so that each library is proved once. Sessions
+//! of the whole program stand in `tests/`.
 #![tactic(auto)]
 
 #[cfg(test)]

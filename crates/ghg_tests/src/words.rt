@@ -275,9 +275,9 @@ fn words_name_what_they_stand_for(rt: HostRuntime) {
     );
 }
 
-// A decimal, the word of its unit, what it measures, its ratio to the base unit, and the bounds of the figure in the
-// base unit; nothing where one is beyond the limit. By hand: 1 ktoe is 41.868 TJ, 5 GWh are 18 TJ, and 0.0000001 kg
-// is a tenth of 10^-12 Gg.
+// A decimal, the word of its unit, what it measures, its ratio to the base unit, and the bounds of the figure
+// in the base unit; nothing where one is beyond the limit. By hand: 1 ktoe is 41.868 TJ, 5 GWh are 18 TJ, and
+// 0.0000001 kg is a tenth of 10^-12 Gg.
 const FIGURES: &[(&str, &str, Dim, (u64, u64), Option<(i128, i128)>)] = &[
     (
         "0.5",

@@ -371,7 +371,7 @@ fn totals_take_equivalents_which_weigh_lines(rt: HostRuntime) {
     );
 }
 
-// Plans, proposes and accepts rows, with steps of a new ledger. An error has the node that is over, where one is.
+// Plans, proposes and accepts rows, with steps of a new ledger. An error has the node that is over, if any.
 fn accept_with<L: Ledger>(
     blank: Blank,
     alloc: Global,
@@ -407,7 +407,7 @@ fn has_value(engine: &Engine, node: Node, want: &str) -> bool {
     engine.value(&node).map(|value| *value.input()) == input(want)
 }
 
-// The plant's second year, a potential of 1 that may be 2, a boiler of 500 TJ, and a fire of 100 TJ in a forest.
+// The plant's second year, a potential of 1 that may be 2, a boiler of 500 TJ, and a forest fire of 100 TJ.
 const THREE_LINES: &str =
     "enter,activity,,GAS.TJ,1991,2000,,,TJ,\nenter,factor,,GWP.CO2,1990,1,1,2,1,\n\
     enter,activity,,FUEL.TJ,1990,500,,,TJ,\nenter,activity,,FIRE.TJ,1990,100,,,TJ,\n\
@@ -423,7 +423,7 @@ const TOTALS: &[(Category, u32, &str)] = &[
     (Category::C3B, 1991, "0"),
 ];
 
-// 56.1 kg of CO2 for each GJ, from 54.3 to 58.3: 1000 TJ emit 54.3 to 58.3 Gg, which weigh from 54.3 to 116.6.
+// 56.1 kg of CO2 for each GJ, from 54.3 to 58.3: 1000 TJ emit 54.3 to 58.3 Gg, which weigh 54.3 to 116.6.
 #[test]
 fn nodes_have_their_values(rt: HostRuntime) {
     let mut engine = Engine::new(rt.alloc());
