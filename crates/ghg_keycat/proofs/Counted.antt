@@ -2,8 +2,7 @@
 use Rattle.std.proofs.Common.{◌≡◌, ℕ, ◌+◌, ◌*◌, ◌<◌, ◌≤◌, true, false, cond, List, length, map, take, drop, get_or, [], ◌∷◌, ◌++◌, suc, refl, sym, ap, ap₂, subst, ◌∙◌, arith}
 use Rattle.std.specs.List.{All, sum_by}
 use Rattle.std.proofs.lemmas.Bool.{ltb-true, lt-ltb}
-use Rattle.std.specs.Ordering.{is_lt, eq_by_cmp}
-use Rattle.std.specs.List.{IsDistinct}
+use Rattle.std.specs.Ordering.{is_lt}
 use Rattle.std.proofs.lemmas.List.{map-append, take_all, get_or_default, get_or-take, get_or-drop, length-take, length-drop}
 use Rattle.std.proofs.lemmas.List.Elements.{All-get_or, All-push}
 use Rattle.std.proofs.lemmas.Grind.{take_at_read}
@@ -12,7 +11,7 @@ use Rattle.ghg_keycat.specs.declared.Pair.{Pair}
 use Rattle.ghg_keycat.specs.declared.ranking.Ranked.{Ranked}
 use Rattle.ghg_keycat.specs.declared.KeyRow.{KeyRow}
 use Rattle.ghg_keycat.specs.Entries.{by_entry, size_in, AreDescending, IsRanked, IsKeyed, row_at}
-use Rattle.ghg_keycat.specs.Ranking.{by_name, is_before, IsRanking}
+use Rattle.ghg_keycat.specs.Ranking.{AreDistinct, is_before, IsRanking}
 use Rattle.ghg_keycat.proofs.Sums.{sum_same, sum_map, sum_before}
 use Rattle.ghg_keycat.proofs.Order.{AreApart, descending_far, strictly, apart_moved, apart_entries}
 
@@ -68,7 +67,7 @@ some_entry : (xs : List Ranked) → 0 < length xs → Ranked
 some_entry [] h = absurd (omega (arith, h))
 some_entry (x ∷ xs) h = x
 
-pub ranking : (size : Pair → ℕ) (rows : List Pair) (ranked : List Ranked) (keys : List KeyRow) → IsDistinct (eq_by_cmp by_name) rows → IsRanked size rows ranked → IsKeyed ranked keys → IsRanking size rows keys
+pub ranking : (size : Pair → ℕ) (rows : List Pair) (ranked : List Ranked) (keys : List KeyRow) → AreDistinct rows → IsRanked size rows ranked → IsKeyed ranked keys → IsRanking size rows keys
 ranking size rows ranked keys distinct is keyed =
     let xs : List Ranked = keyed.sorted in
     let count : length keys ≡ length xs = keyed.running.count in

@@ -1,3 +1,4 @@
 pub mod Entries
+pub mod Laws
 pub mod Ranking
 pub mod Sizes

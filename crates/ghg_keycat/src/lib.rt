@@ -5,17 +5,18 @@
 //! is its size over a denominator that all pairs have in common.
 #![tactic(auto)]
 
+mod laws;
 mod ranking;
 mod sizes;
 
 ghost use Rattle.std.specs.Prelude.{◌≤◌, IfOk};
-ghost use Rattle.std.specs.List.{IsDistinct, sum_by};
-ghost use Rattle.std.specs.Ordering.{eq_by_cmp};
-ghost use Rattle.ghg_keycat.specs.Ranking.{IsRanking, by_name};
+ghost use Rattle.std.specs.List.{sum_by};
+ghost use Rattle.ghg_keycat.specs.Ranking.{AreDistinct, IsRanking};
 ghost use Rattle.ghg_keycat.specs.Sizes.{IsTrend, gross, gross_limit, level_size};
 
 use ghg_categories::Category;
 use ghg_equations::Gas;
+pub use laws::ascending_pairs_are_distinct;
 use std::alloc::{AllocError, Global};
 
 /// What a category emits of a gas, less what it removes, in tonnes of CO2 equivalent.
@@ -60,7 +61,7 @@ pub enum TrendRows {
 /// The level assessment (Equation 4.1): all pairs by descending magnitude. Pairs of one magnitude are in the
 /// order of pairs.
 pub fn level(alloc: Global, rows: &[Pair]) -> Result<Vec<KeyRow>, AllocError>
-    requires distinct { IsDistinct (eq_by_cmp by_name) rows.now }
+    requires distinct { AreDistinct rows.now }
     requires small { sum_by gross rows.now ≤ gross_limit }
     ensures { IfOk result (λ keys. IsRanking level_size rows.now keys.items) }
 {
@@ -71,7 +72,7 @@ pub fn level(alloc: Global, rows: &[Pair]) -> Result<Vec<KeyRow>, AllocError>
 /// The trend assessment (Equations 4.2 and 4.3): all pairs by descending part in the trend since the base
 /// year.
 pub fn trend(alloc: Global, rows: &[Pair]) -> Result<TrendRows, AllocError>
-    requires distinct { IsDistinct (eq_by_cmp by_name) rows.now }
+    requires distinct { AreDistinct rows.now }
     requires small { sum_by gross rows.now ≤ gross_limit }
     ensures { IfOk result (λ trend. IsTrend rows.now trend) }
 {
