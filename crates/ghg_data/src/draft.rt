@@ -14,10 +14,10 @@ use crate::edits::Edits;
 use crate::holdings::Holdings;
 use crate::names::lines_after;
 use crate::series::{Series, date_of};
-use crate::year_set::{LAST_YEAR, YearSet};
+use crate::year_set::YearSet;
 use ghg_definitions::{Record, RecordKey};
 use ghg_equations::EqId;
-use ghg_units::{Binding, Figure, Name, ParamName, Span};
+use ghg_units::{Binding, Figure, LATEST_YEAR, Name, ParamName, Span};
 use std::alloc::{AllocError, Global};
 use std::marker::Model;
 
@@ -124,7 +124,7 @@ impl<'a> Draft<'a> {
         let Some((series, year)) = date_of(key) else {
             return None;
         };
-        match self.years(&series).with(year, false).last_until(LAST_YEAR) {
+        match self.years(&series).with(year, false).last_until(LATEST_YEAR) {
             Some(other) => self.figure(&series.dated(other)),
             None => None,
         }

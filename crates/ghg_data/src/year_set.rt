@@ -4,11 +4,7 @@ ghost use Rattle.std.specs.Prelude.{◌≡◌, ℕ, ◌≤◌, ◌<◌, Bool, tr
 ghost use Rattle.ghg_units.specs.Year.{is_year};
 ghost use Rattle.ghg_data.specs.YearSet.{HasNoYear, has_bit, has_place, has_year};
 
-// The first year that a record may be of.
-const FIRST_YEAR: u32 = 1900;
-
-/// The last year that a record may be of.
-pub(crate) const LAST_YEAR: u32 = 2100;
+use ghg_units::{EARLIEST_YEAR, LATEST_YEAR};
 
 // How many years a word holds.
 const WORD: u32 = 128;
@@ -32,17 +28,17 @@ impl YearSet {
     pub(crate) fn is_empty(&self) -> bool
         ensures { IsTrue result ↔ HasNoYear self.now }
     {
-        self.last_until(LAST_YEAR).is_none()
+        self.last_until(LATEST_YEAR).is_none()
     }
 
     /// The set with this year, or without it. A year that no record may be of changes nothing.
     pub(crate) fn with(&self, year: u32, present: bool) -> YearSet
         ensures { (y : ℕ) → has_year result y ≡ cond (is_year year && (y == year)) present (has_year self.now y) }
     {
-        if year < FIRST_YEAR || year > LAST_YEAR {
+        if year < EARLIEST_YEAR || year > LATEST_YEAR {
             return *self;
         }
-        let place = LAST_YEAR - year;
+        let place = LATEST_YEAR - year;
         if place < WORD {
             YearSet {
                 late: with_bit(self.late, place, present),
@@ -70,8 +66,8 @@ impl YearSet {
     pub(crate) fn last_until(&self, year: u32) -> Option<u32>
         ensures { MatchOption result ((y : ℕ) → y ≤ year → has_year self.now y ≡ false) (λ s. (s ≤ year) × (has_year self.now s ≡ true) × ((y : ℕ) → s < y → y ≤ year → has_year self.now y ≡ false)) }
     {
-        match self.next_place(LAST_YEAR.saturating_sub(year)) {
-            Some(place) => Some(LAST_YEAR - place),
+        match self.next_place(LATEST_YEAR.saturating_sub(year)) {
+            Some(place) => Some(LATEST_YEAR - place),
             None => None,
         }
     }

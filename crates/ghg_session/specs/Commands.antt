@@ -12,6 +12,8 @@ use Rattle.ghg_session.specs.declared.command.Line.{Line}
 use Rattle.ghg_session.specs.declared.command.Line.TheVariants as line
 use Rattle.ghg_session.specs.declared.command.Request.{Request}
 use Rattle.ghg_session.specs.declared.command.Request.TheVariants as request
+use Rattle.ghg_session.specs.declared.line.TheConstants.{LENGTH_DIGITS, LONGEST_ID, LONGEST_TABLE, YEAR_DIGITS}
+use Rattle.ghg_session.specs.declared.reading.TheConstants.{LONGEST_LINE}
 use Rattle.ghg_session.specs.Protocol.{Grammar}
 
 -- ---- a line
@@ -21,7 +23,7 @@ is_line_feed b = b == 10
 
 -- the most bytes that a line has before its line feed
 abbrev pub longest_line : ℕ
-longest_line = 120
+longest_line = LONGEST_LINE
 
 -- the line that a line feed at this place ends, and what follows
 abbrev pub line_to : List ℕ → ℕ → Option (List ℕ × List ℕ)
@@ -52,15 +54,15 @@ is_lower b = nat_le 97 b && nat_le b 122
 abbrev pub submit_form : List ℕ → Option Line
 submit_form bytes = do
   parts ← two_parts bytes
-  count ← number_in 8 parts.1
-  if has_length 1 60 parts.0 then Some (line.Submit parts.0 count) else None
+  count ← number_in LENGTH_DIGITS parts.1
+  if has_length 1 LONGEST_ID parts.0 then Some (line.Submit parts.0 count) else None
 
 -- 1 to 16 lower-case letters, and four digits
 abbrev pub show_form : List ℕ → Option Line
 show_form bytes = do
   parts ← two_parts bytes
-  year ← number_in 4 parts.1
-  if has_length 1 16 parts.0 && list_all is_lower parts.0 && (length parts.1 == 4)
+  year ← number_in YEAR_DIGITS parts.1
+  if has_length 1 LONGEST_TABLE parts.0 && list_all is_lower parts.0 && (length parts.1 == YEAR_DIGITS)
       then Some (line.Show parts.0 year) else None
 
 -- what a line says that begins a command

@@ -3,6 +3,7 @@ use Rattle.std.specs.Prelude.{ℕ, zero, suc, ◌+◌, List, [], ◌∷◌, ◌+
 use Rattle.std.specs.Option.{option_map_or}
 use Rattle.ghg_session.specs.declared.command.Command.{Command}
 use Rattle.ghg_session.specs.declared.command.Command.TheVariants as command
+use Rattle.ghg_session.specs.declared.session.TheConstants.{MOST_COMMANDS}
 use Rattle.ghg_session.specs.Protocol.{Grammar}
 
 -- what a script asks for, in order; the number of the command that is none, where the bytes are no script;
@@ -42,7 +43,7 @@ reading g (suc n) number bytes =
 
 -- a script has at most so many commands, END included
 abbrev pub most_commands : ℕ
-most_commands = 1_000_000
+most_commands = MOST_COMMANDS
 
 abbrev pub reading_of : {Request : Type 0} → Grammar (Command Request) → List ℕ → Reading Request
 reading_of g bytes = reading g most_commands 1 bytes

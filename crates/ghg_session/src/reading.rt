@@ -8,6 +8,7 @@ ghost use Rattle.ghg_session.specs.Reader.{Found, Missing, Parses, StoppedAtOnce
 use crate::command::{Command, Line, Request};
 use crate::line::read_form;
 use crate::stop::Stop;
+use ghg_import::MAX_BODY;
 use ghg_outer::Source;
 use ghg_units::Text;
 use std::alloc::{AllocError, Global};
@@ -108,7 +109,7 @@ fn read_body<S: Source>(
 }
 
 /// Of a body one byte more is kept than the longest that is taken, so that it is seen to be too long.
-const MOST_KEPT: usize = 4_194_305;
+const MOST_KEPT: usize = MAX_BODY + 1;
 
 // Appends as much of the piece as is kept of a body.
 fn keep_front(body: &mut Vec<u8>, piece: &[u8]) -> Result<(), AllocError>
