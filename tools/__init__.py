@@ -1,0 +1,1 @@
+"""The code of `./workbook`: everyday tools around the proved program, which alone judges."""

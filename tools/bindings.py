@@ -1,0 +1,274 @@
+"""Explains the refusals that name a line, a node or a limit: rules 10 to 13.
+
+They are judged with all rows of a file applied. What stands where is looked up in the book after these rows. To find the
+next fault, the row at fault is taken out, or a binding takes NE in its place, so that its line stays and is blank.
+"""
+from tools import vocabulary
+from tools.book import lines_taken_by
+from tools.faults import Fault, at_row
+from tools.sheets import Row, joined
+from tools.vocabulary import listed, nearest, said_of_parameter
+
+
+class After:
+    """The data after a file's rows, of which some are the file's own, and the rows that were refused before."""
+
+    def __init__(self, book, rows, refused):
+        self.book, self.rows, self.refused = book, rows, refused
+        self.own = {id(row) for row in rows}
+
+    def is_own(self, row):
+        return row is not None and id(row) in self.own
+
+    def acts_on(self, kind, name, acts=("enter", "correct", "withdraw")):
+        """The file's own rows on a record of a kind and name."""
+        return [row for row in self.rows[1:] if row.field("kind") == kind and row.field("name") == name and row.field("act") in acts]
+
+    def without(self, rows):
+        """The file's rows without some of them."""
+        out = {id(row) for row in rows}
+        return [row for row in self.rows if id(row) not in out]
+
+    def blank(self, bound):
+        """The file's rows with NE in place of what a binding takes."""
+        return [row.with_fields(value="key", low="NE") if row is bound else row for row in self.rows]
+
+
+def explain(line, parameter, after):
+    """The fault of an unsound binding, and the rows to go on with, or None."""
+    book = after.book
+    bound = book.bindings.get(line, {}).get(parameter)
+    holder = book.lines.get(line)
+    if holder is None:
+        return without_line(line, parameter, bound, after)
+    code = holder.field("value")
+    parameters = vocabulary.parameters_of(code)
+    if parameter not in parameters:
+        return without_parameter(holder, bound, parameters, after)
+    if bound is None:
+        return without_binding(holder, parameters[parameter], after)
+    wanted = parameters[parameter]
+    if bound.field("value") in ("activity", "factor"):
+        return of_record(bound, holder, wanted, after)
+    return of_lines(bound, holder, wanted, after)
+
+
+def without_line(line, parameter, bound, after):
+    """A binding of a line that there is not."""
+    gone = after.acts_on("line", line, ("withdraw",))
+    if gone:
+        names = listed(after.book.bindings[line], "and")
+        return at_row(gone[0], f"the line goes and its bindings stay; withdraw the bindings of {names} too"), after.without(gone)
+    own = [row for row in after.rows[1:] if row.field("kind") == "bind" and row.field("subject") == line]
+    if not own:
+        return None, None
+    more = f" ({len(own) - 1} more of its bindings stand in this file)" if len(own) > 1 else ""
+    refused = after.refused.that_sets(("line", line))
+    if refused:
+        cause = f"there is no line {line}, since its row was refused{more}"
+        fault = at_row(own[0], cause, "subject", follows=refused.place)
+    else:
+        near = nearest(line, after.book.lines, 1, 0.75)
+        write = f"{near[0]} ({after.book.lines[near[0]].place})" if near else None
+        fault = at_row(own[0], f"there is no line {line}{more}", "subject", write)
+        after.refused.add_meant([(("bind", near[0], row.field("name")), row) for row in own] if near else [])
+    after.refused.add(own)
+    return fault, after.without(own)
+
+
+def without_parameter(holder, bound, parameters, after):
+    """A binding of a parameter that the line's equation has not."""
+    code, line = holder.field("value"), holder.field("name")
+    has = f"{code} has no {bound.field('name')}; its parameters are {listed(map(said_of_parameter, parameters.values()), 'and')}"
+    if not after.is_own(bound):
+        if not after.is_own(holder):
+            return None, None
+        cause = f"{has}; the binding of {bound.field('name')} at {bound.place} has to be withdrawn in this file"
+        return at_row(holder, cause, "value"), after.without([holder])
+    free = [name for name in parameters if name not in after.book.bindings[line]]
+    near = free if len(free) == 1 else nearest(bound.field("name"), free, 1, 0.4)
+    after.refused.add_meant([(("bind", line, name), bound) for name in near])
+    after.refused.add([bound])
+    return at_row(bound, has, "name", near[0] if near else None), after.without([bound])
+
+
+def without_binding(holder, wanted, after):
+    """A parameter of a line that no row binds."""
+    line, code = holder.field("name"), holder.field("value")
+    needs = f"{code} takes {said_of_parameter(wanted)}"
+    gone = [row for row in after.acts_on("bind", wanted["name"], ("withdraw",)) if row.field("subject") == line]
+    if gone:
+        return at_row(gone[0], f"{line} is left without a binding that it needs: {needs}"), after.without(gone)
+    if not after.is_own(holder):
+        return None, None
+    refused = after.refused.that_sets(("bind", line, wanted["name"]))
+    added = Row(holder.sheet, holder.line, joined(["enter", "bind", line, wanted["name"], "", "key", "NE", "", "", ""]))
+    if refused:
+        fault = at_row(holder, f"{needs}, and the row that binds it was refused", "name", follows=refused.place)
+    else:
+        fault = at_row(holder, f"{needs}, and no row binds it", "name", f"a row enter,bind,{line},{wanted['name']},,FORM,TARGET,,,")
+    return fault, after.rows + [added]
+
+
+def of_record(bound, holder, wanted, after):
+    """A binding to an activity or a factor that there is not, or that measures something else."""
+    kind, name = bound.field("value"), bound.field("low")
+    record = after.book.some_record(kind, name)
+    if record is None:
+        return without_record(bound, kind, name, after)
+    units = listed(vocabulary.units_that_measure(wanted["measures"]))
+    measured = f"{kind} {name} is in {record.field('unit')} ({vocabulary.measured_by(record.field('unit'))})"
+    takes = f"{wanted['name']} of {holder.field('value')} takes {wanted['measures']} ({units})"
+    if after.is_own(bound):
+        return at_row(bound, f"{takes}, and {measured} at {record.place}", "low"), after.blank(bound)
+    changed = after.acts_on(kind, name) or [row for row in [holder] if after.is_own(row)]
+    if not changed:
+        return None, None
+    column = "unit" if changed[0].field("kind") == kind else "value"
+    cause = f"{takes}, and {measured}; the binding stands at {bound.place}"
+    return at_row(changed[0], cause, column), after.without(changed)
+
+
+def without_record(bound, kind, name, after):
+    """A binding to an activity or a factor without records."""
+    gone = after.acts_on(kind, name, ("withdraw",))
+    if not after.is_own(bound):
+        return (at_row(gone[-1], f"{kind} {name} goes, and {bound.field('subject')} takes it at {bound.place}"), after.without(gone)) if gone else (None, None)
+    refused = after.refused.that_enters(kind, name)
+    other = "factor" if kind == "activity" else "activity"
+    if refused:
+        fault = at_row(bound, f"there is no {kind} {name}, since its row was refused", "low", follows=refused.place)
+    elif after.book.some_record(other, name):
+        place = after.book.some_record(other, name).place
+        fault = at_row(bound, f"{name} is no {kind} but {said(other)} ({place})", "value", other)
+        after.refused.meant_records.add((other, name))
+    else:
+        near = nearest(name, after.book.years[kind], 1, 0.7)
+        write = f"{near[0]} ({after.book.some_record(kind, near[0]).place})" if near else None
+        fault = at_row(bound, f"there is no {kind} of this name{'' if near else ': no row enters it'}", "low", write)
+        after.refused.meant_records.update((kind, found) for found in near)
+    return fault, after.blank(bound)
+
+
+def said(kind):
+    return f"an {kind}" if kind == "activity" else f"a {kind}"
+
+
+def of_lines(bound, holder, wanted, after):
+    """A binding to lines of which one is not there, or gives something else."""
+    for name in lines_taken_by(bound):
+        taken = after.book.lines.get(name)
+        if taken is None:
+            return absent_line(bound, name, after)
+        code = taken.field("value")
+        if vocabulary.given_by(code) != wanted["measures"]:
+            gives = f"line {name} ({code} at {taken.place}) gives {given(code)}"
+            cause = f"{wanted['name']} of {holder.field('value')} takes {wanted['measures']} ({wanted['unit']}), and {gives}"
+            if after.is_own(bound):
+                return at_row(bound, cause, "low"), after.blank(bound)
+            changed = [row for row in (taken, holder) if after.is_own(row)]
+            return (at_row(changed[0], f"{cause}; the binding stands at {bound.place}", "value"), after.without(changed)) if changed else (None, None)
+    return None, None
+
+
+def given(code):
+    """What a line of an equation gives, with its unit."""
+    output = vocabulary.equations()[code]["output"]
+    return f"{output['gas']} (Gg)" if "gas" in output else f"{output['measures']} ({output['unit']})"
+
+
+def absent_line(bound, name, after):
+    gone = after.acts_on("line", name, ("withdraw",))
+    if not after.is_own(bound):
+        return (at_row(gone[0], f"line {name} goes, and {bound.field('subject')} takes it at {bound.place}"), after.without(gone)) if gone else (None, None)
+    refused = after.refused.that_sets(("line", name))
+    if refused:
+        return at_row(bound, f"there is no line {name}, since its row was refused", "low", follows=refused.place), after.blank(bound)
+    near = nearest(name, after.book.lines, 1, 0.7)
+    write = f"{near[0]} ({after.book.lines[near[0]].place})" if near else None
+    return at_row(bound, f"there is no line {name}", "low", write), after.blank(bound)
+
+
+def ring(line, after):
+    """The fault of lines that take each other in a ring, and the rows with one of its bindings blank."""
+    path = bindings_to_itself(line, after.book)
+    own = [bound for bound in path if after.is_own(bound)]
+    if not own:
+        return None, None
+    steps = [f"{bound.field('subject')} takes {taken} ({bound.place})" for bound, taken in zip(path, following(path, line))]
+    cause = f"lines take each other's values of the same year in a ring: {listed(steps, 'and')}; bind one of them to last year by prev, or to an activity"
+    return at_row(own[0], cause, "low"), after.blank(own[0])
+
+
+def following(path, line):
+    """The line that each binding of a path takes on it."""
+    return [bound.field("subject") for bound in path[1:]] + [line]
+
+
+def bindings_to_itself(line, book):
+    """The bindings by which a line takes itself in the same year, over as few lines as there are."""
+    reached, waiting = {}, [line]
+    while waiting:
+        name = waiting.pop(0)
+        for bound in book.bindings.get(name, {}).values():
+            for taken in lines_taken_by(bound) if bound.field("value") != "prev" else []:
+                if taken == line:
+                    return path_to(name, reached) + [bound]
+                if taken not in reached:
+                    reached[taken] = bound
+                    waiting.append(taken)
+    return []
+
+
+def path_to(name, reached):
+    path = []
+    while name in reached:
+        path.insert(0, reached[name])
+        name = reached[name].field("subject")
+    return path
+
+
+def overflow(node, sheet, after):
+    """The fault of a node beyond the limits, and the rows with one of its figures blank."""
+    kind, *rest = node.split(":")
+    year = int(rest[-1])
+    if kind in ("total", "gross"):
+        code = rest[0] if kind == "total" else "0"
+        cause = f"the total of {code} in {year} is beyond 10^9 Gg of CO2 equivalent with the rows of this file; look for a figure in a wrong unit"
+        return Fault(sheet, 1, "", None, cause), None
+    inputs = inputs_of(rest[0], year, after.book)
+    limit = "10^14 units" if kind == "line" else "10^9 Gg of CO2 equivalent"
+    figures = [f"{name} is {row.field('value')} {row.field('unit')} ({row.place})" for name, row in inputs]
+    cause = f"line {rest[0]} in {year}, or a result on the way to it, is beyond {limit}: {listed(figures, 'and')}; look at the units"
+    own = [row for _, row in inputs if after.is_own(row)]
+    if not own:
+        return Fault(sheet, 1, "", None, cause), None
+    greatest = max(own, key=lambda row: abs(float(row.field("value"))))
+    rows = [row.with_fields(value="NE", low="", high="") if row is greatest else row for row in after.rows]
+    return at_row(greatest, cause, "value"), rows
+
+
+def inputs_of(line, year, book):
+    """The figures that a line takes in a year, by their parameters, with those of the lines that it takes."""
+    found, seen, waiting = [], set(), [line]
+    while waiting:
+        name = waiting.pop(0)
+        if name in seen:
+            continue
+        seen.add(name)
+        for parameter, bound in book.bindings.get(name, {}).items():
+            waiting += lines_taken_by(bound)
+            if bound.field("value") in ("activity", "factor"):
+                row = book.in_force(bound.field("value"), bound.field("low"), year)
+                if row is not None and row.field("value") not in vocabulary.words()["keys"]:
+                    found.append((parameter if name == line else f"{parameter} of {name}", row))
+    return found
+
+
+def too_many(limit, sheet, after):
+    """The fault of a limit of the whole workbook, and the rows without its span where that is too long."""
+    spans = [row for row in after.rows[1:] if row.field("kind") == "span"]
+    if limit == "span" and spans:
+        return at_row(spans[-1], "more than 150 years from the first to the last", "value"), after.without(spans)
+    what = {"lines": "more than 5,000 lines", "records": "more than 500,000 records"}.get(limit, "too many bytes")
+    return Fault(sheet, 1, "", None, f"{what} with this file"), None

@@ -1,0 +1,99 @@
+"""The records of a workbook by their keys, as the accepted rows left them: to say where something stands, never to judge."""
+
+
+class Book:
+    """What is in force: of each key the row that set it last, and the row that entered it.
+
+    Keys are tuples: ("activity", name, year), ("factor", name, year), ("line", name), ("bind", line, parameter), ("span",).
+    """
+
+    def __init__(self):
+        self.rows = {}
+        self.entered = {}
+        self.years = {"activity": {}, "factor": {}}
+        self.bindings = {}
+        self.lines = {}
+
+    def copy(self):
+        """A book of its own with the same records."""
+        other = Book()
+        other.rows, other.entered = dict(self.rows), dict(self.entered)
+        other.years = {kind: {name: dict(years) for name, years in named.items()} for kind, named in self.years.items()}
+        other.bindings = {line: dict(bound) for line, bound in self.bindings.items()}
+        other.lines = dict(self.lines)
+        return other
+
+    def apply(self, row):
+        """Applies an accepted row."""
+        key = key_of(row)
+        if row.field("act") == "withdraw":
+            self._take_out(key)
+            return
+        if row.field("act") == "enter":
+            self.entered[key] = row
+        self.rows[key] = row
+        if key[0] in self.years:
+            self.years[key[0]].setdefault(key[1], {})[int(key[2])] = row
+        elif key[0] == "line":
+            self.lines[key[1]] = row
+        elif key[0] == "bind":
+            self.bindings.setdefault(key[1], {})[key[2]] = row
+
+    def _take_out(self, key):
+        self.rows.pop(key, None)
+        if key[0] in self.years:
+            named = self.years[key[0]].get(key[1], {})
+            named.pop(int(key[2]), None)
+            if not named:
+                self.years[key[0]].pop(key[1], None)
+        elif key[0] == "line":
+            self.lines.pop(key[1], None)
+        elif key[0] == "bind":
+            self.bindings.get(key[1], {}).pop(key[2], None)
+
+    @property
+    def span(self):
+        """The first and the last year, or None."""
+        row = self.rows.get(("span",))
+        return (int(row.field("year")), int(row.field("value"))) if row else None
+
+    def some_record(self, kind, name):
+        """The earliest record of an activity or a factor, or None."""
+        years = self.years[kind].get(name)
+        return years[min(years)] if years else None
+
+    def in_force(self, kind, name, year):
+        """The record that an activity or a factor has in a year, or None."""
+        years = self.years[kind].get(name, {})
+        if kind == "activity":
+            return years.get(year)
+        begun = [start for start in years if start <= year]
+        return years[max(begun)] if begun else None
+
+    def taken(self):
+        """The activities and factors that lines take, as pairs of kind and name, each with the bindings that take it."""
+        found = {}
+        for bound in self.bindings.values():
+            for row in bound.values():
+                if row.field("value") in self.years:
+                    found.setdefault((row.field("value"), row.field("low")), []).append(row)
+        return found
+
+
+def key_of(row):
+    """The key of the record that a row speaks of, out of its fields as they are."""
+    kind = row.field("kind")
+    if kind in ("activity", "factor"):
+        return (kind, row.field("name"), row.field("year"))
+    if kind == "line":
+        return (kind, row.field("name"))
+    if kind == "bind":
+        return (kind, row.field("subject"), row.field("name"))
+    return (kind,)
+
+
+def lines_taken_by(row):
+    """The lines that a binding takes."""
+    if row.field("value") in ("line", "prev", "sum"):
+        return row.field("low").split(" ")
+    return []

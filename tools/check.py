@@ -1,0 +1,166 @@
+"""Finds every fault of every file in one run of the program.
+
+Each file is submitted. At a refusal its place is recorded and the row taken out, or the text put in its place that the
+program takes and that alone can be meant; then the file is submitted again, until it is accepted. So each fault is one
+that the program found.
+"""
+from tools import bindings, headers
+from tools.book import Book, key_of
+from tools.causes import name as mended_name
+from tools.explain import Explainer
+from tools.faults import Fault, counted
+from tools.sheets import COLUMNS, joined
+
+HEADER = joined(COLUMNS)
+# A row that no workbook has its line for. Behind it no body is accepted: what a row breaks by itself comes first.
+NEVER_ACCEPTED = joined(["enter", "bind", "NO.SUCH.LINE.-.-.-.-.-", "X", "", "key", "NE", "", "", ""])
+OF_THE_ROW_ALONE = (4, 5, 6, 7)
+OF_A_ROW = (4, 5, 6, 7, 8, 9)
+
+
+class Refused:
+    """The rows that were refused and taken out, by what they would have set; and the records that a binding meant."""
+
+    def __init__(self):
+        self.rows, self.meant, self.meant_records = {}, {}, set()
+
+    def add(self, rows):
+        for row in rows:
+            key = tuple(mended_name(part).text for part in key_of(row)[1:])
+            kind = row.field("kind").strip().lower()
+            self.rows.setdefault((kind, *key), row)
+            self.rows.setdefault((kind, *key[:1]), row)
+            if kind == "bind" and row.field("value") in ("activity", "factor"):
+                self.meant_records.add((row.field("value"), row.field("low")))
+
+    def add_meant(self, pairs):
+        """Keys that refused rows would have set, had they been right."""
+        for key, row in pairs:
+            self.meant.setdefault(key, row)
+
+    def that_sets(self, key):
+        """The refused row that would have set a key, or None."""
+        return self.rows.get(key) or self.meant.get(key)
+
+    def that_enters(self, kind, name):
+        """A refused row of an activity or a factor, or None."""
+        return self.rows.get((kind, name))
+
+
+class Check:
+    """The check of a workbook's files, in their order, in one session of the program."""
+
+    def __init__(self, program):
+        self.program = program
+        self.book, self.refused = Book(), Refused()
+        self.faults, self.left = [], []
+
+    def add(self, sheet):
+        """Checks the next file."""
+        faults, rows = headers.close_quotes(sheet)
+        self.faults += faults
+        reply = self.program.submit(body_of(rows) if faults else sheet.data)
+        if reply.rule == 4 and reply.row == 0:
+            fault, rows = headers.explain(sheet)
+            self.faults.append(fault)
+            reply = self.program.submit(body_of(rows)) if rows else None
+        tries = 0
+        while reply and not reply.accepted:
+            tries += 1
+            rows = self.changed(sheet, rows, reply) if tries <= 10 * len(rows) + 100 else None
+            reply = self.program.submit(body_of(rows)) if rows else None
+        self.take(sheet, rows if reply else None)
+
+    def take(self, sheet, rows):
+        """Keeps the rows of an accepted file, or marks those of one that no change helps."""
+        if rows is None:
+            self.left.append(sheet)
+            self.refused.add(row for row in sheet.rows[1:] if len(row.fields) == 10)
+            return
+        for row in rows[1:]:
+            self.book.apply(row)
+
+    def changed(self, sheet, rows, reply):
+        """A file's rows without the fault of a reply, which is recorded, or None where nothing helps."""
+        if reply.rule in OF_A_ROW and reply.row:
+            return self.swept(rows, reply)
+        fault, changed = self.of_the_whole(sheet, rows, reply)
+        self.faults.append(fault or Fault(sheet, 1, "", None, f"the program answers: {reply.text}"))
+        return changed
+
+    def of_the_whole(self, sheet, rows, reply):
+        """The fault of a refusal that names no row, and the rows to go on with."""
+        if reply.rule == 3:
+            return Fault(sheet, 1, "", None, f"{len(sheet.data)} bytes where 4194304 are the most; split the file"), None
+        if reply.rule < 10:
+            return None, None
+        book = self.book.copy()
+        for row in rows[1:]:
+            book.apply(row)
+        after = bindings.After(book, rows, self.refused)
+        words = reply.rest.split()
+        if reply.rule == 10:
+            return bindings.explain(*words, after)
+        if reply.rule == 11:
+            return bindings.too_many(words[0], sheet, after)
+        if reply.rule == 12:
+            return bindings.ring(words[0], after)
+        return bindings.overflow(words[0], sheet, after)
+
+    def swept(self, rows, reply):
+        """The rows without those that break a rule of their own: the one that the reply names, and those that follow.
+
+        Each of the following rows is submitted by itself. What it breaks of rules 4 to 7 is so in the file as well; what it
+        breaks of rules 8 and 9 is so where no row of the file before it is of the same record.
+        """
+        at = reply.row
+        book, touched = self.book.copy(), set()
+        for row in rows[1:at]:
+            book.apply(row)
+            touched.add(key_of(row)[:2])
+        explainer = Explainer(self.takes, book, self.refused)
+        kept, replies = rows[:at], [reply] + self.probe(rows[at + 1:])
+        for row, reply in zip(rows[at:], replies):
+            if row is rows[at] or reply.rule in OF_THE_ROW_ALONE or (reply.rule in OF_A_ROW and key_of(row)[:2] not in touched):
+                row = self.settled(row, reply, explainer)
+            if row is not None:
+                kept.append(row)
+                book.apply(row)
+                touched.add(key_of(row)[:2])
+        return kept
+
+    def settled(self, row, reply, explainer):
+        """A row without its faults, which are recorded, or None where it is taken out."""
+        fault, changed = explainer.explain(row, reply)
+        self.faults.append(fault)
+        if changed is None:
+            self.refused.add([row])
+            return None
+        reply = self.probe([changed])[0]
+        return self.settled(changed, reply, explainer) if reply.rule in OF_THE_ROW_ALONE else changed
+
+    def takes(self, row, column):
+        """Asks the program whether it takes what stands in a column of a row."""
+        reply = self.probe([row])[0]
+        return not (reply.rule in (4, 5, 6) and reply.column == column) and reply.rule != 4
+
+    def probe(self, rows):
+        """What the program answers to each row by itself. None of them is accepted."""
+        front = HEADER + b"\n" + NEVER_ACCEPTED + b"\n"
+        replies = self.program.submit_all(front + row.raw + b"\n" for row in rows)
+        for reply in replies:
+            if reply.rule in OF_A_ROW and reply.row != 2:
+                reply.rule = 0
+        return replies
+
+
+def body_of(rows):
+    """Rows as the body of a submission."""
+    return b"".join(row.raw + b"\n" for row in rows)
+
+
+def summary(faults, warnings, sheets):
+    """The last line of a check."""
+    followed = sum(1 for fault in faults if fault.follows)
+    rest = f", of which {followed} only {'follows' if followed == 1 else 'follow'} from others" if followed else ""
+    return f"{counted(len(sheets), 'file')}: {counted(len(faults), 'fault')}{rest}, {counted(len(warnings), 'warning')}"

@@ -1,0 +1,143 @@
+"""Which years of each category and gas are estimated, and where the records have gaps.
+
+Whether a line's year has a value is what the program prints of it. Why it has none, or a zero, is told by the records that
+the line takes.
+"""
+import sys
+
+from tools import notices, vocabulary
+from tools.book import Book, lines_taken_by
+from tools.tables import submit_all
+
+GAP = "!"
+# The state of a category and gas is that of its least complete line.
+LEAST_COMPLETE = [GAP, "NE", "E", "IE", "NO", "NA"]
+ZERO = ["0.000", "0.000", "0.000"]
+ZERO_OF_OTHERS = ["0.000000", "0.000000", "0.000000"]
+
+
+class States:
+    """The state of each line in each year."""
+
+    def __init__(self, book, cells):
+        self.book, self.cells, self.known = book, cells, {}
+
+    def of(self, line, year):
+        """E where the line has a value; a notation key; or ! where a record is missing."""
+        figures = self.cells[year][line]
+        taken = self.taken(line, year)
+        if figures[0] == "NE":
+            return GAP if GAP in taken else "NE"
+        keys = [key for key in ("NO", "IE", "NA") if key in taken]
+        return keys[0] if keys and figures in (ZERO, ZERO_OF_OTHERS) else "E"
+
+    def taken(self, line, year):
+        """The notation keys and the gaps among what a line takes in a year, over the lines that it takes."""
+        if (line, year) not in self.known:
+            self.known[line, year] = set()
+            bound = self.book.bindings.get(line, {}).values()
+            self.known[line, year] = set().union(*(self.taken_by(row, year) for row in bound))
+        return self.known[line, year]
+
+    def taken_by(self, bound, year):
+        form, target = bound.field("value"), bound.field("low")
+        if form == "key":
+            return {target}
+        if form in ("activity", "factor"):
+            row = self.book.in_force(form, target, year)
+            if row is None:
+                return {GAP}
+            return {row.field("value")} & set(vocabulary.words()["keys"])
+        if form == "prev":
+            year -= 1
+        if year < self.book.span[0]:
+            return set()
+        return set().union(*(self.taken(line, year) for line in lines_taken_by(bound)))
+
+
+def read_cells(program, years):
+    """The figures of each line in each year, as the program prints them."""
+    found = {}
+    for year in years:
+        rows = [line.split(",") for line in program.show("cells", year)[1:]]
+        found[year] = {row[0]: row[5:] for row in rows}
+    return found
+
+
+def matrix(book, cells, years):
+    """The states of each category and gas, by year."""
+    states, found = States(book, cells), {}
+    for name, row in sorted(book.lines.items()):
+        gas = vocabulary.gas_of(row.field("value"))
+        if gas:
+            found.setdefault((row.field("subject"), gas), []).append(name)
+    order = list(vocabulary.categories())
+    gases = list(dict.fromkeys(vocabulary.gas_of(code) for code in vocabulary.equations()))
+    keys = sorted(found, key=lambda key: (order.index(key[0]), gases.index(key[1])))
+    return {key: [min((states.of(name, year) for name in found[key]), key=LEAST_COMPLETE.index) for year in years] for key in keys}
+
+
+def print_matrix(rows, years, as_csv):
+    if as_csv:
+        print(",".join(["category", "gas", *map(str, years)]))
+        for (code, gas), states in rows.items():
+            print(",".join([code, gas, *states]))
+        return
+    print(f"{'':10} " + " ".join(f"{year % 100:02}" for year in years))
+    for (code, gas), states in rows.items():
+        print(f"{code:5}{gas:5} " + " ".join(f"{state:2}" for state in states).rstrip())
+
+
+def gaps(book, years):
+    """The activities that lines take and that lack years of the span."""
+    taken = book.taken()
+    for name, records in sorted(book.years["activity"].items()):
+        lacking = [year for year in years if year not in records]
+        if lacking and ("activity", name) in taken:
+            row = records[min(records)]
+            yield f"activity {name} ({row.place}) has no record of {notices.years_said(lacking)}"
+
+
+def said_of(warnings):
+    return [f"{warning.cause} ({warning.place})" for warning in warnings]
+
+
+def without_line(book):
+    """The leaf categories of the tree at which no line stands."""
+    there = {row.field("subject") for row in book.lines.values()}
+    return [f"{code} {vocabulary.categories()[code]['name']}" for code in vocabulary.leaves()
+            if code not in there and code not in notices.MEMOS]
+
+
+def print_list(heading, items):
+    print(f"\n{heading}: {'none' if not items else ''}".rstrip())
+    for item in items:
+        print(f"  {item}")
+
+
+def run(program, sheets, as_csv):
+    """Prints the states of all categories and gases, then lists, and answers the status."""
+    accepted = submit_all(program, sheets)
+    book = Book()
+    for sheet in accepted:
+        for row in sheet.rows[1:]:
+            book.apply(row)
+    if book.span is None:
+        print("./workbook: no span is in force, so that there are no years", file=sys.stderr)
+        return 1
+    years = range(book.span[0], book.span[1] + 1)
+    rows = matrix(book, read_cells(program, years), years)
+    print_matrix(rows, years, as_csv)
+    if as_csv:
+        return 0 if len(accepted) == len(sheets) else 1
+    lists = {
+        "Gaps in a series": list(gaps(book, years)),
+        "Factors that begin late": said_of(notices.late_factors(book, *book.span)),
+        "Missing potentials": said_of(notices.without_potential(book)),
+    }
+    wrong = len(accepted) < len(sheets) or any(lists.values()) or any(GAP in states for states in rows.values())
+    for heading, items in lists.items():
+        print_list(heading, items)
+    print_list("Taken by no line", said_of(notices.orphans(book, notices.Nothing(), sheets)))
+    print_list("Categories without a line", without_line(book))
+    return 1 if wrong else 0

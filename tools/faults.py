@@ -1,0 +1,73 @@
+"""A fault or a warning as one line: the place as an editor counts it, the text found, the cause and what to write."""
+import dataclasses
+
+LONGEST = 60
+
+
+@dataclasses.dataclass
+class Fault:
+    """A fault that the program found. It follows from another where that one's row would have prevented it."""
+    sheet: object
+    line: int
+    column: str = ""
+    text: str | None = None
+    cause: str = ""
+    write: str | None = None
+    follows: str | None = None
+    row: object = None
+    last_line: int | None = None
+
+    @property
+    def place(self):
+        return f"{self.sheet.name}:{self.line}"
+
+    def same_but_for_the_line(self):
+        return (self.column, self.text, self.cause, self.write, self.follows)
+
+    def __str__(self):
+        until = f"-{self.last_line}" if self.last_line else ""
+        where = f" {self.column}" if self.column else ""
+        found = f" {shown(self.text)}" if self.text is not None else ""
+        write = f"; write {self.write}" if self.write else ""
+        follows = f" (follows from {self.follows})" if self.follows else ""
+        return f"{self.place}{until}{where}{found}: {self.cause}{write}{follows}"
+
+
+def at_row(row, cause, column="", write=None, follows=None):
+    """A fault of a row, or of a column of it."""
+    text = row.field(column) if column else None
+    return Fault(row.sheet, row.line, column, text, cause, write, follows, row)
+
+
+def shown(text):
+    """A text in quotes on one line, with what cannot be seen written out."""
+    written = "".join(seen(letter) for letter in text[:LONGEST])
+    return f'"{written}{"..." if len(text) > LONGEST else ""}"'
+
+
+def seen(letter):
+    code = ord(letter)
+    if 0xDC80 <= code <= 0xDCFF:
+        return f"<{code - 0xDC00:02X}>"
+    if letter == " " or (letter.isprintable() and not letter.isspace()):
+        return letter
+    return {"\n": "\\n", "\r": "\\r", "\t": "\\t"}.get(letter, f"<U+{code:04X}>")
+
+
+def in_order(faults, sheets):
+    """Faults by the order of the files and then by lines; like ones of lines in sequence are one."""
+    at = {id(sheet): place for place, sheet in enumerate(sheets)}
+    found = []
+    for fault in sorted(faults, key=lambda fault: (at[id(fault.sheet)], fault.line)):
+        before = found[-1] if found else None
+        if before and before.sheet is fault.sheet and (before.last_line or before.line) + 1 == fault.line \
+                and before.same_but_for_the_line() == fault.same_but_for_the_line():
+            before.last_line = fault.line
+        else:
+            found.append(dataclasses.replace(fault))
+    return found
+
+
+def counted(number, what):
+    """A number with its noun: 1 fault, 2 faults."""
+    return f"{number} {what}{'' if number == 1 else 's'}"

@@ -1,0 +1,237 @@
+"""What the program takes and a compiler would want to know of. A warning refuses nothing."""
+import decimal
+import re
+
+from tools import vocabulary
+from tools.faults import Fault, at_row
+from tools.vocabulary import listed, nearest
+
+MEMOS = ("MB", "MC", "RA")
+# A file of nothing but factors, as one of defaults, may have more than these that no line takes: they are one warning.
+FEW = 3
+# The changes of stocks of the reference approach have a sign.
+SIGNED = {"SC"}
+NAMES_SHOWN = 6
+
+
+def all_warnings(book, refused, sheets):
+    """Every warning about a workbook."""
+    found = headers_alone(sheets)
+    found += orphans(book, refused, sheets)
+    found += double_lines(book)
+    found += ratios(book)
+    found += negatives(book)
+    span = book.rows.get(("span",))
+    if not span:
+        return found + [Fault(sheets[0], 1, "warning", None, "no span is in force, so that there is no table")]
+    first, last = book.span
+    found += outside(book, first, last)
+    found += late_factors(book, first, last)
+    found += without_potential(book)
+    return found + without_last_year(book, span, last)
+
+
+def warn(row, cause):
+    fault = at_row(row, cause)
+    fault.column = "warning"
+    return fault
+
+
+def headers_alone(sheets):
+    return [Fault(sheet, 1, "warning", None, "a header alone: the file has no rows") for sheet in sheets if len(sheet.rows) == 1]
+
+
+def years_said(years):
+    """Years as runs: 1990 to 1995, 1997."""
+    runs = []
+    for year in sorted(years):
+        if runs and runs[-1][1] == year - 1:
+            runs[-1][1] = year
+        else:
+            runs.append([year, year])
+    return listed([str(first) if first == last else f"{first} to {last}" for first, last in runs], "and")
+
+
+def untaken(book, refused, kind):
+    """The names of a kind that no line takes, nor was meant to."""
+    taken = set(book.taken()) | refused.meant_records
+    return [name for name in sorted(book.years[kind]) if (kind, name) not in taken and not name.startswith("GWP.")]
+
+
+def orphans(book, refused, sheets):
+    """Activities and factors that no line takes."""
+    found = [warn(book.some_record("activity", name), orphan_activity(book, name)) for name in untaken(book, refused, "activity")]
+    by_sheet = {}
+    for name in untaken(book, refused, "factor"):
+        row = book.some_record("factor", name)
+        by_sheet.setdefault(id(row.sheet), []).append((name, row))
+    for rows in by_sheet.values():
+        sheet = rows[0][1].sheet
+        if len(rows) > FEW and all(row.field("kind") == "factor" for row in sheet.rows[1:]):
+            names = [name for name, _ in rows]
+            more = f" and {len(names) - NAMES_SHOWN} more" if len(names) > NAMES_SHOWN else ""
+            cause = f"no line takes {len(names)} of its factors: {', '.join(names[:NAMES_SHOWN])}{more}"
+            found.append(warn(rows[0][1], cause))
+        else:
+            found += [warn(row, f"no line takes factor {name}{other_name(book, 'factor', name)}") for name, row in rows]
+    return found
+
+
+def orphan_activity(book, name):
+    years = book.years["activity"][name]
+    return f"no line takes activity {name} ({years_said(years)}){other_name(book, 'activity', name)}"
+
+
+def other_name(book, kind, name):
+    """A name that a line takes and that may be meant, with the years that it lacks."""
+    known = [taken for of_kind, taken in book.taken() if of_kind == kind and taken in book.years[kind]]
+    near = nearest(name, known, 1, 0.8)
+    if not near:
+        return ""
+    lacking = set(book.years[kind][name]) - set(book.years[kind][near[0]]) if kind == "activity" else set()
+    of = f", which has no record of {years_said(lacking)}" if lacking else ""
+    return f"; is it {near[0]}{of}?"
+
+
+def outside(book, first, last):
+    """Records that no year of the span reads."""
+    found = []
+    for name, years in sorted(book.years["activity"].items()):
+        beyond = [year for year in years if not first <= year <= last]
+        if beyond:
+            cause = f"activity {name} of {years_said(beyond)} is outside the span, {first} to {last}; no line reads it"
+            found.append(warn(years[min(beyond)], cause))
+    for name, years in sorted(book.years["factor"].items()):
+        beyond = [year for year in years if year > last]
+        if beyond:
+            found.append(warn(years[min(beyond)], f"factor {name} of {years_said(beyond)} begins after the span, {first} to {last}"))
+    return found
+
+
+def late_factors(book, first, last):
+    """Factors that lines take and that begin after the first year."""
+    found = []
+    taken = book.taken()
+    for name, years in sorted(book.years["factor"].items()):
+        begins = min(years)
+        if first < begins <= last and ("factor", name) in taken:
+            lines = listed(sorted({row.field("subject") for row in taken["factor", name]}), "and")
+            found.append(warn(years[begins], f"factor {name} begins in {begins}; {lines} is blank in {years_said(range(first, begins))}"))
+    return found
+
+
+def emitted(book):
+    """The lines that emit a gas, by gas."""
+    found = {}
+    for name, row in sorted(book.lines.items()):
+        gas = vocabulary.gas_of(row.field("value"))
+        if gas:
+            found.setdefault(gas, []).append(row)
+    return found
+
+
+def without_potential(book):
+    """Gases that lines emit and that no potential is in force for in some year."""
+    found = []
+    first = book.span[0]
+    for gas, rows in emitted(book).items():
+        years = book.years["factor"].get(f"GWP.{gas}")
+        lines = f"{len(rows)} {'line emits' if len(rows) == 1 else 'lines emit'} {gas}"
+        if not years:
+            found.append(warn(rows[0], f"{lines}, and there is no factor GWP.{gas}; totals count it as zero"))
+        elif min(years) > first:
+            row = years[min(years)]
+            found.append(warn(row, f"{lines}, and GWP.{gas} begins in {min(years)}; totals before count it as zero"))
+    return found
+
+
+def without_last_year(book, span, last):
+    """A span whose last year no activity reaches."""
+    if not book.years["activity"] or any(last in years for years in book.years["activity"].values()):
+        return []
+    latest = max(max(years) for years in book.years["activity"].values())
+    return [warn(span, f"the span goes to {last}, and no activity has a record of it; the latest is of {latest}")]
+
+
+def figures(row):
+    """The figures of a record in the base unit, without notation keys and empty columns."""
+    unit = vocabulary.units()[row.field("unit")]
+    texts = [row.field(column) for column in ("value", "low", "high")]
+    return [decimal.Decimal(text) * unit["over"] / unit["under"] for text in texts if re.match(r"-?\d", text)]
+
+
+def named_records(book):
+    """Each activity and factor but the potentials, with its records by years."""
+    for kind, named in book.years.items():
+        for name, years in sorted(named.items()):
+            if not name.startswith("GWP."):
+                yield kind, name, sorted(years.items())
+
+
+def ratios(book):
+    """Ratios outside 0 to 1: once for each name."""
+    found = []
+    for kind, name, records in named_records(book):
+        if vocabulary.measured_by(records[0][1].field("unit")) != "ratio":
+            continue
+        odd = [row for _, row in records if any(not 0 <= figure <= 1 for figure in figures(row))]
+        if odd:
+            row = odd[0]
+            low, high = row.field("low"), row.field("high")
+            bounds = f" ({low} to {high})" if low else ""
+            more = f", and {len(odd) - 1} more of its records" if len(odd) > 1 else ""
+            found.append(warn(row, f"{kind} {name} is a ratio outside 0 to 1: {row.field('value')}{bounds} {row.field('unit')}{more}"))
+    return found
+
+
+def negatives(book):
+    """Negative activities: once for each name."""
+    found, taken = [], book.taken()
+    for kind, name, records in named_records(book):
+        if kind != "activity" or vocabulary.measured_by(records[0][1].field("unit")) == "ratio":
+            continue
+        bound = taken.get((kind, name), [])
+        if bound and all(row.field("name") in SIGNED for row in bound):
+            continue
+        odd = [row for _, row in records if row.field("value").startswith("-")]
+        if odd:
+            more = f", and in {len(odd) - 1} more years" if len(odd) > 1 else ""
+            found.append(warn(odd[0], f"activity {name} is negative: {odd[0].field('value')} {odd[0].field('unit')} in {odd[0].field('year')}{more}"))
+    return found
+
+
+def double_lines(book):
+    """Lines of one equation over the same activities that no share tells apart."""
+    found, seen = [], {}
+    for name, row in sorted(book.lines.items(), key=lambda item: (item[1].sheet.name, item[1].line)):
+        if row.field("subject") in MEMOS:
+            continue
+        key = what_it_takes(book, name, row.field("value"))
+        if key is None:
+            continue
+        before = seen.setdefault(key, row)
+        if before is not row:
+            activities = listed(sorted({taken for _, taken in key[1]}), "and")
+            cause = f"line {name} and line {before.field('name')} ({before.place}) are both {key[0]} of activity {activities}; is it counted twice?"
+            found.append(warn(row, cause))
+    return found
+
+
+def what_it_takes(book, name, code):
+    """The equation of a line, its activities and what its ratios are bound to; None where it takes no activity."""
+    parameters = vocabulary.parameters_of(code)
+    bound = book.bindings.get(name, {})
+    activities = frozenset((parameter, row.field("low")) for parameter, row in bound.items() if row.field("value") == "activity")
+    shares = frozenset((parameter, row.field("value"), row.field("low")) for parameter, row in bound.items()
+                       if parameters[parameter]["measures"] == "ratio")
+    return (code, activities, shares) if activities else None
+
+
+def warn_left(left):
+    """The files that ORDER.txt leaves out."""
+    return [f"{name} warning: {order} does not list this file, and it is left out" for name, order in left]
+
+
+class Nothing:
+    """No refused rows."""
+    meant_records = frozenset()

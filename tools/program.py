@@ -1,0 +1,125 @@
+"""The built program as a process: a command is written to it, and its reply read.
+
+The program answers command by command, and a refused submission changes nothing. So a file that was refused is submitted
+again, changed, to the same process, and nothing has to be submitted twice.
+"""
+import dataclasses
+import os
+import pathlib
+import re
+import subprocess
+
+TOP = pathlib.Path(__file__).resolve().parent.parent
+# So many commands are written before their replies are read: as many replies have room in a pipe.
+COMMANDS_AT_ONCE = 400
+BYTES_AT_ONCE = 1 << 20
+REFUSED = re.compile(r"refused (\d+) (\w+)(?: row (\d+))?(?: column (\w+))?(?: (.*))?")
+
+
+class ProgramFailed(Exception):
+    """The program could not be started, or it ended before it had answered."""
+
+
+@dataclasses.dataclass
+class Reply:
+    """What the program answers to a submission. Row and column say where a rule is broken, and rest says it of rules 10 to 13."""
+    text: str
+    rule: int = 0
+    row: int | None = None
+    column: str | None = None
+    rest: str = ""
+
+    @property
+    def accepted(self):
+        return self.rule == 0
+
+
+def read_reply(text):
+    """A reply to a submission out of its line."""
+    if re.fullmatch(r"(accepted|repeated) \d+", text):
+        return Reply(text)
+    found = REFUSED.fullmatch(text)
+    if not found:
+        raise ProgramFailed(f"the program answered a submission with: {text}")
+    rule, _, row, column, rest = found.groups()
+    return Reply(text, int(rule), None if row is None else int(row), column, rest or "")
+
+
+def found_program(given=None):
+    """The program's path: the given one, or that of GHG_PROGRAM, or the launcher, which builds it where it is missing."""
+    path = given or os.environ.get("GHG_PROGRAM") or str(TOP / "ghg")
+    if not os.access(path, os.X_OK) or os.path.isdir(path):
+        raise ProgramFailed(f"there is no program at {path}")
+    return path
+
+
+class Program:
+    """A session of the program. It is closed at the end of a `with` block."""
+
+    def __init__(self, path):
+        self.submitted = 0
+        try:
+            self.process = subprocess.Popen([path, "compile"], stdin=subprocess.PIPE, stdout=subprocess.PIPE)
+        except OSError as error:
+            raise ProgramFailed(f"{path} cannot be run: {error.strerror}") from error
+
+    def __enter__(self):
+        return self
+
+    def __exit__(self, *_):
+        for stream in (self.process.stdin, self.process.stdout):
+            try:
+                stream.close()
+            except OSError:
+                pass
+        self.process.wait()
+
+    def submit(self, body):
+        """Submits a body under an id that was not used, and reads the reply."""
+        return self.submit_all([body])[0]
+
+    def submit_all(self, bodies):
+        """Submits bodies in turn, and reads their replies."""
+        replies, waiting, size = [], 0, 0
+        for body in bodies:
+            self.submitted += 1
+            self._write(b"SUBMIT w%d %d\n%b" % (self.submitted, len(body), body))
+            waiting, size = waiting + 1, size + len(body)
+            if waiting == COMMANDS_AT_ONCE or size > BYTES_AT_ONCE:
+                replies += self._replies(waiting)
+                waiting, size = 0, 0
+        return replies + self._replies(waiting)
+
+    def show(self, table, year):
+        """The lines of a table with its header, or None where there is no such table."""
+        self._write(f"SHOW {table} {year}\n".encode())
+        self._flush()
+        first = self._line()
+        if first == "no table":
+            return None
+        return [self._line() for _ in range(int(first.split()[-1]))]
+
+    def _replies(self, count):
+        self._flush()
+        return [read_reply(self._line()) for _ in range(count)]
+
+    def _write(self, piece):
+        try:
+            self.process.stdin.write(piece)
+        except OSError as error:
+            raise self._ended() from error
+
+    def _flush(self):
+        try:
+            self.process.stdin.flush()
+        except OSError as error:
+            raise self._ended() from error
+
+    def _line(self):
+        line = self.process.stdout.readline()
+        if not line.endswith(b"\n"):
+            raise self._ended()
+        return line[:-1].decode("ascii")
+
+    def _ended(self):
+        return ProgramFailed(f"the program ended with status {self.process.wait()} before it had answered")

@@ -1,0 +1,180 @@
+"""A folder of CSV files: their order, and each file's rows with the lines on which an editor shows them."""
+import csv
+import io
+import pathlib
+import re
+
+BYTE_ORDER_MARK = b"\xef\xbb\xbf"
+# A field to its end: a quoted one over closed pairs of quotes, or one without a quote in front. The flag of the second
+# group is set where the closing quote is missing.
+FIELD = re.compile(rb'"[^"]*(?:""[^"]*)*(?:"[^,\r\n]*|(\Z))|[^,\r\n]*')
+LINE_END = re.compile(rb"\r\n|\r|\n")
+
+
+class FolderFault(Exception):
+    """A folder that cannot be read as a workbook."""
+
+
+class Row:
+    """A record of a file: the line that it begins on, its bytes without the end of the line, and its fields."""
+
+    __slots__ = ("sheet", "line", "raw", "_fields")
+
+    def __init__(self, sheet, line, raw):
+        self.sheet, self.line, self.raw, self._fields = sheet, line, raw, None
+
+    @property
+    def fields(self):
+        """The fields as texts. Bytes that are no UTF-8 are kept as lone surrogates."""
+        if self._fields is None:
+            text = self.raw.decode("utf-8", "surrogateescape")
+            self._fields = text.split(",") if '"' not in text else fields_of(self.raw)
+        return self._fields
+
+    @property
+    def place(self):
+        return f"{self.sheet.name}:{self.line}"
+
+    def field(self, column):
+        """The field of a column by its name, or nothing where the row is too short."""
+        at = COLUMN_AT[column]
+        return self.fields[at] if at < len(self.fields) else ""
+
+    def with_fields(self, **changed):
+        """The same row with other fields, at the same place."""
+        fields = list(self.fields)
+        for column, text in changed.items():
+            fields[COLUMN_AT[column]] = text
+        return Row(self.sheet, self.line, joined(fields))
+
+
+COLUMNS = ["act", "kind", "subject", "name", "year", "value", "low", "high", "unit", "note"]
+COLUMN_AT = {column: at for at, column in enumerate(COLUMNS)}
+
+
+class Sheet:
+    """A file of a folder: the name to show for it, its bytes and its rows, of which the first is the header."""
+
+    def __init__(self, name, data):
+        self.name, self.data = name, data
+        self.rows = split(self, data)
+        self.notes = []
+
+
+def joined(fields):
+    """Fields as a record of CSV."""
+    if not any(set(field) & set(',"\r\n') for field in fields):
+        return ",".join(fields).encode("utf-8", "surrogateescape")
+    written = io.StringIO()
+    csv.writer(written, lineterminator="").writerow(fields)
+    return written.getvalue().encode("utf-8", "surrogateescape")
+
+
+def fields_of(raw):
+    """The fields of a record with quotes in it."""
+    found, at = [], 0
+    while True:
+        end = FIELD.match(raw, at).end()
+        found.append(unquoted(raw[at:end]).decode("utf-8", "surrogateescape"))
+        if end == len(raw):
+            return found
+        at = end + 1
+
+
+def unquoted(field):
+    """A field without its quotes."""
+    if not field.startswith(b'"'):
+        return field
+    inner = re.match(rb'"([^"]*(?:""[^"]*)*)"?(.*)', field, re.DOTALL)
+    return inner.group(1).replace(b'""', b'"') + inner.group(2)
+
+
+def split(sheet, data):
+    """The rows of a file's bytes, by the ends of lines outside quotes. Empty lines are none."""
+    data = data.removeprefix(BYTE_ORDER_MARK)
+    if b'"' not in data:
+        return [Row(sheet, at, raw) for at, raw in enumerate(data.splitlines(), 1) if raw]
+    rows, at, line = [], 0, 1
+    while at < len(data):
+        end = end_of_record(data, at)
+        raw = data[at:end]
+        if raw:
+            rows.append(Row(sheet, line, raw))
+        after = LINE_END.match(data, end)
+        line += len(LINE_END.findall(raw)) + 1
+        at = after.end() if after else len(data)
+    return rows
+
+
+def end_of_record(data, at):
+    """Where the record ends that begins at a place."""
+    end = LINE_END.search(data, at)
+    end = end.start() if end else len(data)
+    if data.find(b'"', at, end) < 0:
+        return end
+    while True:
+        end = FIELD.match(data, at).end()
+        if data[end:end + 1] != b",":
+            return end
+        at = end + 1
+
+
+def has_open_quote(row):
+    """Tells whether a field of the row begins with a quote that is never closed."""
+    at = 0
+    while b'"' in row.raw:
+        found = FIELD.match(row.raw, at)
+        if found.group(1) is not None:
+            return True
+        if found.end() == len(row.raw):
+            return False
+        at = found.end() + 1
+    return False
+
+
+def natural(name):
+    """A key that sorts 2 before 10."""
+    return [(0, int(part), "") if part.isdigit() else (1, 0, part) for part in re.split(r"(\d+)", name)]
+
+
+def listed_in(order, folder):
+    """The names that ORDER.txt lists, one on a line. Empty lines and lines that begin with # name none."""
+    names = [line.strip() for line in order.read_text(encoding="utf-8-sig").splitlines()]
+    names = [name for name in names if name and not name.startswith("#")]
+    for name in names:
+        if not (folder / name).is_file():
+            raise FolderFault(f"{order}: there is no file {name} in this folder")
+        if names.count(name) > 1:
+            raise FolderFault(f"{order}: the file {name} stands there twice")
+    return names
+
+
+def names_in(folder):
+    """The names of a folder's files in their order, and those that ORDER.txt leaves out."""
+    if not folder.is_dir():
+        raise FolderFault(f"{folder} is no folder")
+    found = sorted((path.name for path in folder.iterdir() if path.suffix.lower() == ".csv"), key=natural)
+    order = folder / "ORDER.txt"
+    if not order.exists():
+        names, left = found, []
+    else:
+        names = listed_in(order, folder)
+        left = [name for name in found if name not in names]
+    if not names:
+        raise FolderFault(f"{folder} has no CSV files")
+    return names, left
+
+
+def read_folders(paths):
+    """The files of folders, in their order, and the names of files that are left out."""
+    sheets, left = [], []
+    for path in map(pathlib.Path, paths):
+        names, others = names_in(path)
+        shown = (lambda name: name) if len(paths) == 1 else (lambda name: str(path / name))
+        left += [(shown(name), shown("ORDER.txt")) for name in others]
+        for name in names:
+            try:
+                sheets.append(Sheet(shown(name), (path / name).read_bytes()))
+            except OSError as error:
+                raise FolderFault(f"{path / name} cannot be read: {error.strerror}") from error
+    return sheets, left

@@ -1,0 +1,64 @@
+"""Compiles a workbook's files and writes the tables of a year."""
+import pathlib
+import sys
+
+from tools import vocabulary
+from tools.faults import counted
+
+
+def said_of(sheet, reply):
+    """The reply to a file with its name, and its rows or the line that the reply names."""
+    if reply.accepted:
+        return f"{sheet.name}: accepted, {counted(len(sheet.rows) - 1, 'row')}"
+    place = ""
+    if reply.row is not None and reply.row < len(sheet.rows):
+        place = f", which is line {sheet.rows[reply.row].line}"
+    return f"{sheet.name}: {reply.text}{place}"
+
+
+def submit_all(program, sheets):
+    """Submits the files and says each reply on standard error. Gives those that were accepted."""
+    accepted, terminal = [], sys.stderr.isatty()
+    for number, sheet in enumerate(sheets, 1):
+        if terminal:
+            print(f"{number} of {len(sheets)}: {sheet.name} ...", end="\r", file=sys.stderr, flush=True)
+        reply = program.submit(sheet.data)
+        print(f"{said_of(sheet, reply)}{'     ' if terminal else ''}", file=sys.stderr)
+        if reply.accepted:
+            accepted.append(sheet)
+    return accepted
+
+
+def run(program, sheets, arguments):
+    """Writes the tables of the year, where each file is accepted, and answers the status."""
+    accepted = submit_all(program, sheets)
+    refused = len(sheets) - len(accepted)
+    if refused:
+        what = f"{refused} of {counted(len(sheets), 'file')} {'is' if refused == 1 else 'are'} refused"
+        why = f"./workbook check {' '.join(arguments.folders)} tells why"
+        if not arguments.partial:
+            print(f"./workbook: {what}, and no table is written; {why}", file=sys.stderr)
+            return 1
+        print(f"./workbook: {what}, and the tables are without {'it' if refused == 1 else 'them'}; {why}", file=sys.stderr)
+    names = arguments.table or vocabulary.words()["tables"]
+    shown = {name: program.show(name, arguments.year) for name in names}
+    missing = [name for name, lines in shown.items() if lines is None]
+    if missing:
+        print(f"./workbook: there is no table {' or '.join(missing)} of {arguments.year}: the span has another year, or there is "
+              f"no span, or the tables are {', '.join(vocabulary.words()['tables'])}", file=sys.stderr)
+        return 1
+    write(shown, arguments)
+    return 1 if refused else 0
+
+
+def write(shown, arguments):
+    """Writes each table to its file, or to standard output where there is no folder to write to."""
+    if arguments.output is None:
+        print("\n\n".join("\n".join(lines) for lines in shown.values()))
+        return
+    folder = pathlib.Path(arguments.output)
+    folder.mkdir(parents=True, exist_ok=True)
+    for name, lines in shown.items():
+        path = folder / f"{name}-{arguments.year}.csv"
+        path.write_text("\n".join(lines) + "\n", encoding="utf-8", newline="\n")
+        print(f"{path}: {counted(len(lines) - 1, 'row')}", file=sys.stderr)

@@ -1,0 +1,102 @@
+"""The words of the program, out of tools/vocabulary.json, and the nearest of them to a text."""
+import difflib
+import functools
+import json
+import pathlib
+import re
+
+PATH = pathlib.Path(__file__).resolve().parent / "vocabulary.json"
+
+
+@functools.cache
+def words():
+    """The whole vocabulary."""
+    return json.loads(PATH.read_text(encoding="utf-8"))
+
+
+@functools.cache
+def units():
+    """Each unit by its word."""
+    return {unit["word"]: unit for unit in words()["units"]}
+
+
+@functools.cache
+def categories():
+    """Each category by its code."""
+    return {category["code"]: category for category in words()["categories"]}
+
+
+@functools.cache
+def equations():
+    """Each equation by its code."""
+    return {equation["code"]: equation for equation in words()["equations"]}
+
+
+@functools.cache
+def leaves():
+    """The codes at which a line may stand."""
+    return [code for code, category in categories().items() if not category["children"]]
+
+
+def leaves_under(code):
+    """The leaves at a code or under it."""
+    children = categories()[code]["children"]
+    return [leaf for child in children for leaf in leaves_under(child)] if children else [code]
+
+
+def units_that_measure(measures):
+    """The words of all units of one dimension, the base unit first."""
+    return [word for word, unit in units().items() if unit["measures"] == measures]
+
+
+def measured_by(word):
+    """What a unit measures, or None where it is no unit."""
+    unit = units().get(word)
+    return unit["measures"] if unit else None
+
+
+def parameters_of(code):
+    """The parameters of an equation by their names."""
+    return {parameter["name"]: parameter for parameter in equations()[code]["parameters"]}
+
+
+def given_by(code):
+    """What a line of an equation gives, in the words of the table of units."""
+    output = equations()[code]["output"]
+    return "gas" if "gas" in output else output["measures"]
+
+
+def gas_of(code):
+    """The gas that an equation emits, or None."""
+    return equations()[code]["output"].get("gas")
+
+
+def said_of_parameter(parameter):
+    """A parameter with what it measures and the base unit."""
+    return f'{parameter["name"]} {parameter["measures"]} ({parameter["unit"]})'
+
+
+def listed(items, last="or"):
+    """Texts in a sentence: a, b or c."""
+    items = list(items)
+    if len(items) < 2:
+        return "".join(items)
+    return f'{", ".join(items[:-1])} {last} {items[-1]}'
+
+
+def plain(text):
+    """A text without case and without what is easily mistyped, to compare texts by."""
+    return re.sub(r"[\s._\-*·/]", "", text).casefold()
+
+
+def nearest(text, known, count=1, cutoff=0.6):
+    """The words that are nearest to a text, those first that differ in case and signs alone."""
+    known = list(known)
+    same = [word for word in known if plain(word) == plain(text)]
+    if same:
+        return same[:count]
+    by_plain = {}
+    for word in known:
+        by_plain.setdefault(plain(word), word)
+    found = difflib.get_close_matches(plain(text), by_plain, count, cutoff)
+    return [by_plain[word] for word in found]

@@ -1,0 +1,97 @@
+"""Searches the vocabulary, and shows an equation with a template of its rows."""
+from tools import vocabulary
+from tools.sheets import COLUMNS
+
+PARTS = ["units", "categories", "equations", "parameters"]
+# What a row of each year has; what measures anything else is a factor.
+MEASURED_YEARLY = {"mass", "energy", "area", "volume", "animals", "people", "carbon", "gas", "days", "anode effect minutes"}
+
+
+def units():
+    for word, unit in vocabulary.units().items():
+        base = vocabulary.units_that_measure(unit["measures"])[0]
+        ratio = f"{unit['over']}" if unit["under"] == 1 else f"{unit['over']}/{unit['under']}"
+        yield word, f"{unit['measures']}{'' if word == base else f', {ratio} {base}'}", ""
+
+
+def categories():
+    for code, category in vocabulary.categories().items():
+        children = category["children"]
+        leaf = f" (not a leaf: {', '.join(children)})" if children else ""
+        yield code, f"{category['name']}{leaf}", category["also"]
+
+
+def equations():
+    for code, equation in vocabulary.equations().items():
+        yield code, f"{equation['computes']}, {equation['source']}", equation["about"]
+
+
+def parameters():
+    """Each parameter with what it measures, and the equations that have it."""
+    found = {}
+    for code, equation in vocabulary.equations().items():
+        for parameter in equation["parameters"]:
+            found.setdefault((parameter["name"], parameter["measures"], parameter["unit"]), []).append(code)
+    for (name, measures, unit), codes in found.items():
+        yield name, f"{measures} ({unit}): {', '.join(codes)}", ""
+
+
+def found_in(items, words):
+    """The items that have all words in them."""
+    return [(word, said) for word, said, also in items
+            if all(part.casefold() in f"{word} {said} {also}".casefold() for part in words)]
+
+
+def sample(parameter):
+    """The rows of a template that give a parameter its figure."""
+    kind = "activity" if parameter["measures"] in MEASURED_YEARLY else "factor"
+    name = f"NAME.{parameter['name']}"
+    bound = f"enter,bind,NAME,{parameter['name']},,{kind},{name},,,"
+    return bound, f"enter,{kind},,{name},YEAR,VALUE,LOW,HIGH,{parameter['unit']},"
+
+
+def print_equation(code):
+    """An equation with its parameters and a template of its rows."""
+    equation = vocabulary.equations()[code]
+    output = equation["output"]
+    gives = f"{output['gas']} in Gg" if "gas" in output else f"{output['measures']} in {output['unit']}, for other lines to take"
+    print(f"{code} {equation['computes']}\n{equation['source']}\n{equation['about']}\n")
+    print(f"gives {gives}: {equation['expression']}\n")
+    for parameter in equation["parameters"]:
+        others = vocabulary.units_that_measure(parameter["measures"])
+        print(f"  {parameter['name']:8} {parameter['measures']}, in {vocabulary.listed(others)}")
+    rows = [sample(parameter) for parameter in equation["parameters"]]
+    print(f"\n{','.join(COLUMNS)}\nenter,line,CATEGORY,NAME,,{code},,,,")
+    print("\n".join([bound for bound, _ in rows] + [figure for _, figure in rows]))
+
+
+def run(words):
+    """Prints what has all words in it, and answers the status."""
+    if words and words[0] in PARTS:
+        parts, words = [words[0]], words[1:]
+    else:
+        parts = PARTS
+    codes = [word.upper() for word in words]
+    if len(codes) == 1 and codes[0] in vocabulary.equations() and "equations" in parts:
+        print_equation(codes[0])
+        return 0
+    lists = {"units": units, "categories": categories, "equations": equations, "parameters": parameters}
+    found = {part: found_in(lists[part](), words) for part in parts}
+    if found.get("equations") and len(found["equations"]) == 1 and sum(map(len, found.values())) == 1:
+        print_equation(found["equations"][0][0])
+        return 0
+    for part, items in found.items():
+        if items:
+            print_items(part, items, len(parts) > 1)
+    if not any(found.values()):
+        print(f"nothing has {' and '.join(words)} in it")
+        return 1
+    return 0
+
+
+def print_items(part, items, with_heading):
+    if with_heading:
+        print(f"{part}:")
+    width = max(len(word) for word, _ in items)
+    for word, said in items:
+        print(f"{'  ' if with_heading else ''}{word:{width}}  {said}")
