@@ -11,10 +11,10 @@ from tools.vocabulary import listed, nearest, said_of_parameter
 
 
 class After:
-    """The data after a file's rows, of which some are the file's own, and the rows that were refused before."""
+    """The data after a file's rows, of which some are the file's own; the rows that were refused; and what later files enter."""
 
-    def __init__(self, book, rows, refused):
-        self.book, self.rows, self.refused = book, rows, refused
+    def __init__(self, book, rows, refused, later):
+        self.book, self.rows, self.refused, self.later = book, rows, refused, later
         self.own = {id(row) for row in rows}
 
     def is_own(self, row):
@@ -28,6 +28,11 @@ class After:
         """The file's rows without some of them."""
         out = {id(row) for row in rows}
         return [row for row in self.rows if id(row) not in out]
+
+    def in_later_file(self, kind, name):
+        """That a later file enters what is not there, or nothing."""
+        row = self.later.entry(kind, name)
+        return f"{kind} {name} is entered in a later file ({row.place}); put that file in front of this one" if row else ""
 
     def blank(self, bound):
         """The file's rows with NE in place of what a binding takes."""
@@ -67,10 +72,11 @@ def without_line(line, parameter, bound, after):
     if refused:
         cause = f"there is no line {line}, since its row was refused{more}"
         fault = at_row(own[0], cause, "subject", follows=refused.place)
+    elif after.in_later_file("line", line):
+        fault = at_row(own[0], after.in_later_file("line", line) + more, "subject")
     else:
         near = nearest(line, after.book.lines, 1, 0.75)
-        write = f"{near[0]} ({after.book.lines[near[0]].place})" if near else None
-        fault = at_row(own[0], f"there is no line {line}{more}", "subject", write)
+        fault = at_row(own[0], f"there is no line {line}{more}{nearest_line(near, after)}", "subject")
         after.refused.add_meant([(("bind", near[0], row.field("name")), row) for row in own] if near else [])
     after.refused.add(own)
     return fault, after.without(own)
@@ -138,14 +144,17 @@ def without_record(bound, kind, name, after):
     other = "factor" if kind == "activity" else "activity"
     if refused:
         fault = at_row(bound, f"there is no {kind} {name}, since its row was refused", "low", follows=refused.place)
-    elif after.book.some_record(other, name):
-        place = after.book.some_record(other, name).place
+    elif after.book.some_record(other, name) or after.refused.that_enters(other, name):
+        place = (after.book.some_record(other, name) or after.refused.that_enters(other, name)).place
         fault = at_row(bound, f"{name} is no {kind} but {said(other)} ({place})", "value", other)
         after.refused.meant_records.add((other, name))
+    elif after.in_later_file(kind, name):
+        fault = at_row(bound, after.in_later_file(kind, name), "low")
+        after.refused.meant_records.add((kind, name))
     else:
         near = nearest(name, after.book.years[kind], 1, 0.7)
-        write = f"{near[0]} ({after.book.some_record(kind, near[0]).place})" if near else None
-        fault = at_row(bound, f"there is no {kind} of this name{'' if near else ': no row enters it'}", "low", write)
+        which = f"; the nearest is {near[0]} ({after.book.some_record(kind, near[0]).place})" if near else ": no row enters it"
+        fault = at_row(bound, f"there is no {kind} of this name{which}", "low")
         after.refused.meant_records.update((kind, found) for found in near)
     return fault, after.blank(bound)
 
@@ -184,9 +193,14 @@ def absent_line(bound, name, after):
     refused = after.refused.that_sets(("line", name))
     if refused:
         return at_row(bound, f"there is no line {name}, since its row was refused", "low", follows=refused.place), after.blank(bound)
+    if after.in_later_file("line", name):
+        return at_row(bound, after.in_later_file("line", name), "low"), after.blank(bound)
     near = nearest(name, after.book.lines, 1, 0.7)
-    write = f"{near[0]} ({after.book.lines[near[0]].place})" if near else None
-    return at_row(bound, f"there is no line {name}", "low", write), after.blank(bound)
+    return at_row(bound, f"there is no line {name}{nearest_line(near, after)}", "low"), after.blank(bound)
+
+
+def nearest_line(near, after):
+    return f"; the nearest is {near[0]} ({after.book.lines[near[0]].place})" if near else ""
 
 
 def ring(line, after):

@@ -17,12 +17,14 @@ SAME_SIZE = {
     "days": "day", "g/mj": "kg/GJ", "kg/kg": "kg/kg", "mj/kg": "GJ/t", "gj/tonne": "GJ/t", "kt/pj": "t/TJ", "gg/pj": "t/TJ",
     "t/tonne": "t/t", "kg/tonne": "kg/t", "1000ha": "kha", "1000t": "kt", "kg/animal": "kg/head", "tj/kt": "TJ/Gg",
 }
+# Units of the same size whose case tells them apart.
+BY_CASE = {"Mg": "t"}
 # Units that people write and the table has not, with the word of another size, and how to come to it.
 OTHER_SIZE = {
     "kwh": ("GWh", "divide by 1000000"), "mwh": ("GWh", "divide by 1000"), "twh": ("GWh", "multiply by 1000"),
     "j": ("GJ", "divide by 1000000000"), "kj": ("GJ", "divide by 1000000"), "mj": ("GJ", "divide by 1000"),
     "ej": ("PJ", "multiply by 1000"), "toe": ("ktoe", "divide by 1000"), "mtoe": ("ktoe", "multiply by 1000"),
-    "g": ("kg", "divide by 1000"), "mt": ("kt", "multiply by 1000"), "tg": ("Gg", "multiply by 1000"), "mg": ("t", "write t for Mg"),
+    "g": ("kg", "divide by 1000"), "mt": ("kt", "multiply by 1000"), "tg": ("Gg", "multiply by 1000"),
     "l": ("m3", "divide by 1000"), "litre": ("m3", "divide by 1000"), "km2": ("ha", "multiply by 100"), "mha": ("kha", "multiply by 1000"),
     "km3": ("Mm3", "multiply by 1000"), "1000m3": ("m3", "multiply by 1000"), "1000head": ("head", "multiply by 1000"),
     "mg/mj": ("g/GJ", "the same number"), "kg/mwh": ("kg/TJ", "divide by 0.0036"), "ppm": ("g/kg", "divide by 1000"),

@@ -26,6 +26,8 @@ class Refused:
 
     def add(self, rows):
         for row in rows:
+            if row.field("act") == "withdraw":
+                continue
             key = tuple(mended_name(part).text for part in key_of(row)[1:])
             kind = row.field("kind").strip().lower()
             self.rows.setdefault((kind, *key), row)
@@ -47,13 +49,41 @@ class Refused:
         return self.rows.get((kind, name))
 
 
+class Later:
+    """What the files behind the one at hand enter, by kind and name."""
+
+    def __init__(self, sheets):
+        self.waiting, self.entered = list(sheets), None
+
+    def next_file(self):
+        """Passes on to the next file."""
+        del self.waiting[0]
+        self.entered = None
+
+    def entry(self, kind, name):
+        """The first row of a later file that enters a name, or None."""
+        if self.entered is None:
+            self.entered = {}
+            rows = (row for sheet in self.waiting for row in sheet.rows[1:] if len(row.fields) == 10)
+            for row in rows:
+                if row.field("act") == "enter":
+                    self.entered.setdefault((row.field("kind"), row.field("name")), row)
+        return self.entered.get((kind, name))
+
+
 class Check:
     """The check of a workbook's files, in their order, in one session of the program."""
 
-    def __init__(self, program):
-        self.program = program
-        self.book, self.refused = Book(), Refused()
-        self.faults, self.left = [], []
+    def __init__(self, program, sheets):
+        self.program, self.sheets = program, sheets
+        self.book, self.refused, self.later = Book(), Refused(), Later(sheets)
+        self.faults = []
+
+    def run(self):
+        """Checks all files."""
+        for sheet in self.sheets:
+            self.later.next_file()
+            self.add(sheet)
 
     def add(self, sheet):
         """Checks the next file."""
@@ -61,7 +91,7 @@ class Check:
         self.faults += faults
         reply = self.program.submit(body_of(rows) if faults else sheet.data)
         if reply.rule == 4 and reply.row == 0:
-            fault, rows = headers.explain(sheet)
+            fault, rows = headers.explain(sheet, rows)
             self.faults.append(fault)
             reply = self.program.submit(body_of(rows)) if rows else None
         tries = 0
@@ -74,7 +104,6 @@ class Check:
     def take(self, sheet, rows):
         """Keeps the rows of an accepted file, or marks those of one that no change helps."""
         if rows is None:
-            self.left.append(sheet)
             self.refused.add(row for row in sheet.rows[1:] if len(row.fields) == 10)
             return
         for row in rows[1:]:
@@ -82,7 +111,7 @@ class Check:
 
     def changed(self, sheet, rows, reply):
         """A file's rows without the fault of a reply, which is recorded, or None where nothing helps."""
-        if reply.rule in OF_A_ROW and reply.row:
+        if reply.rule in OF_A_ROW and reply.row and reply.row < len(rows):
             return self.swept(rows, reply)
         fault, changed = self.of_the_whole(sheet, rows, reply)
         self.faults.append(fault or Fault(sheet, 1, "", None, f"the program answers: {reply.text}"))
@@ -97,7 +126,7 @@ class Check:
         book = self.book.copy()
         for row in rows[1:]:
             book.apply(row)
-        after = bindings.After(book, rows, self.refused)
+        after = bindings.After(book, rows, self.refused, self.later)
         words = reply.rest.split()
         if reply.rule == 10:
             return bindings.explain(*words, after)

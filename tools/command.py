@@ -68,9 +68,8 @@ def add_words(commands):
 def run_check(arguments):
     sheets, left = read_folders(arguments.folders)
     with Program(found_program(arguments.program)) as program:
-        checked = check.Check(program)
-        for sheet in sheets:
-            checked.add(sheet)
+        checked = check.Check(program, sheets)
+        checked.run()
     faults = in_order(checked.faults, sheets)
     warnings = [] if arguments.no_warnings else in_order(all_warnings(checked.book, checked.refused, sheets), sheets)
     for line in [*faults, *warnings, *warn_left(left)]:

@@ -7,6 +7,7 @@ import sys
 
 from tools import notices, vocabulary
 from tools.book import Book, lines_taken_by
+from tools.faults import years_said
 from tools.tables import submit_all
 
 GAP = "!"
@@ -95,7 +96,7 @@ def gaps(book, years):
         lacking = [year for year in years if year not in records]
         if lacking and ("activity", name) in taken:
             row = records[min(records)]
-            yield f"activity {name} ({row.place}) has no record of {notices.years_said(lacking)}"
+            yield f"activity {name} ({row.place}) has no record of {years_said(lacking)}"
 
 
 def said_of(warnings):

@@ -4,17 +4,10 @@ import re
 
 from tools import causes, vocabulary
 from tools.book import key_of
-from tools.faults import at_row
+from tools.faults import at_row, years_said
 from tools.vocabulary import listed, nearest
 
 NO_FIGURE = {"-", "--", "n/a", "na.", "n.a.", "n.a", "nan", "null", "none", "...", "..", ".", "x", "?", "tbd", "nd", "n.d."}
-GIVEN_AS = {
-    "activity": {"subject": "an activity has no subject", "unit": "a unit"},
-    "factor": {"subject": "a factor has no subject", "unit": "a unit"},
-    "span": {},
-    "line": {},
-    "bind": {},
-}
 
 
 class Explainer:
@@ -116,10 +109,10 @@ class Explainer:
         text = row.field(column)
         bare = causes.without_blanks(text)
         candidates = [(cause_of(bare.causes), bare.text, True)]
-        for word in nearest(bare.text, known, 1, 0.5):
+        for word in nearest(bare.text, known, 1, 0.75):
             same = word.casefold() == bare.text.casefold()
             cause = "upper case" if same and word.islower() else "lower case" if same else "no such word"
-            candidates.append((cause_of(bare.causes + [cause]), word, same))
+            candidates.append((cause_of(bare.causes + [cause]), word, True))
         what = said or f"{column} is {listed(known)}"
         return self.first_taken(row, column, candidates, f"{'empty' if not bare.text else 'no such word'}; {what}")
 
@@ -179,8 +172,8 @@ class Explainer:
         candidates = [(cause_of(bare.causes), bare.text, True), ("an equation is written like Q10", code, True)]
         if code.isdigit():
             candidates.append(("the code of an equation begins with Q", "Q" + code, True))
-        known = [word for word in nearest(code, vocabulary.equations(), 3, 0.6)]
-        near = "; the nearest are " + listed([said_of_equation(word) for word in known], "and") if known and code else ""
+        known = equations_near(code)
+        near = f"; the nearest are {listed(map(said_of_equation, known), 'and')}" if known else ""
         otherwise = f"no equation of this code{near}; ./workbook words equations lists them"
         return self.first_taken(row, column, candidates, otherwise)
 
@@ -193,8 +186,9 @@ class Explainer:
         candidates = [(cause_of(bare.causes), bare.text, True)]
         for word in [word for word in vocabulary.units() if causes.unit_form(word) == form]:
             candidates.append((cause_of(bare.causes + [f"the unit is written {word}"]), word, True))
-        if form in causes.SAME_SIZE:
-            candidates.append((f"the unit is written {causes.SAME_SIZE[form]}", causes.SAME_SIZE[form], True))
+        same = causes.BY_CASE.get(bare.text) or causes.SAME_SIZE.get(form)
+        if same:
+            candidates.append((f"the unit is written {same}", same, True))
         return self.first_taken(row, column, candidates, unit_otherwise(bare.text, form, dimension))
 
     def target(self, row, column):
@@ -304,7 +298,7 @@ class Explainer:
         key = key_of(row)
         entered = self.book.entered.get(key)
         where = f" at {entered.place}" if entered and key in self.book.rows else ""
-        if entered and entered.fields[:9] == row.fields[:9]:
+        if entered and self.book.rows.get(key) is entered and entered.fields[:9] == row.fields[:9]:
             cause = f"{said_of_key(key)} is entered already{where}, with the same figures; take one of the two out"
             return at_row(row, cause), None
         return at_row(row, f"{said_of_key(key)} is entered already{where}; to change it use correct, else give this one another name or year"), None
@@ -315,27 +309,21 @@ class Explainer:
         entered = self.refused.that_sets(key)
         if entered:
             return at_row(row, f"there is no {said_of_key(key)} to {act}, since its row was refused", follows=entered.place), None
-        cause = f"there is no {said_of_key(key)} to {act}"
-        near = self.nearest_to(key)
+        years = self.book.years.get(key[0], {}).get(key[1]) if len(key) > 1 else None
+        there = f"; there are records of {years_said(years)}" if years else ""
+        near = self.nearest_name(key)
+        other = f"; the nearest name is {near}" if near else ""
         instead = "; use enter" if act == "correct" else ""
         changed = row.with_fields(act="enter") if act == "correct" and not near else None
-        return at_row(row, f"{cause}{instead}{near}"), changed
+        return at_row(row, f"there is no {said_of_key(key)} to {act}{instead}{there}{other}"), changed
 
-    def nearest_to(self, key):
-        """The nearest record that there is."""
-        if key[0] in ("activity", "factor"):
-            named = self.book.years[key[0]]
-            years = named.get(key[1])
-            if years:
-                return f"; there are records of {listed(map(str, sorted(years)), 'and')}"
-            near = nearest(key[1], named, 1, 0.75)
-        elif key[0] == "line":
-            near = nearest(key[1], self.book.lines, 1, 0.75)
-        elif key[0] == "bind":
-            near = nearest(key[1], self.book.lines, 1, 0.75) if key[1] not in self.book.lines else []
-        else:
-            near = []
-        return f", or the nearest name, {near[0]}" if near else ""
+    def nearest_name(self, key):
+        """The nearest name that there is, where the key's own is none."""
+        named = self.book.years.get(key[0], self.book.lines)
+        if len(key) == 1 or key[1] in named:
+            return None
+        near = nearest(key[1], named, 1, 0.75)
+        return near[0] if near else None
 
 
 def cause_of(found):
@@ -355,6 +343,15 @@ def said_of_key(key):
     if key[0] == "bind":
         return f"binding of {key[2]} of {key[1]}"
     return " ".join(key)
+
+
+def equations_near(code):
+    """The equations with the nearest numbers to a code that is none."""
+    found = re.fullmatch(r"Q(\d+)", code)
+    if not found:
+        return []
+    number = int(found.group(1))
+    return sorted(vocabulary.equations(), key=lambda known: abs(int(known[1:]) - number))[:3]
 
 
 def said_of_equation(code):

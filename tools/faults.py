@@ -1,6 +1,8 @@
 """A fault or a warning as one line: the place as an editor counts it, the text found, the cause and what to write."""
 import dataclasses
 
+from tools.vocabulary import listed
+
 LONGEST = 60
 
 
@@ -71,3 +73,14 @@ def in_order(faults, sheets):
 def counted(number, what):
     """A number with its noun: 1 fault, 2 faults."""
     return f"{number} {what}{'' if number == 1 else 's'}"
+
+
+def years_said(years):
+    """Years as runs: 1990 to 1995, 1997."""
+    runs = []
+    for year in sorted(years):
+        if runs and runs[-1][1] == year - 1:
+            runs[-1][1] = year
+        else:
+            runs.append([year, year])
+    return listed([str(first) if first == last else f"{first} to {last}" for first, last in runs], "and")

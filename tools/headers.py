@@ -13,12 +13,12 @@ SAVE = "save it as CSV UTF-8 with commas"
 ROWS_IN_FRONT = 30
 
 
-def explain(sheet):
+def explain(sheet, rows):
     """The fault of a file whose header was refused, and its rows as they are read without it, or None."""
-    for cause, mended in (spreadsheet(sheet), encoding(sheet), empty(sheet)):
+    for cause, mended in (spreadsheet(sheet), encoding(sheet), empty(rows)):
         if cause:
             return Fault(sheet, 1, "", None, cause), mended
-    return of_rows(sheet, sheet.rows)
+    return of_rows(sheet, rows)
 
 
 def spreadsheet(sheet):
@@ -36,8 +36,8 @@ def encoding(sheet):
     return None, None
 
 
-def empty(sheet):
-    if not sheet.rows:
+def empty(rows):
+    if not rows:
         return f"the file is empty; its first row is {','.join(COLUMNS)}", None
     return None, None
 

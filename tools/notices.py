@@ -3,7 +3,7 @@ import decimal
 import re
 
 from tools import vocabulary
-from tools.faults import Fault, at_row
+from tools.faults import Fault, at_row, years_said
 from tools.vocabulary import listed, nearest
 
 MEMOS = ("MB", "MC", "RA")
@@ -39,17 +39,6 @@ def warn(row, cause):
 
 def headers_alone(sheets):
     return [Fault(sheet, 1, "warning", None, "a header alone: the file has no rows") for sheet in sheets if len(sheet.rows) == 1]
-
-
-def years_said(years):
-    """Years as runs: 1990 to 1995, 1997."""
-    runs = []
-    for year in sorted(years):
-        if runs and runs[-1][1] == year - 1:
-            runs[-1][1] = year
-        else:
-            runs.append([year, year])
-    return listed([str(first) if first == last else f"{first} to {last}" for first, last in runs], "and")
 
 
 def untaken(book, refused, kind):

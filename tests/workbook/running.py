@@ -1,0 +1,19 @@
+"""Runs `./workbook` over the program that GHG_PROGRAM names, else the one that was built here."""
+import os
+import pathlib
+import subprocess
+
+HERE = pathlib.Path(__file__).resolve().parent
+TOP = HERE.parent.parent
+PROGRAM = os.environ.get("GHG_PROGRAM") or str(TOP / "crates/ghg/out/ghg")
+
+
+def workbook(*words, cwd=TOP):
+    """What a command of `./workbook` prints, and its status."""
+    return subprocess.run([TOP / "workbook", *words], cwd=cwd, capture_output=True, text=True, encoding="utf-8",
+                          env={**os.environ, "GHG_PROGRAM": PROGRAM, "PYTHONUTF8": "1"})
+
+
+def session(script):
+    """What the program itself prints for a script."""
+    return subprocess.run([PROGRAM, "compile"], input=script, capture_output=True, check=True).stdout

@@ -1,0 +1,61 @@
+"""The example country whole: no fault, the program's own tables, and which years are estimated."""
+import pathlib
+import tempfile
+import unittest
+
+from tests.workbook.running import TOP, session, workbook
+
+COUNTRY = ("examples/fuel-combustion", "examples/small-country")
+
+
+def files():
+    return [path for folder in COUNTRY for path in sorted((TOP / folder).glob("*.csv"))]
+
+
+def script(*tables):
+    """A session script of the country's files and of tables."""
+    parts = []
+    for path in files():
+        data = path.read_bytes()
+        parts.append(b"SUBMIT %s %d\n%b" % (path.stem.encode(), len(data), data))
+    return b"".join(parts) + "".join(f"SHOW {table}\n" for table in tables).encode() + b"END\n"
+
+
+class Country(unittest.TestCase):
+    maxDiff = None
+
+    def test_check_finds_no_fault(self):
+        ran = workbook("check", *COUNTRY)
+        self.assertEqual(ran.returncode, 0)
+        self.assertRegex(ran.stdout.splitlines()[-1], r"^11 files: 0 faults, \d+ warnings$")
+        self.assertNotIn("no line takes", ran.stdout)
+
+    def test_tables_are_those_of_the_program(self):
+        names = ("cells", "summary", "series")
+        due = session(script(*(f"{name} 2020" for name in names))).decode().split("accepted 11\n")[1]
+        with tempfile.TemporaryDirectory() as out:
+            ran = workbook("tables", *COUNTRY, "2020", "-o", out)
+            written = {path.name: path.read_text() for path in pathlib.Path(out).iterdir()}
+        self.assertEqual(ran.returncode, 0)
+        self.assertEqual(sorted(written), ["cells-2020.csv", "series-2020.csv", "summary-2020.csv"])
+        for name in names:
+            rows = written[f"{name}-2020.csv"]
+            self.assertIn(f"table {name} 2020 rows {rows.count(chr(10))}\n{rows}", due)
+        replies = [line for line in ran.stderr.splitlines() if "accepted" in line]
+        self.assertEqual(len(replies), 11)
+        self.assertIn("examples/fuel-combustion/3-fuel-consumption.csv: accepted, 403 rows", replies)
+
+    def test_one_table_is_printed(self):
+        ran = workbook("tables", *COUNTRY, "2020", "--table", "summary")
+        self.assertEqual(ran.stdout.encode(), session(script("summary 2020")).split(b"rows 78\n")[1])
+
+    def test_complete_has_no_gap(self):
+        ran = workbook("complete", *COUNTRY)
+        self.assertEqual(ran.returncode, 0)
+        rows = {line[:10]: line[11:].split() for line in ran.stdout.splitlines() if line[:2] in ("1A", "2C")}
+        self.assertEqual(rows["1A1a CO2  "], ["E"] * 31)
+        self.assertNotIn("!", ran.stdout)
+
+
+if __name__ == "__main__":
+    unittest.main()

@@ -1,0 +1,50 @@
+"""A folder of 200 files and 20,000 rows is checked in less than ten times the time that the program itself takes for it."""
+import pathlib
+import tempfile
+import time
+import unittest
+
+from tests.workbook.running import session, workbook
+
+HEADER = "act,kind,subject,name,year,value,low,high,unit,note\n"
+FILES, ROWS = 200, 100
+YEARS = range(1990, 2014)
+
+
+def body(number):
+    """A file of 100 rows: four lines with their bindings and figures."""
+    if number == 0:
+        return HEADER + "enter,span,,,1990,2013,1990,,,\nenter,factor,,GWP.CO2,1990,1,,,1,\n"
+    rows = []
+    for part in range(4):
+        name = f"L{number}.{part}"
+        rows += [f"enter,line,1A2,{name},,Q10,,,,", f"enter,bind,{name},FC,,activity,{name},,,", f"enter,bind,{name},EF,,factor,{name},,,",
+                 f"enter,factor,,{name},1990,{56100 + part},54300,58300,kg/TJ,"]
+        rows += [f"enter,activity,,{name},{year},{number + part},,,TJ," for year in YEARS[:ROWS // 4 - 4]]
+    return HEADER + "\n".join(rows) + "\n"
+
+
+def timed(run):
+    begun = time.monotonic()
+    made = run()
+    return time.monotonic() - begun, made
+
+
+class Speed(unittest.TestCase):
+    def test_ratio_to_the_program(self):
+        bodies = [body(number).encode() for number in range(FILES + 1)]
+        self.assertEqual(sum(one.count(b"\n") - 1 for one in bodies[1:]), FILES * ROWS)
+        script = b"".join(b"SUBMIT s%d %d\n%b" % (at, len(one), one) for at, one in enumerate(bodies)) + b"END\n"
+        with tempfile.TemporaryDirectory() as room:
+            for at, one in enumerate(bodies):
+                (pathlib.Path(room) / f"{at}.csv").write_bytes(one)
+            own, replies = timed(lambda: session(script))
+            checked, ran = timed(lambda: workbook("check", room))
+        self.assertEqual(replies.count(b"accepted"), FILES + 1)
+        self.assertIn(f"{FILES + 1} files: 0 faults", ran.stdout)
+        print(f"the program alone {own:.2f} s, ./workbook check {checked:.2f} s")
+        self.assertLess(checked, 10 * own)
+
+
+if __name__ == "__main__":
+    unittest.main()

@@ -1,0 +1,77 @@
+"""Tables where files are refused, and what stands where no file is."""
+import pathlib
+import tempfile
+import unittest
+
+from tests.workbook.running import workbook
+
+PLANTS = "examples/power-plants"
+
+
+class Refused(unittest.TestCase):
+    def test_no_table_is_written(self):
+        with tempfile.TemporaryDirectory() as out:
+            ran = workbook("tables", PLANTS, "2020", "-o", out)
+            self.assertEqual(list(pathlib.Path(out).iterdir()), [])
+        self.assertEqual(ran.returncode, 1)
+        self.assertIn("3-coal-in-a-wrong-unit.csv: refused 10 BadBinding COAL.CO2 EF", ran.stderr)
+        self.assertIn("1 of 4 files is refused, and no table is written", ran.stderr)
+
+    def test_partial_writes_all_the_same(self):
+        with tempfile.TemporaryDirectory() as out:
+            ran = workbook("tables", PLANTS, "2020", "-o", out, "--partial")
+            self.assertEqual(len(list(pathlib.Path(out).iterdir())), 3)
+        self.assertEqual(ran.returncode, 1)
+
+    def test_a_year_outside_the_span(self):
+        ran = workbook("tables", "examples/fuel-combustion", "2030")
+        self.assertEqual(ran.returncode, 1)
+        self.assertEqual(ran.stdout, "")
+        self.assertIn("of 2030", ran.stderr)
+
+
+class Folders(unittest.TestCase):
+    def folder_of(self, room, **files):
+        for name, text in files.items():
+            (pathlib.Path(room) / name.replace("__", ".")).write_text(text)
+        return room
+
+    def test_natural_order(self):
+        header = "act,kind,subject,name,year,value,low,high,unit,note\n"
+        with tempfile.TemporaryDirectory() as room:
+            self.folder_of(room, **{"10__csv": header, "2__csv": header})
+            ran = workbook("tables", room, "2020")
+        self.assertEqual([line.split(":")[0] for line in ran.stderr.splitlines()[:2]], ["2.csv", "10.csv"])
+
+    def test_order_file(self):
+        header = "act,kind,subject,name,year,value,low,high,unit,note\n"
+        with tempfile.TemporaryDirectory() as room:
+            self.folder_of(room, **{"10__csv": header, "2__csv": header, "3__csv": header, "ORDER__txt": "# first\n10.csv\n\n2.csv\n"})
+            ran = workbook("check", room)
+        self.assertEqual(ran.stdout.splitlines(), [
+            "10.csv:1 warning: no span is in force, so that there is no table",
+            "10.csv:1 warning: a header alone: the file has no rows",
+            "2.csv:1 warning: a header alone: the file has no rows",
+            "3.csv warning: ORDER.txt does not list this file, and it is left out",
+            "2 files: 0 faults, 4 warnings"])
+
+    def test_order_file_with_a_name_that_is_none(self):
+        with tempfile.TemporaryDirectory() as room:
+            self.folder_of(room, **{"1__csv": "", "ORDER__txt": "1.csv\n2.csv\n"})
+            ran = workbook("check", room)
+        self.assertEqual(ran.returncode, 2)
+        self.assertIn("there is no file 2.csv", ran.stderr)
+
+    def test_no_folder(self):
+        ran = workbook("check", "no-such-folder")
+        self.assertEqual((ran.returncode, ran.stdout), (2, ""))
+        self.assertIn("no-such-folder is no folder", ran.stderr)
+
+    def test_no_program(self):
+        ran = workbook("check", PLANTS, "--program", "/no/such/program")
+        self.assertEqual((ran.returncode, ran.stdout), (2, ""))
+        self.assertIn("there is no program at /no/such/program", ran.stderr)
+
+
+if __name__ == "__main__":
+    unittest.main()

@@ -1,0 +1,104 @@
+"""The vocabulary against the program: each word of it is one of the program's, and measures what it says."""
+import subprocess
+import unittest
+
+from tests.workbook.running import TOP, session, workbook
+from tools import vocabulary
+
+HEADER = "act,kind,subject,name,year,value,low,high,unit,note\n"
+SPAN = HEADER + "enter,span,,,2019,2020,2019,,,\n"
+
+
+def replies(*bodies):
+    """The replies to bodies, each submitted in turn."""
+    parts = [f"SUBMIT s{at} {len(body.encode())}\n{body}" for at, body in enumerate(bodies)]
+    return session(("".join(parts) + "END\n").encode()).decode().splitlines()
+
+
+def line_of(code, category="RA"):
+    """A body with a line of an equation, whose parameters are bound to factors in their base units."""
+    rows = [f"enter,line,{category},L.{code},,{code},,,,"]
+    for parameter in vocabulary.equations()[code]["parameters"]:
+        name = f"{code}.{parameter['name']}"
+        rows.append(f"enter,bind,L.{code},{parameter['name']},,factor,{name},,,")
+        rows.append(f"enter,factor,,{name},2019,1,,,{parameter['unit']},")
+    return HEADER + "\n".join(rows) + "\n"
+
+
+class Words(unittest.TestCase):
+    def accepted(self, *bodies):
+        self.assertEqual(replies(SPAN, *bodies), [f"accepted {at}" for at in range(1, len(bodies) + 2)])
+
+    def test_units_are_taken_and_measure_what_they_say(self):
+        rows = []
+        for word, unit in vocabulary.units().items():
+            base = vocabulary.units_that_measure(unit["measures"])[0]
+            name = f"U{len(rows)}"
+            rows += [f"enter,factor,,{name},2019,1,,,{base},", f"enter,factor,,{name},2020,1,,,{word},"]
+        self.accepted(HEADER + "\n".join(rows) + "\n")
+
+    def test_units_of_two_dimensions_are_refused(self):
+        bases = list(dict.fromkeys(vocabulary.units_that_measure(unit["measures"])[0] for unit in vocabulary.units().values()))
+        bodies = [HEADER + f"enter,factor,,U,2019,1,,,{one},\nenter,factor,,U,2020,1,,,{other},\n" for one, other in zip(bases, bases[1:])]
+        self.assertEqual(set(replies(SPAN, *bodies)[1:]), {"refused 8 WrongUnit row 2"})
+
+    def test_leaves_alone_are_taken(self):
+        bodies = [HEADER + f"enter,line,{code},L,,Q10,,,,\n" for code in vocabulary.categories()]
+        for code, reply in zip(vocabulary.categories(), replies(SPAN, *bodies)[1:]):
+            leaf = code in vocabulary.leaves()
+            self.assertEqual(reply, "refused 10 BadBinding L EF" if leaf else "refused 5 UnknownWord row 1 column subject", code)
+
+    def test_equations_have_their_parameters(self):
+        self.accepted(*(line_of(code) for code in vocabulary.equations()))
+
+    def test_outputs_are_as_said(self):
+        shown = session((
+            "".join(f"SUBMIT s{at} {len(body)}\n{body}" for at, body in enumerate([SPAN, *map(line_of, vocabulary.equations())]))
+            + "SHOW cells 2020\nEND\n").encode()).decode().splitlines()
+        rows = {row.split(",")[2]: row.split(",")[3:5] for row in shown if row.startswith("L.")}
+        for code, equation in vocabulary.equations().items():
+            output = equation["output"]
+            self.assertEqual(rows[code], [output["gas"], "Gg"] if "gas" in output else ["-", output["unit"]], code)
+
+    def test_tables_acts_forms_and_keys(self):
+        words = vocabulary.words()
+        self.assertEqual(words["acts"], ["enter", "correct", "withdraw"])
+        self.assertEqual(words["kinds"], ["span", "activity", "factor", "line", "bind"])
+        script = SPAN_SCRIPT + "".join(f"SHOW {table} 2020\n" for table in words["tables"]) + "END\n"
+        self.assertNotIn("no table", session(script.encode()).decode())
+        self.accepted(HEADER + "".join(f"enter,activity,,A{at},2020,{key},,,t,\n" for at, key in enumerate(words["keys"])))
+        self.accepted(HEADER + "".join(f"enter,factor,,{name},2020,1,,,1,\n" for name in words["potentials"]))
+
+    def test_file_is_what_the_pages_make(self):
+        made = subprocess.run([TOP / "tools/make-vocabulary"], capture_output=True, check=True).stdout
+        self.assertEqual(made, vocabulary.PATH.read_bytes())
+
+
+SPAN_SCRIPT = f"SUBMIT s {len(SPAN)}\n{SPAN}"
+
+
+class Search(unittest.TestCase):
+    def test_by_a_word_of_the_name(self):
+        self.assertIn("1A1a  Main activity electricity and heat production\n", workbook("words", "categories", "public", "heat").stdout)
+        self.assertIn("Q39  Nitric or adipic acid with abatement, to N2O, Volume 3, Equations 3.6 and 3.8",
+                      workbook("words", "equations", "nitric").stdout)
+        self.assertIn("g/GJ   emission factor of fuel, 1 kg/TJ\n", workbook("words", "units", "fuel", "emission").stdout)
+        self.assertIn("FC  energy (TJ): Q10, Q11, Q12\n", workbook("words", "parameters", "FC").stdout)
+
+    def test_nothing(self):
+        ran = workbook("words", "unobtainium")
+        self.assertEqual((ran.returncode, ran.stdout), (1, "nothing has unobtainium in it\n"))
+
+    def test_templates_are_rows_that_the_program_takes(self):
+        for code in vocabulary.equations():
+            shown = workbook("words", code).stdout if code in ("Q10", "Q39", "Q63") else None
+            if shown is None:
+                continue
+            body = HEADER + shown.split(HEADER)[1]
+            for blank, filled in (("CATEGORY", "RA"), ("YEAR,VALUE,LOW,HIGH", "2020,1,0.5,2")):
+                body = body.replace(blank, filled)
+            self.assertEqual(replies(SPAN, body), ["accepted 1", "accepted 2"], code)
+
+
+if __name__ == "__main__":
+    unittest.main()
