@@ -34,9 +34,13 @@ class After:
         row = self.later.entry(kind, name)
         return f"{kind} {name} is entered in a later file ({row.place}); put that file in front of this one" if row else ""
 
+    def changed(self, changed, **fields):
+        """The file's rows with other fields in one of them."""
+        return [row.with_fields(**fields) if row is changed else row for row in self.rows]
+
     def blank(self, bound):
         """The file's rows with NE in place of what a binding takes."""
-        return [row.with_fields(value="key", low="NE") if row is bound else row for row in self.rows]
+        return self.changed(bound, value="key", low="NE")
 
 
 def explain(line, parameter, after):
@@ -64,26 +68,32 @@ def without_line(line, parameter, bound, after):
     if gone:
         names = listed(after.book.bindings[line], "and")
         return at_row(gone[0], f"the line goes and its bindings stay; withdraw the bindings of {names} too"), after.without(gone)
-    own = [row for row in after.rows[1:] if row.field("kind") == "bind" and row.field("subject") == line]
-    if not own:
+    if not after.is_own(bound):
         return None, None
-    more = f" ({len(own) - 1} more of its bindings stand in this file)" if len(own) > 1 else ""
     refused = after.refused.that_sets(("line", line))
+    near = nearest(line, after.book.lines, 1, 0.75)
+    if near and not refused and parameter not in after.book.bindings.get(near[0], {}):
+        return misspelt_line(bound, near[0], after)
+    own = [row for row in after.rows[1:] if row.field("kind") == "bind" and row.field("subject") == line]
+    more = f" ({len(own) - 1} more of its bindings stand in this file)" if len(own) > 1 else ""
     if refused:
-        cause = f"there is no line {line}, since its row was refused{more}"
-        fault = at_row(own[0], cause, "subject", follows=refused.place)
+        fault = at_row(own[0], f"there is no line {line}, since its row was refused{more}", "subject", follows=refused.place)
     elif after.in_later_file("line", line):
         fault = at_row(own[0], after.in_later_file("line", line) + more, "subject")
     else:
-        near = nearest(line, after.book.lines, 1, 0.75)
         fault = at_row(own[0], f"there is no line {line}{more}{nearest_line(near, after)}", "subject")
-        after.refused.add_meant([(("bind", near[0], row.field("name")), row) for row in own] if near else [])
     after.refused.add(own)
     return fault, after.without(own)
 
 
+def misspelt_line(bound, line, after):
+    """A binding whose line is most likely another, which lacks it. It goes on as that line's."""
+    cause = f"there is no line {bound.field('subject')}{nearest_line([line], after)}"
+    return at_row(bound, cause, "subject"), after.changed(bound, subject=line)
+
+
 def without_parameter(holder, bound, parameters, after):
-    """A binding of a parameter that the line's equation has not."""
+    """A binding of a parameter that the line's equation has not. It goes on as that of the parameter that is meant."""
     code, line = holder.field("value"), holder.field("name")
     has = f"{code} has no {bound.field('name')}; its parameters are {listed(map(said_of_parameter, parameters.values()), 'and')}"
     if not after.is_own(bound):
@@ -93,27 +103,31 @@ def without_parameter(holder, bound, parameters, after):
         return at_row(holder, cause, "value"), after.without([holder])
     free = [name for name in parameters if name not in after.book.bindings[line]]
     near = free if len(free) == 1 else nearest(bound.field("name"), free, 1, 0.4)
-    after.refused.add_meant([(("bind", line, name), bound) for name in near])
-    after.refused.add([bound])
-    return at_row(bound, has, "name", near[0] if near else None), after.without([bound])
+    if near:
+        return at_row(bound, has, "name", near[0]), after.changed(bound, name=near[0])
+    return at_row(bound, has, "name"), after.without([bound])
 
 
 def without_binding(holder, wanted, after):
     """A parameter of a line that no row binds."""
-    line, code = holder.field("name"), holder.field("value")
+    line, code, name = holder.field("name"), holder.field("value"), wanted["name"]
     needs = f"{code} takes {said_of_parameter(wanted)}"
-    gone = [row for row in after.acts_on("bind", wanted["name"], ("withdraw",)) if row.field("subject") == line]
+    gone = [row for row in after.acts_on("bind", name, ("withdraw",)) if row.field("subject") == line]
     if gone:
         return at_row(gone[0], f"{line} is left without a binding that it needs: {needs}"), after.without(gone)
     if not after.is_own(holder):
         return None, None
-    refused = after.refused.that_sets(("bind", line, wanted["name"]))
-    added = Row(holder.sheet, holder.line, joined(["enter", "bind", line, wanted["name"], "", "key", "NE", "", "", ""]))
+    refused = after.refused.that_sets(("bind", line, name))
+    added = Row(holder.sheet, holder.line, joined(["enter", "bind", line, name, "", "key", "NE", "", "", ""]))
     if refused:
-        fault = at_row(holder, f"{needs}, and the row that binds it was refused", "name", follows=refused.place)
-    else:
-        fault = at_row(holder, f"{needs}, and no row binds it", "name", f"a row enter,bind,{line},{wanted['name']},,FORM,TARGET,,,")
-    return fault, after.rows + [added]
+        return at_row(holder, f"{needs}, and the row that binds it was refused", "name", follows=refused.place), after.rows + [added]
+    strays = [row for stray, row in after.book.bindings.get(line, {}).items() if stray not in vocabulary.parameters_of(code) and after.is_own(row)]
+    if strays:
+        return without_parameter(holder, strays[0], vocabulary.parameters_of(code), after)
+    strays = [row for row in after.acts_on("bind", name, ("enter",)) if row.field("subject") not in after.book.lines and nearest(row.field("subject"), [line], 1, 0.75)]
+    if strays:
+        return misspelt_line(strays[0], line, after)
+    return at_row(holder, f"{needs}, and no row binds it", "name", f"a row enter,bind,{line},{name},,FORM,TARGET,,,"), after.rows + [added]
 
 
 def of_record(bound, holder, wanted, after):
@@ -124,6 +138,7 @@ def of_record(bound, holder, wanted, after):
         return without_record(bound, kind, name, after)
     units = listed(vocabulary.units_that_measure(wanted["measures"]))
     measured = f"{kind} {name} is in {record.field('unit')} ({vocabulary.measured_by(record.field('unit'))})"
+    after.refused.meant_records.add((kind, name))
     takes = f"{wanted['name']} of {holder.field('value')} takes {wanted['measures']} ({units})"
     if after.is_own(bound):
         return at_row(bound, f"{takes}, and {measured} at {record.place}", "low"), after.blank(bound)
@@ -258,8 +273,7 @@ def overflow(node, sheet, after):
     if not own:
         return Fault(sheet, 1, "", None, cause), None
     greatest = max(own, key=lambda row: abs(float(row.field("value"))))
-    rows = [row.with_fields(value="NE", low="", high="") if row is greatest else row for row in after.rows]
-    return at_row(greatest, cause, "value"), rows
+    return at_row(greatest, cause, "value"), after.changed(greatest, value="NE", low="", high="")
 
 
 def inputs_of(line, year, book):

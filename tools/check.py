@@ -19,10 +19,10 @@ OF_A_ROW = (4, 5, 6, 7, 8, 9)
 
 
 class Refused:
-    """The rows that were refused and taken out, by what they would have set; and the records that a binding meant."""
+    """The rows that were refused and taken out, by what they would have set; and the records that a refused binding takes."""
 
     def __init__(self):
-        self.rows, self.meant, self.meant_records = {}, {}, set()
+        self.rows, self.meant_records = {}, set()
 
     def add(self, rows):
         for row in rows:
@@ -35,14 +35,13 @@ class Refused:
             if kind == "bind" and row.field("value") in ("activity", "factor"):
                 self.meant_records.add((row.field("value"), row.field("low")))
 
-    def add_meant(self, pairs):
-        """Keys that refused rows would have set, had they been right."""
-        for key, row in pairs:
-            self.meant.setdefault(key, row)
-
     def that_sets(self, key):
         """The refused row that would have set a key, or None."""
-        return self.rows.get(key) or self.meant.get(key)
+        return self.rows.get(key)
+
+    def has_activity_of(self, year):
+        """Tells whether a refused row would have set an activity of a year."""
+        return any(key[0] == "activity" and key[-1] == str(year) for key in self.rows)
 
     def that_enters(self, kind, name):
         """A refused row of an activity or a factor, or None."""
@@ -77,7 +76,7 @@ class Check:
     def __init__(self, program, sheets):
         self.program, self.sheets = program, sheets
         self.book, self.refused, self.later = Book(), Refused(), Later(sheets)
-        self.faults = []
+        self.faults, self.left = [], []
 
     def run(self):
         """Checks all files."""
@@ -104,6 +103,7 @@ class Check:
     def take(self, sheet, rows):
         """Keeps the rows of an accepted file, or marks those of one that no change helps."""
         if rows is None:
+            self.left.append(sheet)
             self.refused.add(row for row in sheet.rows[1:] if len(row.fields) == 10)
             return
         for row in rows[1:]:
@@ -169,9 +169,11 @@ class Check:
         return self.settled(changed, reply, explainer) if reply.rule in OF_THE_ROW_ALONE else changed
 
     def takes(self, row, column):
-        """Asks the program whether it takes what stands in a column of a row."""
+        """Asks the program whether it takes what stands in a column of a row, or where none is named, in all of them."""
         reply = self.probe([row])[0]
-        return not (reply.rule in (4, 5, 6) and reply.column == column) and reply.rule != 4
+        if column is None:
+            return reply.rule not in OF_THE_ROW_ALONE
+        return reply.rule != 4 and not (reply.rule in (5, 6) and reply.column == column)
 
     def probe(self, rows):
         """What the program answers to each row by itself. None of them is accepted."""

@@ -71,7 +71,7 @@ def run_check(arguments):
         checked = check.Check(program, sheets)
         checked.run()
     faults = in_order(checked.faults, sheets)
-    warnings = [] if arguments.no_warnings else in_order(all_warnings(checked.book, checked.refused, sheets), sheets)
+    warnings = [] if arguments.no_warnings else in_order(all_warnings(checked.book, checked.refused, sheets, checked.left), sheets)
     for line in [*faults, *warnings, *warn_left(left)]:
         print(line)
     print(check.summary(checked.faults, warnings, sheets))

@@ -5,6 +5,7 @@ import re
 from tools import causes, vocabulary
 from tools.book import key_of
 from tools.faults import at_row, years_said
+from tools.sheets import Row, joined
 from tools.vocabulary import listed, nearest
 
 NO_FIGURE = {"-", "--", "n/a", "na.", "n.a.", "n.a", "nan", "null", "none", "...", "..", ".", "x", "?", "tbd", "nd", "n.d."}
@@ -25,38 +26,49 @@ class Explainer:
         if reply.rule == 6:
             return self.number(row, reply.column)
         if reply.rule == 7:
-            return self.disorder(row), None
+            return self.disorder(row), None if row.field("kind") == "span" else self.blank_figure(row)
         if reply.rule == 8:
-            return self.unit_of_another_dimension(row), None
+            return self.unit_of_another_dimension(row)
         return self.exists(row) if reply.text.split()[2] == "Exists" else self.absent(row)
 
     # Rule 4
 
     def shape(self, row):
+        """Too many fields or too few. The row goes on with ten where the program takes them."""
         if any(0xDC80 <= ord(letter) <= 0xDCFF for field in row.fields for letter in field):
             return self.not_utf8(row)
-        count = len(row.fields)
-        cause = f"{count} {'field' if count == 1 else 'fields'} in place of 10"
-        if ";" in row.field("act"):
-            return at_row(row, f"{cause}: semicolons between the fields; write commas"), None
-        if not row.raw.strip(b" \t,"):
-            return at_row(row, "a row without a word in it; take it out"), None
-        if "\n" in row.raw.decode("utf-8", "replace") or "\r" in row.raw.decode("utf-8", "replace"):
-            return at_row(row, f"{cause}: a quote in a field takes in the rows that follow; close the quote, or write none"), None
-        return at_row(row, cause + self.reason_of_count(row)), None
-
-    def reason_of_count(self, row):
-        """Why there are too many or too few fields."""
         count, fields = len(row.fields), row.fields
+        cause = f"{count} {'field' if count == 1 else 'fields'} in place of 10"
+        if not row.raw.strip(b" \t,"):
+            return at_row(row, "an empty row; take it out"), None
+        if ";" in fields[0]:
+            return at_row(row, f"{cause}: semicolons between the fields; write commas"), None
         if count < 10:
-            return f": {counted_commas(10 - count)} missing, which stand for empty columns too"
+            commas = "a comma is" if count == 9 else f"{10 - count} commas are"
+            return at_row(row, f"{cause}: {commas} missing; empty columns have theirs too"), self.of_ten(row, fields + [""] * (10 - count))
+        pair = self.number_in_two(row)
+        if pair:
+            return at_row(row, f"{cause}: a comma in the number {pair}; write a point for a decimal comma, and nothing between thousands"), None
         if not any(fields[10:]):
-            return f"; take out the {counted_commas(count - 10)} at the end"
-        for at in range(5, 8):
-            pair = f"{fields[at]},{fields[at + 1]}"
-            if fields[0] and causes.number(pair).causes and re.fullmatch(r"-?\d+", fields[at]) and re.fullmatch(r"\d+(\.\d+)?", fields[at + 1]):
-                return f": a comma in the number {pair}; write a point for a decimal comma, and nothing between thousands"
-        return ": a comma in the note or in a number; put a note with a comma in quotes, and write numbers with a point"
+            commas = "comma" if count == 11 else f"{count - 10} commas"
+            return at_row(row, f"{cause}; take out the {commas} at the end"), self.of_ten(row, fields[:10])
+        cause += ": a comma in the note; put the note in quotes" if self.of_ten(row, fields[:10]) else ": a comma in a field; put the field in quotes"
+        return at_row(row, cause), self.of_ten(row, fields[:9] + [",".join(fields[9:])])
+
+    def of_ten(self, row, fields):
+        """The row with other fields, where the program takes it."""
+        changed = Row(row.sheet, row.line, joined(fields))
+        return changed if self.takes(changed, None) else None
+
+    def number_in_two(self, row):
+        """A number with a comma that stands in two columns, in a row whose unit stands that much further right."""
+        fields = row.fields
+        if fields[1] not in ("activity", "factor") or fields[len(fields) - 2] not in vocabulary.units():
+            return None
+        for at in range(5, len(fields) - 3):
+            if re.fullmatch(r"-?\d+", fields[at]) and re.fullmatch(r"\d+(\.\d+)?", fields[at + 1]):
+                return f"{fields[at]},{fields[at + 1]}"
+        return None
 
     def not_utf8(self, row):
         latin = row.raw.decode("cp1252", "replace")
@@ -93,7 +105,8 @@ class Explainer:
         text = row.field(column)
         if not causes.without_blanks(text).text:
             return self.first_taken(row, column, [(f"{causes.blank_name(text)} in a column that stays empty", "", True)], cause)
-        return at_row(row, f"{cause}; take it out", column), None
+        changed = row.with_fields(**{column: ""})
+        return at_row(row, f"{cause}; take it out", column), (changed if self.takes(changed, column) else None)
 
     def first_taken(self, row, column, candidates, otherwise):
         """The first candidate that the program takes: a cause, a text and whether it is sure. Else the given cause."""
@@ -118,7 +131,18 @@ class Explainer:
 
     def form(self, row, column):
         forms = vocabulary.words()["forms"]
-        return self.choice(row, column, forms, f"a binding is by {listed(forms)}")
+        fault, changed = self.choice(row, column, forms, f"a binding is by {listed(forms)}")
+        return fault, changed or self.blank_binding(row)
+
+    def blank_binding(self, row):
+        """The binding with NE as its target, so that its line is not left without it, where the program takes it."""
+        changed = row.with_fields(value="key", low="NE")
+        return changed if self.takes(changed, None) else None
+
+    def blank_figure(self, row):
+        """The record with NE in place of its figures, so that what takes it is there, where the program takes it."""
+        changed = row.with_fields(value="NE", low="", high="")
+        return changed if self.takes(changed, None) else None
 
     def name(self, row, column):
         text = row.field(column)
@@ -192,7 +216,12 @@ class Explainer:
         return self.first_taken(row, column, candidates, unit_otherwise(bare.text, form, dimension))
 
     def target(self, row, column):
-        """The target of a binding: a name, several names or a notation key."""
+        """The target of a binding. The binding goes on with NE where it is not sure what is meant."""
+        fault, changed = self.target_alone(row, column)
+        return fault, changed or self.blank_binding(row)
+
+    def target_alone(self, row, column):
+        """A name, several names or a notation key."""
         text, form = row.field(column), row.field("value")
         if not text.strip():
             return at_row(row, f"no target; a binding by {form} names {target_of(form)}", column), None
@@ -223,9 +252,13 @@ class Explainer:
     # Rule 6
 
     def number(self, row, column):
-        kind = row.field("kind")
-        if column == "year" or kind == "span":
+        if column == "year" or row.field("kind") == "span":
             return self.year(row, column)
+        fault, changed = self.figure(row, column)
+        return fault, changed or self.blank_figure(row)
+
+    def figure(self, row, column):
+        """The value, low or high of an activity or a factor."""
         text = row.field(column)
         other = {"low": "high", "high": "low"}.get(column)
         if other and not text:
@@ -285,14 +318,15 @@ class Explainer:
         kind, name, unit = row.field("kind"), row.field("name"), row.field("unit")
         measures = vocabulary.measured_by(unit)
         if name.startswith("GWP."):
-            return at_row(row, f"measures {measures}, and a warming potential is a ratio", "unit", "1")
+            return at_row(row, f"measures {measures}, and a warming potential is a ratio", "unit", "1"), row.with_fields(unit="1")
         record = self.book.some_record(kind, name)
         if not record:
-            return at_row(row, f"measures {measures}, and another record of {kind} {name} measures something else", "unit")
+            return at_row(row, f"measures {measures}, and another record of {kind} {name} measures something else", "unit"), None
         other = record.field("unit")
         known = listed(vocabulary.units_that_measure(vocabulary.measured_by(other)))
         cause = f"measures {measures}, and {kind} {name} is in {other} ({vocabulary.measured_by(other)}) at {record.place}"
-        return at_row(row, f"{cause}; write {known}, or give this record another name", "unit")
+        cause += f"; write {known}, or give this record another name"
+        return at_row(row, cause, "unit"), self.blank_figure(row.with_fields(unit=other))
 
     def exists(self, row):
         key = key_of(row)
@@ -328,10 +362,6 @@ class Explainer:
 
 def cause_of(found):
     return "; ".join(found)
-
-
-def counted_commas(count):
-    return "comma" if count == 1 else f"{count} commas"
 
 
 def article(kind):

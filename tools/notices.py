@@ -14,21 +14,23 @@ SIGNED = {"SC"}
 NAMES_SHOWN = 6
 
 
-def all_warnings(book, refused, sheets):
-    """Every warning about a workbook."""
-    found = headers_alone(sheets)
+def all_warnings(book, refused, sheets, left):
+    """Every warning about a workbook, but for those that only follow from a refused row."""
+    found = headers_alone([sheet for sheet in sheets if sheet not in left])
     found += orphans(book, refused, sheets)
     found += double_lines(book)
     found += ratios(book)
     found += negatives(book)
     span = book.rows.get(("span",))
+    if not span and refused.that_sets(("span",)):
+        return found
     if not span:
         return found + [Fault(sheets[0], 1, "warning", None, "no span is in force, so that there is no table")]
     first, last = book.span
     found += outside(book, first, last)
     found += late_factors(book, first, last)
     found += without_potential(book)
-    return found + without_last_year(book, span, last)
+    return found + ([] if refused.has_activity_of(last) else without_last_year(book, span, last))
 
 
 def warn(row, cause):
@@ -198,6 +200,9 @@ def double_lines(book):
         key = what_it_takes(book, name, row.field("value"))
         if key is None:
             continue
+        if " or " in vocabulary.equations()[key[0]]["computes"]:
+            # an equation of two sources, as enteric fermentation and manure: two categories take one herd
+            key += (row.field("subject"),)
         before = seen.setdefault(key, row)
         if before is not row:
             activities = listed(sorted({taken for _, taken in key[1]}), "and")
