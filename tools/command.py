@@ -72,7 +72,8 @@ def run_check(arguments):
         checked.run()
     faults = in_order(checked.faults, sheets)
     warnings = [] if arguments.no_warnings else in_order(all_warnings(checked.book, checked.refused, sheets, checked.left), sheets)
-    for line in [*faults, *warnings, *warn_left(left)]:
+    warnings += [] if arguments.no_warnings else warn_left(left)
+    for line in [*faults, *warnings]:
         print(line)
     print(check.summary(checked.faults, warnings, sheets))
     return 1 if faults else 0

@@ -8,20 +8,17 @@ from tests.workbook.running import session, workbook
 
 HEADER = "act,kind,subject,name,year,value,low,high,unit,note\n"
 FILES, ROWS = 200, 100
-YEARS = range(1990, 2014)
+PARAMETERS = ("PR", "IM", "EX", "IB", "SC")
 
 
 def body(number):
-    """A file of 100 rows: four lines with their bindings and figures."""
+    """A file of 100 rows: the energy balance of a fuel with its five bindings, and their activities."""
     if number == 0:
-        return HEADER + "enter,span,,,1990,2013,1990,,,\nenter,factor,,GWP.CO2,1990,1,,,1,\n"
-    rows = []
-    for part in range(4):
-        name = f"L{number}.{part}"
-        rows += [f"enter,line,1A2,{name},,Q10,,,,", f"enter,bind,{name},FC,,activity,{name},,,", f"enter,bind,{name},EF,,factor,{name},,,",
-                 f"enter,factor,,{name},1990,{56100 + part},54300,58300,kg/TJ,"]
-        rows += [f"enter,activity,,{name},{year},{number + part},,,TJ," for year in YEARS[:ROWS // 4 - 4]]
-    return HEADER + "\n".join(rows) + "\n"
+        return HEADER + "enter,span,,,1990,2008,1990,,,\n"
+    rows = [f"enter,line,RA,L{number},,Q22,,,,"]
+    rows += [f"enter,bind,L{number},{name},,activity,L{number}.{name},,," for name in PARAMETERS]
+    rows += [f"enter,activity,,L{number}.{name},{year},{number}.5,{number},{number + 1},TJ," for name in PARAMETERS for year in range(1990, 2009)]
+    return HEADER + "\n".join(rows[:ROWS]) + "\n"
 
 
 def timed(run):

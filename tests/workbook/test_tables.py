@@ -49,8 +49,8 @@ class Folders(unittest.TestCase):
             self.folder_of(room, **{"10__csv": header, "2__csv": header, "3__csv": header, "ORDER__txt": "# first\n10.csv\n\n2.csv\n"})
             ran = workbook("check", room)
         self.assertEqual(ran.stdout.splitlines(), [
-            "10.csv:1 warning: no span is in force, so that there is no table",
             "10.csv:1 warning: a header alone: the file has no rows",
+            "10.csv:1 warning: no span is in force, so that there is no table",
             "2.csv:1 warning: a header alone: the file has no rows",
             "3.csv warning: ORDER.txt does not list this file, and it is left out",
             "2 files: 0 faults, 4 warnings"])

@@ -83,7 +83,7 @@ class Search(unittest.TestCase):
         self.assertIn("Q39  Nitric or adipic acid with abatement, to N2O, Volume 3, Equations 3.6 and 3.8",
                       workbook("words", "equations", "nitric").stdout)
         self.assertIn("g/GJ   emission factor of fuel, 1 kg/TJ\n", workbook("words", "units", "fuel", "emission").stdout)
-        self.assertIn("FC  energy (TJ): Q10, Q11, Q12\n", workbook("words", "parameters", "FC").stdout)
+        self.assertIn("FC     energy (TJ): Q10, Q11, Q12\n", workbook("words", "parameters", "FC").stdout)
 
     def test_nothing(self):
         ran = workbook("words", "unobtainium")
