@@ -15,10 +15,9 @@ class After:
 
     def __init__(self, book, rows, refused, later):
         self.book, self.rows, self.refused, self.later = book, rows, refused, later
-        self.own = {id(row) for row in rows}
 
     def is_own(self, row):
-        return row is not None and id(row) in self.own
+        return row is not None and row.sheet is self.rows[0].sheet
 
     def acts_on(self, kind, name, acts=("enter", "correct", "withdraw")):
         """The file's own rows on a record of a kind and name."""

@@ -25,7 +25,7 @@ class Book:
 
     def apply(self, row):
         """Applies an accepted row."""
-        key = key_of(row)
+        key = row.key
         if row.field("act") == "withdraw":
             self._take_out(key)
             return
@@ -78,18 +78,6 @@ class Book:
                 if row.field("value") in self.years:
                     found.setdefault((row.field("value"), row.field("low")), []).append(row)
         return found
-
-
-def key_of(row):
-    """The key of the record that a row speaks of, out of its fields as they are."""
-    kind = row.field("kind")
-    if kind in ("activity", "factor"):
-        return (kind, row.field("name"), row.field("year"))
-    if kind == "line":
-        return (kind, row.field("name"))
-    if kind == "bind":
-        return (kind, row.field("subject"), row.field("name"))
-    return (kind,)
 
 
 def lines_taken_by(row):

@@ -4,8 +4,10 @@ Each file is submitted. At a refusal its place is recorded and the row taken out
 program takes and that alone can be meant; then the file is submitted again, until it is accepted. So each fault is one
 that the program found.
 """
+import collections
+
 from tools import bindings, headers
-from tools.book import Book, key_of
+from tools.book import Book
 from tools.causes import name as mended_name
 from tools.explain import Explainer
 from tools.faults import Fault, counted
@@ -28,7 +30,7 @@ class Refused:
         for row in rows:
             if row.field("act") == "withdraw":
                 continue
-            key = tuple(mended_name(part).text for part in key_of(row)[1:])
+            key = tuple(mended_name(part).text for part in row.key[1:])
             kind = row.field("kind").strip().lower()
             self.rows.setdefault((kind, *key), row)
             self.rows.setdefault((kind, *key[:1]), row)
@@ -70,13 +72,36 @@ class Later:
         return self.entered.get((kind, name))
 
 
+class Applied:
+    """The book after a file's rows. Between two tries of one file it changes by the rows that changed."""
+
+    def __init__(self, book):
+        self.book, self.rows, self.after, self.repeated = book, [], None, set()
+
+    def book_after(self, rows):
+        changed = [(old, new) for old, new in zip(self.rows, rows) if old is not new]
+        kept = self.rows and rows[0] is self.rows[0] and len(self.rows) <= len(rows)
+        if kept and all(old.key == new.key and old.key not in self.repeated for old, new in changed):
+            new = [new for _, new in changed] + rows[len(self.rows):]
+        else:
+            counts = collections.Counter(row.key for row in rows[1:])
+            self.repeated = {key for key, count in counts.items() if count > 1}
+            self.after, new = self.book.copy(), rows[1:]
+        for row in new:
+            self.after.apply(row)
+        self.rows = rows
+        return self.after
+
+
 class Check:
     """The check of a workbook's files, in their order, in one session of the program."""
 
     def __init__(self, program, sheets):
         self.program, self.sheets = program, sheets
         self.book, self.refused, self.later = Book(), Refused(), Later(sheets)
+        self.applied = Applied(self.book)
         self.faults, self.left = [], []
+        self.clean = {}
 
     def run(self):
         """Checks all files."""
@@ -88,16 +113,16 @@ class Check:
         """Checks the next file."""
         faults, rows = headers.close_quotes(sheet)
         self.faults += faults
-        reply = self.program.submit(body_of(rows) if faults else sheet.data)
+        reply = self.program.submit(lines_of(rows) if faults else sheet.data)
         if reply.rule == 4 and reply.row == 0:
             fault, rows = headers.explain(sheet, rows)
             self.faults.append(fault)
-            reply = self.program.submit(body_of(rows)) if rows else None
+            reply = self.program.submit(lines_of(rows)) if rows else None
         tries = 0
         while reply and not reply.accepted:
             tries += 1
             rows = self.changed(sheet, rows, reply) if tries <= 10 * len(rows) + 100 else None
-            reply = self.program.submit(body_of(rows)) if rows else None
+            reply = self.program.submit(lines_of(rows)) if rows else None
         self.take(sheet, rows if reply else None)
 
     def take(self, sheet, rows):
@@ -123,10 +148,7 @@ class Check:
             return Fault(sheet, 1, "", None, f"{len(sheet.data)} bytes where 4194304 are the most; split the file"), None
         if reply.rule < 10:
             return None, None
-        book = self.book.copy()
-        for row in rows[1:]:
-            book.apply(row)
-        after = bindings.After(book, rows, self.refused, self.later)
+        after = bindings.After(self.applied.book_after(rows), rows, self.refused, self.later)
         words = reply.rest.split()
         if reply.rule == 10:
             return bindings.explain(*words, after)
@@ -137,26 +159,52 @@ class Check:
         return bindings.overflow(words[0], sheet, after)
 
     def swept(self, rows, reply):
-        """The rows without those that break a rule of their own: the one that the reply names, and those that follow.
-
-        Each of the following rows is submitted by itself. What it breaks of rules 4 to 7 is so in the file as well; what it
-        breaks of rules 8 and 9 is so where no row of the file before it is of the same record.
-        """
+        """The rows without those that break a rule by themselves: the one that the reply names, and those that follow."""
         at = reply.row
-        book, touched = self.book.copy(), set()
+        book = self.book.copy()
         for row in rows[1:at]:
             book.apply(row)
-            touched.add(key_of(row)[:2])
         explainer = Explainer(self.takes, book, self.refused)
-        kept, replies = rows[:at], [reply] + self.probe(rows[at + 1:])
-        for row, reply in zip(rows[at:], replies):
-            if row is rows[at] or reply.rule in OF_THE_ROW_ALONE or (reply.rule in OF_A_ROW and key_of(row)[:2] not in touched):
-                row = self.settled(row, reply, explainer)
+        if reply.rule in OF_THE_ROW_ALONE:
+            return rows[:at] + self.alone(rows[at:], reply, explainer)
+        return rows[:at] + self.beside(rows, at, explainer)
+
+    def alone(self, rows, reply, explainer):
+        """The rows without what they break of rules 4 to 7. Each but the first, whose reply is known, is asked for by itself."""
+        asked = [row for row in rows[1:] if id(row) not in self.clean]
+        replies = {id(row): answer for row, answer in zip(asked, self.probe(asked))}
+        replies[id(rows[0])] = reply
+        kept = []
+        for row in rows:
+            answer = replies.get(id(row))
+            row = self.settled(row, answer, explainer) if answer and answer.rule in OF_THE_ROW_ALONE else row
             if row is not None:
                 kept.append(row)
-                book.apply(row)
-                touched.add(key_of(row)[:2])
+                explainer.book.apply(row)
+        self.clean.update((id(row), row) for row in kept)
         return kept
+
+    def beside(self, rows, at, explainer):
+        """The rows from a place on without what they break of rules 8 and 9, for which rows of one record alone count.
+
+        In each round a row of each record is asked for, behind the rows of the record that stand before it in the file.
+        """
+        before, waiting, kept = {}, {}, {}
+        for row in rows[1:at]:
+            before.setdefault(row.key[:2], []).append(row)
+        for place, row in enumerate(rows[at:]):
+            waiting.setdefault(row.key[:2], []).append((place, row))
+        while waiting:
+            asked = [(record, *left.pop(0)) for record, left in waiting.items()]
+            replies = self.probe([row for _, _, row in asked], [before.get(record, []) for record, _, _ in asked])
+            for (record, place, row), reply in zip(asked, replies):
+                row = self.settled(row, reply, explainer) if reply.rule in (8, 9) else row
+                if row is not None:
+                    kept[place] = row
+                    explainer.book.apply(row)
+                    before.setdefault(record, []).append(row)
+            waiting = {record: left for record, left in waiting.items() if left}
+        return [kept[place] for place in sorted(kept)]
 
     def settled(self, row, reply, explainer):
         """A row without its faults, which are recorded, or None where it is taken out."""
@@ -175,18 +223,19 @@ class Check:
             return reply.rule not in OF_THE_ROW_ALONE
         return reply.rule != 4 and not (reply.rule in (5, 6) and reply.column == column)
 
-    def probe(self, rows):
-        """What the program answers to each row by itself. None of them is accepted."""
+    def probe(self, rows, before=None):
+        """What the program answers to each row, behind other rows if need be. None of these bodies is accepted."""
+        before = before or [[]] * len(rows)
         front = HEADER + b"\n" + NEVER_ACCEPTED + b"\n"
-        replies = self.program.submit_all(front + row.raw + b"\n" for row in rows)
-        for reply in replies:
-            if reply.rule in OF_A_ROW and reply.row != 2:
+        replies = self.program.submit_all(front + lines_of(others) + row.raw + b"\n" for row, others in zip(rows, before))
+        for reply, others in zip(replies, before):
+            if reply.rule in OF_A_ROW and reply.row != 2 + len(others):
                 reply.rule = 0
         return replies
 
 
-def body_of(rows):
-    """Rows as the body of a submission."""
+def lines_of(rows):
+    """Rows as the lines of a body."""
     return b"".join(row.raw + b"\n" for row in rows)
 
 

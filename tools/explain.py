@@ -3,7 +3,6 @@ import decimal
 import re
 
 from tools import causes, vocabulary
-from tools.book import key_of
 from tools.faults import at_row, years_said
 from tools.sheets import Row, joined
 from tools.vocabulary import listed, nearest
@@ -329,7 +328,7 @@ class Explainer:
         return at_row(row, cause, "unit"), self.blank_figure(row.with_fields(unit=other))
 
     def exists(self, row):
-        key = key_of(row)
+        key = row.key
         entered = self.book.entered.get(key)
         where = f" at {entered.place}" if entered and key in self.book.rows else ""
         if entered and self.book.rows.get(key) is entered and entered.fields[:9] == row.fields[:9]:
@@ -339,7 +338,7 @@ class Explainer:
 
     def absent(self, row):
         """Nothing to correct or withdraw. A correction goes on as an entry."""
-        key, act = key_of(row), row.field("act")
+        key, act = row.key, row.field("act")
         entered = self.refused.that_sets(key)
         if entered:
             return at_row(row, f"there is no {said_of_key(key)} to {act}, since its row was refused", follows=entered.place), None

@@ -18,10 +18,10 @@ class FolderFault(Exception):
 class Row:
     """A record of a file: the line that it begins on, its bytes without the end of the line, and its fields."""
 
-    __slots__ = ("sheet", "line", "raw", "_fields")
+    __slots__ = ("sheet", "line", "raw", "_fields", "_key")
 
     def __init__(self, sheet, line, raw):
-        self.sheet, self.line, self.raw, self._fields = sheet, line, raw, None
+        self.sheet, self.line, self.raw, self._fields, self._key = sheet, line, raw, None, None
 
     @property
     def fields(self):
@@ -34,6 +34,14 @@ class Row:
     @property
     def place(self):
         return f"{self.sheet.name}:{self.line}"
+
+    @property
+    def key(self):
+        """The key of the record that the row speaks of, out of its fields as they are."""
+        if self._key is None:
+            kind, subject, name, year = (self.field(column) for column in COLUMNS[1:5])
+            self._key = {"activity": (kind, name, year), "factor": (kind, name, year), "line": (kind, name), "bind": (kind, subject, name)}.get(kind, (kind,))
+        return self._key
 
     def field(self, column):
         """The field of a column by its name, or nothing where the row is too short."""
