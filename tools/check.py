@@ -161,13 +161,19 @@ class Check:
     def swept(self, rows, reply):
         """The rows without those that break a rule by themselves: the one that the reply names, and those that follow."""
         at = reply.row
-        book = self.book.copy()
-        for row in rows[1:at]:
-            book.apply(row)
-        explainer = Explainer(self.takes, book, self.refused)
+        explainer = Explainer(self.takes, self.book_behind(rows[1:at]), self.refused)
+        front, rows = rows[:at], self.alone(rows[at:], reply, explainer)
         if reply.rule in OF_THE_ROW_ALONE:
-            return rows[:at] + self.alone(rows[at:], reply, explainer)
-        return rows[:at] + self.beside(rows, at, explainer)
+            return front + rows
+        explainer.book = self.book_behind(front[1:])
+        return front + self.beside(front, rows, explainer)
+
+    def book_behind(self, rows):
+        """The book with rows of the file at hand."""
+        book = self.book.copy()
+        for row in rows:
+            book.apply(row)
+        return book
 
     def alone(self, rows, reply, explainer):
         """The rows without what they break of rules 4 to 7. Each but the first, whose reply is known, is asked for by itself."""
@@ -184,15 +190,15 @@ class Check:
         self.clean.update((id(row), row) for row in kept)
         return kept
 
-    def beside(self, rows, at, explainer):
-        """The rows from a place on without what they break of rules 8 and 9, for which rows of one record alone count.
+    def beside(self, front, rows, explainer):
+        """The rows behind others without what they break of rules 8 and 9, for which rows of one record alone count.
 
         In each round a row of each record is asked for, behind the rows of the record that stand before it in the file.
         """
         before, waiting, kept = {}, {}, {}
-        for row in rows[1:at]:
+        for row in front[1:]:
             before.setdefault(row.key[:2], []).append(row)
-        for place, row in enumerate(rows[at:]):
+        for place, row in enumerate(rows):
             waiting.setdefault(row.key[:2], []).append((place, row))
         while waiting:
             asked = [(record, *left.pop(0)) for record, left in waiting.items()]

@@ -96,6 +96,8 @@ def run_words(arguments):
 
 
 def main(words):
+    for stream in (sys.stdout, sys.stderr):
+        stream.reconfigure(encoding="utf-8", errors="backslashreplace")
     arguments = parser().parse_args(words)
     try:
         return arguments.function(arguments)

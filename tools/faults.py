@@ -32,7 +32,7 @@ class Fault:
         found = f" {shown(self.text)}" if self.text is not None else ""
         write = f"; write {self.write}" if self.write else ""
         follows = f" (follows from {self.follows})" if self.follows else ""
-        return f"{self.place}{until}{where}{found}: {self.cause}{write}{follows}"
+        return f"{self.place}{until}{where}{found}: {written_out(self.cause + write)}{follows}"
 
 
 def at_row(row, cause, column="", write=None, follows=None):
@@ -43,8 +43,12 @@ def at_row(row, cause, column="", write=None, follows=None):
 
 def shown(text):
     """A text in quotes on one line, with what cannot be seen written out."""
-    written = "".join(seen(letter) for letter in text[:LONGEST])
-    return f'"{written}{"..." if len(text) > LONGEST else ""}"'
+    return f'"{written_out(text[:LONGEST])}{"..." if len(text) > LONGEST else ""}"'
+
+
+def written_out(text):
+    """A text with what cannot be seen written out."""
+    return text if text.isascii() and text.isprintable() else "".join(map(seen, text))
 
 
 def seen(letter):
