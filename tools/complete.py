@@ -129,16 +129,17 @@ def run(program, sheets, as_csv):
     years = range(book.span[0], book.span[1] + 1)
     rows = matrix(book, read_cells(program, years), years)
     print_matrix(rows, years, as_csv)
-    if as_csv:
-        return 0 if len(accepted) == len(sheets) else 1
-    lists = {
+    wrongs = {
         "Gaps in a series": list(gaps(book, years)),
         "Factors that begin late": said_of(notices.late_factors(book, *book.span)),
         "Missing potentials": said_of(notices.without_potential(book)),
     }
-    wrong = len(accepted) < len(sheets) or any(lists.values()) or any(GAP in states for states in rows.values())
-    for heading, items in lists.items():
-        print_list(heading, items)
-    print_list("Taken by no line", said_of(notices.orphans(book, notices.Nothing(), sheets)))
-    print_list("Categories without a line", without_line(book))
+    others = {
+        "Taken by no line": said_of(notices.orphans(book, notices.Nothing(), sheets)),
+        "Categories without a line": without_line(book),
+    }
+    if not as_csv:
+        for heading, items in {**wrongs, **others}.items():
+            print_list(heading, items)
+    wrong = len(accepted) < len(sheets) or any(wrongs.values()) or any(GAP in states for states in rows.values())
     return 1 if wrong else 0

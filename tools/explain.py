@@ -43,8 +43,7 @@ class Explainer:
         if ";" in fields[0]:
             return at_row(row, f"{cause}: semicolons between the fields; write commas"), None
         if count < 10:
-            commas = "a comma is" if count == 9 else f"{10 - count} commas are"
-            return at_row(row, f"{cause}: {commas} missing; empty columns have theirs too"), self.of_ten(row, fields + [""] * (10 - count))
+            return at_row(row, f"{cause}: write a comma for each empty column too"), self.of_ten(row, fields + [""] * (10 - count))
         pair = self.number_in_two(row)
         if pair:
             return at_row(row, f"{cause}: a comma in the number {pair}; write a point for a decimal comma, and nothing between thousands"), None

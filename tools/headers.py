@@ -136,8 +136,8 @@ def missing(first):
         return f"no header; the first row is {','.join(COLUMNS)}"
     if not absent:
         return f"the columns stand in another order; the header is {','.join(COLUMNS)}"
-    named = f" in place of it stands {', '.join(odd)};" if odd else ""
-    return f"the header has no column {', '.join(absent)};{named} it is {','.join(COLUMNS)}"
+    named = f", and has {', '.join(odd)}" if odd else ""
+    return f"the header has no column {', '.join(absent)}{named}; it is {','.join(COLUMNS)}"
 
 
 def close_quotes(sheet):

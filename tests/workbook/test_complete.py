@@ -1,0 +1,32 @@
+"""Which years are estimated, and the gaps: the folder `complete` has each state, and due.txt says what is printed."""
+import unittest
+
+from tests.workbook.running import HERE, workbook
+
+
+class States(unittest.TestCase):
+    maxDiff = None
+
+    def test_states_and_lists(self):
+        ran = workbook("complete", HERE / "complete")
+        due = (HERE / "complete/due.txt").read_text()
+        self.assertEqual(ran.stdout[:len(due)], due)
+        self.assertIn("\n  1A1c Manufacture of solid fuels and other energy industries\n", ran.stdout)
+        self.assertNotIn("\n  1A1b ", ran.stdout[len(due):])
+        self.assertEqual(ran.returncode, 1)
+
+    def test_csv(self):
+        ran = workbook("complete", HERE / "complete", "--csv")
+        self.assertEqual(ran.stdout.splitlines(), [
+            "category,gas,2017,2018,2019,2020", "1A1a,CO2,E,E,!,E", "1A1b,CO2,!,NO,IE,NA", "1A1b,CH4,NE,NE,NE,NE", "1A2,CO2,NO,E,NE,E"])
+        self.assertEqual(ran.returncode, 1)
+
+    def test_nothing_is_wrong(self):
+        ran = workbook("complete", "examples/how-to")
+        self.assertEqual(ran.stdout.splitlines()[:5], [
+            "           18 19 20", "1A1a CO2   NO NE E", "2A1  CO2   E  NE E", "2B2  N2O   E  E  E", "3B3  CO2   E  E  E"])
+        self.assertEqual(ran.returncode, 0)
+
+
+if __name__ == "__main__":
+    unittest.main()
