@@ -16,6 +16,8 @@ from tools.sheets import COLUMNS, joined
 HEADER = joined(COLUMNS)
 # A row that no workbook has its line for. Behind it no body is accepted: what a row breaks by itself comes first.
 NEVER_ACCEPTED = joined(["enter", "bind", "NO.SUCH.LINE.-.-.-.-.-", "X", "", "key", "NE", "", "", ""])
+# A header may have so many faults one behind the other, as semicolons, a title in front and an empty column.
+MOST_HEADER_FAULTS = 6
 OF_THE_ROW_ALONE = (4, 5, 6, 7)
 OF_A_ROW = (4, 5, 6, 7, 8, 9)
 
@@ -114,9 +116,11 @@ class Check:
         faults, rows = headers.close_quotes(sheet)
         self.faults += faults
         reply = self.program.submit(lines_of(rows) if faults else sheet.data)
-        if reply.rule == 4 and reply.row == 0:
-            fault, rows = headers.explain(sheet, rows)
-            self.faults.append(fault)
+        tries = 0
+        while reply and reply.rule == 4 and reply.row == 0:
+            tries += 1
+            fault, rows = headers.explain(sheet, rows) if tries < MOST_HEADER_FAULTS else (None, None)
+            self.faults += [fault] if fault else []
             reply = self.program.submit(lines_of(rows)) if rows else None
         tries = 0
         while reply and not reply.accepted:

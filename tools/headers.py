@@ -7,47 +7,49 @@ from tools import sheets
 from tools.faults import Fault, counted
 from tools.sheets import COLUMNS, Row, joined
 
-UTF16 = ((b"\xff\xfe", "utf-16"), (b"\xfe\xff", "utf-16"))
+HEADER = ",".join(COLUMNS)
+UTF16 = (b"\xff\xfe", b"\xfe\xff")
+SPREADSHEETS = (b"PK\x03\x04", b"\xd0\xcf\x11\xe0")
 SAVE = "save it as CSV UTF-8 with commas"
 # A title and notes in front of the header are looked for in so many rows.
 ROWS_IN_FRONT = 30
 
 
 def explain(sheet, rows):
-    """The fault of a file whose header was refused, and its rows as they are read without it, or None."""
-    for cause, mended in (spreadsheet(sheet), encoding(sheet), empty(rows)):
-        if cause:
-            return Fault(sheet, 1, "", None, cause), mended
-    return of_rows(sheet, rows)
+    """The fault of a file whose header was refused, and its rows as they are read without it, or None.
 
-
-def spreadsheet(sheet):
-    if sheet.data.startswith(b"PK\x03\x04") or sheet.data.startswith(b"\xd0\xcf\x11\xe0"):
-        return f"a spreadsheet and no CSV; {SAVE}", None
-    return None, None
-
-
-def encoding(sheet):
-    """A file in UTF-16, with its rows in UTF-8."""
-    for mark, name in UTF16:
-        if sheet.data.startswith(mark):
-            text = sheet.data.decode(name, "replace")
-            return f"the file is UTF-16; {SAVE}", with_commas(sheet, text.encode("utf-8"))
-    return None, None
-
-
-def empty(rows):
+    The rows may have a further fault of that kind: whether they have, the program is asked again.
+    """
     if not rows:
-        return f"the file is empty; its first row is {','.join(COLUMNS)}", None
-    return None, None
+        return Fault(sheet, 1, "", None, f"the file is empty; its first row is {HEADER}"), None
+    if rows is sheet.rows and sheet.data.startswith(SPREADSHEETS):
+        return Fault(sheet, 1, "", None, f"a spreadsheet and no CSV; {SAVE}"), None
+    if rows is sheet.rows and sheet.data.startswith(UTF16):
+        data = sheet.data.decode("utf-16", "replace").encode("utf-8")
+        rows = sheets.split(sheet, data)
+        between = delimiter(rows)
+        return Fault(sheet, 1, "", None, f"the file is UTF-16; {SAVE}"), [with_comma(row, between) for row in rows] if between else rows
+    cause, mended = of_rows(rows)
+    return Fault(sheet, rows[0].line, "", None, cause), mended
 
 
-def with_commas(sheet, data):
-    """The rows of other bytes of the file, and with commas between the fields."""
-    rows = sheets.split(sheet, data)
+def of_rows(rows):
+    """Why a header in rows that can be read is none, and the rows to go on with."""
     between = delimiter(rows)
-    rows = [with_comma(row, between) for row in rows] if between else rows
-    return rows if rows and rows[0].fields == COLUMNS else None
+    if between:
+        name = {";": "semicolons", "\t": "tabs", "|": "bars"}[between]
+        return f"{name} between the fields; {SAVE}, and numbers with a point", [with_comma(row, between) for row in rows]
+    found = [at for at, row in enumerate(rows[:ROWS_IN_FRONT]) if bare(row.fields)[:10] == COLUMNS]
+    if found and found[0] > 0:
+        return f"{counted(found[0], 'row')} in front of the header; take {'it' if found[0] == 1 else 'them'} out", rows[found[0]:]
+    names = bare(rows[0].fields)
+    if found and len(names) > 10:
+        return eleventh(rows)
+    if names[0] in ("enter", "correct", "withdraw"):
+        return f"no header; put a first row {HEADER} in front", [header_of(rows)] + rows
+    if sorted(names) == sorted(COLUMNS):
+        return other_words(rows, names)
+    return missing(rows[0]), None
 
 
 def delimiter(rows):
@@ -66,78 +68,48 @@ def with_comma(row, between):
     return Row(row.sheet, row.line, joined(fields))
 
 
-def of_rows(sheet, rows):
-    """The fault of a header in rows that can be read."""
-    between = delimiter(rows)
-    first = rows[0]
-    if between:
-        name = {";": "semicolons", "\t": "tabs", "|": "bars"}[between]
-        mended = [with_comma(row, between) for row in rows]
-        mended = mended if mended[0].fields == COLUMNS else of_rows(sheet, mended)[1]
-        return Fault(sheet, first.line, "", None, f"{name} between the fields; {SAVE}, and numbers with a point"), mended
-    found = [at for at, row in enumerate(rows[:ROWS_IN_FRONT]) if bare(row.fields)[:10] == COLUMNS]
-    if found and found[0] > 0:
-        before = counted(found[0], "row")
-        cause = f"{before} in front of the header; take {'it' if found[0] == 1 else 'them'} out"
-        rest = rows[found[0]:]
-        return Fault(sheet, first.line, "", None, cause), rest if rest[0].fields == COLUMNS else of_rows(sheet, rest)[1]
-    if found:
-        return first_row(sheet, rows)
-    return Fault(sheet, first.line, "", None, missing(first)), renamed(rows)
-
-
 def bare(fields):
     return [field.strip().casefold() for field in fields]
 
 
-def first_row(sheet, rows):
-    """The fault of a first row that has the ten names and something else."""
-    first = rows[0]
-    if len(first.fields) > 10:
-        return eleventh(sheet, rows)
-    odd = next(at for at, field in enumerate(first.fields) if field != COLUMNS[at])
-    cause = f'the header has "{first.fields[odd]}"; write {COLUMNS[odd]}'
-    return Fault(sheet, first.line, "", None, cause), renamed(rows)
+def header_of(rows):
+    """The right header at the place of the first row."""
+    return Row(rows[0].sheet, rows[0].line, joined(COLUMNS))
 
 
-def eleventh(sheet, rows):
-    """More than ten columns. The rows go on with the first ten, where the others are empty or named."""
-    extra = rows[0].fields[10:]
-    name = next((field for field in extra if field), "")
+def other_words(rows, names):
+    """A header with the ten names in another case or order."""
+    order = [names.index(column) for column in COLUMNS]
+    if names == COLUMNS:
+        odd = [field for field in rows[0].fields if field not in COLUMNS]
+        cause = f'the header has "{odd[0]}"; write {bare(odd)[0]}' if len(odd) == 1 else f"the header is written {HEADER}"
+        return cause, [header_of(rows)] + rows[1:]
+    placed = [Row(row.sheet, row.line, joined([row.fields[at] for at in order])) if len(row.fields) == 10 else row for row in rows[1:]]
+    return f"the columns stand in another order; the header is {HEADER}", [header_of(rows)] + placed
+
+
+def eleventh(rows):
+    """More than ten columns. The rows go on with the first ten."""
+    width = len(rows[0].fields)
+    name = next((field for field in rows[0].fields[10:] if field), "")
     if name:
         cause = f'an eleventh column, "{name}"; take it out, or write what it holds in the note'
     else:
-        cause = f"{len(rows[0].fields)} columns in place of 10; take out the empty ones behind note"
-    return Fault(sheet, rows[0].line, "", None, cause), renamed([narrow(row, len(rows[0].fields)) for row in rows])
-
-
-def narrow(row, width):
-    """A row that is as wide as its header, with ten fields."""
-    return Row(row.sheet, row.line, joined(row.fields[:10])) if len(row.fields) == width else row
-
-
-def renamed(rows):
-    """The rows under the right header, where the first is one of ten columns."""
-    if rows[0].field("act").strip().casefold() in ("enter", "correct", "withdraw"):
-        return [Row(rows[0].sheet, rows[0].line, joined(COLUMNS))] + rows
-    if len(rows[0].fields) != 10:
-        return None
-    return [Row(rows[0].sheet, rows[0].line, joined(COLUMNS))] + rows[1:]
+        cause = f"{width} columns in place of 10; take out the empty ones behind note"
+    narrow = [Row(row.sheet, row.line, joined(row.fields[:10])) if len(row.fields) == width else row for row in rows]
+    return cause, narrow
 
 
 def missing(first):
     """What a first row is, that has not the ten names."""
     names = bare(first.fields)
-    if names[0] in ("enter", "correct", "withdraw"):
-        return f"no header; put a first row {','.join(COLUMNS)} in front"
     absent = [column for column in COLUMNS if column not in names]
     odd = [field for field in first.fields if field.strip().casefold() not in COLUMNS]
     if len(absent) > 5:
-        return f"no header; the first row is {','.join(COLUMNS)}"
-    if not absent:
-        return f"the columns stand in another order; the header is {','.join(COLUMNS)}"
+        return f"no header; the first row is {HEADER}"
     named = f", and has {', '.join(odd)}" if odd else ""
-    return f"the header has no column {', '.join(absent)}{named}; it is {','.join(COLUMNS)}"
+    lacks = f"the header has no column {', '.join(absent)}{named}" if absent else "the header has a column twice"
+    return f"{lacks}; it is {HEADER}"
 
 
 def close_quotes(sheet):
