@@ -1,0 +1,45 @@
+"""What all explanations of a row do: they try what the writer may have meant, and the program says whether it takes it."""
+from tools import causes
+from tools.faults import at_row
+from tools.vocabulary import listed, nearest
+
+
+class Asking:
+    """Explanations. `takes` asks the program whether it takes a row at a column; `book` is what is in force."""
+
+    def __init__(self, takes, book, refused):
+        self.takes, self.book, self.refused = takes, book, refused
+
+    def first_taken(self, row, column, candidates, otherwise):
+        """The first candidate that the program takes: a cause, a text and whether it is sure. Else the given cause."""
+        for cause, text, sure in candidates:
+            changed = row.with_fields(**{column: text})
+            if text != row.field(column) and self.takes(changed, column):
+                write = text if text else "nothing"
+                return at_row(row, cause, column, write), (changed if sure else None)
+        return at_row(row, otherwise, column), None
+
+    def choice(self, row, column, known, said=None):
+        """One of a few words."""
+        text = row.field(column)
+        bare = causes.without_blanks(text)
+        candidates = [(cause_of(bare.causes), bare.text, True)]
+        for word in nearest(bare.text, known, 1, 0.75):
+            same = word.casefold() == bare.text.casefold()
+            cause = "upper case" if same and word.islower() else "lower case" if same else "no such word"
+            candidates.append((cause_of(bare.causes + [cause]), word, True))
+        what = said or f"{column} is {listed(known)}"
+        return self.first_taken(row, column, candidates, f"{'empty' if not bare.text else 'no such word'}; {what}")
+
+    def blank_figure(self, row):
+        """The record with NE in place of its figures, so that what takes it is there, where the program takes it."""
+        changed = row.with_fields(value="NE", low="", high="")
+        return changed if self.takes(changed, None) else None
+
+
+def cause_of(found):
+    return "; ".join(found)
+
+
+def article(kind):
+    return f"an {kind}" if kind[:1] in "aeiou" else f"a {kind}"

@@ -1,0 +1,208 @@
+"""Explains a word that is none of its column, or a column that has to be empty: rule 5."""
+import re
+
+from tools import causes, vocabulary
+from tools.asking import Asking, article, cause_of
+from tools.faults import at_row
+from tools.vocabulary import listed, nearest
+
+
+class WordFaults(Asking):
+    """Explanations of words."""
+
+    def word(self, row, column):
+        if not any(field.strip() for field in row.fields):
+            return at_row(row, "an empty row; take it out", column), None
+        kind = row.field("kind")
+        if column in ("act", "kind"):
+            return self.choice(row, column, vocabulary.words()[column + "s"])
+        if row.field("act") == "withdraw" and column in ("subject", "year", "value", "low", "high", "unit"):
+            if (kind, column) not in (("bind", "subject"),):
+                return self.filled(row, column, f"in a row that withdraws {article(kind)} only what names the record is filled")
+        explained = {
+            ("line", "subject"): self.category, ("line", "name"): self.name, ("line", "value"): self.equation,
+            ("bind", "subject"): self.name, ("bind", "name"): self.parameter, ("bind", "value"): self.form,
+            ("bind", "low"): self.target, ("activity", "name"): self.name, ("factor", "name"): self.name,
+            ("activity", "unit"): self.unit, ("factor", "unit"): self.unit,
+        }.get((kind, column))
+        if explained:
+            return explained(row, column)
+        if column in ("low", "high") and kind in ("activity", "factor"):
+            return self.filled(row, column, f"beside the notation key {row.field('value')} low and high stay empty")
+        return self.filled(row, column, f"this column stays empty in {article(kind)} row")
+
+    def filled(self, row, column, cause):
+        """A column that has to be empty."""
+        text = row.field(column)
+        if not causes.without_blanks(text).text:
+            return self.first_taken(row, column, [(f"{causes.blank_name(text)} in a column that stays empty", "", True)], cause)
+        changed = row.with_fields(**{column: ""})
+        return at_row(row, f"{cause}; take it out", column), (changed if self.takes(changed, column) else None)
+
+    def form(self, row, column):
+        forms = vocabulary.words()["forms"]
+        fault, changed = self.choice(row, column, forms, f"a binding is by {listed(forms)}")
+        return fault, changed or self.blank_binding(row)
+
+    def blank_binding(self, row):
+        """The binding with NE as its target, so that its line is not left without it, where the program takes it."""
+        changed = row.with_fields(value="key", low="NE")
+        return changed if self.takes(changed, None) else None
+
+    def name(self, row, column):
+        text = row.field(column)
+        what = "name of a line" if row.field("kind") in ("line", "bind") else f"name of {article(row.field('kind'))}"
+        if text.upper().startswith("GWP."):
+            return self.potential(row, column)
+        mended = causes.name(text)
+        otherwise = name_otherwise(mended.text, what)
+        return self.first_taken(row, column, [(cause_of(mended.causes), mended.text, True)], otherwise)
+
+    def potential(self, row, column):
+        known = vocabulary.words()["potentials"]
+        if row.field("kind") != "factor":
+            return at_row(row, "names that begin with GWP. are of factors, the warming potentials", column), None
+        bare = causes.name(row.field(column))
+        otherwise = f"no such potential; there are {listed(known, 'and')}"
+        return self.first_taken(row, column, [(cause_of(bare.causes), bare.text, True)], otherwise)
+
+    def parameter(self, row, column):
+        mended = causes.name(row.field(column))
+        line = self.book.lines.get(row.field("subject"))
+        has = ""
+        if line:
+            code = line.field("value")
+            has = f"; {code} has {listed(vocabulary.parameters_of(code), 'and')}"
+        otherwise = f"no parameter: it is 1 to 8 upper-case letters or digits{has}"
+        return self.first_taken(row, column, [(cause_of(mended.causes), mended.text, True)], otherwise)
+
+    def category(self, row, column):
+        """A code of the tree. The line goes on at a memo code where its own is not known, so that its bindings are seen."""
+        text = row.field(column)
+        bare = causes.without_blanks(text)
+        code = re.sub(r"[\s.]", "", bare.text)
+        candidates = [(cause_of(bare.causes), bare.text, True), (cause_of(bare.causes + ["a code has no dots or blanks"]), code, True)]
+        for word in [word for word in vocabulary.categories() if word.casefold() == code.casefold()]:
+            candidates.append((cause_of(bare.causes + [f"the code is written {word}"]), word, True))
+        for leaf in [leaf for leaf in vocabulary.leaves() if code.casefold().startswith(leaf.casefold())]:
+            candidates.append((f"this tree has {leaf} undivided", leaf, True))
+        fault, changed = self.first_taken(row, column, candidates, category_otherwise(code))
+        return fault, changed or self.placed(row, column)
+
+    def placed(self, row, column):
+        """The row at a memo code, where the program takes it."""
+        changed = row.with_fields(**{column: "RA"})
+        return changed if self.takes(changed, column) else None
+
+    def equation(self, row, column):
+        text = row.field(column)
+        bare = causes.without_blanks(text)
+        code = re.sub(r"\s", "", bare.text).upper()
+        candidates = [(cause_of(bare.causes), bare.text, True), ("an equation is written like Q10", code, True)]
+        if code.isdigit():
+            candidates.append(("the code of an equation begins with Q", "Q" + code, True))
+        known = equations_near(code)
+        near = f"; the nearest are {listed(map(said_of_equation, known), 'and')}" if known else ""
+        otherwise = f"no equation of this code{near}; ./workbook words equations lists them"
+        return self.first_taken(row, column, candidates, otherwise)
+
+    def unit(self, row, column):
+        text = row.field(column)
+        bare = causes.without_blanks(text)
+        form = causes.unit_form(bare.text)
+        record = self.book.some_record(row.field("kind"), row.field("name"))
+        dimension = vocabulary.measured_by(record.field("unit")) if record else None
+        candidates = [(cause_of(bare.causes), bare.text, True)]
+        for word in [word for word in vocabulary.units() if causes.unit_form(word) == form]:
+            candidates.append((cause_of(bare.causes + [f"the unit is written {word}"]), word, True))
+        same = causes.BY_CASE.get(bare.text) or causes.SAME_SIZE.get(form)
+        if same:
+            candidates.append((f"the unit is written {same}", same, True))
+        return self.first_taken(row, column, candidates, unit_otherwise(bare.text, form, dimension))
+
+    def target(self, row, column):
+        """The target of a binding. The binding goes on with NE where it is not sure what is meant."""
+        fault, changed = self.target_alone(row, column)
+        return fault, changed or self.blank_binding(row)
+
+    def target_alone(self, row, column):
+        """A name, several names or a notation key."""
+        text, form = row.field(column), row.field("value")
+        if not text.strip():
+            return at_row(row, f"no target; a binding by {form} names {target_of(form)}", column), None
+        if form == "key":
+            keys = vocabulary.words()["keys"]
+            return self.choice(row, column, keys, f"a binding by key takes {listed(keys)}")
+        if form == "sum":
+            return self.sum_target(row, column)
+        if text.upper() in vocabulary.words()["potentials"]:
+            return at_row(row, "a potential is no target: equivalents take it by themselves", column), None
+        mended = causes.name(text)
+        if " " in mended.text or ("a blank in a name" in mended.causes and form != "sum"):
+            several = f"one {target_of(form).split()[-1]}; the form sum takes several lines"
+            mended = mended if form != "line" else causes.Mended([f"a blank: a binding by line names {several}"], mended.text, False)
+        return self.first_taken(row, column, [(cause_of(mended.causes), mended.text, mended.sure)], name_otherwise(mended.text, "name"))
+
+    def sum_target(self, row, column):
+        text = row.field(column)
+        names = re.split(r"[\s,;+]+", text.strip())
+        once = list(dict.fromkeys(name for name in names if name))
+        candidates = [
+            ("one space stands between two lines of a sum", " ".join(names), True),
+            ("a line stands twice in the sum", " ".join(once), False),
+            ("names are in upper case, with one space between two", " ".join(causes.name(name).text for name in once), True),
+        ]
+        return self.first_taken(row, column, candidates, "no sum: it is 1 to 400 different lines with one space between two")
+
+
+def equations_near(code):
+    """The equations with the nearest numbers to a code that is none."""
+    found = re.fullmatch(r"Q(\d+)", code)
+    if not found:
+        return []
+    number = int(found.group(1))
+    return sorted(vocabulary.equations(), key=lambda known: abs(int(known[1:]) - number))[:3]
+
+
+def said_of_equation(code):
+    return f"{code} ({vocabulary.equations()[code]['computes']})"
+
+
+def target_of(form):
+    return {"activity": "an activity", "factor": "a factor", "key": "a notation key", "sum": "lines"}.get(form, "a line")
+
+
+def name_otherwise(text, what):
+    """Why a text is no name, where nothing that is sure mends it."""
+    if not text:
+        return f"empty; here stands the {what}"
+    if len(text.encode("utf-8", "replace")) > 24:
+        return f"{len(text.encode('utf-8', 'replace'))} letters where 24 are the most; write a shorter name, the same everywhere"
+    if not re.match("[A-Z]", text):
+        return "a name begins with a letter"
+    return "a name is 1 to 24 of A to Z, 0 to 9, . _ and -, and begins with a letter"
+
+
+def category_otherwise(code):
+    """Why a code is no leaf of the tree."""
+    known = vocabulary.categories()
+    if code in known:
+        return f"not a leaf: its leaves are {listed(vocabulary.leaves_under(code), 'and')}"
+    above = next((code[:end] for end in range(len(code) - 1, 0, -1) if code[:end] in known), None)
+    if above:
+        there = [f"{leaf} ({known[leaf]['name']})" for leaf in known[above]["children"]]
+        return f"no category of this tree; under {above} it has {listed(there, 'and')}"
+    return "no category of this tree; ./workbook words categories lists them"
+
+
+def unit_otherwise(text, form, dimension):
+    """Why a text is no unit."""
+    of_record = f"; this record is in {listed(vocabulary.units_that_measure(dimension))}" if dimension else ""
+    if not text:
+        return f"empty: a unit is needed, beside a notation key too{of_record}"
+    if form in causes.OTHER_SIZE:
+        word, how = causes.OTHER_SIZE[form]
+        return f"no unit of the table; write {word} ({how})"
+    near = nearest(text, vocabulary.units(), 3, 0.6)
+    shown = f"; the nearest are {listed(near, 'and')}" if near and not dimension else ""
+    return f"no unit of the table{of_record or shown}; ./workbook words units lists them"
