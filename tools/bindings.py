@@ -21,7 +21,8 @@ class After:
 
     def acts_on(self, kind, name, acts=("enter", "correct", "withdraw")):
         """The file's own rows on a record of a kind and name."""
-        return [row for row in self.rows[1:] if row.field("kind") == kind and row.field("name") == name and row.field("act") in acts]
+        named = [row for row in self.rows[1:] if row.field("kind") == kind and row.field("name") == name]
+        return [row for row in named if row.field("act") in acts]
 
     def without(self, rows):
         """The file's rows without some of them."""
@@ -119,14 +120,19 @@ def without_binding(holder, wanted, after):
     refused = after.refused.that_sets(("bind", line, name))
     added = Row(holder.sheet, holder.line, joined(["enter", "bind", line, name, "", "key", "NE", "", "", ""]))
     if refused:
-        return at_row(holder, f"{needs}, and the row that binds it was refused", "name", follows=refused.place), after.rows + [added]
-    strays = [row for stray, row in after.book.bindings.get(line, {}).items() if stray not in vocabulary.parameters_of(code) and after.is_own(row)]
-    if strays:
-        return without_parameter(holder, strays[0], vocabulary.parameters_of(code), after)
-    strays = [row for row in after.acts_on("bind", name, ("enter",)) if row.field("subject") not in after.book.lines and nearest(row.field("subject"), [line], 1, 0.75)]
-    if strays:
-        return misspelt_line(strays[0], line, after)
-    return at_row(holder, f"{needs}, and no row binds it", "name", f"a row enter,bind,{line},{name},,FORM,TARGET,,,"), after.rows + [added]
+        cause = f"{needs}, and the row that binds it was refused"
+        return at_row(holder, cause, "name", follows=refused.place), after.rows + [added]
+    parameters = vocabulary.parameters_of(code)
+    bound = after.book.bindings.get(line, {})
+    misspelt = [row for other, row in bound.items() if other not in parameters and after.is_own(row)]
+    if misspelt:
+        return without_parameter(holder, misspelt[0], parameters, after)
+    astray = [row for row in after.acts_on("bind", name, ("enter",)) if row.field("subject") not in after.book.lines]
+    astray = [row for row in astray if nearest(row.field("subject"), [line], 1, 0.75)]
+    if astray:
+        return misspelt_line(astray[0], line, after)
+    write = f"a row enter,bind,{line},{name},,FORM,TARGET,,,"
+    return at_row(holder, f"{needs}, and no row binds it", "name", write), after.rows + [added]
 
 
 def of_record(bound, holder, wanted, after):
@@ -153,7 +159,7 @@ def without_record(bound, kind, name, after):
     """A binding to an activity or a factor without records."""
     gone = after.acts_on(kind, name, ("withdraw",))
     if not after.is_own(bound):
-        return (at_row(gone[-1], f"{kind} {name} goes, and {bound.field('subject')} takes it at {bound.place}"), after.without(gone)) if gone else (None, None)
+        return taken_away(gone, f"{kind} {name}", bound, after)
     refused = after.refused.that_enters(kind, name)
     other = "factor" if kind == "activity" else "activity"
     if refused:
@@ -173,6 +179,13 @@ def without_record(bound, kind, name, after):
     return fault, after.blank(bound)
 
 
+def taken_away(gone, what, bound, after):
+    """The fault of rows that withdraw what a binding of an earlier file takes."""
+    if not gone:
+        return None, None
+    return at_row(gone[-1], f"{what} goes, and {bound.field('subject')} takes it at {bound.place}"), after.without(gone)
+
+
 def said(kind):
     return f"an {kind}" if kind == "activity" else f"a {kind}"
 
@@ -190,7 +203,9 @@ def of_lines(bound, holder, wanted, after):
             if after.is_own(bound):
                 return at_row(bound, cause, "low"), after.blank(bound)
             changed = [row for row in (taken, holder) if after.is_own(row)]
-            return (at_row(changed[0], f"{cause}; the binding stands at {bound.place}", "value"), after.without(changed)) if changed else (None, None)
+            if not changed:
+                return None, None
+            return at_row(changed[0], f"{cause}; the binding stands at {bound.place}", "value"), after.without(changed)
     return None, None
 
 
@@ -203,10 +218,11 @@ def given(code):
 def absent_line(bound, name, after):
     gone = after.acts_on("line", name, ("withdraw",))
     if not after.is_own(bound):
-        return (at_row(gone[0], f"line {name} goes, and {bound.field('subject')} takes it at {bound.place}"), after.without(gone)) if gone else (None, None)
+        return taken_away(gone, f"line {name}", bound, after)
     refused = after.refused.that_sets(("line", name))
     if refused:
-        return at_row(bound, f"there is no line {name}, since its row was refused", "low", follows=refused.place), after.blank(bound)
+        cause = f"there is no line {name}, since its row was refused"
+        return at_row(bound, cause, "low", follows=refused.place), after.blank(bound)
     if after.in_later_file("line", name):
         return at_row(bound, after.in_later_file("line", name), "low"), after.blank(bound)
     near = nearest(name, after.book.lines, 1, 0.7)
@@ -224,7 +240,8 @@ def ring(line, after):
     if not own:
         return None, None
     steps = [f"{bound.field('subject')} takes {taken} ({bound.place})" for bound, taken in zip(path, following(path, line))]
-    cause = f"lines take each other's values of the same year in a ring: {listed(steps, 'and')}; bind one of them to last year by prev, or to an activity"
+    cause = f"lines take each other's values of the same year in a ring: {listed(steps, 'and')}"
+    cause += "; bind one of them to last year by prev, or to an activity"
     return at_row(own[0], cause, "low"), after.blank(own[0])
 
 
@@ -262,12 +279,14 @@ def overflow(node, sheet, after):
     year = int(rest[-1])
     if kind in ("total", "gross"):
         code = rest[0] if kind == "total" else "0"
-        cause = f"the total of {code} in {year} is beyond 10^9 Gg of CO2 equivalent with the rows of this file; look for a figure in a wrong unit"
+        cause = f"the total of {code} in {year} is beyond 10^9 Gg of CO2 equivalent with the rows of this file"
+        cause += "; look for a figure in a wrong unit"
         return Fault(sheet, 1, "", None, cause), None
     inputs = inputs_of(rest[0], year, after.book)
     limit = "10^14 units" if kind == "line" else "10^9 Gg of CO2 equivalent"
     figures = [f"{name} is {row.field('value')} {row.field('unit')} ({row.place})" for name, row in inputs]
-    cause = f"line {rest[0]} in {year}, or a result on the way to it, is beyond {limit}: {listed(figures, 'and')}; look at the units"
+    cause = f"line {rest[0]} in {year}, or a result on the way to it, is beyond {limit}: {listed(figures, 'and')}"
+    cause += "; look at the units"
     own = [row for _, row in inputs if after.is_own(row)]
     if not own:
         return Fault(sheet, 1, "", None, cause), None

@@ -9,7 +9,8 @@ UNSEEN = "\u200b\u200c\u200d\u2060\ufeff\u00ad"
 MINUS = "\u2212\u2010\u2011\u2012\u2013\u2014"
 # Units that people write, in the word of the table for the same size.
 SAME_SIZE = {
-    "tonne": "t", "tonnes": "t", "ton": "t", "tons": "t", "metricton": "t", "kilogram": "kg", "kilograms": "kg", "kilotonne": "kt",
+    "tonne": "t", "tonnes": "t", "ton": "t", "tons": "t", "metricton": "t", "kilogram": "kg", "kilograms": "kg",
+    "kilotonne": "kt",
     "kilotonnes": "kt", "gigagram": "Gg", "gigagrams": "Gg", "terajoule": "TJ", "terajoules": "TJ", "petajoule": "PJ",
     "gigajoule": "GJ", "hectare": "ha", "hectares": "ha", "m^3": "m3", "cubicmetre": "m3", "cubicmetres": "m3", "heads": "head",
     "animal": "head", "animals": "head", "persons": "person", "people": "person", "capita": "person", "inhabitants": "person",
@@ -25,7 +26,8 @@ OTHER_SIZE = {
     "j": ("GJ", "divide by 1000000000"), "kj": ("GJ", "divide by 1000000"), "mj": ("GJ", "divide by 1000"),
     "ej": ("PJ", "multiply by 1000"), "toe": ("ktoe", "divide by 1000"), "mtoe": ("ktoe", "multiply by 1000"),
     "g": ("kg", "divide by 1000"), "mt": ("kt", "multiply by 1000"), "tg": ("Gg", "multiply by 1000"),
-    "l": ("m3", "divide by 1000"), "litre": ("m3", "divide by 1000"), "km2": ("ha", "multiply by 100"), "mha": ("kha", "multiply by 1000"),
+    "l": ("m3", "divide by 1000"), "litre": ("m3", "divide by 1000"), "km2": ("ha", "multiply by 100"),
+    "mha": ("kha", "multiply by 1000"),
     "km3": ("Mm3", "multiply by 1000"), "1000m3": ("m3", "multiply by 1000"), "1000head": ("head", "multiply by 1000"),
     "mg/mj": ("g/GJ", "the same number"), "kg/mwh": ("kg/TJ", "divide by 0.0036"), "ppm": ("g/kg", "divide by 1000"),
 }
@@ -96,7 +98,8 @@ def points(mended):
     if re.fullmatch(r"-?\d{1,3}(\.\d{3}){2,}", text):
         return mended.less("points between thousands", text.replace(".", ""))
     if re.fullmatch(r"-?[1-9]\d{0,2},\d{3}", text):
-        cause = f"a comma; write {text.replace(',', '')} where it stands between thousands, {text.replace(',', '.')} where it is a decimal comma"
+        cause = f"a comma; write {text.replace(',', '')} where it stands between thousands"
+        cause += f", {text.replace(',', '.')} where it is a decimal comma"
         return Mended(mended.causes + [cause], text, False)
     if re.fullmatch(r"-?\d*,\d+", text):
         return mended.less("a decimal comma", text.replace(",", "."))
@@ -146,6 +149,6 @@ def unit_form(text):
     """A unit without case, blanks, gases and years, to compare units by."""
     text = unicodedata.normalize("NFKC", text).casefold()
     text = re.sub(r"\bper\b", "/", text)
-    text = re.sub(r"(?<![a-z0-9])(co2|ch4|n2o|n2o-n|cf4|c2f6)(-?eq|e)?(?![a-z0-9])|(?<=kg|gg)(co2|ch4|n2o)|(?<=t|g)(co2|ch4|n2o)", "", text)
+    text = re.sub(r"(?<![a-z0-9])(co2|ch4|n2o-n|n2o|cf4|c2f6)(-?eq|e)?(?![a-z0-9])|(?<=[tg])(co2|ch4|n2o)", "", text)
     text = re.sub(r"[\s\u00b7*]", "", text)
     return re.sub(r"/(yr|year|a|annum|y)\b", "", text)

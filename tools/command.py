@@ -8,7 +8,9 @@ from tools.program import Program, ProgramFailed, found_program
 from tools.sheets import FolderFault, read_folders
 from tools.notices import all_warnings, warn_left
 
-FOLDER = "a folder of CSV files, in the order of its ORDER.txt, else of their names with 2 before 10; several go one after the other"
+FOLDER = ("a folder of CSV files, in the order of its ORDER.txt, else of their names with 2 before 10; several go one "
+          "after the other")
+PROGRAM = "the built program; else GHG_PROGRAM of the environment, else ./ghg, which builds it"
 
 
 def parser():
@@ -31,7 +33,7 @@ def command(commands, name, what, example, function):
 
 def with_program(made):
     made.add_argument("folders", nargs="+", metavar="FOLDER", help=FOLDER)
-    made.add_argument("--program", metavar="PATH", help="the built program; else GHG_PROGRAM of the environment, else ./ghg, which builds it")
+    made.add_argument("--program", metavar="PATH", help=PROGRAM)
 
 
 def add_check(commands):
@@ -71,8 +73,10 @@ def run_check(arguments):
         checked = check.Check(program, sheets)
         checked.run()
     faults = in_order(checked.faults, sheets)
-    warnings = [] if arguments.no_warnings else in_order(all_warnings(checked.book, checked.refused, sheets, checked.left), sheets)
-    warnings += [] if arguments.no_warnings else warn_left(left)
+    warnings = []
+    if not arguments.no_warnings:
+        warnings = all_warnings(checked.book, checked.refused, sheets, checked.left)
+        warnings = in_order(warnings, sheets) + warn_left(left)
     for line in [*faults, *warnings]:
         print(line)
     print(check.summary(checked.faults, warnings, sheets))

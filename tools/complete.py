@@ -32,6 +32,10 @@ class States:
         keys = [key for key in ("NO", "IE", "NA") if key in taken]
         return keys[0] if keys and figures in (ZERO, ZERO_OF_OTHERS) else "E"
 
+    def of_lines(self, lines, year):
+        """The least complete state of some lines."""
+        return min((self.of(line, year) for line in lines), key=LEAST_COMPLETE.index)
+
     def taken(self, line, year):
         """The notation keys and the gaps among what a line takes in a year, over the lines that it takes."""
         if (line, year) not in self.known:
@@ -75,7 +79,7 @@ def matrix(book, cells, years):
     order = list(vocabulary.categories())
     gases = list(dict.fromkeys(vocabulary.gas_of(code) for code in vocabulary.equations()))
     keys = sorted(found, key=lambda key: (order.index(key[0]), gases.index(key[1])))
-    return {key: [min((states.of(name, year) for name in found[key]), key=LEAST_COMPLETE.index) for year in years] for key in keys}
+    return {key: [states.of_lines(found[key], year) for year in years] for key in keys}
 
 
 def print_matrix(rows, years, as_csv):

@@ -39,14 +39,17 @@ class Explainer(WordFaults, NumberFaults):
         if ";" in fields[0]:
             return at_row(row, f"{cause}: semicolons between the fields; write commas"), None
         if count < 10:
-            return at_row(row, f"{cause}: write a comma for each empty column too"), self.of_ten(row, fields + [""] * (10 - count))
+            changed = self.of_ten(row, fields + [""] * (10 - count))
+            return at_row(row, f"{cause}: write a comma for each empty column too"), changed
         pair = self.number_in_two(row)
         if pair:
-            return at_row(row, f"{cause}: a comma in the number {pair}; write a point for a decimal comma, and nothing between thousands"), None
+            cause += f": a comma in the number {pair}; write a point for a decimal comma, and nothing between thousands"
+            return at_row(row, cause), None
         if not any(fields[10:]):
             commas = "comma" if count == 11 else f"{count - 10} commas"
             return at_row(row, f"{cause}; take out the {commas} at the end"), self.of_ten(row, fields[:10])
-        cause += ": a comma in the note; put the note in quotes" if self.of_ten(row, fields[:10]) else ": a comma in a field; put the field in quotes"
+        where = "the note" if self.of_ten(row, fields[:10]) else "a field"
+        cause += f": a comma in {where}; put it in quotes"
         return at_row(row, cause), self.of_ten(row, fields[:9] + [",".join(fields[9:])])
 
     def of_ten(self, row, fields):
@@ -94,7 +97,8 @@ class Explainer(WordFaults, NumberFaults):
         if entered and self.book.rows.get(key) is entered and entered.fields[:9] == row.fields[:9]:
             cause = f"{said_of_key(key)} is entered already{where}, with the same figures; take one of the two out"
             return at_row(row, cause), None
-        return at_row(row, f"{said_of_key(key)} is entered already{where}; to change it use correct, else give this one another name or year"), None
+        cause = f"{said_of_key(key)} is entered already{where}"
+        return at_row(row, f"{cause}; to change it use correct, else give this one another name or year"), None
 
     def absent(self, row):
         """Nothing to correct or withdraw. A correction goes on as an entry."""

@@ -25,10 +25,10 @@ def explain(sheet, rows):
     if rows is sheet.rows and sheet.data.startswith(SPREADSHEETS):
         return Fault(sheet, 1, "", None, f"a spreadsheet and no CSV; {SAVE}"), None
     if rows is sheet.rows and sheet.data.startswith(UTF16):
-        data = sheet.data.decode("utf-16", "replace").encode("utf-8")
-        rows = sheets.split(sheet, data)
+        rows = sheets.split(sheet, sheet.data.decode("utf-16", "replace").encode("utf-8"))
         between = delimiter(rows)
-        return Fault(sheet, 1, "", None, f"the file is UTF-16; {SAVE}"), [with_comma(row, between) for row in rows] if between else rows
+        mended = [with_comma(row, between) for row in rows] if between else rows
+        return Fault(sheet, 1, "", None, f"the file is UTF-16; {SAVE}"), mended
     cause, mended = of_rows(rows)
     return Fault(sheet, rows[0].line, "", None, cause), mended
 
@@ -84,8 +84,13 @@ def other_words(rows, names):
         odd = [field for field in rows[0].fields if field not in COLUMNS]
         cause = f'the header has "{odd[0]}"; write {bare(odd)[0]}' if len(odd) == 1 else f"the header is written {HEADER}"
         return cause, [header_of(rows)] + rows[1:]
-    placed = [Row(row.sheet, row.line, joined([row.fields[at] for at in order])) if len(row.fields) == 10 else row for row in rows[1:]]
+    placed = [reordered(row, order) for row in rows[1:]]
     return f"the columns stand in another order; the header is {HEADER}", [header_of(rows)] + placed
+
+
+def reordered(row, order):
+    """A row of ten fields with its fields in another order."""
+    return Row(row.sheet, row.line, joined([row.fields[at] for at in order])) if len(row.fields) == 10 else row
 
 
 def eleventh(rows):
@@ -122,13 +127,14 @@ def close_quotes(sheet):
         if not takes_in_rows(row):
             rows.append(row)
             continue
-        first, end, rest = re.split(rb"(\r\n|\r|\n)", row.raw, maxsplit=1) if re.search(rb"[\r\n]", row.raw) else (row.raw, b"", b"")
+        first, *rest = sheets.LINE_END.split(row.raw, maxsplit=1)
         closed = Row(sheet, row.line, first + b'"')
         last = row.line + len(sheets.LINE_END.findall(row.raw.rstrip(b"\r\n")))
         taken = f"it takes in the rows up to line {last}" if last > row.line else "it goes on to the end of the file"
-        faults.append(Fault(sheet, row.line, "", None, f"an open quote: {taken}; close the quote at the end of this line", row=row))
+        cause = f"an open quote: {taken}; close the quote at the end of this line"
+        faults.append(Fault(sheet, row.line, "", None, cause, row=row))
         rows.append(closed)
-        waiting = moved(sheets.split(sheet, rest), row.line) + waiting
+        waiting = moved(sheets.split(sheet, b"".join(rest)), row.line) + waiting
     return faults, rows
 
 

@@ -95,7 +95,8 @@ def outside(book, first, last):
     for name, years in sorted(book.years["factor"].items()):
         beyond = [year for year in years if year > last]
         if beyond:
-            found.append(warn(years[min(beyond)], f"factor {name} of {years_said(beyond)} begins after the span, {first} to {last}"))
+            cause = f"factor {name} of {years_said(beyond)} begins after the span, {first} to {last}"
+            found.append(warn(years[min(beyond)], cause))
     return found
 
 
@@ -107,7 +108,8 @@ def late_factors(book, first, last):
         begins = min(years)
         if first < begins <= last and ("factor", name) in taken:
             lines = listed(sorted({row.field("subject") for row in taken["factor", name]}), "and")
-            found.append(warn(years[begins], f"factor {name} begins in {begins}; {lines} is blank in {years_said(range(first, begins))}"))
+            blank = years_said(range(first, begins))
+            found.append(warn(years[begins], f"factor {name} begins in {begins}; {lines} is blank in {blank}"))
     return found
 
 
@@ -171,7 +173,8 @@ def ratios(book):
             low, high = row.field("low"), row.field("high")
             bounds = f" ({low} to {high})" if low else ""
             more = f", and {len(odd) - 1} more of its records" if len(odd) > 1 else ""
-            found.append(warn(row, f"{kind} {name} is a ratio outside 0 to 1: {row.field('value')}{bounds} {row.field('unit')}{more}"))
+            figure = f"{row.field('value')}{bounds} {row.field('unit')}"
+            found.append(warn(row, f"{kind} {name} is a ratio outside 0 to 1: {figure}{more}"))
     return found
 
 
@@ -187,7 +190,8 @@ def negatives(book):
         odd = [row for _, row in records if row.field("value").startswith("-")]
         if odd:
             more = f", and in {len(odd) - 1} more years" if len(odd) > 1 else ""
-            found.append(warn(odd[0], f"activity {name} is negative: {odd[0].field('value')} {odd[0].field('unit')} in {odd[0].field('year')}{more}"))
+            figure = f"{odd[0].field('value')} {odd[0].field('unit')} in {odd[0].field('year')}"
+            found.append(warn(odd[0], f"activity {name} is negative: {figure}{more}"))
     return found
 
 
@@ -206,8 +210,8 @@ def double_lines(book):
         before = seen.setdefault(key, row)
         if before is not row:
             activities = listed(sorted({taken for _, taken in key[1]}), "and")
-            cause = f"line {name} and line {before.field('name')} ({before.place}) are both {key[0]} of activity {activities}; is it counted twice?"
-            found.append(warn(row, cause))
+            both = f"line {name} and line {before.field('name')} ({before.place}) are both {key[0]}"
+            found.append(warn(row, f"{both} of activity {activities}; is it counted twice?"))
     return found
 
 

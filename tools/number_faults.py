@@ -33,7 +33,8 @@ class NumberFaults(Asking):
         mended = causes.number(text)
         if not mended.sure:
             return at_row(row, cause_of(mended.causes), column), None
-        return self.first_taken(row, column, [(cause_of(mended.causes), mended.text, True)], number_otherwise(column, mended.text, row))
+        otherwise = number_otherwise(column, mended.text, row)
+        return self.first_taken(row, column, [(cause_of(mended.causes), mended.text, True)], otherwise)
 
     def key(self, row, column, keys):
         """A notation key, or what looks like one."""
@@ -92,4 +93,5 @@ def number_otherwise(column, text, row):
         if len(digits) > 14:
             return f"{len(digits)} digits where 14 are the most; choose a greater unit"
         return f"beyond 10^14 in the base unit of {row.field('unit')}"
-    return f"no number{'' if column != 'value' else f' and no notation key ({listed(keys)})'}; a number is digits with a point, as 0.5 or -12"
+    key = f" and no notation key ({listed(keys)})" if column == "value" else ""
+    return f"no number{key}; a number is digits with a point, as 0.5 or -12"

@@ -39,8 +39,8 @@ class Row:
     def key(self):
         """The key of the record that the row speaks of, out of its fields as they are."""
         if self._key is None:
-            kind, subject, name, year = (self.field(column) for column in COLUMNS[1:5])
-            self._key = {"activity": (kind, name, year), "factor": (kind, name, year), "line": (kind, name), "bind": (kind, subject, name)}.get(kind, (kind,))
+            kind = self.field("kind")
+            self._key = (kind, *(self.field(column) for column in COLUMNS_OF_KEY.get(kind, ())))
         return self._key
 
     def field(self, column):
@@ -57,6 +57,8 @@ class Row:
 
 
 COLUMNS = ["act", "kind", "subject", "name", "year", "value", "low", "high", "unit", "note"]
+# The columns that name a record, of each kind.
+COLUMNS_OF_KEY = {"activity": ["name", "year"], "factor": ["name", "year"], "line": ["name"], "bind": ["subject", "name"]}
 COLUMN_AT = {column: at for at, column in enumerate(COLUMNS)}
 
 

@@ -81,7 +81,8 @@ class WordFaults(Asking):
         text = row.field(column)
         bare = causes.without_blanks(text)
         code = re.sub(r"[\s.]", "", bare.text)
-        candidates = [(cause_of(bare.causes), bare.text, True), (cause_of(bare.causes + ["a code has no dots or blanks"]), code, True)]
+        candidates = [(cause_of(bare.causes), bare.text, True)]
+        candidates.append((cause_of(bare.causes + ["a code has no dots or blanks"]), code, True))
         for word in [word for word in vocabulary.categories() if word.casefold() == code.casefold()]:
             candidates.append((cause_of(bare.causes + [f"the code is written {word}"]), word, True))
         for leaf in [leaf for leaf in vocabulary.leaves() if code.casefold().startswith(leaf.casefold())]:
@@ -137,11 +138,11 @@ class WordFaults(Asking):
             return self.sum_target(row, column)
         if text.upper() in vocabulary.words()["potentials"]:
             return at_row(row, "a potential is no target: equivalents take it by themselves", column), None
+        if form in ("line", "prev") and len(re.findall(r"[^\s,;+]+", text)) > 1:
+            return at_row(row, f"more than one line; a binding by {form} takes one, and by sum several", column), None
         mended = causes.name(text)
-        if " " in mended.text or ("a blank in a name" in mended.causes and form != "sum"):
-            several = f"one {target_of(form).split()[-1]}; the form sum takes several lines"
-            mended = mended if form != "line" else causes.Mended([f"a blank: a binding by line names {several}"], mended.text, False)
-        return self.first_taken(row, column, [(cause_of(mended.causes), mended.text, mended.sure)], name_otherwise(mended.text, "name"))
+        candidates = [(cause_of(mended.causes), mended.text, mended.sure)]
+        return self.first_taken(row, column, candidates, name_otherwise(mended.text, "name"))
 
     def sum_target(self, row, column):
         text = row.field(column)
