@@ -4,6 +4,10 @@ from tools.faults import at_row
 from tools.vocabulary import listed, nearest
 
 
+# A word that a column takes, whatever the kind of its row.
+STAND_INS = {"act": "enter", "subject": "X", "name": "X", "year": "2000", "value": "Q10", "unit": "t"}
+
+
 class Asking:
     """Explanations. `takes` asks the program whether it takes a row at a column; `book` is what is in force."""
 
@@ -30,6 +34,13 @@ class Asking:
             candidates.append((cause_of(bare.causes + [cause]), word, True))
         what = said or f"{column} is {listed(known)}"
         return self.first_taken(row, column, candidates, f"{'empty' if not bare.text else 'no such word'}; {what}")
+
+    def stand_in(self, row, column):
+        """The row with a word in place of one that is none, so that the rest of it is looked at, or None."""
+        if column not in STAND_INS or row.field(column) == STAND_INS[column] or not any(row.fields):
+            return None
+        changed = row.with_fields(**{column: STAND_INS[column]})
+        return changed if self.takes(changed, column) else None
 
     def blank_figure(self, row):
         """The record with NE in place of its figures, so that what takes it is there, where the program takes it."""

@@ -216,15 +216,27 @@ class Check:
             waiting = {record: left for record, left in waiting.items() if left}
         return [kept[place] for place in sorted(kept)]
 
-    def settled(self, row, reply, explainer):
-        """A row without its faults, which are recorded, or None where it is taken out."""
+    def settled(self, row, reply, explainer, lost=False):
+        """A row without its faults, which are recorded, or None where it is taken out.
+
+        One that is lost is looked at for its further faults alone, with another word in place of one of its own.
+        """
+        if reply.rule == 7 and row.has_other_figure:
+            return explainer.blank_figure(row)
         fault, changed = explainer.explain(row, reply)
         self.faults.append(fault)
         if changed is None:
-            self.refused.add([row])
+            self.refused.add([] if lost else [row])
+            stand_in = explainer.stand_in(row, reply.column)
+            if stand_in is not None:
+                self.without_faults(stand_in, explainer, True)
             return None
-        reply = self.probe([changed])[0]
-        return self.settled(changed, reply, explainer) if reply.rule in OF_THE_ROW_ALONE else changed
+        return self.without_faults(changed, explainer, lost)
+
+    def without_faults(self, row, explainer, lost):
+        """A changed row without what it still breaks by itself, or None where it is taken out."""
+        reply = self.probe([row])[0]
+        return self.settled(row, reply, explainer, lost) if reply.rule in OF_THE_ROW_ALONE else row
 
     def takes(self, row, column):
         """Asks the program whether it takes what stands in a column of a row, or where none is named, in all of them."""

@@ -17,7 +17,17 @@ class NumberFaults(Asking):
         if column == "year" or row.field("kind") == "span":
             return self.year(row, column)
         fault, changed = self.figure(row, column)
-        return fault, changed or self.blank_figure(row)
+        return fault, changed or self.other_figure(row, column)
+
+    def other_figure(self, row, column):
+        """The row with another of its figures in place of one, so that the rest of it is looked at; else with NE."""
+        figures = [row.field(other) for other in ("value", "low", "high") if other != column and row.field(other)]
+        for text in figures + ["0"] if figures else []:
+            changed = row.with_fields(**{column: text})
+            if self.takes(changed, column):
+                changed.has_other_figure = True
+                return changed
+        return self.blank_figure(row)
 
     def figure(self, row, column):
         """The value, low or high of an activity or a factor."""
@@ -28,7 +38,7 @@ class NumberFaults(Asking):
         if text.strip().endswith("%"):
             return self.percent(row, column)
         keys = vocabulary.words()["keys"]
-        if column == "value" and re.fullmatch(r"[A-Za-z]{1,2}", text.strip()):
+        if column == "value" and text.strip().upper() in [*keys, "C"]:
             return self.key(row, column, keys)
         mended = causes.number(text)
         if not mended.sure:

@@ -11,17 +11,27 @@ FIELD = re.compile(rb'"[^"]*(?:""[^"]*)*(?:"[^,\r\n]*|(\Z))|[^,\r\n]*')
 LINE_END = re.compile(rb"\r\n|\r|\n")
 
 
+COLUMNS = ["act", "kind", "subject", "name", "year", "value", "low", "high", "unit", "note"]
+COLUMN_AT = {column: at for at, column in enumerate(COLUMNS)}
+# The columns that name a record, of each kind.
+COLUMNS_OF_KEY = {"activity": ["name", "year"], "factor": ["name", "year"], "line": ["name"], "bind": ["subject", "name"]}
+
+
 class FolderFault(Exception):
     """A folder that cannot be read as a workbook."""
 
 
 class Row:
-    """A record of a file: the line that it begins on, its bytes without the end of the line, and its fields."""
+    """A record of a file: the line that it begins on, its bytes without the end of the line, and its fields.
 
-    __slots__ = ("sheet", "line", "raw", "_fields", "_key")
+    One with a figure that is not the writer's is marked.
+    """
+
+    __slots__ = ("sheet", "line", "raw", "has_other_figure", "_fields", "_key")
 
     def __init__(self, sheet, line, raw):
-        self.sheet, self.line, self.raw, self._fields, self._key = sheet, line, raw, None, None
+        self.sheet, self.line, self.raw = sheet, line, raw
+        self.has_other_figure, self._fields, self._key = False, None, None
 
     @property
     def fields(self):
@@ -53,13 +63,9 @@ class Row:
         fields = list(self.fields)
         for column, text in changed.items():
             fields[COLUMN_AT[column]] = text
-        return Row(self.sheet, self.line, joined(fields))
-
-
-COLUMNS = ["act", "kind", "subject", "name", "year", "value", "low", "high", "unit", "note"]
-# The columns that name a record, of each kind.
-COLUMNS_OF_KEY = {"activity": ["name", "year"], "factor": ["name", "year"], "line": ["name"], "bind": ["subject", "name"]}
-COLUMN_AT = {column: at for at, column in enumerate(COLUMNS)}
+        changed = Row(self.sheet, self.line, joined(fields))
+        changed.has_other_figure = self.has_other_figure
+        return changed
 
 
 class Sheet:
@@ -68,7 +74,6 @@ class Sheet:
     def __init__(self, name, data):
         self.name, self.data = name, data
         self.rows = split(self, data)
-        self.notes = []
 
 
 def joined(fields):
