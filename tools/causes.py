@@ -1,6 +1,7 @@
 """What is unusual in the text of a field, and the text without it. Whether that is taken, the program is asked."""
 import dataclasses
 import decimal
+import functools
 import re
 import unicodedata
 
@@ -134,6 +135,7 @@ def year(text):
     return mended.less("a comma in a year", "".join(found.groups())) if found else mended
 
 
+@functools.lru_cache(maxsize=10000)
 def name(text):
     """A name as it is written elsewhere: in upper case, without blanks and accents."""
     mended = without_blanks(text)

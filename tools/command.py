@@ -1,5 +1,6 @@
 """The command line of `./workbook`."""
 import argparse
+import os
 import sys
 
 from tools import check, complete, tables, wordlist
@@ -104,7 +105,14 @@ def main(words):
         stream.reconfigure(encoding="utf-8", errors="backslashreplace")
     arguments = parser().parse_args(words)
     try:
-        return arguments.function(arguments)
+        status = arguments.function(arguments)
+        sys.stdout.flush()
+        return status
+    except BrokenPipeError:
+        os.dup2(os.open(os.devnull, os.O_WRONLY), sys.stdout.fileno())
+        return 2
+    except KeyboardInterrupt:
+        return 130
     except (FolderFault, ProgramFailed, OSError) as error:
         print(f"./workbook: {error}", file=sys.stderr)
         return 2

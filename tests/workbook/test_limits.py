@@ -1,0 +1,44 @@
+"""Files beyond a limit of the program, and rows that are many."""
+import pathlib
+import tempfile
+import unittest
+
+from tests.workbook.running import workbook
+
+HEADER = "act,kind,subject,name,year,value,low,high,unit,note\n"
+SPAN = "enter,span,,,1990,2020,1990,,,\n"
+
+
+def checked(*bodies):
+    """What check prints of files with these bodies."""
+    with tempfile.TemporaryDirectory() as room:
+        for at, body in enumerate(bodies, 1):
+            (pathlib.Path(room) / f"{at}.csv").write_text(body)
+        return workbook("check", room, "--no-warnings").stdout.splitlines()
+
+
+class Limits(unittest.TestCase):
+    def test_a_file_that_is_too_long(self):
+        long = HEADER + "".join(f"enter,activity,,A{n},2000,1,,,t,{'n' * 200}\n" for n in range(20000))
+        line = HEADER + "enter,line,1A1a,L,,Q11,,,,\nenter,bind,L,FC,,activity,A1,,,\nenter,bind,L,EF,,key,NO,,,\n"
+        self.assertEqual(checked(HEADER + SPAN, long, line), [
+            f"2.csv:1: {len(long)} bytes where 4194304 are the most; split the file",
+            '3.csv:3 low "A1": there is no activity A1, since its row was refused (follows from 2.csv:3)',
+            "3 files: 2 faults, of which 1 only follows from others, 0 warnings"])
+
+    def test_a_fault_in_each_of_many_rows(self):
+        commas = HEADER + SPAN + "".join(f'enter,activity,,A{n},2000,"{n},5",,,t,\n' for n in range(2000))
+        printed = checked(commas)
+        self.assertEqual(printed[0], '1.csv:3 value "0,5": a decimal comma; write 0.5')
+        self.assertEqual((len(printed), printed[-1]), (2001, "1 file: 2000 faults, 0 warnings"))
+
+    def test_a_file_that_is_there_twice(self):
+        rows = HEADER + "".join(f"enter,activity,,A{n},2000,{n},,,t,\n" for n in range(2000))
+        printed = checked(HEADER + SPAN, rows, rows)
+        said = "is entered already at 2.csv:2, with the same figures; take one of the two out"
+        self.assertEqual(printed[0], f"3.csv:2: activity A0 2000 {said}")
+        self.assertEqual((len(printed), printed[-1]), (2001, "3 files: 2000 faults, 0 warnings"))
+
+
+if __name__ == "__main__":
+    unittest.main()
