@@ -167,7 +167,7 @@ def ratios(book):
     for kind, name, records in named_records(book):
         if vocabulary.measured_by(records[0][1].field("unit")) != "ratio":
             continue
-        odd = [row for _, row in records if any(not 0 <= figure <= 1 for figure in figures(row))]
+        odd = [row for _, row in records if not row.has_other_figure and any(not 0 <= figure <= 1 for figure in figures(row))]
         if odd:
             row = odd[0]
             low, high = row.field("low"), row.field("high")
@@ -187,7 +187,7 @@ def negatives(book):
         bound = taken.get((kind, name), [])
         if bound and all(row.field("name") in SIGNED for row in bound):
             continue
-        odd = [row for _, row in records if row.field("value").startswith("-")]
+        odd = [row for _, row in records if not row.has_other_figure and row.field("value").startswith("-")]
         if odd:
             more = f", and in {len(odd) - 1} more years" if len(odd) > 1 else ""
             figure = f"{odd[0].field('value')} {odd[0].field('unit')} in {odd[0].field('year')}"
