@@ -72,7 +72,11 @@ def run_check(arguments):
     sheets, left = read_folders(arguments.folders)
     with Program(found_program(arguments.program)) as program:
         checked = check.Check(program, sheets)
-        checked.run()
+        try:
+            checked.run()
+        except ProgramFailed:
+            print("\n".join(map(str, in_order(checked.faults, sheets))))
+            raise
     faults = in_order(checked.faults, sheets)
     warnings = []
     if not arguments.no_warnings:

@@ -87,7 +87,7 @@ class WordFaults(Asking):
             candidates.append((cause_of(bare.causes + [f"the code is written {word}"]), word, True))
         for leaf in [leaf for leaf in vocabulary.leaves() if code.casefold().startswith(leaf.casefold())]:
             candidates.append((f"this tree has {leaf} undivided", leaf, True))
-        fault, changed = self.first_taken(row, column, candidates, category_otherwise(code))
+        fault, changed = self.first_taken(row, column, candidates, category_otherwise(code, bare.text))
         return fault, changed or self.placed(row, column)
 
     def placed(self, row, column):
@@ -102,8 +102,8 @@ class WordFaults(Asking):
         candidates = [(cause_of(bare.causes), bare.text, True), ("an equation is written like Q10", code, True)]
         if code.isdigit():
             candidates.append(("the code of an equation begins with Q", "Q" + code, True))
-        known = equations_near(code)
-        near = f"; the nearest are {listed(map(said_of_equation, known), 'and')}" if known else ""
+        known = equations_near(code, bare.text)
+        near = f"; near it {'is' if len(known) == 1 else 'are'} {listed(map(said_of_equation, known), 'and')}" if known else ""
         otherwise = f"no equation of this code{near}; ./workbook words equations lists them"
         return self.first_taken(row, column, candidates, otherwise)
 
@@ -156,13 +156,20 @@ class WordFaults(Asking):
         return self.first_taken(row, column, candidates, "no sum: it is 1 to 400 different lines with one space between two")
 
 
-def equations_near(code):
-    """The equations with the nearest numbers to a code that is none."""
+def equations_near(code, text):
+    """The equations with the nearest numbers to a code that is none, or those whose names hold the text."""
     found = re.fullmatch(r"Q(\d+)", code)
-    if not found:
+    if found:
+        number = int(found.group(1))
+        return sorted(vocabulary.equations(), key=lambda known: abs(int(known[1:]) - number))[:3]
+    return named_like(text, {known: equation["computes"] for known, equation in vocabulary.equations().items()})
+
+
+def named_like(text, names):
+    """The codes whose names hold each word of a text of some letters, three at the most."""
+    if len(text) < 3:
         return []
-    number = int(found.group(1))
-    return sorted(vocabulary.equations(), key=lambda known: abs(int(known[1:]) - number))[:3]
+    return [code for code, name in names.items() if all(word in name.casefold() for word in text.casefold().split())][:3]
 
 
 def said_of_equation(code):
@@ -184,7 +191,7 @@ def name_otherwise(text, what):
     return "a name is 1 to 24 of A to Z, 0 to 9, . _ and -, and begins with a letter"
 
 
-def category_otherwise(code):
+def category_otherwise(code, text):
     """Why a code is no leaf of the tree."""
     known = vocabulary.categories()
     if code in known:
@@ -193,7 +200,10 @@ def category_otherwise(code):
     if above:
         there = [f"{leaf} ({known[leaf]['name']})" for leaf in known[above]["children"]]
         return f"no category of this tree; under {above} it has {listed(there, 'and')}"
-    return "no category of this tree; ./workbook words categories lists them"
+    leaves = {leaf: f"{known[leaf]['name']}; {known[leaf]['also']}" for leaf in vocabulary.leaves()}
+    like = [f"{leaf} ({known[leaf]['name']})" for leaf in named_like(text, leaves)]
+    near = f"; near it {'is' if len(like) == 1 else 'are'} {listed(like, 'and')}" if like else ""
+    return f"no category of this tree{near}; ./workbook words categories lists them"
 
 
 def unit_otherwise(text, form, dimension):
