@@ -28,6 +28,7 @@ def all_warnings(book, refused, sheets, left):
         return found + [Fault(sheets[0], 1, "warning", None, "no span is in force, so that there is no table")]
     first, last = book.span
     found += outside(book, first, last)
+    found += holes(book, first, last)
     found += late_factors(book, first, last)
     found += without_potential(book)
     return found + ([] if refused.has_activity_of(last) else without_last_year(book, span, last))
@@ -97,6 +98,18 @@ def outside(book, first, last):
         if beyond:
             cause = f"factor {name} of {years_said(beyond)} begins after the span, {first} to {last}"
             found.append(warn(years[min(beyond)], cause))
+    return found
+
+
+def holes(book, first, last):
+    """Activities that lines take and that lack years between others."""
+    found, taken = [], book.taken()
+    for name, years in sorted(book.years["activity"].items()):
+        lacking = [year for year in range(max(min(years), first), min(max(years), last) + 1) if year not in years]
+        if lacking and ("activity", name) in taken:
+            lines = listed(sorted({row.field("subject") for row in taken["activity", name]}), "and")
+            cause = f"activity {name} has no record of {years_said(lacking)}; {lines} is blank there"
+            found.append(warn(years[min(years)], cause))
     return found
 
 
