@@ -96,8 +96,8 @@ fn equivalents_weigh_lines(rt: HostRuntime) {
     }
 }
 
-// Three parts, their total and their sum; nothing where it is beyond the limit, of 10^9 Gg and of 10^14 units.
-// A blank counts as zero in a total alone.
+// Three parts, their total and their sum; nothing where it is beyond the limit, of 10^9 Gg and of 10^14
+// units. A blank counts as zero in a total alone.
 const SUMS: &[([&str; 3], &str, &str)] = &[
     (["2,2,3", "NE", "-0.5,-0.5,0.1"], "1.5,1.5,3.1", "NE"),
     (
