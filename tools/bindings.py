@@ -4,7 +4,7 @@ They are judged with all rows of a file applied. What stands where is looked up 
 next fault, the row at fault is taken out, or a binding takes NE in its place, so that its line stays and is blank.
 """
 from tools import vocabulary
-from tools.book import lines_taken_by
+from tools.book import lines_taken_by, record_taken_by
 from tools.faults import Fault, at_row
 from tools.sheets import Row, joined
 from tools.vocabulary import listed, nearest, said_of_parameter
@@ -57,7 +57,7 @@ def explain(line, parameter, after):
     if bound is None:
         return without_binding(holder, parameters[parameter], after)
     wanted = parameters[parameter]
-    if bound.field("value") in ("activity", "factor"):
+    if record_taken_by(bound):
         return of_record(bound, holder, wanted, after)
     return of_lines(bound, holder, wanted, after)
 
@@ -137,7 +137,7 @@ def without_binding(holder, wanted, after):
 
 def of_record(bound, holder, wanted, after):
     """A binding to an activity or a factor that there is not, or that measures something else."""
-    kind, name = bound.field("value"), bound.field("low")
+    kind, name = record_taken_by(bound)
     record = after.book.some_record(kind, name)
     if record is None:
         return without_record(bound, kind, name, after)
@@ -304,8 +304,8 @@ def inputs_of(line, year, book):
         seen.add(name)
         for parameter, bound in book.bindings.get(name, {}).items():
             waiting += lines_taken_by(bound)
-            if bound.field("value") in ("activity", "factor"):
-                row = book.in_force(bound.field("value"), bound.field("low"), year)
+            if record_taken_by(bound):
+                row = book.in_force(*record_taken_by(bound), year)
                 if row is not None and row.field("value") not in vocabulary.words()["keys"]:
                     found.append((parameter if name == line else f"{parameter} of {name}", row))
     return found

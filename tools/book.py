@@ -1,6 +1,10 @@
 """The records of a workbook by their keys, as the accepted rows left them: to say where something stands, never to judge."""
 
 
+# What kind of record a form of a binding takes. A half-life is a factor.
+KIND_TAKEN = {"activity": "activity", "factor": "factor", "decay": "factor"}
+
+
 class Book:
     """What is in force: of each key the row that set it last, and the row that entered it.
 
@@ -75,9 +79,16 @@ class Book:
         found = {}
         for bound in self.bindings.values():
             for row in bound.values():
-                if row.field("value") in self.years:
-                    found.setdefault((row.field("value"), row.field("low")), []).append(row)
+                record = record_taken_by(row)
+                if record:
+                    found.setdefault(record, []).append(row)
         return found
+
+
+def record_taken_by(row):
+    """The kind and name of the record that a binding takes, or None."""
+    kind = KIND_TAKEN.get(row.field("value"))
+    return (kind, row.field("low")) if kind else None
 
 
 def lines_taken_by(row):

@@ -7,7 +7,7 @@ that the program found.
 import collections
 
 from tools import bindings, headers
-from tools.book import Book
+from tools.book import Book, record_taken_by
 from tools.causes import name as mended_name
 from tools.explain import Explainer
 from tools.faults import Fault, counted
@@ -36,8 +36,8 @@ class Refused:
             kind = row.field("kind").strip().lower()
             self.rows.setdefault((kind, *key), row)
             self.rows.setdefault((kind, *key[:1]), row)
-            if kind == "bind" and row.field("value") in ("activity", "factor"):
-                self.meant_records.add((row.field("value"), row.field("low")))
+            if kind == "bind":
+                self.meant_records.add(record_taken_by(row))
 
     def that_sets(self, key):
         """The refused row that would have set a key, or None."""

@@ -6,7 +6,7 @@ the line takes.
 import sys
 
 from tools import notices, vocabulary
-from tools.book import Book, lines_taken_by
+from tools.book import Book, lines_taken_by, record_taken_by
 from tools.faults import years_said
 from tools.tables import submit_all
 
@@ -48,8 +48,8 @@ class States:
         form, target = bound.field("value"), bound.field("low")
         if form == "key":
             return {target}
-        if form in ("activity", "factor"):
-            row = self.book.in_force(form, target, year)
+        if record_taken_by(bound):
+            row = self.book.in_force(*record_taken_by(bound), year)
             if row is None:
                 return {GAP}
             return {row.field("value")} & set(vocabulary.words()["keys"])

@@ -127,4 +127,4 @@ def said_of_key(key):
     """A record as a sentence names it."""
     if key[0] == "bind":
         return f"binding of {key[2]} of {key[1]}"
-    return " ".join(key)
+    return " ".join(part for part in key if part)

@@ -13,8 +13,9 @@ LINE_END = re.compile(rb"\r\n|\r|\n")
 
 COLUMNS = ["act", "kind", "subject", "name", "year", "value", "low", "high", "unit", "note"]
 COLUMN_AT = {column: at for at, column in enumerate(COLUMNS)}
-# The columns that name a record, of each kind.
-COLUMNS_OF_KEY = {"activity": ["name", "year"], "factor": ["name", "year"], "line": ["name"], "bind": ["subject", "name"]}
+# The columns that name a record, of each kind; of any other kind all that may.
+COLUMNS_OF_KEY = {"span": [], "activity": ["name", "year"], "factor": ["name", "year"], "line": ["name"], "bind": ["subject", "name"]}
+ANY_KEY = ["subject", "name", "year"]
 
 
 class FolderFault(Exception):
@@ -50,7 +51,7 @@ class Row:
         """The key of the record that the row speaks of, out of its fields as they are."""
         if self._key is None:
             kind = self.field("kind")
-            self._key = (kind, *(self.field(column) for column in COLUMNS_OF_KEY.get(kind, ())))
+            self._key = (kind, *(self.field(column) for column in COLUMNS_OF_KEY.get(kind, ANY_KEY)))
         return self._key
 
     def field(self, column):

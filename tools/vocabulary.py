@@ -72,8 +72,9 @@ def gas_of(code):
 
 
 def said_of_parameter(parameter):
-    """A parameter with what it measures and the base unit."""
-    return f'{parameter["name"]} {parameter["measures"]} ({parameter["unit"]})'
+    """A parameter with what it measures and the base unit, if it has one."""
+    unit = f' ({parameter["unit"]})' if parameter["unit"] else ""
+    return f'{parameter["name"]} {parameter["measures"]}{unit}'
 
 
 def listed(items, last="or"):

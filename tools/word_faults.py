@@ -4,6 +4,7 @@ import re
 from tools import causes, vocabulary
 from tools.asking import Asking, article, cause_of
 from tools.faults import at_row
+from tools.sheets import COLUMNS_OF_KEY
 from tools.vocabulary import listed, nearest
 
 
@@ -27,6 +28,8 @@ class WordFaults(Asking):
         }.get((kind, column))
         if explained:
             return explained(row, column)
+        if kind not in COLUMNS_OF_KEY:
+            return at_row(row, "no word of this column's form; docs/FORMATS.md says what it takes", column), None
         if column in ("low", "high") and kind in ("activity", "factor"):
             return self.filled(row, column, f"beside the notation key {row.field('value')} low and high stay empty")
         return self.filled(row, column, f"this column stays empty in {article(kind)} row")

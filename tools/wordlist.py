@@ -33,7 +33,7 @@ def parameters():
         for parameter in equation["parameters"]:
             found.setdefault((parameter["name"], parameter["measures"], parameter["unit"]), []).append(code)
     for (name, measures, unit), codes in found.items():
-        yield name, f"{measures} ({unit}): {', '.join(codes)}", ""
+        yield name, f"{measures}{f' ({unit})' if unit else ''}: {', '.join(codes)}", ""
 
 
 def found_in(items, words):
@@ -46,6 +46,9 @@ def sample(parameter):
     """The rows of a template that give a parameter its figure."""
     kind = "activity" if parameter["measures"] in MEASURED_YEARLY else "factor"
     name = f"NAME.{parameter['name']}"
+    if parameter["unit"] is None:
+        # a yearly decay factor has no unit: its binding takes a half-life
+        return f"enter,bind,NAME,{parameter['name']},,decay,{name},,,", f"enter,factor,,{name},YEAR,VALUE,,,yr,"
     bound = f"enter,bind,NAME,{parameter['name']},,{kind},{name},,,"
     return bound, f"enter,{kind},,{name},YEAR,VALUE,LOW,HIGH,{parameter['unit']},"
 
@@ -59,7 +62,7 @@ def print_equation(code):
     print(f"gives {gives}: {equation['expression']}\n")
     for parameter in equation["parameters"]:
         others = vocabulary.units_that_measure(parameter["measures"])
-        print(f"  {parameter['name']:8} {parameter['measures']}, in {vocabulary.listed(others)}")
+        print(f"  {parameter['name']:8} {parameter['measures']}{f', in {vocabulary.listed(others)}' if others else ''}")
     rows = [sample(parameter) for parameter in equation["parameters"]]
     print(f"\n{','.join(COLUMNS)}\nenter,line,CATEGORY,NAME,,{code},,,,")
     print("\n".join([bound for bound, _ in rows] + [figure for _, figure in rows]))

