@@ -46,9 +46,6 @@ def sample(parameter):
     """The rows of a template that give a parameter its figure."""
     kind = "activity" if parameter["measures"] in MEASURED_YEARLY else "factor"
     name = f"NAME.{parameter['name']}"
-    if parameter["unit"] is None:
-        # a yearly decay factor has no unit: its binding takes a half-life
-        return f"enter,bind,NAME,{parameter['name']},,decay,{name},,,", f"enter,factor,,{name},YEAR,VALUE,,,yr,"
     bound = f"enter,bind,NAME,{parameter['name']},,{kind},{name},,,"
     return bound, f"enter,{kind},,{name},YEAR,VALUE,LOW,HIGH,{parameter['unit']},"
 
@@ -62,8 +59,9 @@ def print_equation(code):
     print(f"gives {gives}: {equation['expression']}\n")
     for parameter in equation["parameters"]:
         others = vocabulary.units_that_measure(parameter["measures"])
-        print(f"  {parameter['name']:8} {parameter['measures']}{f', in {vocabulary.listed(others)}' if others else ''}")
-    rows = [sample(parameter) for parameter in equation["parameters"]]
+        given = f"in {vocabulary.listed(others)}" if others else "which no row can give yet"
+        print(f"  {parameter['name']:8} {parameter['measures']}, {given}")
+    rows = [sample(parameter) for parameter in equation["parameters"] if parameter["unit"]]
     print(f"\n{','.join(COLUMNS)}\nenter,line,CATEGORY,NAME,,{code},,,,")
     print("\n".join([bound for bound, _ in rows] + [figure for _, figure in rows]))
 
