@@ -5,7 +5,7 @@ next fault, the row at fault is taken out, or a binding takes NE in its place, s
 """
 from tools import vocabulary
 from tools.book import lines_taken_by, record_taken_by
-from tools.faults import Fault, at_row
+from tools.faults import Fault, at_row, counted
 from tools.sheets import Row, joined
 from tools.vocabulary import listed, nearest, said_of_parameter
 
@@ -67,7 +67,7 @@ def without_line(line, parameter, bound, after):
     gone = after.acts_on("line", line, ("withdraw",))
     if gone:
         names = listed(after.book.bindings[line], "and")
-        return at_row(gone[0], f"the line goes and its bindings stay; withdraw the bindings of {names} too"), after.without(gone)
+        return at_row(gone[0], f"the line is withdrawn and its bindings stay; withdraw the bindings of {names} too"), after.without(gone)
     if not after.is_own(bound):
         return None, None
     refused = after.refused.that_sets(("line", line))
@@ -75,7 +75,7 @@ def without_line(line, parameter, bound, after):
     if near and not refused and parameter not in after.book.bindings.get(near[0], {}):
         return misspelt_line(bound, near[0], after)
     own = [row for row in after.rows[1:] if row.field("kind") == "bind" and row.field("subject") == line]
-    more = f" ({len(own) - 1} more of its bindings stand in this file)" if len(own) > 1 else ""
+    more = f" ({counted(len(own) - 1, 'further binding')} of it in this file)" if len(own) > 1 else ""
     if refused:
         fault = at_row(own[0], f"there is no line {line}, since its row was refused{more}", "subject", follows=refused.place)
     elif after.in_later_file("line", line):
@@ -183,7 +183,7 @@ def taken_away(gone, what, bound, after):
     """The fault of rows that withdraw what a binding of an earlier file takes."""
     if not gone:
         return None, None
-    return at_row(gone[-1], f"{what} goes, and {bound.field('subject')} takes it at {bound.place}"), after.without(gone)
+    return at_row(gone[-1], f"{what} is withdrawn, and line {bound.field('subject')} takes it at {bound.place}"), after.without(gone)
 
 
 def said(kind):

@@ -101,14 +101,22 @@ def outside(book, first, last):
     return found
 
 
+def lines_of(bindings):
+    """The lines of bindings, as the subject of a sentence."""
+    names = sorted({row.field("subject") for row in bindings})
+    if len(names) == 1:
+        return f"line {names[0]} is"
+    shown = names if len(names) <= NAMES_SHOWN else [*names[:NAMES_SHOWN - 1], f"{len(names) - NAMES_SHOWN + 1} more"]
+    return f"lines {listed(shown, 'and')} are"
+
+
 def holes(book, first, last):
     """Activities that lines take and that lack years between others."""
     found, taken = [], book.taken()
     for name, years in sorted(book.years["activity"].items()):
         lacking = [year for year in range(max(min(years), first), min(max(years), last) + 1) if year not in years]
         if lacking and ("activity", name) in taken:
-            lines = listed(sorted({row.field("subject") for row in taken["activity", name]}), "and")
-            cause = f"activity {name} has no record of {years_said(lacking)}; {lines} is blank there"
+            cause = f"activity {name} has no record of {years_said(lacking)}; {lines_of(taken['activity', name])} blank there"
             found.append(warn(years[min(years)], cause))
     return found
 
@@ -120,9 +128,8 @@ def late_factors(book, first, last):
     for name, years in sorted(book.years["factor"].items()):
         begins = min(years)
         if first < begins <= last and ("factor", name) in taken:
-            lines = listed(sorted({row.field("subject") for row in taken["factor", name]}), "and")
-            blank = years_said(range(first, begins))
-            found.append(warn(years[begins], f"factor {name} begins in {begins}; {lines} is blank in {blank}"))
+            lines, blank = lines_of(taken["factor", name]), years_said(range(first, begins))
+            found.append(warn(years[begins], f"factor {name} begins in {begins}; {lines} blank in {blank}"))
     return found
 
 
