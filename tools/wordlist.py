@@ -18,7 +18,8 @@ def categories():
     for code, category in vocabulary.categories().items():
         children = category["children"]
         leaf = f" (not a leaf: {', '.join(children)})" if children else ""
-        yield code, f"{category['name']}{leaf}", category["also"]
+        also = f" (also {category['also']})" if category["also"] else ""
+        yield code, f"{category['name']}{also}{leaf}", ""
 
 
 def equations():

@@ -94,7 +94,8 @@ SPAN_SCRIPT = f"SUBMIT s {len(SPAN)}\n{SPAN}"
 
 class Search(unittest.TestCase):
     def test_by_a_word_of_the_name(self):
-        self.assertIn("1A1a  Main activity electricity and heat production\n", workbook("words", "categories", "public", "heat").stdout)
+        self.assertIn("1A1a  Main activity electricity and heat production (also public electricity and heat; power plants)\n",
+                      workbook("words", "categories", "public", "heat").stdout)
         self.assertIn("Q39  Nitric or adipic acid with abatement, to N2O, Volume 3, Equations 3.6 and 3.8",
                       workbook("words", "equations", "nitric").stdout)
         self.assertIn("g/GJ   emission factor of fuel, 1 kg/TJ\n", workbook("words", "units", "fuel", "emission").stdout)
