@@ -11,8 +11,8 @@ use Rattle.ghg_session.specs.Replies.{reply_of, state_after, table_lines}
 use Rattle.ghg_session.specs.Script.{reading_of}
 use Rattle.ghg_session.specs.Session.{Snapshot, last_line}
 
--- The lines reply to a request. To a request for a table they are the office's reply, a table under its heading or that
--- there is none, and in a table the bounds hold.
+-- The lines reply to a request. To a request for a table they are the office's reply, a table under its
+-- heading or that there is none, and in a table the bounds hold.
 abbrev pub AreSoundLines : State → Request → List ℕ → Type 0
 AreSoundLines s (Submit id body) lines = lines ≡ reply_of s (Submit id body)
 AreSoundLines s (Show name year) lines =

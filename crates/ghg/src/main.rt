@@ -1,8 +1,8 @@
 //! Compiles national greenhouse gas inventories after the 2006 IPCC Guidelines: answers a script of
 //! submissions and requests for tables.
 //!
-//! [`run::run`] does all that the program does, and its contract says what that is. `main` hands it the process's
-//! words, input and output, and ends with its status.
+//! [`run::run`] does all that the program does, and its contract says what that is. `main` hands it the
+//! process's words, input and output, and ends with its status.
 #![tactic(auto)]
 
 ghost use Rattle.std.specs.Prelude.{◌≡◌, ◌<◌};

@@ -1,4 +1,5 @@
-//! Runs whose input or output fails, and words that are no command. Sessions without faults are stored in `tests/`.
+//! Runs whose input or output fails, and words that are no command. Sessions without faults are stored in
+//! `tests/`.
 
 ghost use Rattle.std.specs.Prelude.{◌≡◌, ◌<◌};
 

@@ -9,10 +9,11 @@ ghost use Rattle.ghg_categories.specs.Tree.{code_of};
 use crate::tree::code;
 use std::cmp::Ordering;
 
-/// A category of emissions and removals, by its code without dots (2006 IPCC Guidelines, Volume 1, Chapter 8, Table 8.2).
+/// A category of emissions and removals, by its code without dots (2006 IPCC Guidelines, Volume 1, Chapter 8,
+/// Table 8.2).
 ///
-/// The national total has the code `0`. The memo codes `MB`, `MC` and `RA` stand outside the tree, and what is reported
-/// there is in no total. Categories are compared and ordered by the bytes of their codes.
+/// The national total has the code `0`. The memo codes `MB`, `MC` and `RA` stand outside the tree, and what
+/// is reported there is in no total. Categories are compared and ordered by the bytes of their codes.
 #[derive(Clone, Copy, Debug, Drop)]
 pub enum Category {
     /// The national total.

@@ -1,4 +1,5 @@
-//! The tree of categories that emissions and removals are reported at (2006 IPCC Guidelines, Volume 1, Table 8.2).
+//! The tree of categories that emissions and removals are reported at (2006 IPCC Guidelines, Volume 1, Table
+//! 8.2).
 #![tactic(auto)]
 
 mod category;

@@ -1,6 +1,7 @@
 //! The table of categories: their codes, and how they stand under one another.
 //!
-//! Source: 2006 IPCC Guidelines, Volume 1, Chapter 8, Table 8.2. The code `0` and the memo codes are this project's own.
+//! Source: 2006 IPCC Guidelines, Volume 1, Chapter 8, Table 8.2. The code `0` and the memo codes are this
+//! project's own.
 
 ghost use Rattle.std.specs.Prelude.{◌≡◌};
 ghost use Rattle.std.specs.Str.{bytes_eq};
@@ -60,7 +61,8 @@ fn stands_within_levels(levels: u8, category: Category, top: Category) -> bool
     }
 }
 
-// What the table says of a category: its code, the category just above, and whether none stands just under it.
+// What the table says of a category: its code, the category just above, and whether none stands just under
+// it.
 #[derive(Clone, Copy)]
 struct CategoryRow {
     code: &'static str,

@@ -20,7 +20,8 @@ has_date calendar s year = holds_year (lookup (same_series s) calendar.years.ent
 
 -- the calendar has exactly the years whose keys pass the test
 abbrev pub IsCalendarOf : (RecordKey → Bool) → Calendar → Type 0
-IsCalendarOf passes calendar = (s : Series) (year : ℕ) → has_date calendar s year ≡ is_year year && passes (dated s year)
+IsCalendarOf passes calendar = (s : Series) (year : ℕ) → has_date calendar s year ≡ is_year year && passes
+    (dated s year)
 
 -- a key is changed, and has a record then, or has none
 abbrev pub is_put : Option (Option Record) → Bool

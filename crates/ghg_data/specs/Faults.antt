@@ -19,11 +19,13 @@ takes e parameter = list_any (λ q. bytes_eq q.name parameter) (parameters e)
 -- what a parameter measures, where its line is present and takes it
 abbrev pub dim_of_place : Data → Place → Option Dim
 dim_of_place m p =
-    option_and_then (λ e. option_map (λ q. q.dim) (find (λ q. bytes_eq q.name p.parameter) (parameters e))) (line m p.line)
+    option_and_then (λ e. option_map (λ q. q.dim) (find (λ q. bytes_eq q.name p.parameter) (parameters e)))
+    (line m p.line)
 
 -- a line that is present takes the parameter, or a binding names it
 abbrev pub is_place : Data → Place → Bool
-is_place m p = is_some (binding m p.line p.parameter) || option_map_or (λ e. takes e p.parameter) (line m p.line) false
+is_place m p = is_some (binding m p.line p.parameter) || option_map_or (λ e. takes e p.parameter)
+    (line m p.line) false
 
 abbrev pub is_fault : Data → Place → Bool
 is_fault m p = is_place m p && not (is_sound m p)

@@ -13,4 +13,5 @@ IfRule P refusal.Memory = ⊤
 
 -- the answer is edits that make the wanted data of m, or the rule that stands in their place
 abbrev pub IsPlanOf : Result Data Rule → Data → Result (List Change) PlanRefusal → Type 0
-IsPlanOf wanted m answer = MatchResult answer (λ edits. wanted ≡ Ok (applied m edits)) (IfRule (λ rule. wanted ≡ Err rule))
+IsPlanOf wanted m answer = MatchResult answer (λ edits. wanted ≡ Ok (applied m edits))
+    (IfRule (λ rule. wanted ≡ Err rule))

@@ -29,4 +29,5 @@ date_of (key.Bind line parameter) = None
 
 -- each of the series has a year
 abbrev pub EachHasAYear : List (Series × YearSet) → Type 0
-EachHasAYear entries = (s : Series) (set : YearSet) → lookup (same_series s) entries ≡ Some set → ¬ HasNoYear set
+EachHasAYear entries = (s : Series) (set : YearSet) → lookup (same_series s) entries ≡ Some set
+    → ¬ HasNoYear set

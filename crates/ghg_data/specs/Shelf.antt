@@ -13,7 +13,8 @@ pub record Shelf : Type 0 where
   pub spare : ℕ
 
 abbrev pub shelf_code : Coded RecordKey → Coded Record → Coded Shelf
-shelf_code key entry = code_by (Data × ℕ) (coded× (code key entry) coded_ℕ) (λ s. (s.content, s.spare)) (λ p. record { content = p.0; spare = p.1 }) (λ _. refl)
+shelf_code key entry = code_by (Data × ℕ) (coded× (code key entry) coded_ℕ) (λ s. (s.content, s.spare))
+    (λ p. record { content = p.0; spare = p.1 }) (λ _. refl)
 
 -- the changes fit, and leave a workbook
 pub record IsPlanned (shelf : Shelf) (edits : List Change) : Type 0 where

@@ -128,7 +128,8 @@ fn dim_of_place(draft: &Draft<'_>, place: &Place) -> Option<Dim>
     dim_of_parameter(draft.line(&place.line)?, &place.parameter)
 }
 
-// The line takes the parameter, which is not bound to what it measures; or a binding names it, and no line takes it.
+// The line takes the parameter, which is not bound to what it measures; or a binding names it, and no line
+// takes it.
 fn is_fault(draft: &Draft<'_>, place: &Place) -> bool
     ensures { result ≡ is_fault draft.now place.now }
 {
@@ -159,14 +160,16 @@ fn consider(draft: &Draft<'_>, least: &mut Option<Place>, place: &Place)
 
 // Looks at each parameter of a line with this equation.
 fn consider_parameters(draft: &Draft<'_>, least: &mut Option<Place>, line: &Name, id: EqId)
-    ensures { least.new ≡ fold (considered draft.now) least.old (map (λ q. record { line = line.now; parameter = q.name }) (parameters id)) }
+    ensures { least.new ≡ fold (considered draft.now) least.old
+        (map (λ q. record { line = line.now; parameter = q.name }) (parameters id)) }
 {
     consider_params(draft, least, line, params_of(id));
 }
 
 fn consider_params(draft: &Draft<'_>, least: &mut Option<Place>, line: &Name, params: &[Param])
     requires { AllByRecursion (λ q. is_parameter q.name.now ≡ true) params.now }
-    ensures { least.new ≡ fold (considered draft.now) least.old (map (λ q. record { line = line.now; parameter = q.name.now }) params.now) }
+    ensures { least.new ≡ fold (considered draft.now) least.old
+        (map (λ q. record { line = line.now; parameter = q.name.now }) params.now) }
 {
     for param in params {
         consider(
@@ -204,7 +207,8 @@ fn consider_key(draft: &Draft<'_>, least: &mut Option<Place>, key: &RecordKey)
 
 // Looks at each parameter of the lines before the edits.
 fn consider_lines(draft: &Draft<'_>, least: &mut Option<Place>, holdings: &Holdings)
-    ensures { least.new ≡ fold (considered draft.now) least.old (flat_map (line_places holdings.now.content) (line_names holdings.now.content)) }
+    ensures { least.new ≡ fold (considered draft.now) least.old
+        (flat_map (line_places holdings.now.content) (line_names holdings.now.content)) }
 {
     for line in holdings.lines() {
         if let Some(id) = equation_in(holdings.get(&RecordKey::Line(*line))) {
@@ -220,7 +224,8 @@ fn consider_unsettled(
     holdings: &Holdings,
     edits: &Edits,
 )
-    ensures { least.new ≡ fold (considered draft.now) least.old (unsettled_places holdings.now.content edits.now) }
+    ensures { least.new ≡ fold (considered draft.now) least.old
+        (unsettled_places holdings.now.content edits.now) }
 {
     if unsettles(holdings, edits) {
         consider_lines(draft, least, holdings);

@@ -43,7 +43,8 @@ impl Model for Book {
     ghost invariant = { λ b. IsWorkbook b.holdings.content };
 }
 
-/// The records that a book will have once edits that were planned on it as it stands are committed. It takes no memory.
+/// The records that a book will have once edits that were planned on it as it stands are committed. It takes
+/// no memory.
 pub fn after<'a>(book: &'a Book, edits: &'a Edits) -> After<'a>
     requires { IsPlanned book.now edits.now }
     ensures { result ≡ applied book.now.content edits.now }
@@ -82,12 +83,14 @@ impl Book {
         }
     }
 
-    /// What the rows of a submission make of this book: the edits, with room made for them, where no rule is broken.
+    /// What the rows of a submission make of this book: the edits, with room made for them, where no rule is
+    /// broken.
     ///
-    /// `rest` is the rule that stopped the reading of the rows, and `kept_bytes` how many bytes all kept bodies have with this one.
-    /// The first rule that is broken is answered: that of the first row that breaks one on units or presence, `rest`,
-    /// the least unsound binding, and the first limit. Each key of the edits is that of some row, and there are no more
-    /// edits than rows. The records stay with every answer.
+    /// `rest` is the rule that stopped the reading of the rows, and `kept_bytes` how many bytes all kept
+    /// bodies have with this one. The first rule that is broken is answered: that of the first row that
+    /// breaks one on units or presence, `rest`, the least unsound binding, and the first limit. Each key of
+    /// the edits is that of some row, and there are no more edits than rows. The records stay with every
+    /// answer.
     pub fn plan(
         &mut self,
         alloc: Global,
@@ -97,8 +100,10 @@ impl Book {
     ) -> Result<Edits, PlanRefusal>
         requires { AllByRecursion IsWellFormed rows.now }
         ensures kept { self.new.content ≡ self.old.content }
-        ensures planned { IsPlanOf (planned self.old.content rows.now rest kept_bytes) self.old.content result }
-        ensures after { IfOk result (λ edits. applied self.old.content edits ≡ after self.old.content rows.now) }
+        ensures planned { IsPlanOf (planned self.old.content rows.now rest kept_bytes)
+            self.old.content result }
+        ensures after { IfOk result (λ edits. applied self.old.content edits ≡ after
+            self.old.content rows.now) }
         ensures few { IfOk result (AreOfRows rows.now) }
         ensures ready { IfOk result (IsPlanned self.new) }
     {

@@ -55,7 +55,8 @@ impl Calendar {
     /// Notes that a key has a record, or has none. It takes no memory.
     pub(crate) fn note(&mut self, key: &RecordKey, present: bool)
         requires { 0 < spare self.old.years }
-        ensures dates { (s : Series) (y : ℕ) → has_date self.new s y ≡ cond (is_year y && eq_by_cmp key_cmp (dated s y) key.now) present (has_date self.old s y) }
+        ensures dates { (s : Series) (y : ℕ) → has_date self.new s y ≡ cond
+            (is_year y && eq_by_cmp key_cmp (dated s y) key.now) present (has_date self.old s y) }
         ensures room { spare self.old.years ≤ spare self.new.years + 1 }
     {
         if let Some((series, year)) = date_of(key) {
@@ -67,7 +68,8 @@ impl Calendar {
     // Gives a series these years.
     fn put(&mut self, series: Series, years: YearSet)
         requires { 0 < spare self.old.years }
-        ensures dates { (s : Series) (y : ℕ) → has_date self.new s y ≡ cond (same_series series s) (has_year years y) (has_date self.old s y) }
+        ensures dates { (s : Series) (y : ℕ) → has_date self.new s y ≡ cond (same_series series s)
+            (has_year years y) (has_date self.old s y) }
         ensures room { spare self.old.years ≤ spare self.new.years + 1 }
     {
         if years.is_empty() {

@@ -106,7 +106,8 @@ impl<'a> Draft<'a> {
 
     /// The years of the records of a series.
     pub(crate) fn years(&self, series: &Series) -> YearSet
-        ensures { (y : ℕ) → has_year result y ≡ is_year y && is_some (finite.get self.now (dated series.now y)) }
+        ensures { (y : ℕ) → has_year result y ≡ is_year y && is_some
+            (finite.get self.now (dated series.now y)) }
     {
         let put = self.edits.years_put(series);
         let taken = self.edits.years_taken(series);
@@ -115,8 +116,10 @@ impl<'a> Draft<'a> {
 
     /// The figure of some record of the same kind and name for another year.
     pub(crate) fn other_year(&self, key: &RecordKey) -> Option<Figure>
-        ensures found { IfSome result (λ f. (q : RecordKey) × (figure self.now q ≡ Some f) × (is_other_year key.now q ≡ true)) }
-        ensures none { IfNone result ((q : RecordKey) → is_other_year key.now q ≡ true → figure self.now q ≡ None) }
+        ensures found { IfSome result (λ f. (q : RecordKey) × (figure self.now q ≡ Some f) ×
+            (is_other_year key.now q ≡ true)) }
+        ensures none { IfNone result ((q : RecordKey) → is_other_year key.now q ≡ true
+            → figure self.now q ≡ None) }
         ensures consistent { IsConsistent self.now }
     {
         // The proof learns the type's invariant where a field is named.
@@ -124,7 +127,11 @@ impl<'a> Draft<'a> {
         let Some((series, year)) = date_of(key) else {
             return None;
         };
-        match self.years(&series).with(year, false).last_until(LATEST_YEAR) {
+        match self
+            .years(&series)
+            .with(year, false)
+            .last_until(LATEST_YEAR)
+        {
             Some(other) => self.figure(&series.dated(other)),
             None => None,
         }

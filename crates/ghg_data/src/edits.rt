@@ -42,7 +42,8 @@ impl Model for Edits {
 
     ghost view = { λ e. e.changes.entries };
 
-    ghost invariant = { λ e. IsCalendarOf (λ k. is_put (find key_cmp k e.changes.entries)) e.put × IsCalendarOf (λ k. is_taken (find key_cmp k e.changes.entries)) e.taken };
+    ghost invariant = { λ e. IsCalendarOf (λ k. is_put (find key_cmp k e.changes.entries)) e.put
+        × IsCalendarOf (λ k. is_taken (find key_cmp k e.changes.entries)) e.taken };
 }
 
 impl Edits {
@@ -100,7 +101,8 @@ impl Edits {
 
     /// Makes one more change.
     pub(crate) fn put(&mut self, key: RecordKey, change: Option<Record>) -> Result<(), AllocError>
-        ensures ok { OnOk result ((m : Data) → applied m self.new ≡ with_record (applied m self.old) key change) }
+        ensures ok { OnOk result ((m : Data) → applied m self.new ≡ with_record
+            (applied m self.old) key change) }
         ensures keys { OnOk result (ChangesAlso key self.old self.new) }
         ensures err { OnErr result (self.new ≡ self.old) }
     {
@@ -115,14 +117,16 @@ impl Edits {
 
     /// The years of a series for which a record is set.
     pub(crate) fn years_put(&self, series: &Series) -> YearSet
-        ensures { (y : ℕ) → has_year result y ≡ is_year y && is_put (find key_cmp (dated series.now y) self.now) }
+        ensures { (y : ℕ) → has_year result y ≡ is_year y && is_put
+            (find key_cmp (dated series.now y) self.now) }
     {
         self.put.years(series)
     }
 
     /// The years of a series for which the record is removed.
     pub(crate) fn years_taken(&self, series: &Series) -> YearSet
-        ensures { (y : ℕ) → has_year result y ≡ is_year y && is_taken (find key_cmp (dated series.now y) self.now) }
+        ensures { (y : ℕ) → has_year result y ≡ is_year y && is_taken
+            (find key_cmp (dated series.now y) self.now) }
     {
         self.taken.years(series)
     }

@@ -23,8 +23,8 @@ use indexmap::IndexMap;
 use std::alloc::{AllocError, Global};
 use std::marker::Model;
 
-/// Records by their keys with the names of the lines in order and the years of each activity and factor, and room for
-/// more.
+/// Records by their keys with the names of the lines in order and the years of each activity and factor, and
+/// room for more.
 #[derive(Drop)]
 pub(crate) struct Holdings {
     records: IndexMap<RecordKey, Record>,
@@ -45,9 +45,14 @@ impl Model for Holdings {
 
     ghost coded = { shelf_code (Prim.hlevel codes) (Prim.hlevel codes) };
 
-    ghost view = { λ h. record { content = from_entries h.records.entries; spare = min (spare h.records) (min (vec_capacity h.lines - vec_len h.lines) (spare h.calendar.years)) } };
+    ghost view = { λ h. record {
+      content = from_entries h.records.entries;
+      spare = min (spare h.records)
+          (min (vec_capacity h.lines - vec_len h.lines) (spare h.calendar.years));
+    } };
 
-    ghost invariant = { λ h. (h.lines.items ≡ line_names (from_entries h.records.entries)) × IsCalendarOf (λ k. is_some (get {R = key_cmp} (from_entries h.records.entries) k)) h.calendar };
+    ghost invariant = { λ h. (h.lines.items ≡ line_names (from_entries h.records.entries)) × IsCalendarOf
+        (λ k. is_some (get {R = key_cmp} (from_entries h.records.entries) k)) h.calendar };
 }
 
 impl Holdings {
@@ -86,7 +91,8 @@ impl Holdings {
 
     /// The years of the records of a series.
     pub(crate) fn years(&self, series: &Series) -> YearSet
-        ensures { (y : ℕ) → has_year result y ≡ is_year y && is_some (finite.get self.now.content (dated series.now y)) }
+        ensures { (y : ℕ) → has_year result y ≡ is_year y && is_some
+            (finite.get self.now.content (dated series.now y)) }
     {
         self.calendar.years(series)
     }
@@ -120,9 +126,12 @@ fn change_records(
 )
     requires room { length changes.entries ≤ spare records.old }
     requires years_room { length changes.entries ≤ spare calendar.old.years }
-    requires years { IsCalendarOf (λ k. is_some (finite.get {R = key_cmp} (from_entries records.old.entries) k)) calendar.old }
-    ensures content { from_entries records.new.entries ≡ applied (from_entries records.old.entries) changes.entries }
-    ensures years { IsCalendarOf (λ k. is_some (finite.get {R = key_cmp} (from_entries records.new.entries) k)) calendar.new }
+    requires years { IsCalendarOf (λ k. is_some
+        (finite.get {R = key_cmp} (from_entries records.old.entries) k)) calendar.old }
+    ensures content { from_entries records.new.entries ≡ applied
+        (from_entries records.old.entries) changes.entries }
+    ensures years { IsCalendarOf (λ k. is_some
+        (finite.get {R = key_cmp} (from_entries records.new.entries) k)) calendar.new }
 {
     while let Some((key, change)) = changes.pop() {
         calendar.note(&key, change.is_some());
@@ -137,7 +146,8 @@ fn change_record(
     change: Option<Record>,
 ) -> Option<Record>
     requires { 0 < spare records.old }
-    ensures content { from_entries records.new.entries ≡ with_record (from_entries records.old.entries) key change }
+    ensures content { from_entries records.new.entries ≡ with_record
+        (from_entries records.old.entries) key change }
     ensures room { spare records.old ≤ spare records.new + 1 }
 {
     match change {

@@ -25,11 +25,12 @@ pub(crate) fn lines_after(
     Ok(lines)
 }
 
-/// Makes the names of the lines those once the edits are made. It sorts them once, where an edit is of a line, and takes
-/// no memory.
+/// Makes the names of the lines those once the edits are made. It sorts them once, where an edit is of a
+/// line, and takes no memory.
 pub(crate) fn change_names(names: &mut Vec<Name>, edits: &Edits)
     requires { vec_len names.old + length edits.now ≤ vec_capacity names.old }
-    ensures items { (m : Data) → names.old.items ≡ line_names m → names.new.items ≡ line_names (applied m edits.now) }
+    ensures items { (m : Data) → names.old.items ≡ line_names m → names.new.items ≡ line_names
+        (applied m edits.now) }
     ensures capacity { vec_capacity names.new ≡ vec_capacity names.old }
 {
     let before = names.len();

@@ -9,7 +9,8 @@ ghost use Rattle.ghg_data.specs.Parameters.{quantity};
 use ghg_equations::{EqId, Param, equation};
 use ghg_units::ParamName;
 
-/// The parameters of an equation, in the order in which its expression takes them. Each is named as a parameter.
+/// The parameters of an equation, in the order in which its expression takes them. Each is named as a
+/// parameter.
 pub fn params_of(id: EqId) -> &'static [Param]
     ensures table { map quantity result.now ≡ parameters id }
     ensures names { AllByRecursion (λ q. is_parameter q.name.now ≡ true) result.now }

@@ -41,8 +41,10 @@ pub(crate) fn planned_edits(
 ) -> Result<Edits, PlanRefusal>
     requires workbook { IsWorkbook holdings.now.content }
     requires well_formed { AllByRecursion IsWellFormed rows.now }
-    ensures planned { IsPlanOf (planned holdings.now.content rows.now rest kept_bytes) holdings.now.content result }
-    ensures after { IfOk result (λ edits. applied holdings.now.content edits ≡ after holdings.now.content rows.now) }
+    ensures planned { IsPlanOf (planned holdings.now.content rows.now rest kept_bytes)
+        holdings.now.content result }
+    ensures after { IfOk result (λ edits. applied holdings.now.content edits ≡ after
+        holdings.now.content rows.now) }
     ensures few { IfOk result (AreOfRows rows.now) }
     ensures workbook { IfOk result (λ edits. IsWorkbook (applied holdings.now.content edits)) }
 {
@@ -57,7 +59,9 @@ pub(crate) fn planned_edits(
 fn progress_of(alloc: Global, holdings: &Holdings, rows: &[Row]) -> Result<Progress, PlanRefusal>
     requires consistent { IsConsistent holdings.now.content }
     requires well_formed { AllByRecursion IsWellFormed rows.now }
-    ensures applied { MatchResult result (λ p. rows_applied holdings.now.content rows.now ≡ Ok (applied holdings.now.content p.edits)) (IfRule (λ rule. rows_applied holdings.now.content rows.now ≡ Err rule)) }
+    ensures applied { MatchResult result
+        (λ p. rows_applied holdings.now.content rows.now ≡ Ok (applied holdings.now.content p.edits))
+        (IfRule (λ rule. rows_applied holdings.now.content rows.now ≡ Err rule)) }
     ensures few { IfOk result (λ p. AreOfRows rows.now p.edits) }
     ensures consistent { IfOk result (λ p. IsConsistent (applied holdings.now.content p.edits)) }
     ensures records { IfOk result (λ p. p.records ≡ len (applied holdings.now.content p.edits)) }
@@ -84,15 +88,21 @@ fn add_row(
     requires consistent { IsConsistent (applied holdings.now.content progress.old.edits) }
     requires well_formed { IsWellFormed row.now }
     requires records { progress.old.records ≡ len (applied holdings.now.content progress.old.edits) }
-    requires lines { progress.old.lines ≡ length (line_names (applied holdings.now.content progress.old.edits)) }
+    requires lines { progress.old.lines ≡ length
+        (line_names (applied holdings.now.content progress.old.edits)) }
     requires fits { progress.old.records + 1 < 2 ^ 64 }
     requires lines_fit { progress.old.lines + 1 < 2 ^ 64 }
-    ensures fault { MatchResult result (λ _. row_fault (applied holdings.now.content progress.old.edits) row.now ≡ None) (IfRule (λ rule. row_fault (applied holdings.now.content progress.old.edits) row.now ≡ Some rule)) }
-    ensures added { OnOk result (applied holdings.now.content progress.new.edits ≡ after_row (applied holdings.now.content progress.old.edits) row.now) }
+    ensures fault { MatchResult result
+        (λ _. row_fault (applied holdings.now.content progress.old.edits) row.now ≡ None)
+        (IfRule (λ rule. row_fault (applied holdings.now.content progress.old.edits) row.now ≡ Some rule)) }
+    ensures added { OnOk result (applied holdings.now.content progress.new.edits ≡ after_row
+        (applied holdings.now.content progress.old.edits) row.now) }
     ensures keys { OnOk result (ChangesAlso (key_of row.now.form) progress.old.edits progress.new.edits) }
     ensures consistent { OnOk result (IsConsistent (applied holdings.now.content progress.new.edits)) }
-    ensures records { OnOk result (progress.new.records ≡ len (applied holdings.now.content progress.new.edits)) }
-    ensures lines { OnOk result (progress.new.lines ≡ length (line_names (applied holdings.now.content progress.new.edits))) }
+    ensures records { OnOk result (progress.new.records ≡ len
+        (applied holdings.now.content progress.new.edits)) }
+    ensures lines { OnOk result (progress.new.lines ≡ length
+        (line_names (applied holdings.now.content progress.new.edits))) }
     ensures bound { progress.new.records ≤ progress.old.records + 1 }
     ensures lines_bound { progress.new.lines ≤ progress.old.lines + 1 }
 {
@@ -139,8 +149,13 @@ fn judge(
     requires workbook { IsWorkbook holdings.now.content }
     requires consistent { IsConsistent (applied holdings.now.content progress.now.edits) }
     requires records { progress.now.records ≡ len (applied holdings.now.content progress.now.edits) }
-    requires lines { progress.now.lines ≡ length (line_names (applied holdings.now.content progress.now.edits)) }
-    ensures judged { MatchResult result (λ _. judged rest kept_bytes (applied holdings.now.content progress.now.edits) ≡ Ok (applied holdings.now.content progress.now.edits)) (IfRule (λ rule. judged rest kept_bytes (applied holdings.now.content progress.now.edits) ≡ Err rule)) }
+    requires lines { progress.now.lines ≡ length
+        (line_names (applied holdings.now.content progress.now.edits)) }
+    ensures judged { MatchResult result
+        (λ _. judged rest kept_bytes (applied holdings.now.content progress.now.edits) ≡ Ok
+        (applied holdings.now.content progress.now.edits))
+        (IfRule (λ rule. judged rest kept_bytes
+        (applied holdings.now.content progress.now.edits) ≡ Err rule)) }
     ensures workbook { OnOk result (IsWorkbook (applied holdings.now.content progress.now.edits)) }
 {
     if let Some(rule) = rest {

@@ -40,10 +40,11 @@ pub trait Records {
         ensures order { IfOk result (λ names. IsStrictlySortedBy name_cmp names.items) }
         ensures workbook { IsWorkbook (content self.now) };
 
-    /// The start year of a factor's record that is in force in a year, which is the greatest that is not after the
-    /// year; `None` exactly where there is none.
+    /// The start year of a factor's record that is in force in a year, which is the greatest that is not
+    /// after the year; `None` exactly where there is none.
     fn start_year(&self, name: &Name, year: u32) -> Option<u32>
-        ensures start { option_map (λ start. key.Factor name.now start) result ≡ factor_key (content self.now) name.now year }
+        ensures start { option_map (λ start. key.Factor name.now start) result ≡ factor_key
+            (content self.now) name.now year }
         ensures workbook { IsWorkbook (content self.now) };
 
     /// The category at which a line stands, and its equation; `None` exactly where the line is not present.
@@ -75,9 +76,9 @@ pub trait Records {
         self.binding(line, &name_of(param))
     }
 
-    /// What an activity gives in a year: the figures of the year's record in the base unit, so that at every choice
-    /// within the supplied bounds what is chosen is inside the range. Blank where there is no record, or where it is not
-    /// estimated.
+    /// What an activity gives in a year: the figures of the year's record in the base unit, so that at every
+    /// choice within the supplied bounds what is chosen is inside the range. Blank where there is no record,
+    /// or where it is not estimated.
     final fn activity(&self, name: &Name, year: u32) -> Input
         ensures input { result ≡ activity_input (content self.now) name.now year }
         ensures holds { HoldsSource (content self.now) (activity (content self.now) name.now year) result }
@@ -85,8 +86,9 @@ pub trait Records {
         lookups::activity(self, name, year)
     }
 
-    /// What a factor gives in a year: the figures in the base unit of the record with the greatest start year that
-    /// is not after the year, which hold what is chosen likewise. Blank where there is none, or where it is not estimated.
+    /// What a factor gives in a year: the figures in the base unit of the record with the greatest start year
+    /// that is not after the year, which hold what is chosen likewise. Blank where there is none, or where it
+    /// is not estimated.
     final fn factor(&self, name: &Name, year: u32) -> Input
         ensures input { result ≡ factor_input (content self.now) name.now year }
         ensures holds { HoldsSource (content self.now) (factor (content self.now) name.now year) result }

@@ -93,7 +93,8 @@ fn breaks_unit(draft: &Draft<'_>, form: &RowForm) -> bool
 
 // Whether the row's figure meets a record of another dimension.
 fn meets_other_figure(draft: &Draft<'_>, form: &RowForm) -> bool
-    ensures { result ≡ option_map_or (λ f. meets_other_dimension draft.now (key_of form.now) (dim_of f.unit)) (as_figure (record_of form.now)) false }
+    ensures { result ≡ option_map_or (λ f. meets_other_dimension draft.now (key_of form.now) (dim_of f.unit))
+        (as_figure (record_of form.now)) false }
 {
     match form {
         RowForm::Activity(_, _, Some(figure)) | RowForm::Factor(_, _, Some(figure)) => {

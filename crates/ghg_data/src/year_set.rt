@@ -33,7 +33,8 @@ impl YearSet {
 
     /// The set with this year, or without it. A year that no record may be of changes nothing.
     pub(crate) fn with(&self, year: u32, present: bool) -> YearSet
-        ensures { (y : ℕ) → has_year result y ≡ cond (is_year year && (y == year)) present (has_year self.now y) }
+        ensures { (y : ℕ) → has_year result y ≡ cond (is_year year && (y == year)) present
+            (has_year self.now y) }
     {
         if year < EARLIEST_YEAR || year > LATEST_YEAR {
             return *self;
@@ -54,7 +55,8 @@ impl YearSet {
 
     /// The set once some years are put in and others are taken out.
     pub(crate) fn changed(&self, put: &YearSet, taken: &YearSet) -> YearSet
-        ensures { (y : ℕ) → has_year result y ≡ has_year put.now y || (has_year self.now y && not (has_year taken.now y)) }
+        ensures { (y : ℕ) → has_year result y ≡ has_year put.now y ||
+            (has_year self.now y && not (has_year taken.now y)) }
     {
         YearSet {
             late: changed_word(self.late, put.late, taken.late),
@@ -64,7 +66,9 @@ impl YearSet {
 
     /// The greatest year that is not after this one.
     pub(crate) fn last_until(&self, year: u32) -> Option<u32>
-        ensures { MatchOption result ((y : ℕ) → y ≤ year → has_year self.now y ≡ false) (λ s. (s ≤ year) × (has_year self.now s ≡ true) × ((y : ℕ) → s < y → y ≤ year → has_year self.now y ≡ false)) }
+        ensures { MatchOption result ((y : ℕ) → y ≤ year → has_year self.now y ≡ false)
+            (λ s. (s ≤ year) × (has_year self.now s ≡ true) ×
+            ((y : ℕ) → s < y → y ≤ year → has_year self.now y ≡ false)) }
     {
         match self.next_place(LATEST_YEAR.saturating_sub(year)) {
             Some(place) => Some(LATEST_YEAR - place),
@@ -74,7 +78,9 @@ impl YearSet {
 
     // The first place from this one on that is taken.
     fn next_place(&self, from: u32) -> Option<u32>
-        ensures { MatchOption result ((i : ℕ) → from ≤ i → has_place self.now i ≡ false) (λ p. (from ≤ p) × (p < 256) × (has_place self.now p ≡ true) × ((i : ℕ) → from ≤ i → i < p → has_place self.now i ≡ false)) }
+        ensures { MatchOption result ((i : ℕ) → from ≤ i → has_place self.now i ≡ false)
+            (λ p. (from ≤ p) × (p < 256) × (has_place self.now p ≡ true) ×
+            ((i : ℕ) → from ≤ i → i < p → has_place self.now i ≡ false)) }
     {
         if let Some(place) = next_bit(self.late, from) {
             return Some(place);
@@ -107,7 +113,9 @@ fn changed_word(word: u128, put: u128, taken: u128) -> u128
 
 // The place of the first bit from this one on that is set.
 fn next_bit(word: u128, from: u32) -> Option<u32>
-    ensures { MatchOption result ((i : ℕ) → from ≤ i → has_bit word i ≡ false) (λ p. (from ≤ p) × (p < 128) × (has_bit word p ≡ true) × ((i : ℕ) → from ≤ i → i < p → has_bit word i ≡ false)) }
+    ensures { MatchOption result ((i : ℕ) → from ≤ i → has_bit word i ≡ false)
+        (λ p. (from ≤ p) × (p < 128) × (has_bit word p ≡ true) ×
+        ((i : ℕ) → from ≤ i → i < p → has_bit word i ≡ false)) }
 {
     if from >= WORD {
         return None;

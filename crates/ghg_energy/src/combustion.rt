@@ -30,8 +30,8 @@ pub fn q12(ticket: Ticket, fc: &Input, ef: &Input) -> Result<Value, Over>
     q10(ticket, fc, ef)
 }
 
-/// Energy of a mass of fuel, in TJ: the mass `fm` in t times the net calorific value `ncv` in TJ/Gg. No numbered
-/// equation of the Guidelines.
+/// Energy of a mass of fuel, in TJ: the mass `fm` in t times the net calorific value `ncv` in TJ/Gg. No
+/// numbered equation of the Guidelines.
 pub fn q13(ticket: Ticket, fm: &Input, ncv: &Input) -> Result<Value, Over>
     ensures { result ≡ equation_value EqId.Q13 (fm.now ∷ ncv.now ∷ []) }
 {

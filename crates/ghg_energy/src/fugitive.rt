@@ -7,8 +7,8 @@ ghost use Rattle.ghg_cell.specs.Values.{equation_value};
 use ghg_cell::{Input, Ticket, Value, known};
 use ghg_interval::Over;
 
-/// CH4 of coal mining, in Gg: the coal `p` in t times the emission factor `ef` in m3/t, at 0.67 kg of CH4 in a m3
-/// (chapter 4, coal, Tier 1).
+/// CH4 of coal mining, in Gg: the coal `p` in t times the emission factor `ef` in m3/t, at 0.67 kg of CH4 in
+/// a m3 (chapter 4, coal, Tier 1).
 pub fn q14(ticket: Ticket, p: &Input, ef: &Input) -> Result<Value, Over>
     ensures { result ≡ equation_value EqId.Q14 (p.now ∷ ef.now ∷ []) }
 {
@@ -17,7 +17,8 @@ pub fn q14(ticket: Ticket, p: &Input, ef: &Input) -> Result<Value, Over>
     Ok(Value::known(ticket, value))
 }
 
-/// CH4 of oil and natural gas, in Gg: the activity `a` in m3 times the emission factor `ef` in kg/m3 (Equation 4.2.1).
+/// CH4 of oil and natural gas, in Gg: the activity `a` in m3 times the emission factor `ef` in kg/m3
+/// (Equation 4.2.1).
 pub fn q15(ticket: Ticket, a: &Input, ef: &Input) -> Result<Value, Over>
     ensures { result ≡ equation_value EqId.Q15 (a.now ∷ ef.now ∷ []) }
 {

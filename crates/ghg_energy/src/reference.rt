@@ -7,8 +7,8 @@ ghost use Rattle.ghg_cell.specs.Values.{equation_value};
 use ghg_cell::{Input, Ticket, Value, known};
 use ghg_interval::Over;
 
-/// Apparent consumption of a primary fuel, in t: production `pr` and imports `im`, less exports `ex`, international
-/// bunkers `ib` and the change of stocks `sc`, each in t (Equation 6.2).
+/// Apparent consumption of a primary fuel, in t: production `pr` and imports `im`, less exports `ex`,
+/// international bunkers `ib` and the change of stocks `sc`, each in t (Equation 6.2).
 pub fn q20(
     ticket: Ticket,
     pr: &Input,
@@ -24,8 +24,8 @@ pub fn q20(
     Ok(Value::known(ticket, value))
 }
 
-/// Apparent consumption of a secondary fuel, in t: imports `im`, less exports `ex`, international bunkers `ib` and the
-/// change of stocks `sc`, each in t (Equation 6.3).
+/// Apparent consumption of a secondary fuel, in t: imports `im`, less exports `ex`, international bunkers
+/// `ib` and the change of stocks `sc`, each in t (Equation 6.3).
 pub fn q21(ticket: Ticket, im: &Input, ex: &Input, ib: &Input, sc: &Input) -> Result<Value, Over>
     ensures { result ≡ equation_value EqId.Q21 (im.now ∷ ex.now ∷ ib.now ∷ sc.now ∷ []) }
 {
@@ -48,7 +48,8 @@ pub fn q22(
     q20(ticket, pr, im, ex, ib, sc)
 }
 
-/// Apparent consumption of a secondary fuel, in TJ, of the same parameters as `q21`, each in TJ (Equation 6.3).
+/// Apparent consumption of a secondary fuel, in TJ, of the same parameters as `q21`, each in TJ (Equation
+/// 6.3).
 pub fn q23(ticket: Ticket, im: &Input, ex: &Input, ib: &Input, sc: &Input) -> Result<Value, Over>
     ensures { result ≡ equation_value EqId.Q23 (im.now ∷ ex.now ∷ ib.now ∷ sc.now ∷ []) }
 {
@@ -65,9 +66,9 @@ pub fn q24(ticket: Ticket, a: &Input, cc: &Input) -> Result<Value, Over>
     Ok(Value::known(ticket, value))
 }
 
-/// CO2 of a fuel by the reference approach, in Gg: the carbon of the apparent consumption `ac` in t, by the conversion
-/// factor `conv` in TJ/Gg and the carbon content `cc` in tC/TJ, less the excluded carbon `xc` in GgC, times the fraction
-/// oxidised `cof`, from carbon to CO2 (Equation 6.1).
+/// CO2 of a fuel by the reference approach, in Gg: the carbon of the apparent consumption `ac` in t, by the
+/// conversion factor `conv` in TJ/Gg and the carbon content `cc` in tC/TJ, less the excluded carbon `xc` in
+/// GgC, times the fraction oxidised `cof`, from carbon to CO2 (Equation 6.1).
 pub fn q25(
     ticket: Ticket,
     ac: &Input,
@@ -85,8 +86,8 @@ pub fn q25(
     Ok(Value::known(ticket, value))
 }
 
-/// CO2 of a fuel by the reference approach, in Gg, where the apparent consumption `ac` is in TJ, and the other parameters
-/// are those of `q25` (Equation 6.1).
+/// CO2 of a fuel by the reference approach, in Gg, where the apparent consumption `ac` is in TJ, and the
+/// other parameters are those of `q25` (Equation 6.1).
 pub fn q26(ticket: Ticket, ac: &Input, cc: &Input, xc: &Input, cof: &Input) -> Result<Value, Over>
     ensures { result ≡ equation_value EqId.Q26 (ac.now ∷ cc.now ∷ xc.now ∷ cof.now ∷ []) }
 {

@@ -23,7 +23,8 @@ sum_outcome cells ns = operand_outcome (outcome_in cells) (SumOf ns)
 
 -- what a parameter of a line gives in a year
 abbrev pub named_outcome : Data → Cells → Name → ℕ → Name → Outcome
-named_outcome m cells line year parameter = operand_outcome (outcome_in cells) (map_operand (given m) (bound_to m (first_year (span m)) year (binding m line parameter)))
+named_outcome m cells line year parameter = operand_outcome (outcome_in cells)
+    (map_operand (given m) (bound_to m (first_year (span m)) year (binding m line parameter)))
 
 abbrev pub parameter_outcomes : Data → Cells → Name → ℕ → List Quantity → List Outcome
 parameter_outcomes m cells line year qs = map (λ q. named_outcome m cells line year q.name) qs
@@ -34,8 +35,8 @@ param_outcomes m cells line year ps = map (λ p. named_outcome m cells line year
 
 -- ---- what is taken
 
--- the outcome is taken as it is, or zero is taken for it since it is beyond the limit of intervals; what is taken is within
--- that limit
+-- the outcome is taken as it is, or zero is taken for it since it is beyond the limit of intervals; what is
+-- taken is within that limit
 pub record IsTaken (x : Outcome) (t : Taken) : Type 0 where
   pub found : Input
   pub outcome : x ≡ Ok found
@@ -50,8 +51,8 @@ IsArgument x (Some t) = IsTaken x t
 
 -- ---- all that is taken
 
--- none of the outcomes is over, and the arguments are what the outcomes give, unless one of these is beyond the limit of
--- intervals; each argument is within it
+-- none of the outcomes is over, and the arguments are what the outcomes give, unless one of these is beyond
+-- the limit of intervals; each argument is within it
 pub record IsHeld (outcomes : List Outcome) (held : Arguments) : Type 0 where
   pub found : List Input
   pub gathered : gather outcomes ≡ Ok found

@@ -8,7 +8,8 @@ use Rattle.ghg_engine.specs.declared.evaluated.Evaluated.{Evaluated}
 use Rattle.ghg_engine.specs.Orders.{Cells, breaks_at, is_over_in, outcome_at, outcome_in}
 
 -- the outcome of the node's formula, and whether it breaks
-pub record IsEvaluatedAt {Source : Type 0} (sheet : Sheet Source) (cells : Cells) (n : Node) (e : Evaluated) : Type 0 where
+pub record IsEvaluatedAt {Source : Type 0} (sheet : Sheet Source) (cells : Cells) (n : Node)
+    (e : Evaluated) : Type 0 where
   pub outcome : e.outcome ≡ outcome_at sheet cells n
   pub breaks : e.breaks ≡ breaks_at sheet cells n
 

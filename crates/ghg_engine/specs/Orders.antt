@@ -19,7 +19,8 @@ abbrev pub is_over_in : Cells → Node → Bool
 is_over_in cells n = is_over (get cells n)
 
 module _ {Source : Type 0} (sheet : Sheet Source) where
-  -- each node of the list is one of the sheet and is not done, and those of its inputs that are nodes are done or stand before it
+  -- each node of the list is one of the sheet and is not done, and those of its inputs that are nodes are
+  -- done or stand before it
   abbrev pub IsInOrder : List Node → List Node → Type 0
   IsInOrder done [] = ⊤
   IsInOrder done (n ∷ ns) = (sheet.is_node n ≡ true) × (¬ Contains done n)
@@ -37,7 +38,8 @@ module _ {Source : Type 0} (sheet : Sheet Source) where
 
   -- it is over there, and none of its inputs is
   abbrev pub breaks_at : Cells → Node → Bool
-  breaks_at cells n = is_over (Some (outcome_at cells n)) && not (list_any (is_over_in cells) (inputs (sheet.formula n)))
+  breaks_at cells n = is_over (Some (outcome_at cells n)) && not
+      (list_any (is_over_in cells) (inputs (sheet.formula n)))
 
   abbrev pub with_cell : Cells → Node → Cells
   with_cell cells n = insert cells n (outcome_at cells n)

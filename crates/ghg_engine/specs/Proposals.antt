@@ -24,14 +24,16 @@ pub record Proposed : Type 0 where
 
 abbrev pub proposed_code : Coded RecordKey → Coded Record → Coded Node → Coded Outcome → Coded Proposed
 proposed_code key entry node outcome =
-    code_by (List Change × Cells) (coded× (coded_list (coded× key (coded_option entry))) (code node outcome)) (λ p. (p.edits, p.cells)) (λ p. record { edits = p.0; cells = p.1 }) (λ _. refl)
+    code_by (List Change × Cells) (coded× (coded_list (coded× key (coded_option entry))) (code node outcome))
+    (λ p. (p.edits, p.cells)) (λ p. record { edits = p.0; cells = p.1 }) (λ _. refl)
 
 -- the edits were planned on the book as it stands, and leave no ring
 pub record IsArranged (shelf : Shelf) (edits : List Change) : Type 0 where
   pub planned : IsPlanned shelf edits
   pub acyclic : IsAcyclic (applied shelf.content edits)
 
--- the cells are the compilation of the data, in which nothing is over and each known node holds its exact value
+-- the cells are the compilation of the data, in which nothing is over and each known node holds its exact
+-- value
 pub record IsCompiled (m : Data) (found : Cells) : Type 0 where
   pub acyclic : IsAcyclic m
   pub cells : get found ≡ compilation m

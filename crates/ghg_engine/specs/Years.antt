@@ -7,4 +7,6 @@ use Rattle.ghg_definitions.specs.Data.{Name}
 
 -- the lines, their equivalents, the totals, and the gross total
 abbrev pub year_nodes : List Name → List Name → ℕ → List Node
-year_nodes lines emitters year = map (λ name. node.Line name year) lines ++ (map (λ name. node.Equiv name year) emitters ++ (map (λ c. node.Total c year) tree ++ node.Gross year ∷ []))
+year_nodes lines emitters year = map (λ name. node.Line name year) lines ++
+    (map (λ name. node.Equiv name year) emitters ++
+    (map (λ c. node.Total c year) tree ++ node.Gross year ∷ []))

@@ -89,8 +89,8 @@ impl Arguments {
         }
     }
 
-    /// Gathers what the parameters of a line take in a year of an inventory that begins with `first`. Answers whether
-    /// none of it is over.
+    /// Gathers what the parameters of a line take in a year of an inventory that begins with `first`. Answers
+    /// whether none of it is over.
     pub(crate) fn gather<R: Records>(
         &mut self,
         records: &R,
@@ -102,7 +102,8 @@ impl Arguments {
     ) -> Result<bool, AllocError>
         requires workbook { IsWorkbook (R.content records.now) }
         requires first { first ≡ first_year (span (R.content records.now)) }
-        ensures { IfOk result (AreGathered (parameter_outcomes (R.content records.now) cells.now line.now year (parameters id)) self.new) }
+        ensures { IfOk result (AreGathered
+            (parameter_outcomes (R.content records.now) cells.now line.now year (parameters id)) self.new) }
     {
         self.inputs.clear();
         self.fit = true;
@@ -126,7 +127,8 @@ impl Arguments {
         requires empty { self.old.inputs.items ≡ [] }
         requires fit { self.old.fit ≡ true }
         requires blank { self.old.blank ≡ false }
-        ensures { IfOk result (AreGathered (param_outcomes (R.content records.now) cells.now line.now year params.now) self.new) }
+        ensures { IfOk result (AreGathered
+            (param_outcomes (R.content records.now) cells.now line.now year params.now) self.new) }
     {
         for param in params {
             let operand = bound_operand(records, first, records.bound(line, param), year);
@@ -149,11 +151,12 @@ impl Arguments {
         Ok(())
     }
 
-    /// The value of an equation over these arguments: blank where one of them is, else over where a sum among them or a
-    /// result on the way is beyond the limit of intervals.
+    /// The value of an equation over these arguments: blank where one of them is, else over where a sum among
+    /// them or a result on the way is beyond the limit of intervals.
     pub(crate) fn value(&self, id: EqId, ticket: Ticket) -> Result<Value, Over>
         requires { length self.now.inputs.items ≡ length (parameters id) }
-        ensures { (outcomes : List Outcome) → IsHeld outcomes self.now → result ≡ then (gather outcomes) (equation_outcome id) }
+        ensures { (outcomes : List Outcome) → IsHeld outcomes self.now → result ≡ then (gather outcomes)
+            (equation_outcome id) }
     {
         if self.fit {
             evaluate(id, ticket, &self.inputs)

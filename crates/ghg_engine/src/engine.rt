@@ -25,7 +25,8 @@ use std::alloc::Global;
 use std::marker::Model;
 use std::sync::ledger::Ledger;
 
-/// The records of a workbook and their compilation, in which nothing is over. Contracts see what they see of its book.
+/// The records of a workbook and their compilation, in which nothing is over. Contracts see what they see of
+/// its book.
 #[derive(Drop)]
 pub struct Engine {
     book: Book,
@@ -59,7 +60,8 @@ impl Model for Proposal {
 
     ghost Value = { Proposed };
 
-    ghost coded = { proposed_code (Prim.hlevel codes) (Prim.hlevel codes) (Prim.hlevel codes) (Prim.hlevel codes) };
+    ghost coded = { proposed_code (Prim.hlevel codes) (Prim.hlevel codes) (Prim.hlevel codes)
+        (Prim.hlevel codes) };
 
     ghost view = { λ p. record { edits = p.edits; cells = p.cells } };
 }
@@ -90,11 +92,13 @@ impl Engine {
         }
     }
 
-    /// What the rows of a submission make of the book: the edits, with room made for them, where no rule is broken.
+    /// What the rows of a submission make of the book: the edits, with room made for them, where no rule is
+    /// broken.
     ///
-    /// `rest` is the rule that stopped the reading of the rows, and `kept_bytes` how many bytes all kept bodies have with this one.
-    /// The first rule that is broken is answered: that of the first row that breaks one on units or presence, `rest`,
-    /// the least unsound binding, the first limit, and the least line on a ring. The records stay with every answer.
+    /// `rest` is the rule that stopped the reading of the rows, and `kept_bytes` how many bytes all kept
+    /// bodies have with this one. The first rule that is broken is answered: that of the first row that
+    /// breaks one on units or presence, `rest`, the least unsound binding, the first limit, and the least
+    /// line on a ring. The records stay with every answer.
     pub fn plan(
         &mut self,
         alloc: Global,
@@ -104,8 +108,12 @@ impl Engine {
     ) -> Result<Edits, PlanRefusal>
         requires { AllByRecursion IsWellFormed rows.now }
         ensures kept { self.new.content ≡ self.old.content }
-        ensures planned { MatchResult result (λ edits. arranged self.old.content rows.now rest kept_bytes ≡ Ok (applied self.old.content edits)) (IfRule (λ rule. arranged self.old.content rows.now rest kept_bytes ≡ Err rule)) }
-        ensures after { IfOk result (λ edits. applied self.old.content edits ≡ after self.old.content rows.now) }
+        ensures planned { MatchResult result
+            (λ edits. arranged self.old.content rows.now rest kept_bytes ≡ Ok
+            (applied self.old.content edits))
+            (IfRule (λ rule. arranged self.old.content rows.now rest kept_bytes ≡ Err rule)) }
+        ensures after { IfOk result (λ edits. applied self.old.content edits ≡ after
+            self.old.content rows.now) }
         ensures ready { IfOk result (IsArranged self.new) }
     {
         let edits = match self.book.plan(alloc, rows, rest, kept_bytes) {
@@ -119,8 +127,8 @@ impl Engine {
         }
     }
 
-    /// The compilation of the book with edits that were planned on it as it stands; or the least node that is beyond
-    /// the limits, while none of its inputs is. It spends at most one step for each node.
+    /// The compilation of the book with edits that were planned on it as it stands; or the least node that is
+    /// beyond the limits, while none of its inputs is. It spends at most one step for each node.
     pub fn propose<L: Ledger>(
         &self,
         alloc: Global,
@@ -129,7 +137,8 @@ impl Engine {
     ) -> Result<Proposal, EngineRefusal>
         requires { IsArranged self.now edits }
         ensures steps { steps.new ≤ steps.old + length (nodes (applied self.now.content edits)) }
-        ensures proposed { MatchResult result (λ p. (p.edits ≡ edits) × IsProposed self.now p) (IfOverflow (λ n. overflow (applied self.now.content edits) ≡ Some n)) }
+        ensures proposed { MatchResult result (λ p. (p.edits ≡ edits) × IsProposed self.now p)
+            (IfOverflow (λ n. overflow (applied self.now.content edits) ≡ Some n)) }
         ensures contained { IfOk result (λ p. HoldsExactValues (applied self.now.content p.edits)) }
     {
         let cells = compile(alloc, &after(&self.book, &edits), steps)?;

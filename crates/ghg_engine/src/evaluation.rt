@@ -31,15 +31,16 @@ use std::alloc::{AllocError, Global};
 use std::cmp::Ordering;
 use std::sync::ledger::Ledger;
 
-/// The cells of all nodes of a workbook, or the least node that is over while none of its inputs is. It spends a step for
-/// each node, once there is the memory for their order.
+/// The cells of all nodes of a workbook, or the least node that is over while none of its inputs is. It
+/// spends a step for each node, once there is the memory for their order.
 pub(crate) fn compile<R: Records, L: Ledger>(
     alloc: Global,
     records: &R,
     steps: &mut Steps<L>,
 ) -> Result<Cells, EngineRefusal>
     requires { IsAcyclic (R.content records.now) }
-    ensures compiled { MatchResult result (IsCompiled (R.content records.now)) (IfOverflow (λ n. overflow (R.content records.now) ≡ Some n)) }
+    ensures compiled { MatchResult result (IsCompiled (R.content records.now))
+        (IfOverflow (λ n. overflow (R.content records.now) ≡ Some n)) }
     ensures steps { steps.new ≤ steps.old + length (nodes (R.content records.now)) }
 {
     let names = records.lines(alloc)?;
@@ -64,7 +65,8 @@ fn evaluate_all<R: Records>(
     requires order { IsOrder (sheet_of (R.content records.now)) nodes.now }
     requires groups { IsGrouping (R.content records.now) groups.now }
     requires paid { permits ≡ length nodes.now }
-    ensures { MatchResult result (IsCompiled (R.content records.now)) (IfOverflow (λ n. overflow (R.content records.now) ≡ Some n)) }
+    ensures { MatchResult result (IsCompiled (R.content records.now))
+        (IfOverflow (λ n. overflow (R.content records.now) ≡ Some n)) }
 {
     let first = first_year(records);
     let mut permits = permits;
@@ -165,7 +167,8 @@ fn line<R: Records>(
 ) -> Result<Evaluated, AllocError>
     requires workbook { IsWorkbook (R.content records.now) }
     requires first { first ≡ first_year (span (R.content records.now)) }
-    ensures { IfOk result (IsEvaluatedAt (sheet_of (R.content records.now)) cells.now (Node.Line name.now year)) }
+    ensures { IfOk result (IsEvaluatedAt (sheet_of (R.content records.now)) cells.now
+        (Node.Line name.now year)) }
 {
     let Some((_, id)) = records.line(name) else {
         return Ok(Evaluated::of(total(ticket, &[])));

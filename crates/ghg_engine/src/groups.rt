@@ -13,8 +13,8 @@ use ghg_units::Name;
 use std::alloc::{AllocError, Global};
 use std::collections::BTreeMap;
 
-/// The lines that emit a gas, by name, in a group for each category: those at it and under it. Each line stands in five
-/// groups at most.
+/// The lines that emit a gas, by name, in a group for each category: those at it and under it. Each line
+/// stands in five groups at most.
 #[derive(Drop)]
 pub(crate) struct Groups {
     by_category: BTreeMap<Category, Vec<Name>>,
@@ -63,8 +63,10 @@ impl Groups {
     // Puts a line that stands at a category into its groups.
     #[tactic(auto, unfolding(ghg_categories::specs::Tree::stands_under))]
     fn put(&mut self, category: Category, name: &Name) -> Result<(), AllocError>
-        ensures groups { OnOk result ((c : Category) → group_of self.new c ≡ group_of self.old c ++ (if stands_under category c then name.now ∷ [] else [])) }
-        ensures gross { OnOk result (self.new.gross.items ≡ self.old.gross.items ++ (if counts_in_gross category then name.now ∷ [] else [])) }
+        ensures groups { OnOk result ((c : Category) → group_of self.new c ≡ group_of self.old c ++
+            (if stands_under category c then name.now ∷ [] else [])) }
+        ensures gross { OnOk result (self.new.gross.items ≡ self.old.gross.items ++
+            (if counts_in_gross category then name.now ∷ [] else [])) }
     {
         if counts_in_gross(category) {
             self.gross.push(*name)?;
@@ -74,7 +76,8 @@ impl Groups {
 
     // Puts a line into the group of one category.
     fn push(&mut self, category: Category, name: &Name) -> Result<(), AllocError>
-        ensures groups { OnOk result ((c : Category) → group_of self.new c ≡ group_of self.old c ++ (if is_same category c then name.now ∷ [] else [])) }
+        ensures groups { OnOk result ((c : Category) → group_of self.new c ≡ group_of self.old c ++
+            (if is_same category c then name.now ∷ [] else [])) }
         ensures gross { OnOk result (self.new.gross.items ≡ self.old.gross.items) }
     {
         self.by_category.entry(category)?.or_default().push(*name)?;
@@ -83,7 +86,8 @@ impl Groups {
 
     // Puts a line into the group of a category, and of those above it by so many levels.
     fn put_up(&mut self, levels: u8, category: Category, name: &Name) -> Result<(), AllocError>
-        ensures groups { OnOk result ((c : Category) → group_of self.new c ≡ group_of self.old c ++ (if stands_within levels category c then name.now ∷ [] else [])) }
+        ensures groups { OnOk result ((c : Category) → group_of self.new c ≡ group_of self.old c ++
+            (if stands_within levels category c then name.now ∷ [] else [])) }
         ensures gross { OnOk result (self.new.gross.items ≡ self.old.gross.items) }
     {
         self.push(category, name)?;

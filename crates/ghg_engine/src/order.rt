@@ -28,8 +28,8 @@ pub(crate) fn acyclic_order<R: Records>(alloc: Global, records: &R) -> Result<Ve
     }
 }
 
-/// The nodes of a workbook, each once and behind its inputs: year by year the lines in their order, the equivalents,
-/// the totals and the gross total.
+/// The nodes of a workbook, each once and behind its inputs: year by year the lines in their order, the
+/// equivalents, the totals and the gross total.
 pub(crate) fn order<R: Records>(
     alloc: Global,
     records: &R,
@@ -76,7 +76,8 @@ fn add_lines(nodes: &mut Vec<Node>, names: &[Name], year: u32) -> Result<(), All
 }
 
 fn add_equivalents(nodes: &mut Vec<Node>, names: &[Name], year: u32) -> Result<(), AllocError>
-    ensures { OnOk result (nodes.new.items ≡ nodes.old.items ++ map (λ name. Node.Equiv name year) names.now) }
+    ensures { OnOk result (nodes.new.items ≡ nodes.old.items ++ map
+        (λ name. Node.Equiv name year) names.now) }
 {
     for name in names {
         nodes.push(Node::Equiv(*name, year))?;
@@ -85,7 +86,8 @@ fn add_equivalents(nodes: &mut Vec<Node>, names: &[Name], year: u32) -> Result<(
 }
 
 fn add_totals(nodes: &mut Vec<Node>, year: u32) -> Result<(), AllocError>
-    ensures { OnOk result (nodes.new.items ≡ nodes.old.items ++ map (λ category. Node.Total category year) tree) }
+    ensures { OnOk result (nodes.new.items ≡ nodes.old.items ++ map
+        (λ category. Node.Total category year) tree) }
 {
     for category in ghg_categories::all() {
         nodes.push(Node::Total(*category, year))?;

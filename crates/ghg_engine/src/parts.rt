@@ -29,7 +29,8 @@ impl Part {
     }
 }
 
-/// Gathers what is added of lines in a year, in a buffer that all sums share. Answers whether none of it is over.
+/// Gathers what is added of lines in a year, in a buffer that all sums share. Answers whether none of it is
+/// over.
 pub(crate) fn gather_parts(
     cells: &Cells,
     part: Part,

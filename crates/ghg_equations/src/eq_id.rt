@@ -51,7 +51,8 @@ pub enum EqId {
     Q37,
     /// Nitric or adipic acid, to N2O (Volume 3, Equations 3.5 and 3.7, Tier 1).
     Q38,
-    /// Nitric or adipic acid with abatement, to N2O (Volume 3, Equations 3.6 and 3.8, Tier 2, a term of their sum).
+    /// Nitric or adipic acid with abatement, to N2O (Volume 3, Equations 3.6 and 3.8, Tier 2, a term of their
+    /// sum).
     Q39,
     /// Steel, to CO2 (Volume 3, Equation 4.4, Tier 1).
     Q40,
@@ -69,14 +70,15 @@ pub enum EqId {
     Q55,
     /// Emission factor of enteric fermentation (Volume 4, Equation 10.21).
     Q56,
-    /// Methane conversion factor of a manure system, by its share (Volume 4, Equation 10.23, a term of its sum).
+    /// Methane conversion factor of a manure system, by its share (Volume 4, Equation 10.23, a term of its
+    /// sum).
     Q57,
     /// Emission factor of manure (Volume 4, Equation 10.23).
     Q58,
     /// Nitrogen in manure management, to direct N2O (Volume 4, Equation 10.25, a term of its sum).
     Q59,
-    /// Nitrogen of manure lost by volatilisation or leaching (Volume 4, Equations 10.26 and 10.28, a term of their
-    /// sums).
+    /// Nitrogen of manure lost by volatilisation or leaching (Volume 4, Equations 10.26 and 10.28, a term of
+    /// their sums).
     Q60,
     /// Nitrogen lost from manure, to indirect N2O (Volume 4, Equations 10.27 and 10.29).
     Q61,

@@ -93,7 +93,8 @@ pub enum Dim {
     Decay,
 }
 
-/// What an equation gives: an emission of a gas in Gg, or an auxiliary quantity in the base unit of its dimension.
+/// What an equation gives: an emission of a gas in Gg, or an auxiliary quantity in the base unit of its
+/// dimension.
 #[derive(Clone, Copy, Debug, PartialEq, Eq, Drop)]
 pub enum Output {
     Emission(Gas),

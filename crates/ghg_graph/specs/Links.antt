@@ -22,7 +22,8 @@ AreWithin links = (line target : ℕ) → IsLink links line target → target < 
 -- the last line comes first here: it stands once, and behind those that it takes
 abbrev pub IsPlaced : Links → List ℕ → Type 0
 IsPlaced links [] = Unit {0}
-IsPlaced links (x ∷ done) = (¬ IsListed x done) × ((target : ℕ) → IsLink links x target → IsListed target done) × IsPlaced links done
+IsPlaced links (x ∷ done) = (¬ IsListed x done) ×
+    ((target : ℕ) → IsLink links x target → IsListed target done) × IsPlaced links done
 
 -- each line, once, behind those that it takes
 pub record IsOrder (links : Links) (order : List ℕ) : Type 0 where

@@ -17,4 +17,5 @@ pub record AreNumbers (lines : List Name) (numbers : List ℕ) (names : List Nam
 pub record IsNumbering (m : Data) (lines : List Name) (links : Links) : Type 0 where
   pub all : lines ≡ line_names m
   pub count : length links ≡ length lines
-  pub targets : (number : ℕ) → number < length lines → AreNumbers lines (targets_of links number) (taken m (name_at lines number))
+  pub targets : (number : ℕ) → number < length lines → AreNumbers lines (targets_of links number)
+      (taken m (name_at lines number))

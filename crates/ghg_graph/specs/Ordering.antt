@@ -7,7 +7,8 @@ use Rattle.ghg_definitions.specs.Rings.{Takes}
 -- each name is a line that is present and not done, and those that it takes are done or stand before it
 abbrev pub IsBehind : Data → List Name → List Name → Type 0
 IsBehind m done [] = ⊤
-IsBehind m done (name ∷ names) = (is_some (line m name) ≡ true) × (¬ Contains done name) × ((k : Name) → Takes m name k → Contains done k) × IsBehind m (name ∷ done) names
+IsBehind m done (name ∷ names) = (is_some (line m name) ≡ true) × (¬ Contains done name) ×
+    ((k : Name) → Takes m name k → Contains done k) × IsBehind m (name ∷ done) names
 
 -- each line once, behind those that it takes
 pub record IsLineOrder (m : Data) (names : List Name) : Type 0 where

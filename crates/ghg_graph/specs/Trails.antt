@@ -15,11 +15,13 @@ pub record IsTrail (links : Links) (start : ℕ) (lines led_by : List ℕ) : Typ
   pub led : IsLed lines led_by
   pub some : 0 < length lines
   pub first : slice_index lines 0 ≡ start
-  pub taken : (k : ℕ) → 0 < k → k < length lines → IsLink links (slice_index lines (slice_index led_by k)) (slice_index lines k)
+  pub taken : (k : ℕ) → 0 < k → k < length lines → IsLink links (slice_index lines (slice_index led_by k))
+      (slice_index lines k)
 
 -- the way along which the line at a place was found: a ring, where that line takes the first
 abbrev pub IsWay : List ℕ → List ℕ → ℕ → List ℕ → Type 0
-IsWay lines led_by end way = (links : Links) (start : ℕ) → IsTrail links start lines led_by → IsLink links (slice_index lines end) start → IsRingFrom links start way
+IsWay lines led_by end way = (links : Links) (start : ℕ) → IsTrail links start lines led_by → IsLink links
+    (slice_index lines end) start → IsRingFrom links start way
 
 -- the line is found, or on no ring
 abbrev pub IsPassed : Links → List ℕ → ℕ → Type 0
@@ -35,7 +37,8 @@ pub record IsSearch (links : Links) (start : ℕ) (s : Search) (head : ℕ) : Ty
   pub within : (k : ℕ) → k < length s.lines.items → slice_index s.lines.items k < length links
   pub wide : length s.marks.items ≡ length links
   pub marked : (line : ℕ) → IsMarked s.marks.items line → IsPassed links s.lines.items line
-  pub looked : (k : ℕ) → k < head → (target : ℕ) → IsLink links (slice_index s.lines.items k) target → IsLooked links start s.lines.items target
+  pub looked : (k : ℕ) → k < head → (target : ℕ) → IsLink links (slice_index s.lines.items k) target
+      → IsLooked links start s.lines.items target
 
 -- only the start is found
 pub record IsBegun (clear : List Bool) (start : ℕ) (s : Search) : Type 0 where

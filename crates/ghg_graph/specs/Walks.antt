@@ -50,10 +50,13 @@ pub record IsWalk (links : Links) (w : Walk) (path : List ℕ) : Type 0 where
   pub tried_wide : length w.tried.items ≡ length links
   pub marked : (line : ℕ) → IsMarked w.placed.items line → IsListed line (reverse w.order.items)
   pub all_marked : (line : ℕ) → IsListed line (reverse w.order.items) → IsMarked w.placed.items line
-  pub path_opened : (line : ℕ) → IsListed line path → IsMarked w.opened.items line × IsUnmarked w.placed.items line
-  pub opened_path : (line : ℕ) → IsMarked w.opened.items line → IsUnmarked w.placed.items line → IsListed line path
+  pub path_opened : (line : ℕ) → IsListed line path → IsMarked w.opened.items line
+      × IsUnmarked w.placed.items line
+  pub opened_path : (line : ℕ) → IsMarked w.opened.items line → IsUnmarked w.placed.items line
+      → IsListed line path
   pub placed_opened : (line : ℕ) → IsMarked w.placed.items line → IsMarked w.opened.items line
-  pub tried : (line k : ℕ) → k < slice_index w.tried.items line → IsMarked w.placed.items (slice_index (targets_of links line) k)
+  pub tried : (line k : ℕ) → k < slice_index w.tried.items line → IsMarked w.placed.items
+      (slice_index (targets_of links line) k)
 
 -- nothing is placed or opened
 pub record IsStarted (count : ℕ) (w : Walk) : Type 0 where

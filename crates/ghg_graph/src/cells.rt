@@ -20,7 +20,8 @@ pub trait Cells {
         ensures content { result.now.content ≡ content self.now }
         ensures acyclic { IsAcyclic (content self.now) };
 
-    /// The value of a node, in the base unit of what it measures; `None` exactly where it is no node of the workbook.
+    /// The value of a node, in the base unit of what it measures; `None` exactly where it is no node of the
+    /// workbook.
     fn value(&self, node: &Node) -> Option<&Value>
         ensures value { option_copied result ≡ value_of (compilation (content self.now) node.now) }
         ensures compiled { IsCompilation (sheet_of (content self.now)) (compilation (content self.now)) }

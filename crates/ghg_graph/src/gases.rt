@@ -28,9 +28,11 @@ pub fn emitters<R: Records>(
         .collect(alloc)
 }
 
-/// The global warming potential of a line's gas in a year; blank where the line emits none, or no factor is in force.
+/// The global warming potential of a line's gas in a year; blank where the line emits none, or no factor is
+/// in force.
 pub fn potential<R: Records>(records: &R, line: &Name, year: u32) -> Input
-    ensures { result ≡ given (R.content records.now) (potential (R.content records.now) year (line_gas (R.content records.now) line.now)) }
+    ensures { result ≡ given (R.content records.now)
+        (potential (R.content records.now) year (line_gas (R.content records.now) line.now)) }
 {
     match line_gas(records, line) {
         Some(gas) => records.factor(&Name::potential(gas), year),

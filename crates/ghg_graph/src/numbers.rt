@@ -63,7 +63,8 @@ fn targets_of<R: Records>(
 ) -> Result<Vec<usize>, AllocError>
     requires workbook { IsWorkbook (R.content records.now) }
     requires lines { lines.now ≡ line_names (R.content records.now) }
-    ensures { IfOk result (λ targets. AreNumbers lines.now targets.items (taken (R.content records.now) line.now)) }
+    ensures { IfOk result (λ targets. AreNumbers lines.now targets.items
+        (taken (R.content records.now) line.now)) }
 {
     match equation_of(records, line) {
         Some(id) => targets_at(alloc, records, lines, line, params_of(id)),
@@ -81,8 +82,11 @@ fn targets_at<R: Records>(
 ) -> Result<Vec<usize>, AllocError>
     requires order { IsStrictlySortedBy name_cmp lines.now }
     requires names { AllByRecursion (λ q. is_parameter q.name.now ≡ true) params.now }
-    requires present { (k : Name) → IsListed k (flat_map (λ q. taken_by (binding (R.content records.now) line.now q.name.now)) params.now) → IsListed k lines.now }
-    ensures { IfOk result (λ targets. AreNumbers lines.now targets.items (flat_map (λ q. taken_by (binding (R.content records.now) line.now q.name.now)) params.now)) }
+    requires present { (k : Name) → IsListed k
+        (flat_map (λ q. taken_by (binding (R.content records.now) line.now q.name.now)) params.now)
+        → IsListed k lines.now }
+    ensures { IfOk result (λ targets. AreNumbers lines.now targets.items
+        (flat_map (λ q. taken_by (binding (R.content records.now) line.now q.name.now)) params.now)) }
 {
     let mut targets = Vec::new(alloc);
     for param in params {
@@ -114,7 +118,8 @@ fn taken_by(binding: Option<&Binding>) -> &[Name]
 fn add_numbers(lines: &[Name], names: &[Name], numbers: &mut Vec<usize>) -> Result<(), AllocError>
     requires order { IsStrictlySortedBy name_cmp lines.now }
     requires present { (k : Name) → IsListed k names.now → IsListed k lines.now }
-    ensures { IfOk result (λ _. (before : List Name) → AreNumbers lines.now numbers.old.items before → AreNumbers lines.now numbers.new.items (before ++ names.now)) }
+    ensures { IfOk result (λ _. (before : List Name) → AreNumbers lines.now numbers.old.items before
+        → AreNumbers lines.now numbers.new.items (before ++ names.now)) }
 {
     for name in names {
         numbers.push(number_of(lines, name))?;

@@ -21,15 +21,16 @@ pub enum Operand<'a> {
     Sum(&'a [Name], u32),
 }
 
-/// What a binding gives in a year of a span that begins with the first; a blank where there is no binding. No row binds
-/// a parameter to a half-life yet. It takes no memory.
+/// What a binding gives in a year of a span that begins with the first; a blank where there is no binding. No
+/// row binds a parameter to a half-life yet. It takes no memory.
 pub fn bound_operand<'a, R: Records>(
     records: &R,
     first: u32,
     binding: Option<&'a Binding>,
     year: u32,
 ) -> Operand<'a>
-    ensures operand { operand_of result ≡ map_operand (given (R.content records.now)) (bound_to (R.content records.now) first year (option_copied binding.entry)) }
+    ensures operand { operand_of result ≡ map_operand (given (R.content records.now))
+        (bound_to (R.content records.now) first year (option_copied binding.entry)) }
     ensures names { AreBound (option_copied binding.entry) result }
 {
     match binding {

@@ -13,10 +13,11 @@ use ghg_data::Records;
 use ghg_units::Name;
 use std::alloc::Global;
 
-/// The lines of a workbook, each behind those whose values of the same year it takes; where there is no such order, a
-/// ring that begins with the least line on any.
+/// The lines of a workbook, each behind those whose values of the same year it takes; where there is no such
+/// order, a ring that begins with the least line on any.
 pub fn line_order<R: Records>(alloc: Global, records: &R) -> Result<Vec<Name>, CycleRefusal>
-    ensures { MatchResult result (λ names. IsLineOrder (R.content records.now) names.items) (IfRing (IsLeastRingOf (R.content records.now))) }
+    ensures { MatchResult result (λ names. IsLineOrder (R.content records.now) names.items)
+        (IfRing (IsLeastRingOf (R.content records.now))) }
 {
     let numbered = numbered(alloc, records)?;
     match order(alloc, &numbered.links) {
@@ -31,7 +32,8 @@ pub fn line_order<R: Records>(alloc: Global, records: &R) -> Result<Vec<Name>, C
 
 /// That no lines of a workbook form a ring; otherwise a ring that begins with the least line on any.
 pub fn check_acyclic<R: Records>(alloc: Global, records: &R) -> Result<(), CycleRefusal>
-    ensures { MatchResult result (λ _. IsAcyclic (R.content records.now)) (IfRing (IsLeastRingOf (R.content records.now))) }
+    ensures { MatchResult result (λ _. IsAcyclic (R.content records.now))
+        (IfRing (IsLeastRingOf (R.content records.now))) }
 {
     line_order(alloc, records)?;
     Ok(())

@@ -6,8 +6,8 @@ use ghg_units::Name;
 use std::alloc::AllocError;
 use std::marker::Model;
 
-/// Lines of which each takes the value of the next in the same year, and the last that of the first; there is one at
-/// least. Contracts see the list of their names.
+/// Lines of which each takes the value of the next in the same year, and the last that of the first; there is
+/// one at least. Contracts see the list of their names.
 #[derive(Drop)]
 pub struct Ring {
     lines: Vec<Name>,

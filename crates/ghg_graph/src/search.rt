@@ -8,7 +8,8 @@ ghost use Rattle.ghg_graph.specs.Trails.{IsBegun, IsClosed, IsLed, IsNoted, IsOv
 use crate::links::Links;
 use std::alloc::{AllocError, Global};
 
-// The lines found, the place of the line that led to each, and a mark for each line that is found or on no ring.
+// The lines found, the place of the line that led to each, and a mark for each line that is found or on no
+// ring.
 #[derive(Drop)]
 struct Search {
     lines: Vec<usize>,
@@ -16,7 +17,8 @@ struct Search {
     marks: Vec<bool>,
 }
 
-/// A ring that begins with the line; `None` exactly where the line is on none. It passes over the marked lines.
+/// A ring that begins with the line; `None` exactly where the line is on none. It passes over the marked
+/// lines.
 pub(crate) fn ring_through(
     alloc: Global,
     links: &Links,
@@ -25,7 +27,8 @@ pub(crate) fn ring_through(
 ) -> Result<Option<Vec<usize>>, AllocError>
     requires start { start < length links.now }
     requires clear { AreClear links.now clear.now }
-    ensures { IfOk result (λ found. MatchOption found (IsOnNoRing links.now start) (λ ring. IsRingFrom links.now start ring.items)) }
+    ensures { IfOk result (λ found. MatchOption found (IsOnNoRing links.now start)
+        (λ ring. IsRingFrom links.now start ring.items)) }
 {
     if clear[start] {
         return Ok(None);
@@ -55,7 +58,8 @@ fn opened(alloc: Global, clear: &[bool], start: usize) -> Result<Search, AllocEr
 fn look(links: &Links, search: &mut Search, head: usize, start: usize) -> Result<bool, AllocError>
     requires search { IsSearch links.now start search.old head }
     requires head { head < length search.old.lines.items }
-    ensures { IfOk result (λ closes. MatchBool closes (IsClosed links.now start search.new head) (IsOver links.now start search.old search.new head)) }
+    ensures { IfOk result (λ closes. MatchBool closes (IsClosed links.now start search.new head)
+        (IsOver links.now start search.old search.new head)) }
 {
     let line = search.lines[head];
     for target in links.targets(line) {
@@ -70,7 +74,8 @@ fn look(links: &Links, search: &mut Search, head: usize, start: usize) -> Result
 // Notes a line as found from the one at a place, if it is new.
 fn note(search: &mut Search, line: usize, from: usize) -> Result<(), AllocError>
     requires { line < length search.old.marks.items }
-    ensures { IfOk result (λ _. IsNoted (slice_index_or search.old.marks.items line false) line from search.old search.new) }
+    ensures { IfOk result (λ _. IsNoted
+        (slice_index_or search.old.marks.items line false) line from search.old search.new) }
 {
     if search.marks[line] {
         return Ok(());

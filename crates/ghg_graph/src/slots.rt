@@ -33,14 +33,15 @@ pub enum Slot {
     Sum(Nodes),
 }
 
-/// What a node takes: a line one slot for each parameter of its equation, in their order; an equivalent its line and
-/// the warming potential of its gas; a total the sum of its lines' equivalents by name.
+/// What a node takes: a line one slot for each parameter of its equation, in their order; an equivalent its
+/// line and the warming potential of its gas; a total the sum of its lines' equivalents by name.
 pub fn inputs_of<R: Records>(
     alloc: Global,
     records: &R,
     node: &Node,
 ) -> Result<Vec<Slot>, AllocError>
-    ensures { IfOk result (λ slots. slots.items ≡ slots_of (map_formula (given (R.content records.now)) ((sheet_of (R.content records.now)).formula node.now))) }
+    ensures { IfOk result (λ slots. slots.items ≡ slots_of
+        (map_formula (given (R.content records.now)) ((sheet_of (R.content records.now)).formula node.now))) }
 {
     match node {
         Node::Line(name, year) => line_slots(alloc, records, name, *year),
@@ -58,7 +59,10 @@ fn line_slots<R: Records>(
     name: &Name,
     year: u32,
 ) -> Result<Vec<Slot>, AllocError>
-    ensures { IfOk result (λ slots. slots.items ≡ slots_of (map_formula (given (R.content records.now)) (line_formula (R.content records.now) (first_year (span (R.content records.now))) name.now year (line (R.content records.now) name.now)))) }
+    ensures { IfOk result (λ slots. slots.items ≡ slots_of
+        (map_formula (given (R.content records.now))
+        (line_formula (R.content records.now) (first_year (span (R.content records.now))) name.now year
+        (line (R.content records.now) name.now)))) }
 {
     match equation_of(records, name) {
         Some(id) => parameter_slots(alloc, records, name, params_of(id), year),
@@ -81,7 +85,10 @@ fn parameter_slots<R: Records>(
     year: u32,
 ) -> Result<Vec<Slot>, AllocError>
     requires { AllByRecursion (λ q. is_parameter q.name.now ≡ true) params.now }
-    ensures { IfOk result (λ slots. slots.items ≡ map (λ q. slot_of (map_operand (given (R.content records.now)) (bound_to (R.content records.now) (first_year (span (R.content records.now))) year (binding (R.content records.now) line.now q.name.now)))) params.now) }
+    ensures { IfOk result (λ slots. slots.items ≡ map
+        (λ q. slot_of (map_operand (given (R.content records.now))
+        (bound_to (R.content records.now) (first_year (span (R.content records.now))) year
+        (binding (R.content records.now) line.now q.name.now)))) params.now) }
 {
     let first = first_year(records);
     let mut slots = Vec::new(alloc);
@@ -110,7 +117,9 @@ fn bound_slot<R: Records>(
     binding: Option<&Binding>,
     year: u32,
 ) -> Result<Slot, AllocError>
-    ensures { IfOk result (λ slot. slot ≡ slot_of (map_operand (given (R.content records.now)) (bound_to (R.content records.now) first year (option_copied binding.entry)))) }
+    ensures { IfOk result (λ slot. slot ≡ slot_of
+        (map_operand (given (R.content records.now))
+        (bound_to (R.content records.now) first year (option_copied binding.entry)))) }
 {
     match bound_operand(records, first, binding, year) {
         Operand::Given(input) => Ok(Slot::Input(input)),
@@ -140,7 +149,10 @@ fn equivalent_slots<R: Records>(
     name: &Name,
     year: u32,
 ) -> Result<Vec<Slot>, AllocError>
-    ensures { IfOk result (λ slots. slots.items ≡ slots_of (map_formula (given (R.content records.now)) (formula (R.content records.now) (first_year (span (R.content records.now))) (node.Equiv name.now year)))) }
+    ensures { IfOk result (λ slots. slots.items ≡ slots_of
+        (map_formula (given (R.content records.now))
+        (formula (R.content records.now) (first_year (span (R.content records.now)))
+        (node.Equiv name.now year)))) }
 {
     let line = Slot::Node(Node::Line(*name, year));
     let weight = Slot::Input(potential(records, name, year));
@@ -164,7 +176,9 @@ fn total_slots<R: Records>(
     scope: &Scope,
     year: u32,
 ) -> Result<Vec<Slot>, AllocError>
-    ensures { IfOk result (λ slots. slots.items ≡ slots_of (Summed (map (λ name. node.Equiv name year) (gas_lines_at (is_within scope.now) (R.content records.now))))) }
+    ensures { IfOk result (λ slots. slots.items ≡ slots_of
+        (Summed (map (λ name. node.Equiv name year)
+        (gas_lines_at (is_within scope.now) (R.content records.now))))) }
 {
     let lines = records.lines(alloc)?;
     let emitters = emitters(alloc, records, &lines)?;
@@ -182,7 +196,9 @@ fn equivalents_at<R: Records>(
     lines: &[Name],
     year: u32,
 ) -> Result<Vec<Node>, AllocError>
-    ensures { IfOk result (λ nodes. nodes.items ≡ map (λ name. node.Equiv name year) (filter (λ name. option_map_or (is_within scope.now) (category (R.content records.now) name) false) lines.now)) }
+    ensures { IfOk result (λ nodes. nodes.items ≡ map (λ name. node.Equiv name year)
+        (filter (λ name. option_map_or (is_within scope.now)
+        (category (R.content records.now) name) false) lines.now)) }
 {
     lines
         .iter()

@@ -78,7 +78,8 @@ fn visit(alloc: Global, links: &Links, walk: &mut Walk, start: usize) -> Result<
     requires walk { IsWalk links.now walk.old (reverse walk.old.path.items) }
     requires path { walk.old.path.items ≡ [] }
     requires start { start < length links.now }
-    ensures { MatchResult result (λ _. IsVisited links.now start walk.old walk.new) (IfMet (IsMet links.now)) }
+    ensures { MatchResult result (λ _. IsVisited links.now start walk.old walk.new)
+        (IfMet (IsMet links.now)) }
 {
     if walk.opened[start] {
         return Ok(());
@@ -90,7 +91,8 @@ fn visit(alloc: Global, links: &Links, walk: &mut Walk, start: usize) -> Result<
     Ok(())
 }
 
-// Goes on from the line, which was the last of the path, to a target that is not placed. Places the line where all are.
+// Goes on from the line, which was the last of the path, to a target that is not placed. Places the line
+// where all are.
 fn turn(alloc: Global, links: &Links, walk: &mut Walk, line: usize) -> Result<(), Stop>
     requires { IsWalk links.now walk.old (line ∷ reverse walk.old.path.items) }
     ensures { MatchResult result (λ _. IsTurned links.now walk.old walk.new) (IfMet (IsMet links.now)) }
@@ -116,7 +118,8 @@ fn next_target(links: &Links, walk: &mut Walk, line: usize) -> Option<usize>
     ensures tried { IsTried walk.old walk.new }
     ensures target { MatchOption result
         ((target : ℕ) → IsLink links.now line target → IsMarked walk.old.placed.items target)
-        (λ target. (target < length links.now) × IsLink links.now line target × IsUnmarked walk.old.placed.items target) }
+        (λ target. (target < length links.now) × IsLink links.now line target
+        × IsUnmarked walk.old.placed.items target) }
 {
     let targets = links.targets(line);
     match first_unplaced(&walk.placed, targets, walk.tried[line]) {

@@ -50,7 +50,8 @@ known_in u row = do
   value ← quantity_in u row.value
   low ← bound_in u value row.low
   high ← bound_in u value row.high
-  if int_le low.scaled value.scaled && int_le value.scaled high.scaled then Some (amounts.Known value low high)
+  if int_le low.scaled value.scaled && int_le value.scaled high.scaled then Some
+      (amounts.Known value low high)
       else None
 
 -- a notation key, or a value

@@ -36,12 +36,12 @@ pub struct Rows {
     pub rest: Option<Rule>,
 }
 
-/// The rows of a body, up to the first that breaks a rule which its body alone shows: its shape, its words, its
-/// numbers or the order of its bounds.
+/// The rows of a body, up to the first that breaks a rule which its body alone shows: its shape, its words,
+/// its numbers or the order of its bounds.
 ///
-/// Rows are the records that `csv` cuts the body into: the header has the number 0, and an empty line has none.
-/// A word is tested before a number and a number before the order of bounds; of each sort the leftmost wrong column
-/// is named.
+/// Rows are the records that `csv` cuts the body into: the header has the number 0, and an empty line has
+/// none. A word is tested before a number and a number before the order of bounds; of each sort the leftmost
+/// wrong column is named.
 #[tactic(auto, unfolding(crate::specs::Reading::reading_of))]
 pub fn read_rows(alloc: Global, body: &[u8]) -> Result<Rows, AllocError>
     requires { length body.now ≤ max_body }
@@ -62,7 +62,8 @@ pub fn read_rows(alloc: Global, body: &[u8]) -> Result<Rows, AllocError>
 
 // Whether the first record is the header, which is then taken.
 fn takes_header(records: &mut RecordReader<'_>, fields: &mut ByteRecord) -> Result<bool, AllocError>
-    ensures header { IfOk result (λ found. under_header records.old ≡ (if found then rows_from 1 records.new else no_header)) }
+    ensures header { IfOk result (λ found. under_header records.old ≡
+        (if found then rows_from 1 records.new else no_header)) }
     ensures fewer { OnOk result (length records.new ≤ length records.old) }
 {
     if !records.next(fields)? {

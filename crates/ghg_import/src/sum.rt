@@ -31,7 +31,8 @@ pub(crate) fn names_named(alloc: Global, text: &[u8]) -> Result<Option<Names>, A
 
 // The texts between the spaces of a text, and of more than a sum may have one too many.
 fn first_parts(alloc: Global, text: &[u8]) -> Result<Vec<&[u8]>, AllocError>
-    ensures { IfOk result (λ parts. map (λ part. part.now) parts.items ≡ take (most_parts + 1) (parts_of text.now)) }
+    ensures { IfOk result (λ parts. map (λ part. part.now) parts.items ≡ take (most_parts + 1)
+        (parts_of text.now)) }
 {
     text.split(|b| *b == b' ')
         .take(MOST_NAMES + 1)
@@ -40,7 +41,9 @@ fn first_parts(alloc: Global, text: &[u8]) -> Result<Vec<&[u8]>, AllocError>
 
 // The names that texts are, where each is a plain one.
 fn plain_names(alloc: Global, parts: &[&[u8]]) -> Result<Option<Vec<Name>>, AllocError>
-    ensures { IfOk result (λ names. option_map (λ v. v.items) names ≡ (if list_all (λ part. is_some (plain_name_in part)) (map (λ part. part.now) parts.now) then Some (map (λ part. part.now) parts.now) else None)) }
+    ensures { IfOk result (λ names. option_map (λ v. v.items) names ≡
+        (if list_all (λ part. is_some (plain_name_in part)) (map (λ part. part.now) parts.now) then Some
+        (map (λ part. part.now) parts.now) else None)) }
 {
     let mut names = Vec::new(alloc);
     for part in parts {

@@ -9,8 +9,8 @@ use crate::rounding::{ceil_product, ceil_scaled, floor_product, floor_scaled, is
 use crate::{Over, SCALE};
 use std::marker::Model;
 
-/// All numbers from a lower to an upper bound. The bounds are whole numbers of parts of a unit ([`SCALE`]) and are
-/// within the limit ([`LIMIT`](crate::LIMIT)).
+/// All numbers from a lower to an upper bound. The bounds are whole numbers of parts of a unit ([`SCALE`])
+/// and are within the limit ([`LIMIT`](crate::LIMIT)).
 #[derive(Clone, Copy, Debug, PartialEq, Eq)]
 pub struct Interval {
     lo: i128,
@@ -30,8 +30,8 @@ impl Model for Interval {
 }
 
 impl Interval {
-    /// The interval between two bounds, in parts of a unit. `None` where the lower one is greater than the upper
-    /// one, or one of them is beyond the limit.
+    /// The interval between two bounds, in parts of a unit. `None` where the lower one is greater than the
+    /// upper one, or one of them is beyond the limit.
     pub fn new(lo: i128, hi: i128) -> Option<Interval>
         ensures { let b = between lo hi in SomeIff result (IsInterval b) b }
     {

@@ -1,5 +1,5 @@
-// Products and quotients of bounds, rounded. A product of two bounds may have 53 digits, and 128 bits hold 38, so the
-// one factor is taken in two parts: its whole units and what is left.
+// Products and quotients of bounds, rounded. A product of two bounds may have 53 digits, and 128 bits hold
+// 38, so the one factor is taken in two parts: its whole units and what is left.
 ghost use Rattle.std.specs.Prelude.{◌≡◌, ◌≤◌, ◌*◌, pos, neg_ℤ, ◌+ℤ◌, ◌*ℤ◌, unsigned_abs, SomeIff, IsTrue, ◌↔◌};
 ghost use Rattle.ghg_interval.specs.Bounds.{IsBounded, unit_scale, bound_limit};
 ghost use Rattle.ghg_interval.specs.Rounding.{floor_by, ceil_by};

@@ -7,7 +7,8 @@ ghost use Rattle.ghg_cell.specs.Values.{equation_value};
 use ghg_cell::{Figures, Input, Ticket, Value, known};
 use ghg_interval::Over;
 
-/// Clinker of a cement, in t: the cement produced `mc` in t times its clinker fraction `ccl` (a term of Equation 2.1).
+/// Clinker of a cement, in t: the cement produced `mc` in t times its clinker fraction `ccl` (a term of
+/// Equation 2.1).
 pub fn q30(ticket: Ticket, mc: &Input, ccl: &Input) -> Result<Value, Over>
     ensures { result ≡ equation_value EqId.Q30 (mc.now ∷ ccl.now ∷ []) }
 {
@@ -16,8 +17,8 @@ pub fn q30(ticket: Ticket, mc: &Input, ccl: &Input) -> Result<Value, Over>
     Ok(Value::known(ticket, value))
 }
 
-/// CO2 of cement, in Gg: the clinker of the cement produced `cl`, less imports `im` and with exports `ex` of clinker,
-/// each in t, times the emission factor `ef` in t/t (Equation 2.1, Tier 1).
+/// CO2 of cement, in Gg: the clinker of the cement produced `cl`, less imports `im` and with exports `ex` of
+/// clinker, each in t, times the emission factor `ef` in t/t (Equation 2.1, Tier 1).
 pub fn q31(ticket: Ticket, cl: &Input, im: &Input, ex: &Input, ef: &Input) -> Result<Value, Over>
     ensures { result ≡ equation_value EqId.Q31 (cl.now ∷ im.now ∷ ex.now ∷ ef.now ∷ []) }
 {
@@ -27,8 +28,8 @@ pub fn q31(ticket: Ticket, cl: &Input, im: &Input, ex: &Input, ef: &Input) -> Re
     Ok(Value::known(ticket, value))
 }
 
-/// CO2 of clinker, in Gg: the clinker produced `mcl` in t times the emission factor `ef` in t/t and the correction `cf`
-/// for cement kiln dust (Equation 2.2, Tier 2).
+/// CO2 of clinker, in Gg: the clinker produced `mcl` in t times the emission factor `ef` in t/t and the
+/// correction `cf` for cement kiln dust (Equation 2.2, Tier 2).
 pub fn q32(ticket: Ticket, mcl: &Input, ef: &Input, cf: &Input) -> Result<Value, Over>
     ensures { result ≡ equation_value EqId.Q32 (mcl.now ∷ ef.now ∷ cf.now ∷ []) }
 {
@@ -37,8 +38,9 @@ pub fn q32(ticket: Ticket, mcl: &Input, ef: &Input, cf: &Input) -> Result<Value,
     Ok(Value::known(ticket, value))
 }
 
-/// CO2 of a type of lime, in Gg: the emission factor `ef` in t/t times the lime produced `ml` in t, the correction `cf`
-/// for lime kiln dust and the correction `ch` for hydrated lime (a term of Equation 2.6, Tier 2).
+/// CO2 of a type of lime, in Gg: the emission factor `ef` in t/t times the lime produced `ml` in t, the
+/// correction `cf` for lime kiln dust and the correction `ch` for hydrated lime (a term of Equation 2.6, Tier
+/// 2).
 pub fn q33(ticket: Ticket, ef: &Input, ml: &Input, cf: &Input, ch: &Input) -> Result<Value, Over>
     ensures { result ≡ equation_value EqId.Q33 (ef.now ∷ ml.now ∷ cf.now ∷ ch.now ∷ []) }
 {
@@ -47,8 +49,8 @@ pub fn q33(ticket: Ticket, ef: &Input, ml: &Input, cf: &Input, ch: &Input) -> Re
     Ok(Value::known(ticket, value))
 }
 
-/// CO2 of glass, in Gg: the glass melted `mg` in t times the emission factor `ef` in t/t, less the cullet ratio `cr` of
-/// it (Equation 2.10, and a term of Equation 2.11).
+/// CO2 of glass, in Gg: the glass melted `mg` in t times the emission factor `ef` in t/t, less the cullet
+/// ratio `cr` of it (Equation 2.10, and a term of Equation 2.11).
 pub fn q34(ticket: Ticket, mg: &Input, ef: &Input, cr: &Input) -> Result<Value, Over>
     ensures { result ≡ equation_value EqId.Q34 (mg.now ∷ ef.now ∷ cr.now ∷ []) }
 {
@@ -59,8 +61,8 @@ pub fn q34(ticket: Ticket, mg: &Input, ef: &Input, cr: &Input) -> Result<Value, 
     Ok(Value::known(ticket, value))
 }
 
-/// CO2 of carbonates in other uses, in Gg: the carbonate `m` in t, of which 85 percent are limestone and 15 percent
-/// dolomite, times their emission factors `efls` and `efd` in t/t (Equation 2.14, Tier 1).
+/// CO2 of carbonates in other uses, in Gg: the carbonate `m` in t, of which 85 percent are limestone and 15
+/// percent dolomite, times their emission factors `efls` and `efd` in t/t (Equation 2.14, Tier 1).
 pub fn q35(ticket: Ticket, m: &Input, efls: &Input, efd: &Input) -> Result<Value, Over>
     ensures { result ≡ equation_value EqId.Q35 (m.now ∷ efls.now ∷ efd.now ∷ []) }
 {
@@ -70,8 +72,8 @@ pub fn q35(ticket: Ticket, m: &Input, efls: &Input, efd: &Input) -> Result<Value
     Ok(Value::known(ticket, value))
 }
 
-/// CO2 of limestone and dolomite in other uses, in Gg: the limestone `mls` and the dolomite `md` in t, each times its
-/// emission factor `efls` and `efd` in t/t (Equation 2.15, Tier 2).
+/// CO2 of limestone and dolomite in other uses, in Gg: the limestone `mls` and the dolomite `md` in t, each
+/// times its emission factor `efls` and `efd` in t/t (Equation 2.15, Tier 2).
 pub fn q36(
     ticket: Ticket,
     mls: &Input,

@@ -7,8 +7,8 @@ ghost use Rattle.ghg_cell.specs.Values.{equation_value};
 use ghg_cell::{Input, Ticket, Value, known};
 use ghg_interval::Over;
 
-/// CO2 of lubricants or waxes in their use, in Gg: the consumption `lc` in TJ times the carbon content `cc` in tC/TJ
-/// and the fraction oxidised during use `odu`, from carbon to CO2 (Equations 5.2 and 5.4, Tier 1).
+/// CO2 of lubricants or waxes in their use, in Gg: the consumption `lc` in TJ times the carbon content `cc`
+/// in tC/TJ and the fraction oxidised during use `odu`, from carbon to CO2 (Equations 5.2 and 5.4, Tier 1).
 pub fn q46(ticket: Ticket, lc: &Input, cc: &Input, odu: &Input) -> Result<Value, Over>
     ensures { result ≡ equation_value EqId.Q46 (lc.now ∷ cc.now ∷ odu.now ∷ []) }
 {

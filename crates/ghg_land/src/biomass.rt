@@ -7,9 +7,9 @@ ghost use Rattle.ghg_cell.specs.Values.{equation_value};
 use ghg_cell::{Figures, Input, Ticket, Value, known};
 use ghg_interval::Over;
 
-/// Carbon that biomass gains by growth, in GgC: the area `a` in ha times the growth above ground `gw` in t/ha and year,
-/// and that below ground by its ratio `r`, times the carbon fraction `cf` (a term of Equation 2.9, with Equation 2.10,
-/// Tier 1).
+/// Carbon that biomass gains by growth, in GgC: the area `a` in ha times the growth above ground `gw` in t/ha
+/// and year, and that below ground by its ratio `r`, times the carbon fraction `cf` (a term of Equation 2.9,
+/// with Equation 2.10, Tier 1).
 pub fn q78(ticket: Ticket, a: &Input, gw: &Input, r: &Input, cf: &Input) -> Result<Value, Over>
     ensures { result ≡ equation_value EqId.Q78 (a.now ∷ gw.now ∷ r.now ∷ cf.now ∷ []) }
 {
@@ -20,9 +20,9 @@ pub fn q78(ticket: Ticket, a: &Input, gw: &Input, r: &Input, cf: &Input) -> Resu
     Ok(Value::known(ticket, value))
 }
 
-/// Carbon that biomass gains by growth, in GgC: the area `a` in ha times the increment of wood `iv` in m3/ha and year,
-/// its conversion and expansion to biomass above ground `bcef` in t/m3, and that below ground by its ratio `r`, times
-/// the carbon fraction `cf` (a term of Equation 2.9, with Equation 2.10, Tiers 2 and 3).
+/// Carbon that biomass gains by growth, in GgC: the area `a` in ha times the increment of wood `iv` in m3/ha
+/// and year, its conversion and expansion to biomass above ground `bcef` in t/m3, and that below ground by
+/// its ratio `r`, times the carbon fraction `cf` (a term of Equation 2.9, with Equation 2.10, Tiers 2 and 3).
 pub fn q79(
     ticket: Ticket,
     a: &Input,
@@ -40,8 +40,9 @@ pub fn q79(
     Ok(Value::known(ticket, value))
 }
 
-/// Carbon that biomass loses by wood removals, in GgC: the wood removed `h` in m3 times its conversion and expansion
-/// `bcef` in t/m3, and that below ground by its ratio `r`, times the carbon fraction `cf` (Equation 2.12).
+/// Carbon that biomass loses by wood removals, in GgC: the wood removed `h` in m3 times its conversion and
+/// expansion `bcef` in t/m3, and that below ground by its ratio `r`, times the carbon fraction `cf` (Equation
+/// 2.12).
 pub fn q80(ticket: Ticket, h: &Input, bcef: &Input, r: &Input, cf: &Input) -> Result<Value, Over>
     ensures { result ≡ equation_value EqId.Q80 (h.now ∷ bcef.now ∷ r.now ∷ cf.now ∷ []) }
 {
@@ -52,9 +53,9 @@ pub fn q80(ticket: Ticket, h: &Input, bcef: &Input, r: &Input, cf: &Input) -> Re
     Ok(Value::known(ticket, value))
 }
 
-/// Carbon that biomass loses by fuelwood removals, in GgC: the whole trees taken `ft` in m3 times their conversion and
-/// expansion `bcef` in t/m3, and what is below ground by its ratio `r`, and the parts of trees taken `fp` in m3 by the
-/// density of wood `d` in t/m3, times the carbon fraction `cf` (Equation 2.13).
+/// Carbon that biomass loses by fuelwood removals, in GgC: the whole trees taken `ft` in m3 times their
+/// conversion and expansion `bcef` in t/m3, and what is below ground by its ratio `r`, and the parts of trees
+/// taken `fp` in m3 by the density of wood `d` in t/m3, times the carbon fraction `cf` (Equation 2.13).
 pub fn q81(
     ticket: Ticket,
     ft: &Input,
@@ -75,9 +76,9 @@ pub fn q81(
     Ok(Value::known(ticket, value))
 }
 
-/// Carbon that biomass loses in disturbances, in GgC: the area disturbed `a` in ha times the biomass above ground `bw`
-/// in t/ha, and that below ground by its ratio `r`, times the carbon fraction `cf` and the fraction lost `fd` (Equation
-/// 2.14).
+/// Carbon that biomass loses in disturbances, in GgC: the area disturbed `a` in ha times the biomass above
+/// ground `bw` in t/ha, and that below ground by its ratio `r`, times the carbon fraction `cf` and the
+/// fraction lost `fd` (Equation 2.14).
 pub fn q82(
     ticket: Ticket,
     a: &Input,

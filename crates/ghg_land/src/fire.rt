@@ -7,8 +7,8 @@ ghost use Rattle.ghg_cell.specs.Values.{equation_value};
 use ghg_cell::{Input, Ticket, Value, known};
 use ghg_interval::Over;
 
-/// CH4 of a fire, in Gg: the area burnt `a` in ha times the fuel there `mb` in t/ha, the fraction of it that burns `cb`
-/// and the emission factor `gef` in t of gas for a t of dry matter (Equation 2.27).
+/// CH4 of a fire, in Gg: the area burnt `a` in ha times the fuel there `mb` in t/ha, the fraction of it that
+/// burns `cb` and the emission factor `gef` in t of gas for a t of dry matter (Equation 2.27).
 pub fn q88(ticket: Ticket, a: &Input, mb: &Input, cb: &Input, gef: &Input) -> Result<Value, Over>
     ensures { result ≡ equation_value EqId.Q88 (a.now ∷ mb.now ∷ cb.now ∷ gef.now ∷ []) }
 {

@@ -16,8 +16,8 @@ pub fn q83(ticket: Ticket, g: &Input, l: &Input) -> Result<Value, Over>
     Ok(Value::known(ticket, value))
 }
 
-/// CO2 of a change of a carbon stock, in Gg: the carbon gained `c` in GgC, with its sign turned, from carbon to CO2, so
-/// that a gain of carbon is a removal (chapter 2: times -44/12).
+/// CO2 of a change of a carbon stock, in Gg: the carbon gained `c` in GgC, with its sign turned, from carbon
+/// to CO2, so that a gain of carbon is a removal (chapter 2: times -44/12).
 pub fn q84(ticket: Ticket, c: &Input) -> Result<Value, Over>
     ensures { result ≡ equation_value EqId.Q84 (c.now ∷ []) }
 {
@@ -26,9 +26,9 @@ pub fn q84(ticket: Ticket, c: &Input) -> Result<Value, Over>
     Ok(Value::known(ticket, value))
 }
 
-/// Organic carbon in a mineral soil, in GgC: the reference stock `sref` in t of carbon for a ha times the factors of
-/// land use `flu`, of management `fmg` and of input `fi`, and the area `a` in ha (a term of the stock in Equation
-/// 2.25).
+/// Organic carbon in a mineral soil, in GgC: the reference stock `sref` in t of carbon for a ha times the
+/// factors of land use `flu`, of management `fmg` and of input `fi`, and the area `a` in ha (a term of the
+/// stock in Equation 2.25).
 pub fn q85(
     ticket: Ticket,
     sref: &Input,
@@ -49,8 +49,8 @@ pub fn q85(
     Ok(Value::known(ticket, value))
 }
 
-/// Change of the organic carbon in mineral soils in a year, in GgC: the stock at the end of the transition `s0` less the
-/// stock at its start `st`, each in GgC, over 20 years (Equation 2.25).
+/// Change of the organic carbon in mineral soils in a year, in GgC: the stock at the end of the transition
+/// `s0` less the stock at its start `st`, each in GgC, over 20 years (Equation 2.25).
 pub fn q86(ticket: Ticket, s0: &Input, st: &Input) -> Result<Value, Over>
     ensures { result ≡ equation_value EqId.Q86 (s0.now ∷ st.now ∷ []) }
 {
@@ -59,8 +59,8 @@ pub fn q86(ticket: Ticket, s0: &Input, st: &Input) -> Result<Value, Over>
     Ok(Value::known(ticket, value))
 }
 
-/// Carbon that drained organic soils lose in a year, in GgC: the area `a` in ha times the emission factor `ef` in t of
-/// carbon for a ha and year (a term of Equation 2.26).
+/// Carbon that drained organic soils lose in a year, in GgC: the area `a` in ha times the emission factor
+/// `ef` in t of carbon for a ha and year (a term of Equation 2.26).
 pub fn q87(ticket: Ticket, a: &Input, ef: &Input) -> Result<Value, Over>
     ensures { result ≡ equation_value EqId.Q87 (a.now ∷ ef.now ∷ []) }
 {

@@ -7,8 +7,8 @@ ghost use Rattle.ghg_cell.specs.Values.{equation_value};
 use ghg_cell::{Input, Ticket, Value, known};
 use ghg_interval::Over;
 
-/// CH4 of enteric fermentation or of manure, in Gg: the emission factor `ef` in kg/head and year times the animals `n`
-/// (Equation 10.19, and a term of Equation 10.22).
+/// CH4 of enteric fermentation or of manure, in Gg: the emission factor `ef` in kg/head and year times the
+/// animals `n` (Equation 10.19, and a term of Equation 10.22).
 pub fn q55(ticket: Ticket, ef: &Input, n: &Input) -> Result<Value, Over>
     ensures { result ≡ equation_value EqId.Q55 (ef.now ∷ n.now ∷ []) }
 {
@@ -17,8 +17,9 @@ pub fn q55(ticket: Ticket, ef: &Input, n: &Input) -> Result<Value, Over>
     Ok(Value::known(ticket, value))
 }
 
-/// Emission factor of enteric fermentation, in kg/head and year: the gross energy intake `ge` in MJ/head/day times the
-/// fraction of it that turns into CH4 `ym`, of 55.65 MJ in a kg of CH4 and over 365 days (Equation 10.21).
+/// Emission factor of enteric fermentation, in kg/head and year: the gross energy intake `ge` in MJ/head/day
+/// times the fraction of it that turns into CH4 `ym`, of 55.65 MJ in a kg of CH4 and over 365 days (Equation
+/// 10.21).
 pub fn q56(ticket: Ticket, ge: &Input, ym: &Input) -> Result<Value, Over>
     ensures { result ≡ equation_value EqId.Q56 (ge.now ∷ ym.now ∷ []) }
 {
@@ -27,8 +28,8 @@ pub fn q56(ticket: Ticket, ge: &Input, ym: &Input) -> Result<Value, Over>
     Ok(Value::known(ticket, value))
 }
 
-/// Methane conversion of a manure management system, as a ratio: its conversion factor `mcf` times the share of manure
-/// that it handles `ms` (a term of the sum in Equation 10.23).
+/// Methane conversion of a manure management system, as a ratio: its conversion factor `mcf` times the share
+/// of manure that it handles `ms` (a term of the sum in Equation 10.23).
 pub fn q57(ticket: Ticket, mcf: &Input, ms: &Input) -> Result<Value, Over>
     ensures { result ≡ equation_value EqId.Q57 (mcf.now ∷ ms.now ∷ []) }
 {
@@ -37,9 +38,9 @@ pub fn q57(ticket: Ticket, mcf: &Input, ms: &Input) -> Result<Value, Over>
     Ok(Value::known(ticket, value))
 }
 
-/// Emission factor of manure, in kg/head and year: the volatile solids excreted `vs` in kg/head/day over 365 days,
-/// times the most CH4 that they yield `bo` in m3/kg, at 0.67 kg of CH4 in a m3, and the sum `sm` of the methane
-/// conversions of the systems (Equation 10.23).
+/// Emission factor of manure, in kg/head and year: the volatile solids excreted `vs` in kg/head/day over 365
+/// days, times the most CH4 that they yield `bo` in m3/kg, at 0.67 kg of CH4 in a m3, and the sum `sm` of the
+/// methane conversions of the systems (Equation 10.23).
 pub fn q58(ticket: Ticket, vs: &Input, bo: &Input, sm: &Input) -> Result<Value, Over>
     ensures { result ≡ equation_value EqId.Q58 (vs.now ∷ bo.now ∷ sm.now ∷ []) }
 {

@@ -1,12 +1,12 @@
 //! The outside as the program sees it: where bytes come from, where they go, and how often that failed.
 //!
 //! Contracts see each object of the outside as a tape: what is left to be read, what was taken and what was
-//! written, where that is known, and how many calls failed. A read takes from the front of what is left, and a
-//! write appends. Neither does anything else, and a call fails only where the count rose.
+//! written, where that is known, and how many calls failed. A read takes from the front of what is left, and
+//! a write appends. Neither does anything else, and a call fails only where the count rose.
 //!
-//! The forms in memory are proved to meet this. [`InputSource`] and [`OutputSink`] are the trusted edge: what the
-//! process's own input and output hold is known to no contract. They make an interrupted call again, and count
-//! every other error.
+//! The forms in memory are proved to meet this. [`InputSource`] and [`OutputSink`] are the trusted edge: what
+//! the process's own input and output hold is known to no contract. They make an interrupted call again, and
+//! count every other error.
 #![tactic(auto)]
 
 mod fault_plan;

@@ -27,8 +27,8 @@ parts_down parts exponent x = pos parts *ℤ power_down x exponent
 abbrev pub most_parts : ℕ
 most_parts = 1_024
 
--- lo is the last number of which so many powers are within a unit, though each product is rounded up; hi is the first
--- of which so many powers reach a unit, though each product is rounded down
+-- lo is the last number of which so many powers are within a unit, though each product is rounded up; hi is
+-- the first of which so many powers reach a unit, though each product is rounded down
 pub record IsDecayBracket (parts exponent : ℕ) (b : Bounds) : Type 0 where
   pub lo_natural : pos 0 ≤ℤ b.lo
   pub hi_natural : pos 0 ≤ℤ b.hi

@@ -13,7 +13,8 @@ use ghg_interval::{Interval, SCALE};
 // How many parts make one unit.
 const UNIT: u128 = SCALE as u128;
 
-/// The whole numbers next to the square root of n, the lower one first. Both are the root where n is a square.
+/// The whole numbers next to the square root of n, the lower one first. Both are the root where n is a
+/// square.
 pub fn sqrt_bracket(n: u128) -> (u128, u128)
     ensures { IsRootBracket n result.0 result.1 }
 {
@@ -25,8 +26,9 @@ pub fn sqrt_bracket(n: u128) -> (u128, u128)
     }
 }
 
-/// The share of decaying waste that a year leaves, for a half-life in whole years: the factor whose power by the
-/// half-life is one half (2006 IPCC Guidelines, Volume 5, Chapter 3, where it is e^-k with k = ln 2 / half-life).
+/// The share of decaying waste that a year leaves, for a half-life in whole years: the factor whose power by
+/// the half-life is one half (2006 IPCC Guidelines, Volume 5, Chapter 3, where it is e^-k with k = ln 2 /
+/// half-life).
 pub fn decay_bracket(half_life: u32) -> Interval
     requires { (1 ≤ half_life) × (half_life ≤ 60) }
     ensures bracket { IsDecayBracket 2 half_life result }

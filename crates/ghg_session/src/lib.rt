@@ -1,11 +1,11 @@
 //! Sessions: a script of submissions and requests for tables is read from a source, and answered to a sink.
 //!
-//! What a session is, is defined over any requests, their grammar and their answers (`Protocol`), from any state
-//! of the office. [`answer_script`] answers a script for one office. Its contract says what was read, what was
-//! written and how the office stands, with every result:
+//! What a session is, is defined over any requests, their grammar and their answers (`Protocol`), from any
+//! state of the office. [`answer_script`] answers a script for one office. Its contract says what was read,
+//! what was written and how the office stands, with every result:
 //!
-//! - Where the session ends, its whole output was written. Behind END nothing was read, and of a command that is
-//!   none no more than it takes to find that out.
+//! - Where the session ends, its whole output was written. Behind END nothing was read, and of a command that
+//!   is none no more than it takes to find that out.
 //! - Where it is interrupted, each request that was read whole was answered before more was read. The replies
 //!   to these requests were written, and at most a proper prefix of the next line. So no error follows a
 //!   complete output.

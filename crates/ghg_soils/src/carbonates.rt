@@ -7,8 +7,8 @@ ghost use Rattle.ghg_cell.specs.Values.{equation_value};
 use ghg_cell::{Input, Ticket, Value, known};
 use ghg_interval::Over;
 
-/// CO2 of lime on soils, in Gg: the limestone `ml` and the dolomite `md` in t, each times its emission factor `efl` and
-/// `efd` in t of carbon for a t, from carbon to CO2 (Equation 11.12).
+/// CO2 of lime on soils, in Gg: the limestone `ml` and the dolomite `md` in t, each times its emission factor
+/// `efl` and `efd` in t of carbon for a t, from carbon to CO2 (Equation 11.12).
 pub fn q74(ticket: Ticket, ml: &Input, efl: &Input, md: &Input, efd: &Input) -> Result<Value, Over>
     ensures { result ≡ equation_value EqId.Q74 (ml.now ∷ efl.now ∷ md.now ∷ efd.now ∷ []) }
 {
@@ -19,8 +19,8 @@ pub fn q74(ticket: Ticket, ml: &Input, efl: &Input, md: &Input, efd: &Input) -> 
     Ok(Value::known(ticket, value))
 }
 
-/// CO2 of urea on soils, in Gg: the urea `m` in t times the emission factor `ef` in t of carbon for a t, from carbon to
-/// CO2 (Equation 11.13).
+/// CO2 of urea on soils, in Gg: the urea `m` in t times the emission factor `ef` in t of carbon for a t, from
+/// carbon to CO2 (Equation 11.13).
 pub fn q75(ticket: Ticket, m: &Input, ef: &Input) -> Result<Value, Over>
     ensures { result ≡ equation_value EqId.Q75 (m.now ∷ ef.now ∷ []) }
 {

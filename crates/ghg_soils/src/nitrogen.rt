@@ -7,8 +7,8 @@ ghost use Rattle.ghg_cell.specs.Values.{equation_value};
 use ghg_cell::{Figures, Input, Ticket, Value, known};
 use ghg_interval::Over;
 
-/// Organic nitrogen applied to soils, in t: that of animal manure `fam`, sewage `fsew`, compost `fcomp` and other
-/// organic matter `fooa`, each in t (Equation 11.3).
+/// Organic nitrogen applied to soils, in t: that of animal manure `fam`, sewage `fsew`, compost `fcomp` and
+/// other organic matter `fooa`, each in t (Equation 11.3).
 pub fn q67(
     ticket: Ticket,
     fam: &Input,
@@ -23,8 +23,8 @@ pub fn q67(
     Ok(Value::known(ticket, value))
 }
 
-/// Nitrogen of animal manure applied to soils, in t: that of managed manure `na` in t, less the fractions used for feed
-/// `ff`, fuel `fu` and construction `fc` (Equation 11.4).
+/// Nitrogen of animal manure applied to soils, in t: that of managed manure `na` in t, less the fractions
+/// used for feed `ff`, fuel `fu` and construction `fc` (Equation 11.4).
 pub fn q68(ticket: Ticket, na: &Input, ff: &Input, fu: &Input, fc: &Input) -> Result<Value, Over>
     ensures { result ≡ equation_value EqId.Q68 (na.now ∷ ff.now ∷ fu.now ∷ fc.now ∷ []) }
 {
@@ -34,9 +34,9 @@ pub fn q68(ticket: Ticket, na: &Input, ff: &Input, fu: &Input, fc: &Input) -> Re
     Ok(Value::known(ticket, value))
 }
 
-/// Direct N2O of nitrogen inputs, in Gg: the nitrogen of synthetic fertiliser `fsn`, organic amendments `fon`, crop
-/// residues `fcr` and soil organic matter `fsom`, each in t, times the emission factor `ef1`, from nitrogen to N2O (the
-/// inputs of Equation 11.1).
+/// Direct N2O of nitrogen inputs, in Gg: the nitrogen of synthetic fertiliser `fsn`, organic amendments
+/// `fon`, crop residues `fcr` and soil organic matter `fsom`, each in t, times the emission factor `ef1`,
+/// from nitrogen to N2O (the inputs of Equation 11.1).
 pub fn q69(
     ticket: Ticket,
     fsn: &Input,
@@ -53,8 +53,8 @@ pub fn q69(
     Ok(Value::known(ticket, value))
 }
 
-/// Direct N2O of managed organic soils, in Gg: the area `a` in ha times the emission factor `ef2` in t of nitrogen for
-/// a ha and year, from nitrogen to N2O (the organic soils of Equation 11.1).
+/// Direct N2O of managed organic soils, in Gg: the area `a` in ha times the emission factor `ef2` in t of
+/// nitrogen for a ha and year, from nitrogen to N2O (the organic soils of Equation 11.1).
 pub fn q70(ticket: Ticket, a: &Input, ef2: &Input) -> Result<Value, Over>
     ensures { result ≡ equation_value EqId.Q70 (a.now ∷ ef2.now ∷ []) }
 {
@@ -63,8 +63,8 @@ pub fn q70(ticket: Ticket, a: &Input, ef2: &Input) -> Result<Value, Over>
     Ok(Value::known(ticket, value))
 }
 
-/// Direct N2O of urine and dung on pasture, in Gg: their nitrogen `fp` in t times the emission factor `ef3`, from
-/// nitrogen to N2O (the pasture of Equation 11.1).
+/// Direct N2O of urine and dung on pasture, in Gg: their nitrogen `fp` in t times the emission factor `ef3`,
+/// from nitrogen to N2O (the pasture of Equation 11.1).
 pub fn q71(ticket: Ticket, fp: &Input, ef3: &Input) -> Result<Value, Over>
     ensures { result ≡ equation_value EqId.Q71 (fp.now ∷ ef3.now ∷ []) }
 {
@@ -73,9 +73,9 @@ pub fn q71(ticket: Ticket, fp: &Input, ef3: &Input) -> Result<Value, Over>
     Ok(Value::known(ticket, value))
 }
 
-/// Indirect N2O of nitrogen volatilised from soils, in Gg: that of synthetic fertiliser `fsn` in t by its fraction
-/// `fg`, and that of organic amendments `fon` and of grazing animals `fp`, each in t, by their fraction `fm`, times the
-/// emission factor `ef4`, from nitrogen to N2O (Equation 11.9).
+/// Indirect N2O of nitrogen volatilised from soils, in Gg: that of synthetic fertiliser `fsn` in t by its
+/// fraction `fg`, and that of organic amendments `fon` and of grazing animals `fp`, each in t, by their
+/// fraction `fm`, times the emission factor `ef4`, from nitrogen to N2O (Equation 11.9).
 pub fn q72(
     ticket: Ticket,
     fsn: &Input,
@@ -95,9 +95,9 @@ pub fn q72(
     Ok(Value::known(ticket, value))
 }
 
-/// Indirect N2O of nitrogen leached from soils, in Gg: that of synthetic fertiliser `fsn`, organic amendments `fon`,
-/// grazing animals `fp`, crop residues `fcr` and soil organic matter `fsom`, each in t, times the fraction leached `fl`
-/// and the emission factor `ef5`, from nitrogen to N2O (Equation 11.10).
+/// Indirect N2O of nitrogen leached from soils, in Gg: that of synthetic fertiliser `fsn`, organic amendments
+/// `fon`, grazing animals `fp`, crop residues `fcr` and soil organic matter `fsom`, each in t, times the
+/// fraction leached `fl` and the emission factor `ef5`, from nitrogen to N2O (Equation 11.10).
 pub fn q73(
     ticket: Ticket,
     fsn: &Input,
@@ -108,7 +108,8 @@ pub fn q73(
     fl: &Input,
     ef5: &Input,
 ) -> Result<Value, Over>
-    ensures { result ≡ equation_value EqId.Q73 (fsn.now ∷ fon.now ∷ fp.now ∷ fcr.now ∷ fsom.now ∷ fl.now ∷ ef5.now ∷ []) }
+    ensures { result ≡ equation_value EqId.Q73
+        (fsn.now ∷ fon.now ∷ fp.now ∷ fcr.now ∷ fsom.now ∷ fl.now ∷ ef5.now ∷ []) }
 {
     known!(ticket, fsn, fon, fp, fcr, fsom, fl, ef5);
     let inputs = fsn.add(&fon)?.add(&fp)?.add(&fcr)?.add(&fsom)?;

@@ -7,9 +7,9 @@ ghost use Rattle.ghg_cell.specs.Values.{equation_value};
 use ghg_cell::{Input, Ticket, Value, known};
 use ghg_interval::Over;
 
-/// Emission factor of rice, in kg of CH4 for a ha and day: that of fields flooded throughout `efc` in kg/ha/day, scaled
-/// for the water regime while growing `sfw` and before `sfp`, for organic amendments `sfo` and for the soil and
-/// cultivar `sfs` (Equation 5.2).
+/// Emission factor of rice, in kg of CH4 for a ha and day: that of fields flooded throughout `efc` in
+/// kg/ha/day, scaled for the water regime while growing `sfw` and before `sfp`, for organic amendments `sfo`
+/// and for the soil and cultivar `sfs` (Equation 5.2).
 pub fn q76(
     ticket: Ticket,
     efc: &Input,
@@ -25,8 +25,8 @@ pub fn q76(
     Ok(Value::known(ticket, value))
 }
 
-/// CH4 of rice, in Gg: the emission factor `ef` in kg/ha/day times the days of cultivation `t` and the area harvested
-/// `a` in ha (a term of Equation 5.1).
+/// CH4 of rice, in Gg: the emission factor `ef` in kg/ha/day times the days of cultivation `t` and the area
+/// harvested `a` in ha (a term of Equation 5.1).
 pub fn q77(ticket: Ticket, ef: &Input, t: &Input, a: &Input) -> Result<Value, Over>
     ensures { result ≡ equation_value EqId.Q77 (ef.now ∷ t.now ∷ a.now ∷ []) }
 {
