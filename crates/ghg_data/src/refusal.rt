@@ -8,7 +8,7 @@ use std::alloc::AllocError;
 pub enum PlanRefusal {
     /// The first rule that is broken.
     Rule(Rule),
-    /// Memory was wanting.
+    /// Out of memory.
     Memory,
 }
 

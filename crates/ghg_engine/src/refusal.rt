@@ -8,7 +8,7 @@ use std::alloc::AllocError;
 pub enum EngineRefusal {
     /// The least node that is beyond the limits, while none of its inputs is.
     Overflow(Node),
-    /// Memory was wanting.
+    /// Out of memory.
     Memory,
 }
 

@@ -52,7 +52,7 @@ impl Ring {
 pub enum CycleRefusal {
     /// A ring that begins with the least line on any.
     Ring(Ring),
-    /// Memory was wanting.
+    /// Out of memory.
     Memory,
 }
 

@@ -21,7 +21,7 @@ pub(crate) struct Met {
 pub(crate) enum Stop {
     /// A ring that was met.
     Ring(Met),
-    /// Memory was wanting.
+    /// Out of memory.
     Memory,
 }
 

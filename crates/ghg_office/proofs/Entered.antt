@@ -1,23 +1,30 @@
 -- What data keep once rows are entered.
-use Rattle.std.proofs.Common.{◌≡◌, ◌≤◌, ◌+◌, ℕ, Bool, true, false, nat_lt, List, [], ◌∷◌, ◌++◌, length, Option, Some, None, Result, Ok, Err, if◌then◌else◌, refl, sym, ap, ap₂, ◌∙◌}
+use Rattle.std.proofs.Common.{◌≡◌, ◌≤◌, ◌+◌, ℕ, Bool, true, false, nat_lt, List, [], ◌∷◌, ◌++◌, length, Option, Some, None, option_map, Result, Ok, Err, if◌then◌else◌, refl, sym, ap, ap₂, ◌∙◌}
 use Rattle.std.proofs.lemmas.Bool.{ltb-false}
 use Rattle.ghg_definitions.specs.Compilation.{overflow}
 use Rattle.ghg_definitions.specs.Data.{Data}
 use Rattle.ghg_definitions.specs.Rings.{ring_line}
-use Rattle.ghg_definitions.specs.Rules.{after_rows, arranged, binding_fault, judged, limit_fault, most_kept_bytes, or_broken, passed_limit, planned, rows_applied, unsound_place, without_ring}
+use Rattle.ghg_definitions.specs.Rules.{accepted, after_rows, arranged, binding_fault, judged, limit_fault, most_kept_bytes, or_broken, passed_limit, planned, rows_applied, unsound_place, without_ring}
 use Rattle.ghg_import.specs.Reading.{Reading}
 use Rattle.ghg_units.specs.declared.rule.Limit.{Limit}
 use Rattle.ghg_units.specs.declared.node.Node.{Node}
 use Rattle.ghg_units.specs.declared.rule.Limit.TheVariants.{Bytes}
 use Rattle.ghg_units.specs.declared.rule.Rule.{Rule}
-use Rattle.ghg_units.specs.declared.rule.Rule.TheVariants.{TooMany}
+use Rattle.ghg_units.specs.declared.rule.Rule.TheVariants.{Overflow, TooMany}
 use Rattle.ghg_office.specs.declared.reply.Reply.TheVariants.{Accepted}
 use Rattle.ghg_office.specs.Accepted.{Submission}
-use Rattle.ghg_office.specs.Office.{State, compiled, decided, entered, within_limits}
+use Rattle.ghg_office.specs.Office.{State, decided, entered}
+
+-- data, where no node of them is beyond the limits
+abbrev pub within_limits : Data → Option Node → Result Data Rule
+within_limits m node = or_broken (option_map Overflow node) (Ok m)
+
+abbrev pub compiled : Result Data Rule → Result Data Rule
+compiled r = after_rows (λ m. within_limits m (overflow m)) r
 
 -- no line is beyond the limits
 pub entered-overflow : (m n : Data) (reading : Reading) (bytes : ℕ) → entered m reading bytes ≡ Ok n → overflow n ≡ None
-unfolding entered
+unfolding entered accepted
 entered-overflow m n reading bytes e = by (arranged m reading.rows reading.rest bytes) e
   where
     within : (k : Data) (node : Option Node) → overflow k ≡ node → within_limits k node ≡ Ok n → overflow n ≡ None
@@ -34,7 +41,7 @@ left planned = compiled (after_rows (λ n. without_ring n (ring_line n)) planned
 
 -- the kept bodies are not beyond theirs
 pub entered-bytes : (m n : Data) (reading : Reading) (bytes : ℕ) → entered m reading bytes ≡ Ok n → bytes ≤ most_kept_bytes
-unfolding entered arranged planned
+unfolding entered accepted arranged planned
 entered-bytes m n reading bytes e = by (rows_applied m reading.rows) reading.rest e
   where
     small : (b : Bool) → nat_lt most_kept_bytes bytes ≡ b → (if b then Some (TooMany Bytes) else None) ≡ None → bytes ≤ most_kept_bytes

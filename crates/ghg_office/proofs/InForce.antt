@@ -4,7 +4,7 @@ use Rattle.std.specs.FinMap.{empty}
 use Rattle.ghg_data.proofs.Empty.{is_acyclic, is_workbook}
 use Rattle.ghg_definitions.specs.Compilation.{compilation, is_year_of, overflow}
 use Rattle.ghg_definitions.specs.Data.{Data, span}
-use Rattle.ghg_definitions.specs.Rules.{arranged}
+use Rattle.ghg_definitions.specs.Rules.{accepted, arranged}
 use Rattle.ghg_definitions.specs.Rings.{IsAcyclic}
 use Rattle.ghg_definitions.specs.Sound.{IsWorkbook}
 use Rattle.ghg_definitions.proofs.Rings.{arranged_keeps}
@@ -21,10 +21,10 @@ use Rattle.ghg_units.specs.declared.rule.Rule.{Rule}
 use Rattle.ghg_office.specs.Accepted.{Submission, kept_bytes}
 use Rattle.ghg_office.specs.declared.reply.Reply.TheVariants.{NoTable, Table as Shown}
 use Rattle.ghg_office.specs.Laws.{BoundsHoldInForce, IsInForce, StatesStayInForce, state_after_all}
-use Rattle.ghg_office.specs.Office.{State, asked, compiled, decided, entered, entered_by, requested, start, submitted, within_limits}
+use Rattle.ghg_office.specs.Office.{State, asked, decided, entered, entered_by, requested, start, submitted}
 use Rattle.ghg_office.specs.Sound.{IsSoundReply}
 use Rattle.ghg_office.proofs.Cases.{submitted_cases}
-use Rattle.ghg_office.proofs.Entered.{entered-bytes, entered-overflow}
+use Rattle.ghg_office.proofs.Entered.{compiled, entered-bytes, entered-overflow, within_limits}
 use Rattle.ghg_office.proofs.Kept.{kept_bytes-push}
 
 -- what holds of a state and stays with each submission holds of each state that submissions lead to from there
@@ -34,7 +34,7 @@ reached P stays s (x ∷ given) h = reached P stays (submitted s x.id x.body).af
 
 -- data that rows leave are a workbook without a ring
 entered_keeps : (m n : Data) (body : List ℕ) (bytes : ℕ) → IsWorkbook m → entered m (reading_of body) bytes ≡ Ok n → IsWorkbook n × IsAcyclic n
-unfolding entered
+unfolding entered accepted
 entered_keeps m n body bytes w e = by (arranged m (reading_of body).rows (reading_of body).rest bytes) refl e
   where
     within : (k : Data) (node : Option Node) → arranged m (reading_of body).rows (reading_of body).rest bytes ≡ Ok k → within_limits k node ≡ Ok n → IsWorkbook n × IsAcyclic n

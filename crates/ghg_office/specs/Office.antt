@@ -5,9 +5,9 @@ use Rattle.std.specs.Coded.{Coded, code_by, coded×, coded_list}
 use Rattle.std.specs.FinMap.{code, empty}
 use Rattle.ghg_definitions.specs.declared.record.Record.{Record}
 use Rattle.ghg_definitions.specs.declared.record.RecordKey.{RecordKey}
-use Rattle.ghg_definitions.specs.Compilation.{compilation, is_year_of, nodes, overflow}
+use Rattle.ghg_definitions.specs.Compilation.{compilation, is_year_of, nodes}
 use Rattle.ghg_definitions.specs.Data.{Data, span}
-use Rattle.ghg_definitions.specs.Rules.{arranged}
+use Rattle.ghg_definitions.specs.Rules.{accepted, arranged}
 use Rattle.ghg_import.specs.Body.{max_body}
 use Rattle.ghg_import.specs.Reading.{Reading, reading_of}
 use Rattle.ghg_office.specs.Accepted.{Kept, Submission, kept_bytes, kept_from, submission_code}
@@ -17,9 +17,8 @@ use Rattle.ghg_office.specs.declared.reply.Reply.TheVariants.{Accepted, Repeated
 use Rattle.ghg_tables.specs.declared.table.Table.{Table}
 use Rattle.ghg_tables.specs.Names.{table_in}
 use Rattle.ghg_tables.specs.Tables.{table_text}
-use Rattle.ghg_units.specs.declared.node.Node.{Node}
 use Rattle.ghg_units.specs.declared.rule.Rule.{Rule}
-use Rattle.ghg_units.specs.declared.rule.Rule.TheVariants.{BadId, IdReused, BodyTooLong, Overflow}
+use Rattle.ghg_units.specs.declared.rule.Rule.TheVariants.{BadId, IdReused, BodyTooLong}
 
 -- ---- the state
 
@@ -38,18 +37,9 @@ start = record { content = empty; accepted = [] }
 
 -- ---- a submission, by the first case that holds
 
--- data, where no node of them is beyond the limits
-abbrev pub within_limits : Data → Option Node → Result Data Rule
-within_limits m (Some node) = Err (Overflow node)
-within_limits m None = Ok m
-
-abbrev pub compiled : Result Data Rule → Result Data Rule
-compiled (Err rule) = Err rule
-compiled (Ok m) = within_limits m (overflow m)
-
 -- the data once the rows of a body are entered, or the first rule that the rows or these data break
 unfoldable pub entered : Data → Reading → ℕ → Result Data Rule
-entered m reading kept_bytes = compiled (arranged m reading.rows reading.rest kept_bytes)
+entered m reading kept_bytes = accepted m reading.rows reading.rest kept_bytes
 
 -- the same of a body that is submitted in a state
 abbrev pub entered_by : State → List ℕ → Result Data Rule

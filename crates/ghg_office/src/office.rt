@@ -150,7 +150,7 @@ fn has_year(book: &Book, year: u32) -> bool
 }
 
 // The proposal that the rows of a body ask for, or the first rule that is broken. The records stay.
-#[tactic(auto, unfolding(crate::specs::Office::entered))]
+#[tactic(auto, unfolding(crate::specs::Office::entered, ghg_definitions::specs::Rules::accepted))]
 fn propose<L: Ledger>(
     engine: &mut Engine,
     alloc: Global,

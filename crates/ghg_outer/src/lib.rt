@@ -5,8 +5,8 @@
 //! a write appends. Neither does anything else, and a call fails only where the count rose.
 //!
 //! The forms in memory are proved to meet this. [`InputSource`] and [`OutputSink`] are the trusted edge: what
-//! the process's own input and output hold is known to no contract. They make an interrupted call again, and
-//! count every other error.
+//! the process's own input and output hold is known to no contract. It is proved that their count rose where
+//! they answer an error. They make a call again that a signal interrupted, which tests show.
 #![tactic(auto)]
 
 mod fault_plan;

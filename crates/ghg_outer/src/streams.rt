@@ -13,8 +13,8 @@ use std::io::{ErrorKind, Read, Write};
 /// made again, and is no error.
 ///
 /// It is part of the trusted edge: std's contracts do not say what standard input gives, so there this
-/// source tells nothing of its bytes, and it is proved that each error is counted. Over a reader that
-/// tells what it has left, as a slice, this source tells the same.
+/// source tells nothing of its bytes. It is proved that the count rose where an error is answered. Over a
+/// reader that tells what it has left, as a slice, this source tells the same.
 #[derive(Drop)]
 pub struct InputSource<R: Read + Drop> {
     reader: R,
@@ -72,8 +72,8 @@ fn read_again<R: Read>(reader: &mut R, buf: &mut [u8]) -> io::Result<usize>
 /// piece, that is an error too. A call that a signal interrupted is made again, and is no error.
 ///
 /// It is part of the trusted edge: std's contracts do not say where standard output's bytes go, so there
-/// this sink tells nothing of them, and it is proved that each error is counted. Over a writer that tells
-/// what it holds, as a vector, this sink tells the same.
+/// this sink tells nothing of them. It is proved that the count rose where an error is answered. Over a
+/// writer that tells what it holds, as a vector, this sink tells the same.
 #[derive(Drop)]
 pub struct OutputSink<W: Write + Drop> {
     writer: W,

@@ -6,6 +6,8 @@
 #![tactic(auto)]
 
 #[cfg(test)]
+mod analyses;
+#[cfg(test)]
 mod cases;
 #[cfg(test)]
 mod categories;

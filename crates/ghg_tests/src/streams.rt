@@ -7,7 +7,7 @@ use ghg_outer::{
     SteadySource, WriteError,
 };
 use std::io;
-use std::io::{ErrorKind, Read};
+use std::io::{ErrorKind, Read, Write};
 use std::test::Fail;
 
 // Three reads through the bound, of at most two bytes each, and what the last gave.
@@ -77,4 +77,51 @@ fn streams_fail_as_their_inner_ones(rt: HostRuntime) {
     let mut output = OutputSink::new(room.as_mut_slice());
     assert_eq!(rt; write_twice(&mut output, b"ab"), [Ok(2), Ok(1)]);
     assert_eq!(rt; output.write(b"ab"), Err(WriteError::Failed));
+}
+
+// A reader and a writer whose first two calls a signal interrupts, and which moves a byte at each later call.
+#[derive(Drop)]
+struct Interrupted {
+    calls: u8,
+}
+
+impl Interrupted {
+    fn is_interrupted(&mut self) -> bool {
+        self.calls = self.calls.saturating_add(1);
+        self.calls <= 2
+    }
+}
+
+impl Read for Interrupted {
+    fn read(&mut self, buf: &mut [u8]) -> io::Result<usize> {
+        if self.is_interrupted() {
+            return Err(io::Error::from(ErrorKind::Interrupted));
+        }
+        if buf.is_empty() {
+            return Ok(0);
+        }
+        buf[0] = b'a';
+        Ok(1)
+    }
+}
+
+impl Write for Interrupted {
+    fn write(&mut self, piece: &[u8]) -> io::Result<usize> {
+        if self.is_interrupted() {
+            return Err(io::Error::from(ErrorKind::Interrupted));
+        }
+        Ok(piece.len().min(1))
+    }
+
+    fn flush(&mut self) -> io::Result<()> {
+        Ok(())
+    }
+}
+
+#[test]
+fn interrupted_calls_are_made_again(rt: HostRuntime) {
+    let mut input = InputSource::new(Interrupted { calls: 0 });
+    assert_eq!(rt; read_thrice(&mut input), ([Ok(1), Ok(1), Ok(1)], b'a'));
+    let mut output = OutputSink::new(Interrupted { calls: 0 });
+    assert_eq!(rt; write_twice(&mut output, b"ab"), [Ok(1), Ok(1)]);
 }
