@@ -11,6 +11,7 @@ use Rattle.ghg_session.specs.Interruptions.{Interrupted, IsLeftBehind}
 use Rattle.ghg_session.specs.Replies.{protocol}
 use Rattle.ghg_session.specs.Session.{Ends, Snapshot, beginning, end_status}
 use Rattle.ghg_session.specs.Writing.{StoppedWriting, stop_status}
+use Rattle.ghg_session.proofs.Stops.{input_is_not_written}
 use Rattle.ghg_session.proofs.Whole.{ends_behind, ends_done, ends_spends, interrupted_begun, interrupted_short, interrupted_spends, interrupted_unfinished}
 use Rattle.ghg.specs.Run.{CompileRun, NoCommandRun, bad_command_line, is_end}
 use Rattle.ghg.proofs.Held.{done_begun, sound_prefix, sound_session}
@@ -62,7 +63,7 @@ usage_stopped before output stop s = record {
   where
     whole : (stop : Stop) → StoppedWriting before.output output bad_command_line stop → (Rose before.output output → ⊥)
         → stop_status stop ≢ 8 → stop_status stop ≡ 2
-    whole Input s calm memory = absurd (s.only refl)
+    whole Input s calm memory = absurd (input_is_not_written s.only)
     whole Output s calm memory = absurd (calm (s.cause refl))
     whole Memory s calm memory = absurd (memory refl)
 
@@ -143,7 +144,8 @@ compile_interrupted before after stop h i =
 -- ---- causes
 
 pub writing_stops : (a b : Tape) (text : List ℕ) (stop : Stop) → StoppedWriting a b text stop → stop_status stop ≡ 4 → ⊥
-writing_stops a b text stop s four = s.only (one_stop stop Input four)
+writing_stops a b text stop s four =
+    input_is_not_written (subst (λ x. (x ≡ Output) ⊎ (x ≡ Memory)) (one_stop stop Input four) s.only)
 
 pub writing_fails : (a b : Tape) (text : List ℕ) (stop : Stop) → StoppedWriting a b text stop → stop_status stop ≡ 5 → Rose a b
 writing_fails a b text stop s five = s.cause (one_stop stop Output five)

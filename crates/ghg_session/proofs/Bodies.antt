@@ -1,5 +1,5 @@
 -- A body that is read block by block, and of which the front is kept.
-use Rattle.std.proofs.Common.{◌≡◌, ℕ, zero, suc, ◌+◌, ◌-◌, ◌≤◌, ◌<◌, List, [], ◌∷◌, ◌++◌, refl, length, take, length-append, length-take, sym, ap, ◌∙◌, arith}
+use Rattle.std.proofs.Common.{◌≡◌, inl, inr, ℕ, zero, suc, ◌+◌, ◌-◌, ◌≤◌, ◌<◌, List, [], ◌∷◌, ◌++◌, refl, length, take, length-append, length-take, sym, ap, ◌∙◌, arith}
 use Rattle.ghg_outer.specs.Tape.{Consumes, Rose, Tape}
 use Rattle.ghg_outer.proofs.Tapes.{consumes_more, consumes_no_more, rose_later}
 use Rattle.ghg_session.specs.declared.stop.Stop.TheVariants.{Input, Memory}
@@ -45,7 +45,7 @@ body_fails a b c at count kept p q rose h = record {
   few = λ _. omega (arith, h, p.whole);
   within = omega (arith, h, p.whole);
   cause = λ _. rose_later a b c p.read.counts rose;
-  only = λ e. cc;
+  only = inl refl;
 }
 
 -- memory ran out behind a piece of the body
@@ -57,5 +57,5 @@ body_stops a b c at given count kept piece p q e h = record {
   few = λ e. absurd cc;
   within = omega (arith, h, e, p.whole, length-append p.text piece);
   cause = λ e. absurd cc;
-  only = λ e. cc;
+  only = inr refl;
 }

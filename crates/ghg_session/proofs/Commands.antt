@@ -139,7 +139,7 @@ stopped_form a b words m = record {
   none = λ e. absurd cc;
   near = near_whole_line m.text words (m.each []);
   cause = λ e. absurd cc;
-  only = λ e. cc;
+  only = inr refl;
 }
 
 pub stopped_body : (a b c : Tape) (words id : List ℕ) (n : ℕ) (stop : Stop) → Found lines a b words

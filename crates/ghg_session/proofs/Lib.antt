@@ -4,6 +4,7 @@ mod Commands
 mod Lines
 mod Local
 mod Readings
+pub mod Stops
 mod Texts
 mod Turns
 pub mod Whole

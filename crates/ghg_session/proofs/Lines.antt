@@ -116,11 +116,11 @@ stopped_in_line a b c line stop p h near s = record {
   none = line_cut line h;
   near = near;
   cause = λ _. rose_later a b c p.counts s.cause;
-  only = λ e. let fault = s.fault in cc;
+  only = inl s.fault;
 }
 
 -- memory ran out within the line
 pub stopped_for_memory : (a b : Tape) (line : List ℕ) → Consumes a b line → HasNoFeed line → length line ≤ longest_line + 1
     → StoppedInLine a b Memory
 stopped_for_memory a b line p h near =
-    record { text = line; read = p; none = line_cut line h; near = near; cause = λ e. absurd cc; only = λ e. cc }
+    record { text = line; read = p; none = line_cut line h; near = near; cause = λ e. absurd cc; only = inr refl }

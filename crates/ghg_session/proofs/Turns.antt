@@ -13,6 +13,7 @@ use Rattle.ghg_session.specs.Reader.{Found, Missing, Stopped}
 use Rattle.ghg_session.specs.Script.{Reading, after_requests, ended, most_commands, no_command, with_more}
 use Rattle.ghg_session.specs.Session.{Continues, Ends, SessionPosition, Snapshot, position, reading_from, replies, session_from, state_after, status_of, steps_of, wrong_line}
 use Rattle.ghg_session.specs.Writing.{StoppedWriting}
+use Rattle.ghg_session.proofs.Stops.{input_is_not_written, output_is_not_read}
 use Rattle.ghg_session.proofs.Readings.{after_requests_twice, from_end, from_none, from_request, from_spent, output_after, replies-append, state_after-append, steps_of-append}
 
 -- ---- the next command is none
@@ -194,12 +195,12 @@ ends_later p a b after end x y =
 caused_by_reading : {S R : Type 0} (p : Protocol S R) (before : Snapshot S) (input : Tape) (stop : Stop)
     → Stopped p.commands before.input input stop → IsCaused before (record before { input = input }) stop
 caused_by_reading p before input Input s = s.cause refl
-caused_by_reading p before input Output s = absurd (s.only refl)
+caused_by_reading p before input Output s = absurd (output_is_not_read s.only)
 caused_by_reading p before input Memory s = tt
 
 caused_by_writing : {S : Type 0} (before after : Snapshot S) (text : List ℕ) (stop : Stop)
     → StoppedWriting before.output after.output text stop → IsCaused before after stop
-caused_by_writing before after text Input s = absurd (s.only refl)
+caused_by_writing before after text Input s = absurd (input_is_not_written s.only)
 caused_by_writing before after text Output s = s.cause refl
 caused_by_writing before after text Memory s = tt
 
@@ -221,7 +222,7 @@ pub stops_in_reply : {S R : Type 0} (p : Protocol S R) (from : SessionPosition S
 stops_in_reply p from after stop asked h m s state spent = record {
   last = from;
   answered = begins p from;
-  stops = inr (inl (record { allowed = h; request = asked; found = m; wrote = s.wrote; state = state; spent = spent; only = s.only }));
+  stops = inr (inl (record { allowed = h; request = asked; found = m; stopped = s; state = state; spent = spent }));
   cause = caused_by_writing from.at after (p.reply from.at.state asked) stop s;
 }
 
@@ -231,7 +232,7 @@ pub stops_in_refusal : {S R : Type 0} (p : Protocol S R) (from : SessionPosition
 stops_in_refusal p from input output stop m s = record {
   last = from;
   answered = begins p from;
-  stops = inr (inr (record { missing = m; wrote = s.wrote; rest = refl; only = s.only }));
+  stops = inr (inr (record { missing = m; stopped = s; rest = refl }));
   cause = caused_by_writing from.at (record from.at { input = input; output = output }) (wrong_line (from.answered + 1)) stop s;
 }
 

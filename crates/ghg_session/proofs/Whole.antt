@@ -12,6 +12,7 @@ use Rattle.ghg_session.specs.Interruptions.{Interrupted, IsBegun, IsCutShort, Is
 use Rattle.ghg_session.specs.Protocol.{Protocol}
 use Rattle.ghg_session.specs.Script.{Reading, after_requests, most_commands, no_command, with_more}
 use Rattle.ghg_session.specs.Session.{Continues, Ends, SessionPosition, Snapshot, end_status, outcome, position, reading_from, replies, session_from, status_of, steps_of, wrong_line}
+use Rattle.ghg_session.proofs.Stops.{input_is_not_written, output_is_not_read}
 use Rattle.ghg_session.proofs.Readings.{from_none, from_request, output_after, steps_of-append}
 
 -- where the bytes that were left are known, those that follow what was read are known too
@@ -157,7 +158,7 @@ short_in_reply p from after stop s = record {
   due = λ rest left.
       let due = due_reply p from s.request (s.found.text ++ rest) rest after s.allowed (s.found.each rest) in
       subst (AppendsProperPrefix from.at.output after.output) (sym due.1)
-      (longer_proper from.at.output after.output (p.reply from.at.state s.request) due.0 s.wrote);
+      (longer_proper from.at.output after.output (p.reply from.at.state s.request) due.0 s.stopped.wrote);
 }
 
 short_in_refusal : {S R : Type 0} (p : Protocol S R) (from : SessionPosition S) (after : Snapshot S) (stop : Stop)
@@ -166,7 +167,7 @@ short_in_refusal p from after stop s = record {
   text = s.missing.text;
   read = s.missing.read;
   due = λ rest left.
-      subst (AppendsProperPrefix from.at.output after.output) (sym (due_refusal p from after.input s.missing rest left)) s.wrote;
+      subst (AppendsProperPrefix from.at.output after.output) (sym (due_refusal p from after.input s.missing rest left)) s.stopped.wrote;
 }
 
 -- the same of the whole session
@@ -201,7 +202,7 @@ interrupted_begun p from after stop i = begun_later p from i.last after i.answer
 short_at : {S R : Type 0} (p : Protocol S R) (from : SessionPosition S) (after : Snapshot S)
     → StopsInCommand p from after Output ⊎ (StopsInReply p from after Output ⊎ StopsInRefusal p from after Output)
     → IsShortAt p from after
-short_at p from after (inl s) = absurd (s.stopped.only refl)
+short_at p from after (inl s) = absurd (output_is_not_read s.stopped.only)
 short_at p from after (inr (inl s)) = short_in_reply p from after Output s
 short_at p from after (inr (inr s)) = short_in_refusal p from after Output s
 
@@ -235,8 +236,8 @@ interrupted_unfinished p from after i = by i.stops
     by : StopsInCommand p i.last after Input ⊎ (StopsInReply p i.last after Input ⊎ StopsInRefusal p i.last after Input)
         → IsUnfinished p from after
     by (inl s) = unfinished_in_command p from i.last after i.answered s
-    by (inr (inl s)) = absurd (s.only refl)
-    by (inr (inr s)) = absurd (s.only refl)
+    by (inr (inl s)) = absurd (input_is_not_written s.stopped.only)
+    by (inr (inr s)) = absurd (input_is_not_written s.stopped.only)
 
 -- ---- steps
 
@@ -277,8 +278,8 @@ writes_at : {S R : Type 0} (p : Protocol S R) (from : SessionPosition S) (after 
     → StopsInCommand p from after stop ⊎ (StopsInReply p from after stop ⊎ StopsInRefusal p from after stop)
     → (text : List ℕ) × Appends from.at.output after.output text
 writes_at p from after stop (inl s) = ([], nothing_written p from after stop s)
-writes_at p from after stop (inr (inl s)) = (_, s.wrote.wrote)
-writes_at p from after stop (inr (inr s)) = (_, s.wrote.wrote)
+writes_at p from after stop (inr (inl s)) = (_, s.stopped.wrote.wrote)
+writes_at p from after stop (inr (inr s)) = (_, s.stopped.wrote.wrote)
 
 pub interrupted_writes : {S R : Type 0} (p : Protocol S R) (from : SessionPosition S) (after : Snapshot S) (stop : Stop)
     → Interrupted p from after stop → (text : List ℕ) × Appends from.at.output after.output text

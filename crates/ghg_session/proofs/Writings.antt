@@ -1,5 +1,5 @@
 -- Texts that are written piece by piece, and where that stops.
-use Rattle.std.proofs.Common.{ℕ, ◌<◌, List, [], ◌∷◌, ◌++◌, length, length-append, Ok, Err, Result, arith}
+use Rattle.std.proofs.Common.{inr, refl, ℕ, ◌<◌, List, [], ◌∷◌, ◌++◌, length, length-append, Ok, Err, Result, arith}
 use Rattle.ghg_outer.specs.Tape.{Appends, Tape}
 use Rattle.ghg_outer.proofs.Tapes.{appends_more, longer_proper, none_written, proper_behind, rose_later}
 use Rattle.ghg_session.specs.declared.stop.Stop.{Stop}
@@ -12,7 +12,7 @@ line_is_some text = omega (arith, length-append text (10 ∷ []))
 
 -- memory ran out before anything was written
 pub stopped_before : (a : Tape) (text : List ℕ) → 0 < length text → StoppedWriting a a text Memory
-stopped_before a text h = record { wrote = none_written a text h; cause = λ e. absurd cc; only = λ e. cc }
+stopped_before a text h = record { wrote = none_written a text h; cause = λ e. absurd cc; only = inr refl }
 
 -- a text behind
 pub stopped_early : (a b : Tape) (xs ys : List ℕ) (stop : Stop) → StoppedWriting a b xs stop → StoppedWriting a b (xs ++ ys) stop

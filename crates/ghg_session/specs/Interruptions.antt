@@ -9,6 +9,7 @@ use Rattle.ghg_session.specs.declared.stop.Stop.TheVariants.{Input, Output, Memo
 use Rattle.ghg_session.specs.Protocol.{Protocol}
 use Rattle.ghg_session.specs.Reader.{Found, Stopped}
 use Rattle.ghg_session.specs.Script.{most_commands, no_command}
+use Rattle.ghg_session.specs.Writing.{StoppedWriting}
 use Rattle.ghg_session.specs.Session.{Continues, Ends, SessionPosition, Snapshot, position, reading_from, replies, session_from, state_after, steps_of, wrong_line}
 
 -- In the middle of a command, of which nothing was answered. What was read of it before a fault is no
@@ -19,21 +20,21 @@ pub record StopsInCommand {State Request : Type 0} (p : Protocol State Request) 
   pub stopped : Stopped p.commands from.at.input after.input stop
   pub rest : after ≡ record from.at { input = after.input }
 
--- The office answered a request with this state: it changed as the request asks, or memory ran out before
--- that.
+-- The office answered a request with this state: it changed as the request asks, or it is as before, since
+-- memory ran out. Only a request that takes memory is left undone.
 abbrev pub Answered : {State Request : Type 0} → Protocol State Request → State → Request → State → Type 0
 Answered p s asked new = (new ≡ p.next_state s asked) ⊎ ((new ≡ s) × (p.takes_memory s asked ≡ true))
 
--- In the reply to a request, of which a proper prefix was written. Nothing was read behind the request.
+-- In the reply to a request, of which a proper prefix was written: the output failed in it, or memory ran out.
+-- Nothing was read behind the request.
 pub record StopsInReply {State Request : Type 0} (p : Protocol State Request) (from : SessionPosition State)
     (after : Snapshot State) (stop : Stop) : Type 0 where
   pub allowed : from.answered < most_commands
   pub request : Request
   pub found : Found p.commands from.at.input after.input (command.Request request)
-  pub wrote : AppendsProperPrefix from.at.output after.output (p.reply from.at.state request)
+  pub stopped : StoppedWriting from.at.output after.output (p.reply from.at.state request) stop
   pub state : Answered p from.at.state request after.state
   pub spent : after.steps ≤ from.at.steps + p.steps from.at.state request
-  pub only : stop ≡ Input → ⊥
 
 -- What was read is no command, or one too many: nothing is left, or it is none whatever follows.
 pub record NextIsNone {State Request : Type 0} (p : Protocol State Request) (from : SessionPosition State)
@@ -48,9 +49,8 @@ pub record NextIsNone {State Request : Type 0} (p : Protocol State Request) (fro
 pub record StopsInRefusal {State Request : Type 0} (p : Protocol State Request) (from : SessionPosition State)
     (after : Snapshot State) (stop : Stop) : Type 0 where
   pub missing : NextIsNone p from after.input
-  pub wrote : AppendsProperPrefix from.at.output after.output (wrong_line (from.answered + 1))
+  pub stopped : StoppedWriting from.at.output after.output (wrong_line (from.answered + 1)) stop
   pub rest : after ≡ record from.at { input = after.input; output = after.output }
-  pub only : stop ≡ Input → ⊥
 
 -- why: a count of faults rose; that memory ran out has no cause that is told
 abbrev pub IsCaused : {State : Type 0} → Snapshot State → Snapshot State → Stop → Type 0

@@ -2,7 +2,7 @@
 use Rattle.std.specs.Prelude.{◌≡◌, ℕ, ◌+◌, ◌≤◌, ◌<◌, ◌⊎◌, List, [], ◌++◌, length, take, Option, Some, None, Result, MatchResult, MatchOption}
 use Rattle.ghg_outer.specs.Tape.{Consumes, IsAtEnd, Rose, Tape}
 use Rattle.ghg_session.specs.declared.stop.Stop.{Stop}
-use Rattle.ghg_session.specs.declared.stop.Stop.TheVariants.{Input, Output}
+use Rattle.ghg_session.specs.declared.stop.Stop.TheVariants.{Input, Memory}
 use Rattle.ghg_session.specs.Commands.{line_at, longest_line, most_kept}
 use Rattle.ghg_session.specs.Protocol.{Grammar}
 
@@ -28,7 +28,7 @@ pub record Stopped {T : Type 0} (g : Grammar T) (before after : Tape) (stop : St
   pub none : stop ≡ Input → g.parse text ≡ None
   pub near : length text ≤ g.reach text
   pub cause : stop ≡ Input → Rose before after
-  pub only : stop ≡ Output → ⊥
+  pub only : (stop ≡ Input) ⊎ (stop ≡ Memory)
 
 -- a value was read, or that there is none, or the call stopped
 abbrev pub Parses : {T : Type 0} → Grammar T → Tape → Tape → Result (Option T) Stop → Type 0
@@ -49,7 +49,7 @@ pub record StoppedInLine (before after : Tape) (stop : Stop) : Type 0 where
   pub none : line_at text ≡ None
   pub near : length text ≤ longest_line + 1
   pub cause : stop ≡ Input → Rose before after
-  pub only : stop ≡ Output → ⊥
+  pub only : (stop ≡ Input) ⊎ (stop ≡ Memory)
 
 -- so many bytes of a body were read, and of them the front was kept
 pub record TookBody (before after : Tape) (count : ℕ) (kept : List ℕ) : Type 0 where
@@ -71,4 +71,4 @@ pub record StoppedInBody (before after : Tape) (count : ℕ) (stop : Stop) : Typ
   pub few : stop ≡ Input → length text < count
   pub within : length text ≤ count
   pub cause : stop ≡ Input → Rose before after
-  pub only : stop ≡ Output → ⊥
+  pub only : (stop ≡ Input) ⊎ (stop ≡ Memory)

@@ -1,5 +1,5 @@
 -- What calls that write to a sink leave of what was due.
-use Rattle.std.specs.Prelude.{◌≡◌, ℕ, List, Result, MatchResult}
+use Rattle.std.specs.Prelude.{◌≡◌, ◌⊎◌, ℕ, List, Result, MatchResult}
 use Rattle.ghg_outer.specs.Tape.{Appends, AppendsProperPrefix, Rose, Tape}
 use Rattle.ghg_session.specs.declared.stop.Stop.{Stop}
 use Rattle.ghg_session.specs.declared.stop.Stop.TheVariants.{Input, Output, Memory}
@@ -8,7 +8,7 @@ use Rattle.ghg_session.specs.declared.stop.Stop.TheVariants.{Input, Output, Memo
 pub record StoppedWriting (before after : Tape) (text : List ℕ) (stop : Stop) : Type 0 where
   pub wrote : AppendsProperPrefix before after text
   pub cause : stop ≡ Output → Rose before after
-  pub only : stop ≡ Input → ⊥
+  pub only : (stop ≡ Output) ⊎ (stop ≡ Memory)
 
 -- all of the text was written, or the call stopped before that
 abbrev pub WritesAll : {T : Type 0} → Tape → Tape → List ℕ → Result T Stop → Type 0

@@ -4,12 +4,12 @@
 //! state of the office. [`answer_script`] answers a script for one office. Its contract says what was read,
 //! what was written and how the office stands, with every result:
 //!
-//! - Where the session ends, its whole output was written. Behind END nothing was read, and of a command that
-//!   is none no more than it takes to find that out.
-//! - Where it is interrupted, each request that was read whole was answered before more was read. The replies
-//!   to these requests were written, and at most a proper prefix of the next line. So no error follows a
-//!   complete output.
-//! - Each error has its cause: a count of faults rose, or memory ran out.
+//! - Where the session ends, its whole output was written. After END nothing was read, and of a malformed
+//!   command no more than it takes to find that out.
+//! - Where it is interrupted, the replies of the requests done were written, each before the next command was
+//!   read, and at most a proper prefix of the next reply, or of the line that gives the malformed command. So
+//!   a failure of the output never follows a complete output.
+//! - A failure of the input or the output comes only where its count of faults rose.
 //!
 //! [`parses_texts`] says how the commands are written.
 #![tactic(auto)]

@@ -95,7 +95,7 @@ fn turn<S: Source, W: Sink, L: Ledger>(
     }
 }
 
-// Writes that the command of this number is none.
+// Reports the command of this number as malformed.
 fn refuse<W: Sink>(alloc: Global, out: &mut W, number: u32) -> Result<(), Stop>
     ensures { WritesAll (W.tape out.old) (W.tape out.new) (wrong_line number) result }
 {
