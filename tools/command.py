@@ -75,17 +75,21 @@ def run_check(arguments):
         try:
             checked.run()
         except ProgramFailed:
-            print("\n".join(map(str, in_order(checked.faults, sheets))))
+            print_all(in_order(checked.faults, sheets))
             raise
     faults = in_order(checked.faults, sheets)
     warnings = []
     if not arguments.no_warnings:
         warnings = all_warnings(checked.book, checked.refused, sheets, checked.left)
         warnings = in_order(warnings, sheets) + warn_left(left)
-    for line in [*faults, *warnings]:
-        print(line)
+    print_all([*faults, *warnings])
     print(check.summary(checked.faults, warnings, sheets))
     return 1 if faults else 0
+
+
+def print_all(lines):
+    for line in lines:
+        print(line)
 
 
 def run_tables(arguments):
@@ -97,7 +101,7 @@ def run_tables(arguments):
 def run_complete(arguments):
     sheets, _ = read_folders(arguments.folders)
     with Program(found_program(arguments.program)) as program:
-        return complete.run(program, sheets, arguments.csv)
+        return complete.run(program, sheets, arguments)
 
 
 def run_words(arguments):
@@ -117,6 +121,8 @@ def main(words):
         return 2
     except KeyboardInterrupt:
         return 130
-    except (FolderFault, ProgramFailed, OSError) as error:
+    except (FolderFault, ProgramFailed) as error:
         print(f"./workbook: {error}", file=sys.stderr)
-        return 2
+    except OSError as error:
+        print(f"./workbook: {error.filename or 'the system'}: {error.strerror or error}", file=sys.stderr)
+    return 2

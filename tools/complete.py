@@ -8,7 +8,7 @@ import sys
 from tools import notices, vocabulary
 from tools.book import Book, lines_taken_by, record_taken_by
 from tools.faults import years_said
-from tools.tables import submit_all
+from tools.tables import say_refused, submit_all
 
 GAP = "!"
 # The state of a category and gas is that of its least complete line.
@@ -38,13 +38,27 @@ class States:
 
     def taken(self, line, year):
         """The notation keys and the gaps among what a line takes in a year, over the lines that it takes."""
-        if (line, year) not in self.known:
-            self.known[line, year] = set()
-            bound = self.book.bindings.get(line, {}).values()
-            self.known[line, year] = set().union(*(self.taken_by(row, year) for row in bound))
+        waiting = [] if (line, year) in self.known else [(line, year)]
+        while waiting:
+            at = waiting[-1]
+            bound = self.book.bindings.get(at[0], {}).values()
+            below = [taken for row in bound for taken in self.lines_below(row, at[1])]
+            unknown = [taken for taken in below if taken not in self.known]
+            waiting += unknown
+            if not unknown:
+                own = [self.of_record(row, at[1]) for row in bound]
+                self.known[at] = set().union(*own, *(self.known[taken] for taken in below))
+                waiting.pop()
         return self.known[line, year]
 
-    def taken_by(self, bound, year):
+    def lines_below(self, bound, year):
+        """The lines that a binding takes, with the year of them that it takes."""
+        if bound.field("value") == "prev":
+            year -= 1
+        return [(line, year) for line in lines_taken_by(bound)] if year >= self.book.span[0] else []
+
+    def of_record(self, bound, year):
+        """The notation key or the gap of a binding by key, or to an activity or a factor."""
         form, target = bound.field("value"), bound.field("low")
         if form == "key":
             return {target}
@@ -53,11 +67,7 @@ class States:
             if row is None:
                 return {GAP}
             return {row.field("value")} & set(vocabulary.words()["keys"])
-        if form == "prev":
-            year -= 1
-        if year < self.book.span[0]:
-            return set()
-        return set().union(*(self.taken(line, year) for line in lines_taken_by(bound)))
+        return set()
 
 
 def read_cells(program, years):
@@ -120,9 +130,12 @@ def print_list(heading, items):
         print(f"  {item}")
 
 
-def run(program, sheets, as_csv):
+def run(program, sheets, arguments):
     """Prints the states of all categories and gases, then lists, and answers the status."""
     accepted = submit_all(program, sheets)
+    refused = len(sheets) - len(accepted)
+    if refused:
+        say_refused(refused, sheets, arguments.folders, f"the years are without {'it' if refused == 1 else 'them'}")
     book = Book()
     for sheet in accepted:
         for row in sheet.rows[1:]:
@@ -132,7 +145,7 @@ def run(program, sheets, as_csv):
         return 1
     years = range(book.span[0], book.span[1] + 1)
     rows = matrix(book, read_cells(program, years), years)
-    print_matrix(rows, years, as_csv)
+    print_matrix(rows, years, arguments.csv)
     wrongs = {
         "Gaps in a series": list(gaps(book, years)),
         "Factors that begin late": said_of(notices.late_factors(book, *book.span)),
@@ -142,8 +155,8 @@ def run(program, sheets, as_csv):
         "Taken by no line": said_of(notices.orphans(book, notices.Nothing(), sheets)),
         "Categories without a line": without_line(book),
     }
-    if not as_csv:
+    if not arguments.csv:
         for heading, items in {**wrongs, **others}.items():
             print_list(heading, items)
-    wrong = len(accepted) < len(sheets) or any(wrongs.values()) or any(GAP in states for states in rows.values())
+    wrong = refused or any(wrongs.values()) or any(GAP in states for states in rows.values())
     return 1 if wrong else 0

@@ -91,7 +91,12 @@ class Program:
         return replies + self._replies(waiting)
 
     def show(self, table, year):
-        """The lines of a table with its header, or None where there is no such table."""
+        """The lines of a table with its header, or None where there is no such table.
+
+        A name or a year of another form would end the session: it is no command.
+        """
+        if not re.fullmatch(r"[a-z]{1,16} [0-9]{4}", f"{table} {year}"):
+            return None
         self._write(f"SHOW {table} {year}\n".encode())
         self._flush()
         first = self._line()
@@ -119,7 +124,7 @@ class Program:
         line = self.process.stdout.readline()
         if not line.endswith(b"\n"):
             raise self._ended()
-        return line[:-1].decode("ascii")
+        return line[:-1].decode("ascii", "backslashreplace")
 
     def _ended(self):
         return ProgramFailed(f"the program ended with status {self.process.wait()} before it had answered")

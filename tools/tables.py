@@ -1,5 +1,6 @@
 """Compiles a workbook's files and writes the tables of a year."""
 import pathlib
+import shlex
 import sys
 
 from tools import vocabulary
@@ -29,17 +30,21 @@ def submit_all(program, sheets):
     return accepted
 
 
+def say_refused(refused, sheets, folders, so):
+    """Says on standard error how many files are refused, what comes of it, and where the causes are told."""
+    what = f"{refused} of {counted(len(sheets), 'file')} {'is' if refused == 1 else 'are'} refused"
+    print(f"./workbook: {what}, and {so}; ./workbook check {shlex.join(folders)} tells why", file=sys.stderr)
+
+
 def run(program, sheets, arguments):
     """Writes the tables of the year, where each file is accepted, and answers the status."""
     accepted = submit_all(program, sheets)
     refused = len(sheets) - len(accepted)
+    if refused and not arguments.partial:
+        say_refused(refused, sheets, arguments.folders, "no table is written")
+        return 1
     if refused:
-        what = f"{refused} of {counted(len(sheets), 'file')} {'is' if refused == 1 else 'are'} refused"
-        why = f"./workbook check {' '.join(arguments.folders)} tells why"
-        if not arguments.partial:
-            print(f"./workbook: {what}, and no table is written; {why}", file=sys.stderr)
-            return 1
-        print(f"./workbook: {what}, and the tables are without {'it' if refused == 1 else 'them'}; {why}", file=sys.stderr)
+        say_refused(refused, sheets, arguments.folders, f"the tables are without {'it' if refused == 1 else 'them'}")
     names = arguments.table or vocabulary.words()["tables"]
     shown = {name: program.show(name, arguments.year) for name in names}
     missing = [name for name, lines in shown.items() if lines is None]

@@ -30,6 +30,13 @@ class Refused(unittest.TestCase):
         self.assertIn("of 2030", ran.stderr)
 
 
+    def test_what_is_no_year_or_no_table(self):
+        for words in (["-5"], ["99999"], ["2020", "--table", "Cells"]):
+            ran = workbook("tables", "examples/how-to", *words)
+            self.assertEqual((ran.returncode, ran.stdout), (1, ""))
+            self.assertIn("./workbook: there is no table ", ran.stderr)
+
+
 class Folders(unittest.TestCase):
     def folder_of(self, room, **files):
         for name, text in files.items():
@@ -62,6 +69,26 @@ class Folders(unittest.TestCase):
         self.assertEqual(ran.returncode, 2)
         self.assertIn("there is no file 2.csv", ran.stderr)
 
+    def test_order_file_that_is_no_text(self):
+        with tempfile.TemporaryDirectory() as room:
+            self.folder_of(room, **{"1__csv": ""})
+            (pathlib.Path(room) / "ORDER.txt").write_bytes("1.csv\n".encode("utf-16"))
+            ran = workbook("check", room)
+        self.assertEqual((ran.returncode, ran.stdout), (2, ""))
+        self.assertEqual(ran.stderr, f"./workbook: {room}/ORDER.txt is not UTF-8\n")
+
+    def test_names_with_other_digits(self):
+        with tempfile.TemporaryDirectory() as room:
+            self.folder_of(room, **{"1\u00b22__csv": "", "1\u00b21__csv": ""})
+            ran = workbook("check", room)
+        self.assertEqual([line.split(":")[0] for line in ran.stdout.splitlines()[:2]], ["1\u00b21.csv", "1\u00b22.csv"])
+
+    def test_output_that_is_no_folder(self):
+        with tempfile.NamedTemporaryFile() as file:
+            ran = workbook("tables", "examples/how-to", "2020", "-o", file.name)
+        self.assertEqual((ran.returncode, ran.stdout), (2, ""))
+        self.assertIn(f"./workbook: {file.name}: File exists", ran.stderr)
+
     def test_no_folder(self):
         ran = workbook("check", "no-such-folder")
         self.assertEqual((ran.returncode, ran.stdout), (2, ""))
@@ -71,6 +98,26 @@ class Folders(unittest.TestCase):
         ran = workbook("check", PLANTS, "--program", "/no/such/program")
         self.assertEqual((ran.returncode, ran.stdout), (2, ""))
         self.assertIn("there is no program at /no/such/program", ran.stderr)
+
+
+class Programs(unittest.TestCase):
+    def said_with(self, script):
+        """What check says where the program is a script of the shell."""
+        with tempfile.TemporaryDirectory() as room:
+            program = pathlib.Path(room) / "program"
+            program.write_text(f"#!/bin/sh\n{script}\n")
+            program.chmod(0o755)
+            ran = workbook("check", PLANTS, "--program", str(program))
+        self.assertEqual((ran.returncode, ran.stdout), (2, ""))
+        return ran.stderr
+
+    def test_that_ends(self):
+        self.assertEqual(self.said_with("exit 3"), "./workbook: the program ended with status 3 before it had answered\n")
+
+    def test_that_answers_something_else(self):
+        self.assertEqual(self.said_with("read line; echo hello; cat > /dev/null"), "./workbook: the program answered a submission with: hello\n")
+        odd = self.said_with("read line; printf '\\377\\n'; cat > /dev/null")
+        self.assertEqual(odd, "./workbook: the program answered a submission with: \\xff\n")
 
 
 if __name__ == "__main__":
