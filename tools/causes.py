@@ -5,6 +5,8 @@ import functools
 import re
 import unicodedata
 
+from tools.vocabulary import limit
+
 NO_BREAK = "\u00a0\u2007\u202f"
 UNSEEN = "\u200b\u200c\u200d\u2060\ufeff\u00ad"
 MINUS = "\u2212\u2010\u2011\u2012\u2013\u2014"
@@ -26,12 +28,18 @@ OTHER_SIZE = {
     "kwh": ("GWh", "divide by 1000000"), "mwh": ("GWh", "divide by 1000"), "twh": ("GWh", "multiply by 1000"),
     "j": ("GJ", "divide by 1000000000"), "kj": ("GJ", "divide by 1000000"), "mj": ("GJ", "divide by 1000"),
     "ej": ("PJ", "multiply by 1000"), "toe": ("ktoe", "divide by 1000"), "mtoe": ("ktoe", "multiply by 1000"),
-    "g": ("kg", "divide by 1000"), "mt": ("kt", "multiply by 1000"), "tg": ("Gg", "multiply by 1000"),
+    "g": ("kg", "divide by 1000"), "mt": ("kt", "multiply by 1000; t where metric tons are meant"), "tg": ("Gg", "multiply by 1000"),
     "l": ("m3", "divide by 1000"), "litre": ("m3", "divide by 1000"), "km2": ("ha", "multiply by 100"),
     "mha": ("kha", "multiply by 1000"),
     "km3": ("Mm3", "multiply by 1000"), "1000m3": ("m3", "multiply by 1000"), "1000head": ("head", "multiply by 1000"),
     "mg/mj": ("g/GJ", "the same number"), "kg/mwh": ("kg/TJ", "divide by 0.0036"), "ppm": ("g/kg", "divide by 1000"),
 }
+
+
+def written_for(word):
+    """What people write for a unit of the table, or for one that is some tens, hundreds or thousands of it."""
+    others = {written: other for written, (other, _) in OTHER_SIZE.items()}
+    return " ".join(written for written, other in {**SAME_SIZE, **BY_CASE, **others}.items() if other == word)
 
 
 @dataclasses.dataclass
@@ -74,7 +82,7 @@ def without_blanks(text):
 
 def number(text):
     """A number as it is written elsewhere, as this program takes it."""
-    mended = without_blanks(text)
+    mended = ascii_digits(without_blanks(text))
     mended = mended.less("a minus sign of typography", re.sub(f"^[{MINUS}](?=[\\d.,])", "-", mended.text))
     bracketed = re.fullmatch(r"\(([\d.,\s]+)\)", mended.text)
     if bracketed:
@@ -87,6 +95,14 @@ def number(text):
     mended = mended.less("no digit in front of the point", re.sub(r"^(-?)\.(?=\d)", r"\g<1>0.", mended.text))
     mended = mended.less("no digit behind the point", re.sub(r"^(-?\d+)\.$", r"\1", mended.text))
     return decimals(mended)
+
+
+def ascii_digits(mended):
+    """With the digits 0 to 9 in place of those of another script."""
+    if mended.text.isascii():
+        return mended
+    digits = [str(unicodedata.decimal(letter)) if letter.isdecimal() else letter for letter in mended.text]
+    return mended.less("digits of another script", "".join(digits))
 
 
 def points(mended):
@@ -102,29 +118,34 @@ def points(mended):
         cause = f"a comma; write {text.replace(',', '')} where it stands between thousands"
         cause += f", {text.replace(',', '.')} where it is a decimal comma"
         return Mended(mended.causes + [cause], text, False)
-    if re.fullmatch(r"-?\d*,\d+", text):
+    if re.fullmatch(r"-?\d*,\d+([eE][+-]?\d+)?", text):
         return mended.less("a decimal comma", text.replace(",", "."))
     return mended
 
 
 def exponent(mended):
-    if not re.fullmatch(r"-?(\d+\.?\d*|\.\d+)[eE][+-]?\d{1,3}", mended.text):
+    if not re.fullmatch(r"-?(\d+(\.\d*)?|\.\d+)[eE][+-]?\d{1,3}", mended.text):
         return mended
     return mended.less("an exponent", format(decimal.Decimal(mended.text), "f"))
 
 
 def decimals(mended):
-    """With 12 decimals at the most."""
-    found = re.fullmatch(r"(-?\d+\.)(\d{13,})", mended.text)
-    if not found:
+    """With as many decimals as a number may have. One that would be zero then is not sure."""
+    most = int(limit("decimals"))
+    found = re.fullmatch(r"-?\d+\.(\d+)", mended.text)
+    if not found or len(found.group(1)) <= most:
         return mended
-    rounded = decimal.Decimal(mended.text).quantize(decimal.Decimal("1e-12"), decimal.ROUND_HALF_UP, decimal.Context(prec=200))
-    return mended.less(f"{len(found.group(2))} decimals where 12 are the most", format(rounded, "f"))
+    cause = f"{len(found.group(1))} decimals where {most} are the most"
+    exact, context = decimal.Decimal(mended.text), decimal.Context(prec=len(mended.text), rounding=decimal.ROUND_HALF_UP)
+    rounded = exact.quantize(decimal.Decimal(1).scaleb(-most), context=context)
+    if exact and not rounded:
+        return Mended(mended.causes + [f"{cause}, and no more than zero is left; choose a smaller unit"], mended.text, False)
+    return mended.less(cause, format(rounded, "f"))
 
 
 def year(text):
     """A year as it is written elsewhere."""
-    mended = without_blanks(text)
+    mended = ascii_digits(without_blanks(text))
     found = re.fullmatch(r"(\d{4})[.,]0*", mended.text)
     if found:
         return mended.less("a year has no decimals", found.group(1))

@@ -38,6 +38,8 @@ class Explainer(WordFaults, NumberFaults):
             return at_row(row, "an empty row; take it out"), None
         if ";" in fields[0]:
             return at_row(row, f"{cause}: semicolons between the fields; write commas"), None
+        if count == 1:
+            return at_row(row, f"{cause}; take the row out, or write what it says into a note"), None
         if count < 10:
             changed = self.of_ten(row, fields + [""] * (10 - count))
             return at_row(row, f"{cause}: write a comma for each empty column too"), changed

@@ -5,7 +5,7 @@ import re
 from tools import causes, vocabulary
 from tools.asking import Asking, cause_of
 from tools.faults import at_row
-from tools.vocabulary import listed
+from tools.vocabulary import limit, listed
 
 NO_FIGURE = {"-", "--", "n/a", "na.", "n.a.", "n.a", "nan", "null", "none", "...", "..", ".", "x", "?", "tbd", "nd", "n.d."}
 
@@ -59,17 +59,20 @@ class NumberFaults(Asking):
         if row.field("unit") != "pct":
             changed = changed.with_fields(unit="pct")
         if self.takes(changed, column):
-            for other in ("value", "low", "high"):
+            others = [other for other in ("value", "low", "high") if changed.field(other).strip().endswith("%")]
+            for other in others:
                 changed = changed.with_fields(**{other: changed.field(other).strip().removesuffix("%").rstrip()})
-            return at_row(row, "a percent sign", column, f"{mended.text} and the unit pct"), changed
+            cause = "a percent sign" + (f", and one in {listed(others, 'and')} too" if others else "")
+            return at_row(row, cause, column, f"{mended.text} and the unit pct"), changed
         return at_row(row, "a percent sign; write the number, and the unit pct", column), None
 
     def year(self, row, column):
         mended = causes.year(row.field(column))
-        otherwise = "no year; a year is four digits from 1900 to 2100"
+        digits = f"four digits from {limit('first_year')} to {limit('last_year')}"
+        otherwise = f"no year; a year is {digits}"
         if row.field("kind") == "span":
             first = {"year": "the first", "value": "the last", "low": "the base"}[column]
-            otherwise = f"no year: a span has {first} year here, in four digits from 1900 to 2100"
+            otherwise = f"no year: a span has {first} year here, in {digits}"
         return self.first_taken(row, column, [(cause_of(mended.causes), mended.text, True)], otherwise)
 
     def disorder(self, row):
@@ -98,10 +101,12 @@ def number_otherwise(column, text, row):
             return f"no number; where there is none write a notation key ({listed(keys)})"
     if column != "value" and text in keys:
         return "a notation key stands in the value alone"
-    if re.fullmatch(r"-?\d+(\.\d{1,12})?", text):
+    if re.fullmatch(r"-?\d+(\.\d+)?", text):
         digits = text.lstrip("-").split(".")[0]
-        if len(digits) > 14:
-            return f"{len(digits)} digits where 14 are the most; choose a greater unit"
-        return f"beyond 10^14 in the base unit of {row.field('unit')}"
+        if len(digits) > int(limit("digits")):
+            return f"{len(digits)} digits where {limit('digits')} are the most; choose a greater unit"
+        return f"beyond {limit('figure')} in the base unit of {row.field('unit')}"
+    if text.split()[1:] and text.split()[-1] in vocabulary.units():
+        return "a unit behind the number; it stands in the column unit alone"
     key = f" and no notation key ({listed(keys)})" if column == "value" else ""
     return f"no number{key}; a number is digits with a point, as 0.5 or -12"

@@ -14,6 +14,11 @@ def words():
     return json.loads(PATH.read_text(encoding="utf-8"))
 
 
+def limit(name):
+    """A limit of the program, as it is written in docs/FORMATS.md."""
+    return words()["limits"][name]
+
+
 @functools.cache
 def units():
     """Each unit by its word."""

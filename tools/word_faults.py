@@ -5,7 +5,7 @@ from tools import causes, vocabulary
 from tools.asking import Asking, article, cause_of
 from tools.faults import at_row
 from tools.sheets import COLUMNS_OF_KEY
-from tools.vocabulary import listed, nearest
+from tools.vocabulary import limit, listed, nearest
 
 
 class WordFaults(Asking):
@@ -76,7 +76,7 @@ class WordFaults(Asking):
         if line:
             code = line.field("value")
             has = f"; {code} has {listed(vocabulary.parameters_of(code), 'and')}"
-        otherwise = f"no parameter: it is 1 to 8 upper-case letters or digits{has}"
+        otherwise = f"no parameter: it is 1 to {limit('parameter')} upper-case letters or digits{has}"
         return self.first_taken(row, column, [(cause_of(mended.causes), mended.text, True)], otherwise)
 
     def category(self, row, column):
@@ -107,7 +107,8 @@ class WordFaults(Asking):
             candidates.append(("the code of an equation begins with Q", "Q" + code, True))
         known = equations_near(code, bare.text)
         near = f"; near it {'is' if len(known) == 1 else 'are'} {listed(map(said_of_equation, known), 'and')}" if known else ""
-        otherwise = f"no equation of this code{near}; ./workbook words equations lists them"
+        what = f"no equation of this code{near}" if code else "empty; here stands the code of an equation"
+        otherwise = f"{what}; ./workbook words equations lists them"
         return self.first_taken(row, column, candidates, otherwise)
 
     def unit(self, row, column):
@@ -156,7 +157,7 @@ class WordFaults(Asking):
             ("a line stands twice in the sum", " ".join(once), False),
             ("names are in upper case, with one space between two", " ".join(causes.name(name).text for name in once), True),
         ]
-        return self.first_taken(row, column, candidates, "no sum: it is 1 to 400 different lines with one space between two")
+        return self.first_taken(row, column, candidates, f"no sum: it is 1 to {limit('sum')} different lines with one space between two")
 
 
 def equations_near(code, text):
@@ -187,16 +188,19 @@ def name_otherwise(text, what):
     """Why a text is no name, where nothing that is sure mends it."""
     if not text:
         return f"empty; here stands the {what}"
-    if len(text.encode("utf-8", "replace")) > 24:
-        return f"{len(text.encode('utf-8', 'replace'))} letters where 24 are the most; write a shorter name, the same everywhere"
+    length = len(text.encode("utf-8", "replace"))
+    if length > int(limit("name")):
+        return f"{length} letters where {limit('name')} are the most; write a shorter name, the same everywhere"
     if not re.match("[A-Z]", text):
         return "a name begins with a letter"
-    return "a name is 1 to 24 of A to Z, 0 to 9, . _ and -, and begins with a letter"
+    return f"a name is 1 to {limit('name')} of A to Z, 0 to 9, . _ and -, and begins with a letter"
 
 
 def category_otherwise(code, text):
     """Why a code is no leaf of the tree."""
     known = vocabulary.categories()
+    if not code:
+        return "empty; here stands the code of a category; ./workbook words categories lists them"
     if code in known:
         return f"not a leaf: its leaves are {listed(vocabulary.leaves_under(code), 'and')}"
     above = next((code[:end] for end in range(len(code) - 1, 0, -1) if code[:end] in known), None)

@@ -1,5 +1,5 @@
 """Searches the vocabulary, and shows an equation with a template of its rows."""
-from tools import vocabulary
+from tools import causes, vocabulary
 from tools.sheets import COLUMNS
 
 PARTS = ["units", "categories", "equations", "parameters"]
@@ -11,7 +11,7 @@ def units():
     for word, unit in vocabulary.units().items():
         base = vocabulary.units_that_measure(unit["measures"])[0]
         ratio = f"{unit['over']}" if unit["under"] == 1 else f"{unit['over']}/{unit['under']}"
-        yield word, f"{unit['measures']}{'' if word == base else f', {ratio} {base}'}", ""
+        yield word, f"{unit['measures']}{'' if word == base else f', {ratio} {base}'}", causes.written_for(word)
 
 
 def categories():

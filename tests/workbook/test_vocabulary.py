@@ -84,6 +84,19 @@ class Words(unittest.TestCase):
         self.accepted(HEADER + "".join(f"enter,activity,,A{at},2020,{key},,,t,\n" for at, key in enumerate(words["keys"])))
         self.accepted(HEADER + "".join(f"enter,factor,,{name},2020,1,,,1,\n" for name in words["potentials"]))
 
+    def test_limits_are_those_of_the_program(self):
+        limits = {name: int(text) for name, text in vocabulary.words()["limits"].items() if text.isdigit()}
+
+        def activity(name, year, value):
+            return HEADER + f"enter,activity,,{name},{year},{value},,,t,\n"
+
+        for more, due in ((0, "accepted"), (1, "refused")):
+            bodies = [
+                activity("D", 2020, "1." + "1" * (limits["decimals"] + more)), activity("W", 2020, "1" * (limits["digits"] + more)),
+                activity("N" * (limits["name"] + more), 2020, 1), activity("F", limits["first_year"] - more, 1),
+                activity("L", limits["last_year"] + more, 1), HEADER + f"enter,span,,,1950,{1950 + limits['span'] + more},1950,,,\n"]
+            self.assertEqual([reply.split()[0] for reply in replies(*bodies)], [due] * len(bodies))
+
     def test_file_is_what_the_pages_make(self):
         made = subprocess.run([TOP / "tools/make-vocabulary"], capture_output=True, check=True).stdout
         self.assertEqual(made, vocabulary.PATH.read_bytes())
@@ -100,6 +113,11 @@ class Search(unittest.TestCase):
                       workbook("words", "equations", "nitric").stdout)
         self.assertIn("g/GJ   emission factor of fuel, 1 kg/TJ\n", workbook("words", "units", "fuel", "emission").stdout)
         self.assertIn("FC     energy (TJ): Q10, Q11, Q12\n", workbook("words", "parameters", "FC").stdout)
+
+    def test_by_what_people_write(self):
+        for written, word in (("tonne", "t"), ("MWh", "GWh"), ("%", "pct"), ("hectare", "ha")):
+            found = workbook("words", "units", written).stdout.splitlines()
+            self.assertIn(word, [line.split()[0] for line in found], written)
 
     def test_nothing(self):
         ran = workbook("words", "unobtainium")
