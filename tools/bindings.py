@@ -7,7 +7,7 @@ from tools import vocabulary
 from tools.book import lines_taken_by, record_taken_by
 from tools.faults import Fault, at_row, counted
 from tools.sheets import Row, joined
-from tools.vocabulary import listed, nearest, said_of_parameter
+from tools.vocabulary import limit, listed, nearest, said_of_parameter
 
 
 class After:
@@ -192,10 +192,11 @@ def said(kind):
 
 def of_lines(bound, holder, wanted, after):
     """A binding to lines of which one is not there, or gives something else."""
+    absent = [name for name in lines_taken_by(bound) if name not in after.book.lines]
+    if absent:
+        return absent_lines(bound, absent, after)
     for name in lines_taken_by(bound):
-        taken = after.book.lines.get(name)
-        if taken is None:
-            return absent_line(bound, name, after)
+        taken = after.book.lines[name]
         code = taken.field("value")
         if vocabulary.given_by(code) != wanted["measures"]:
             gives = f"line {name} ({code} at {taken.place}) gives {given(code)}"
@@ -215,18 +216,24 @@ def given(code):
     return f"{output['gas']} (Gg)" if "gas" in output else f"{output['measures']} ({output['unit']})"
 
 
-def absent_line(bound, name, after):
-    gone = after.acts_on("line", name, ("withdraw",))
+def absent_lines(bound, names, after):
+    """A binding to lines that are not there. A sum goes on with the others."""
     if not after.is_own(bound):
-        return taken_away(gone, f"line {name}", bound, after)
-    refused = after.refused.that_sets(("line", name))
+        gone = after.acts_on("line", names[0], ("withdraw",))
+        return taken_away(gone, f"line {names[0]}", bound, after)
+    refused = [after.refused.that_sets(("line", name)) for name in names]
+    cause = "; ".join(absent_line(name, row, after) for name, row in zip(names, refused))
+    fault = at_row(bound, cause, "low", follows=refused[0].place if all(refused) else None)
+    others = [name for name in lines_taken_by(bound) if name not in names]
+    return fault, after.changed(bound, low=" ".join(others)) if others else after.blank(bound)
+
+
+def absent_line(name, refused, after):
+    """Why a line is not there."""
     if refused:
-        cause = f"there is no line {name}, since its row was refused"
-        return at_row(bound, cause, "low", follows=refused.place), after.blank(bound)
-    if after.in_later_file("line", name):
-        return at_row(bound, after.in_later_file("line", name), "low"), after.blank(bound)
+        return f"there is no line {name}, since its row was refused"
     near = nearest(name, after.book.lines, 1, 0.7)
-    return at_row(bound, f"there is no line {name}{nearest_line(near, after)}", "low"), after.blank(bound)
+    return after.in_later_file("line", name) or f"there is no line {name}{nearest_line(near, after)}"
 
 
 def nearest_line(near, after):
@@ -277,15 +284,16 @@ def overflow(node, sheet, after):
     """The fault of a node beyond the limits, and the rows with one of its figures blank."""
     kind, *rest = node.split(":")
     year = int(rest[-1])
+    equivalents = f"{limit('equivalent')} Gg of CO2 equivalent"
     if kind in ("total", "gross"):
         code = rest[0] if kind == "total" else "0"
-        cause = f"the total of {code} in {year} is beyond 10^9 Gg of CO2 equivalent with the rows of this file"
+        cause = f"the total of {code} in {year} is beyond {equivalents} with the rows of this file"
         cause += "; look for a figure in a wrong unit"
         return Fault(sheet, 1, "", None, cause), None
     inputs = inputs_of(rest[0], year, after.book)
-    limit = "10^14 units" if kind == "line" else "10^9 Gg of CO2 equivalent"
+    most = f"{limit('figure')} units" if kind == "line" else equivalents
     figures = [f"{name} is {row.field('value')} {row.field('unit')} ({row.place})" for name, row in inputs]
-    cause = f"line {rest[0]} in {year}, or a result on the way to it, is beyond {limit}: {listed(figures, 'and')}"
+    cause = f"line {rest[0]} in {year}, or a result on the way to it, is beyond {most}: {listed(figures, 'and')}"
     cause += "; look at the units"
     own = [row for _, row in inputs if after.is_own(row)]
     if not own:
@@ -311,10 +319,10 @@ def inputs_of(line, year, book):
     return found
 
 
-def too_many(limit, sheet, after):
+def too_many(named, sheet, after):
     """The fault of a limit of the whole workbook, and the rows without its span where that is too long."""
     spans = [row for row in after.rows[1:] if row.field("kind") == "span"]
-    if limit == "span" and spans:
-        return at_row(spans[-1], "more than 150 years from the first to the last", "value"), after.without(spans)
-    what = {"lines": "more than 5,000 lines", "records": "more than 500,000 records"}.get(limit, "too many bytes")
+    if named == "span" and spans:
+        return at_row(spans[-1], f"more than {limit('span')} years from the first to the last", "value"), after.without(spans)
+    what = f"more than {limit(named)} {named}" if named in ("lines", "records") else "too many bytes"
     return Fault(sheet, 1, "", None, f"{what} with this file"), None

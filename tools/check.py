@@ -12,12 +12,11 @@ from tools.causes import name as mended_name
 from tools.explain import Explainer
 from tools.faults import Fault, counted
 from tools.sheets import COLUMNS, joined
+from tools.vocabulary import limit
 
 HEADER = joined(COLUMNS)
 # A row that no workbook has its line for. Behind it no body is accepted: what a row breaks by itself comes first.
 NEVER_ACCEPTED = joined(["enter", "bind", "NO.SUCH.LINE.-.-.-.-.-", "X", "", "key", "NE", "", "", ""])
-# A header may have so many faults one behind the other, as semicolons, a title in front and an empty column.
-MOST_HEADER_FAULTS = 6
 OF_THE_ROW_ALONE = (4, 5, 6, 7)
 OF_A_ROW = (4, 5, 6, 7, 8, 9)
 
@@ -53,7 +52,7 @@ class Refused:
 
 
 class Later:
-    """What the files behind the one at hand enter, by kind and name."""
+    """What the files behind the one at hand are meant to enter, by kind and name."""
 
     def __init__(self, sheets):
         self.waiting, self.entered = list(sheets), None
@@ -67,10 +66,10 @@ class Later:
         """The first row of a later file that enters a name, or None."""
         if self.entered is None:
             self.entered = {}
-            rows = (row for sheet in self.waiting for row in sheet.rows[1:] if len(row.fields) == 10)
-            for row in rows:
-                if row.field("act") == "enter":
-                    self.entered.setdefault((row.field("kind"), row.field("name")), row)
+            for row in (row for sheet in self.waiting for row in headers.rows_as_meant(sheet)):
+                if row.field("act").strip().lower() == "enter":
+                    meant = (row.field("kind").strip().lower(), mended_name(row.field("name")).text)
+                    self.entered.setdefault(meant, row)
         return self.entered.get((kind, name))
 
 
@@ -119,7 +118,7 @@ class Check:
         tries = 0
         while reply and reply.rule == 4 and reply.row == 0:
             tries += 1
-            fault, rows = headers.explain(sheet, rows) if tries < MOST_HEADER_FAULTS else (None, None)
+            fault, rows = headers.explain(sheet, rows) if tries < headers.MOST_FAULTS else (None, None)
             self.faults += [fault] if fault else []
             reply = self.program.submit(lines_of(rows)) if rows else None
         tries = 0
@@ -149,7 +148,8 @@ class Check:
     def of_the_whole(self, sheet, rows, reply):
         """The fault of a refusal that names no row, and the rows to go on with."""
         if reply.rule == 3:
-            return Fault(sheet, 1, "", None, f"{len(sheet.data)} bytes where 4194304 are the most; split the file"), None
+            cause = f"{len(sheet.data):,} bytes where {limit('body')} are the most; split the file"
+            return Fault(sheet, 1, "", None, cause), None
         if reply.rule < 10:
             return None, None
         after = bindings.After(self.applied.book_after(rows), rows, self.refused, self.later)

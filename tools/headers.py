@@ -8,11 +8,14 @@ from tools.faults import Fault, counted
 from tools.sheets import COLUMNS, Row, joined
 
 HEADER = ",".join(COLUMNS)
-UTF16 = (b"\xff\xfe", b"\xfe\xff")
+# How a text of UTF-16 begins: with a mark, or with an ASCII letter.
+UTF16 = {rb"\xff\xfe|\xfe\xff": "utf-16", rb"[\x20-\x7e]\x00": "utf-16-le", rb"\x00[\x20-\x7e]": "utf-16-be"}
 SPREADSHEETS = (b"PK\x03\x04", b"\xd0\xcf\x11\xe0")
 SAVE = "save it as CSV UTF-8 with commas"
 # A title and notes in front of the header are looked for in so many rows.
 ROWS_IN_FRONT = 30
+# A file may have so many faults of this kind one behind the other, as semicolons, a title in front and an empty column.
+MOST_FAULTS = 6
 
 
 def explain(sheet, rows):
@@ -24,13 +27,23 @@ def explain(sheet, rows):
         return Fault(sheet, 1, "", None, f"the file is empty; its first row is {HEADER}"), None
     if rows is sheet.rows and sheet.data.startswith(SPREADSHEETS):
         return Fault(sheet, 1, "", None, f"a spreadsheet and no CSV; {SAVE}"), None
-    if rows is sheet.rows and sheet.data.startswith(UTF16):
-        rows = sheets.split(sheet, sheet.data.decode("utf-16", "replace").encode("utf-8"))
+    encoding = utf16(sheet.data) if rows is sheet.rows else None
+    if encoding:
+        rows = sheets.split(sheet, sheet.data.decode(encoding, "replace").encode("utf-8"))
         between = delimiter(rows)
         mended = [with_comma(row, between) for row in rows] if between else rows
         return Fault(sheet, 1, "", None, f"the file is UTF-16; {SAVE}"), mended
     cause, mended = of_rows(rows)
     return Fault(sheet, rows[0].line, "", None, cause), mended
+
+
+def rows_as_meant(sheet):
+    """The rows behind the header of a file that nothing was asked of yet, as they most likely are meant."""
+    rows = close_quotes(sheet)[1]
+    for _ in range(MOST_FAULTS):
+        if rows and rows[0].fields != COLUMNS:
+            _, rows = explain(sheet, rows)
+    return rows[1:] if rows else []
 
 
 def of_rows(rows):
@@ -50,6 +63,11 @@ def of_rows(rows):
     if sorted(names) == sorted(COLUMNS):
         return other_words(rows, names)
     return missing(rows[0]), None
+
+
+def utf16(data):
+    """The encoding of a file's bytes where it is UTF-16, or None."""
+    return next((encoding for start, encoding in UTF16.items() if re.match(start, data)), None)
 
 
 def delimiter(rows):
@@ -128,14 +146,24 @@ def close_quotes(sheet):
             rows.append(row)
             continue
         first, *rest = sheets.LINE_END.split(row.raw, maxsplit=1)
-        closed = Row(sheet, row.line, first + b'"')
+        closed, how = without_open_quote(Row(sheet, row.line, first))
         last = row.line + len(sheets.LINE_END.findall(row.raw.rstrip(b"\r\n")))
         taken = f"it takes in the rows up to line {last}" if last > row.line else "it goes on to the end of the file"
-        cause = f"an open quote: {taken}; close the quote at the end of this line"
+        cause = f"an open quote: {taken}; {how}"
         faults.append(Fault(sheet, row.line, "", None, cause, row=row))
         rows.append(closed)
         waiting = moved(sheets.split(sheet, b"".join(rest)), row.line) + waiting
     return faults, rows
+
+
+def without_open_quote(row):
+    """A row of one line with its open quote closed at the end, or taken out where ten fields come of that alone; and which."""
+    at = sheets.open_quote(row.raw)
+    bare = Row(row.sheet, row.line, row.raw[:at] + row.raw[at + 1:])
+    closed = Row(row.sheet, row.line, row.raw + b'"')
+    if len(bare.fields) == len(COLUMNS) != len(closed.fields):
+        return bare, "take the quote out"
+    return closed, "close the quote at the end of this line"
 
 
 def moved(rows, line):
@@ -145,4 +173,4 @@ def moved(rows, line):
 
 def takes_in_rows(row):
     """Tells whether a quote of the row is open, or holds what looks like further rows."""
-    return sheets.has_open_quote(row) or re.search(rb"[\r\n]\s*\"?(enter|correct|withdraw)\"?,", row.raw) is not None
+    return sheets.open_quote(row.raw) is not None or re.search(rb"[\r\n]\s*\"?(enter|correct|withdraw)\"?,", row.raw) is not None

@@ -135,27 +135,31 @@ def end_of_record(data, at):
         at = end + 1
 
 
-def has_open_quote(row):
-    """Tells whether a field of the row begins with a quote that is never closed."""
+def open_quote(raw):
+    """Where a field of a record begins with a quote that is never closed, or None."""
     at = 0
-    while b'"' in row.raw:
-        found = FIELD.match(row.raw, at)
+    while b'"' in raw:
+        found = FIELD.match(raw, at)
         if found.group(1) is not None:
-            return True
-        if found.end() == len(row.raw):
-            return False
+            return at
+        if found.end() == len(raw):
+            return None
         at = found.end() + 1
-    return False
+    return None
 
 
 def natural(name):
     """A key that sorts 2 before 10."""
-    return [(0, int(part), "") if part.isdigit() else (1, 0, part) for part in re.split(r"(\d+)", name)]
+    return [(0, int(part), "") if part.isdecimal() else (1, 0, part) for part in re.split(r"([0-9]+)", name)]
 
 
 def listed_in(order, folder):
     """The names that ORDER.txt lists, one on a line. Empty lines and lines that begin with # name none."""
-    names = [line.strip() for line in order.read_text(encoding="utf-8-sig").splitlines()]
+    try:
+        text = order.read_text(encoding="utf-8-sig")
+    except UnicodeDecodeError as error:
+        raise FolderFault(f"{order} is not UTF-8") from error
+    names = [line.strip() for line in text.splitlines()]
     names = [name for name in names if name and not name.startswith("#")]
     for name in names:
         if not (folder / name).is_file():

@@ -22,7 +22,7 @@ class Limits(unittest.TestCase):
         long = HEADER + "".join(f"enter,activity,,A{n},2000,1,,,t,{'n' * 200}\n" for n in range(20000))
         line = HEADER + "enter,line,1A1a,L,,Q11,,,,\nenter,bind,L,FC,,activity,A1,,,\nenter,bind,L,EF,,key,NO,,,\n"
         self.assertEqual(checked(HEADER + SPAN, long, line), [
-            f"2.csv:1: {len(long)} bytes where 4194304 are the most; split the file",
+            f"2.csv:1: {len(long):,} bytes where 4,194,304 are the most; split the file",
             '3.csv:3 low "A1": there is no activity A1, since its row was refused (follows from 2.csv:3)',
             "3 files: 2 faults, of which 1 only follows from others, 0 warnings"])
 
@@ -31,6 +31,16 @@ class Limits(unittest.TestCase):
         printed = checked(commas)
         self.assertEqual(printed[0], '1.csv:3 value "0,5": a decimal comma; write 0.5')
         self.assertEqual((len(printed), printed[-1]), (2001, "1 file: 2000 faults, 0 warnings"))
+
+    def test_a_figure_of_a_million_digits(self):
+        printed = checked(HEADER + SPAN + f"enter,activity,,A,2000,{'1' * 1000000},,,t,\n")
+        self.assertEqual(printed, [
+            f'1.csv:3 value "{"1" * 60}...": 1000000 digits where 14 are the most; choose a greater unit',
+            "1 file: 1 fault, 0 warnings"])
+
+    def test_decimals_behind_many_digits(self):
+        printed = checked(HEADER + SPAN + f"enter,activity,,A,2000,{'1' * 300}.{'1' * 13},,,t,\n")
+        self.assertIn("300 digits where 14 are the most", printed[0])
 
     def test_a_file_that_is_there_twice(self):
         rows = HEADER + "".join(f"enter,activity,,A{n},2000,{n},,,t,\n" for n in range(2000))
