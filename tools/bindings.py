@@ -101,11 +101,20 @@ def without_parameter(holder, bound, parameters, after):
             return None, None
         cause = f"{has}; the binding of {bound.field('name')} at {bound.place} has to be withdrawn in this file"
         return at_row(holder, cause, "value"), after.without([holder])
-    free = [name for name in parameters if name not in after.book.bindings[line]]
+    unbound = [name for name in parameters if name not in after.book.bindings[line]]
+    free = [name for name in unbound if may_take(bound, parameters[name], after)]
     near = free if len(free) == 1 else nearest(bound.field("name"), free, 1, 0.4)
     if near:
         return at_row(bound, has, "name", near[0]), after.changed(bound, name=near[0])
+    after.refused.add([bound])
     return at_row(bound, has, "name"), after.without([bound])
+
+
+def may_take(bound, parameter, after):
+    """Tells whether what a binding takes, where that is a record there is, measures what a parameter takes."""
+    taken = record_taken_by(bound)
+    record = after.book.some_record(*taken) if taken else None
+    return record is None or vocabulary.measured_by(record.field("unit")) == parameter["measures"]
 
 
 def without_binding(holder, wanted, after):
@@ -232,6 +241,9 @@ def absent_line(name, refused, after):
     """Why a line is not there."""
     if refused:
         return f"there is no line {name}, since its row was refused"
+    activity = after.book.some_record("activity", name)
+    if activity:
+        return f"{name} is no line but an activity ({activity.place})"
     near = nearest(name, after.book.lines, 1, 0.7)
     return after.in_later_file("line", name) or f"there is no line {name}{nearest_line(near, after)}"
 

@@ -148,8 +148,8 @@ def run(program, sheets, arguments):
     print_matrix(rows, years, arguments.csv)
     wrongs = {
         "Gaps in a series": list(gaps(book, years)),
-        "Factors that begin late": said_of(notices.late_factors(book, *book.span)),
-        "Missing potentials": said_of(notices.without_potential(book)),
+        "Factors that begin late": said_of(notices.late_factors(book, notices.Nothing(), *book.span)),
+        "Missing potentials": said_of(notices.without_potential(book, notices.Nothing())),
     }
     others = {
         "Taken by no line": said_of(notices.orphans(book, notices.Nothing(), sheets)),

@@ -28,9 +28,9 @@ def all_warnings(book, refused, sheets, left):
         return found + [Fault(sheets[0], 1, "warning", None, "no span is in force, so that there is no table")]
     first, last = book.span
     found += outside(book, first, last)
-    found += holes(book, first, last)
-    found += late_factors(book, first, last)
-    found += without_potential(book)
+    found += holes(book, refused, first, last)
+    found += late_factors(book, refused, first, last)
+    found += without_potential(book, refused)
     return found + ([] if refused.has_activity_of(last) else without_last_year(book, span, last))
 
 
@@ -110,24 +110,24 @@ def lines_of(bindings):
     return f"lines {listed(shown, 'and')} are"
 
 
-def holes(book, first, last):
+def holes(book, refused, first, last):
     """Activities that lines take and that lack years between others."""
     found, taken = [], book.taken()
     for name, years in sorted(book.years["activity"].items()):
         lacking = [year for year in range(max(min(years), first), min(max(years), last) + 1) if year not in years]
-        if lacking and ("activity", name) in taken:
+        if lacking and ("activity", name) in taken and not refused.that_enters("activity", name):
             cause = f"activity {name} has no record of {years_said(lacking)}; {lines_of(taken['activity', name])} blank there"
             found.append(warn(years[min(years)], cause))
     return found
 
 
-def late_factors(book, first, last):
+def late_factors(book, refused, first, last):
     """Factors that lines take and that begin after the first year."""
     found = []
     taken = book.taken()
     for name, years in sorted(book.years["factor"].items()):
         begins = min(years)
-        if first < begins <= last and ("factor", name) in taken:
+        if first < begins <= last and ("factor", name) in taken and not refused.that_enters("factor", name):
             lines, blank = lines_of(taken["factor", name]), years_said(range(first, begins))
             found.append(warn(years[begins], f"factor {name} begins in {begins}; {lines} blank in {blank}"))
     return found
@@ -143,11 +143,13 @@ def emitted(book):
     return found
 
 
-def without_potential(book):
+def without_potential(book, refused):
     """Gases that lines emit and that no potential is in force for in some year."""
     found = []
     first = book.span[0]
     for gas, rows in emitted(book).items():
+        if refused.that_enters("factor", f"GWP.{gas}"):
+            continue
         years = book.years["factor"].get(f"GWP.{gas}")
         lines = f"{len(rows)} {'line emits' if len(rows) == 1 else 'lines emit'} {gas}"
         if not years:
@@ -253,3 +255,6 @@ def warn_left(left):
 class Nothing:
     """No refused rows."""
     meant_records = frozenset()
+
+    def that_enters(self, kind, name):
+        return None
