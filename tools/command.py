@@ -2,6 +2,7 @@
 import argparse
 import os
 import sys
+import traceback
 
 from tools import check, complete, tables, wordlist
 from tools.faults import in_order
@@ -108,6 +109,13 @@ def run_words(arguments):
     return wordlist.run(arguments.words)
 
 
+def said_of_own(error):
+    """A fault of the tools themselves as a sentence, with its place in them."""
+    place = traceback.extract_tb(error.__traceback__)[-1]
+    where = f"{os.path.basename(place.filename)}:{place.lineno}"
+    return f"a fault of the tools themselves, and none of your files: {type(error).__name__} {error} at {where}"
+
+
 def main(words):
     for stream in (sys.stdout, sys.stderr):
         stream.reconfigure(encoding="utf-8", errors="backslashreplace")
@@ -125,4 +133,6 @@ def main(words):
         print(f"./workbook: {error}", file=sys.stderr)
     except OSError as error:
         print(f"./workbook: {error.filename or 'the system'}: {error.strerror or error}", file=sys.stderr)
+    except Exception as error:
+        print(f"./workbook: {said_of_own(error)}", file=sys.stderr)
     return 2

@@ -1,9 +1,11 @@
 """Tables where files are refused, and what stands where no file is."""
 import pathlib
+import subprocess
+import sys
 import tempfile
 import unittest
 
-from tests.workbook.running import workbook
+from tests.workbook.running import TOP, workbook
 
 PLANTS = "examples/power-plants"
 
@@ -98,6 +100,14 @@ class Folders(unittest.TestCase):
         ran = workbook("check", PLANTS, "--program", "/no/such/program")
         self.assertEqual((ran.returncode, ran.stdout), (2, ""))
         self.assertIn("there is no program at /no/such/program", ran.stderr)
+
+
+class Tools(unittest.TestCase):
+    def test_a_fault_of_their_own_is_one_line(self):
+        broken = "import tools.wordlist, tools.command as c; tools.wordlist.run = lambda words: {}['Q104']; exit(c.main(['words']))"
+        ran = subprocess.run([sys.executable, "-B", "-c", broken], cwd=TOP, capture_output=True, text=True)
+        self.assertEqual((ran.returncode, ran.stdout), (2, ""))
+        self.assertEqual(ran.stderr, "./workbook: a fault of the tools themselves, and none of your files: KeyError 'Q104' at <string>:1\n")
 
 
 class Programs(unittest.TestCase):
