@@ -1,6 +1,7 @@
 """What all explanations of a row do: they try what the writer may have meant, and the program says whether it takes it."""
 from tools import causes
 from tools.faults import at_row
+from tools.sheets import COLUMNS
 from tools.vocabulary import listed, nearest
 
 
@@ -37,7 +38,7 @@ class Asking:
 
     def stand_in(self, row, column):
         """The row with a word in place of one that is none, so that the rest of it is looked at, or None."""
-        if column not in STAND_INS or row.field(column) == STAND_INS[column] or not any(row.fields):
+        if column not in STAND_INS or row.field(column) == STAND_INS[column] or is_empty(row) or is_header(row):
             return None
         changed = row.with_fields(**{column: STAND_INS[column]})
         return changed if self.takes(changed, column) else None
@@ -46,6 +47,14 @@ class Asking:
         """The record with NE in place of its figures, so that what takes it is there, where the program takes it."""
         changed = row.with_fields(value="NE", low="", high="")
         return changed if self.takes(changed, None) else None
+
+
+def is_empty(row):
+    return not any(field.strip() for field in row.fields)
+
+
+def is_header(row):
+    return [field.strip().casefold() for field in row.fields] == COLUMNS
 
 
 def cause_of(found):

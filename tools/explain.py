@@ -100,7 +100,9 @@ class Explainer(WordFaults, NumberFaults):
             cause = f"{said_of_key(key)} is entered already{where}, with the same figures; take one of the two out"
             return at_row(row, cause), None
         cause = f"{said_of_key(key)} is entered already{where}"
-        return at_row(row, f"{cause}; to change it use correct, else give this one another name or year"), None
+        other = {"activity": "give this one another name or year", "factor": "give this one another name or year",
+                 "line": "give this one another name"}.get(key[0], "take one of the two out")
+        return at_row(row, f"{cause}; to change it use correct, else {other}"), None
 
     def absent(self, row):
         """Nothing to correct or withdraw. A correction goes on as an entry."""

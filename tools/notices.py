@@ -3,7 +3,7 @@ import decimal
 import re
 
 from tools import vocabulary
-from tools.faults import Fault, at_row, years_said
+from tools.faults import Fault, at_row, counted, years_said
 from tools.vocabulary import listed, nearest
 
 MEMOS = ("MB", "MC", "RA")
@@ -211,7 +211,7 @@ def negatives(book):
             continue
         odd = [row for _, row in records if not row.has_other_figure and row.field("value").startswith("-")]
         if odd:
-            more = f", and in {len(odd) - 1} more years" if len(odd) > 1 else ""
+            more = f", and in {counted(len(odd) - 1, 'more year')}" if len(odd) > 1 else ""
             figure = f"{odd[0].field('value')} {odd[0].field('unit')} in {odd[0].field('year')}"
             found.append(warn(odd[0], f"activity {name} is negative: {figure}{more}"))
     return found

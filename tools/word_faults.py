@@ -2,7 +2,7 @@
 import re
 
 from tools import causes, vocabulary
-from tools.asking import Asking, article, cause_of
+from tools.asking import Asking, article, cause_of, is_empty, is_header
 from tools.faults import at_row
 from tools.sheets import COLUMNS_OF_KEY
 from tools.vocabulary import limit, listed, nearest
@@ -12,8 +12,10 @@ class WordFaults(Asking):
     """Explanations of words."""
 
     def word(self, row, column):
-        if not any(field.strip() for field in row.fields):
+        if is_empty(row):
             return at_row(row, "an empty row; take it out", column), None
+        if is_header(row):
+            return at_row(row, "the header once more; take this row out"), None
         kind = row.field("kind")
         if column in ("act", "kind"):
             return self.choice(row, column, vocabulary.words()[column + "s"])
@@ -123,6 +125,8 @@ class WordFaults(Asking):
         same = causes.BY_CASE.get(bare.text) or causes.SAME_SIZE.get(form)
         if same:
             candidates.append((f"the unit is written {same}", same, True))
+        if row.field("name") in vocabulary.words()["potentials"]:
+            candidates.append(("a warming potential is a ratio", "1", True))
         return self.first_taken(row, column, candidates, unit_otherwise(bare.text, form, dimension))
 
     def target(self, row, column):
