@@ -5,11 +5,12 @@ from tools import vocabulary
 from tools.faults import at_row, years_said
 from tools.number_faults import NumberFaults
 from tools.sheets import Row, joined
+from tools.shifts import Shifts
 from tools.vocabulary import listed, nearest
 from tools.word_faults import WordFaults
 
 
-class Explainer(WordFaults, NumberFaults):
+class Explainer(WordFaults, NumberFaults, Shifts):
     """Explains refusals of rows."""
 
     def explain(self, row, reply):
@@ -17,9 +18,9 @@ class Explainer(WordFaults, NumberFaults):
         if reply.rule == 4:
             return self.shape(row)
         if reply.rule == 5:
-            return self.word(row, reply.column)
+            return self.shifted(row) or self.word(row, reply.column)
         if reply.rule == 6:
-            return self.number(row, reply.column)
+            return self.shifted(row) or self.number(row, reply.column)
         if reply.rule == 7:
             return self.disorder(row), None if row.field("kind") == "span" else self.blank_figure(row)
         if reply.rule == 8:

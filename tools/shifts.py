@@ -1,0 +1,52 @@
+"""Explains a row whose fields stand one column too far left or right, since a comma is missing or there is one more."""
+from tools import vocabulary
+from tools.asking import Asking
+from tools.faults import at_row, shown
+from tools.sheets import COLUMN_AT, Row, joined
+
+
+def word_of_a_column(kind):
+    """A column that holds a word of the vocabulary in a row of a kind, and these words; or None."""
+    units = ("unit", vocabulary.units())
+    return {
+        "activity": units, "factor": units,
+        "line": ("value", vocabulary.equations()), "bind": ("value", vocabulary.words()["forms"]),
+    }.get(kind)
+
+
+class Shifts(Asking):
+    """Explanations of shifted rows."""
+
+    def shifted(self, row):
+        """The fault and the row as it is meant, where the program takes it so, or None."""
+        column = word_of_a_column(row.field("kind"))
+        if len(row.fields) != len(COLUMN_AT) or not column:
+            return None
+        due, words = COLUMN_AT[column[0]], column[1]
+        if row.fields[due] in words:
+            return None
+        if row.fields[due - 1] in words and not row.fields[-1]:
+            return self.first_of(row, self.moved_right(row, due - 1), "left; write one more comma in front of it")
+        if row.fields[due + 1] in words:
+            return self.first_of(row, self.moved_left(row, due), "right; take out a comma in front of it")
+        return None
+
+    def first_of(self, row, candidates, where):
+        for text, fields in candidates:
+            meant = Row(row.sheet, row.line, joined(fields))
+            if self.takes(meant, None):
+                return at_row(row, f"the fields from {shown(text)} on stand one column too far {where}"), meant
+        return None
+
+    @staticmethod
+    def moved_right(row, last):
+        """The row with an empty field more in front of a field, each up to the last that may be meant; and that field."""
+        for at in range(last, 1, -1):
+            yield row.fields[at], row.fields[:at] + [""] + row.fields[at:-1]
+
+    @staticmethod
+    def moved_left(row, last):
+        """The row without one of its empty fields, each up to the last that may be meant; and what stands behind it."""
+        for at in range(last, 1, -1):
+            if not row.fields[at]:
+                yield next(filter(None, row.fields[at:])), row.fields[:at] + row.fields[at + 1:] + [""]
