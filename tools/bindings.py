@@ -81,7 +81,9 @@ def without_line(line, parameter, bound, after):
     elif after.in_later_file("line", line):
         fault = at_row(own[0], after.in_later_file("line", line) + more, "subject")
     else:
-        fault = at_row(own[0], f"there is no line {line}{more}{nearest_line(near, after)}", "subject")
+        there = after.book.bindings.get(near[0], {}).get(parameter) if near else None
+        bound_there = f", whose {parameter} is bound at {there.place}" if there else ""
+        fault = at_row(own[0], f"there is no line {line}{more}{nearest_line(near, after)}{bound_there}", "subject")
     after.refused.add(own)
     return fault, after.without(own)
 
