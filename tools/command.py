@@ -127,8 +127,6 @@ def main(words):
     except BrokenPipeError:
         os.dup2(os.open(os.devnull, os.O_WRONLY), sys.stdout.fileno())
         return 2
-    except KeyboardInterrupt:
-        return 130
     except (FolderFault, ProgramFailed) as error:
         print(f"./workbook: {error}", file=sys.stderr)
     except OSError as error:

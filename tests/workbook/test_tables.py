@@ -1,8 +1,11 @@
 """Tables where files are refused, and what stands where no file is."""
+import os
 import pathlib
+import signal
 import subprocess
 import sys
 import tempfile
+import time
 import unittest
 
 from tests.workbook.running import TOP, workbook
@@ -123,6 +126,18 @@ class Programs(unittest.TestCase):
 
     def test_that_ends(self):
         self.assertEqual(self.said_with("exit 3"), "./workbook: the program ended with status 3 before it had answered\n")
+
+    def test_that_is_interrupted(self):
+        with tempfile.TemporaryDirectory() as room:
+            program = pathlib.Path(room) / "program"
+            program.write_text(f"#!/bin/sh\ntouch {room}/started\nexec sleep 60\n")
+            program.chmod(0o755)
+            run = subprocess.Popen([TOP / "workbook", "check", PLANTS, "--program", program], cwd=TOP, text=True,
+                                   stdout=subprocess.PIPE, stderr=subprocess.PIPE, start_new_session=True)
+            while run.poll() is None and not (pathlib.Path(room) / "started").exists():
+                time.sleep(0.01)
+            os.killpg(run.pid, signal.SIGINT)
+            self.assertEqual((*run.communicate(timeout=60), run.returncode), ("", "", 130))
 
     def test_that_answers_something_else(self):
         self.assertEqual(self.said_with("read line; echo hello; cat > /dev/null"), "./workbook: the program answered a submission with: hello\n")
