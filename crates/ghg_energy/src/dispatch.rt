@@ -17,22 +17,31 @@ pub fn evaluate(id: EqId, ticket: Ticket, inputs: &[Input]) -> Result<Value, Ove
     requires count { length inputs.now ≡ length (parameters id) }
     ensures { result ≡ equation_value id inputs.now }
 {
-    match (id, inputs) {
-        (EqId::Q10, [fc, ef]) => q10(ticket, fc, ef),
-        (EqId::Q11, [fc, ef]) => q11(ticket, fc, ef),
-        (EqId::Q12, [fc, ef]) => q12(ticket, fc, ef),
-        (EqId::Q13, [fm, ncv]) => q13(ticket, fm, ncv),
-        (EqId::Q14, [p, ef]) => q14(ticket, p, ef),
-        (EqId::Q15, [a, ef]) => q15(ticket, a, ef),
-        (EqId::Q16, [a, ef]) => q16(ticket, a, ef),
-        (EqId::Q17, [a, ef]) => q17(ticket, a, ef),
-        (EqId::Q20, [pr, im, ex, ib, sc]) => q20(ticket, pr, im, ex, ib, sc),
-        (EqId::Q21, [im, ex, ib, sc]) => q21(ticket, im, ex, ib, sc),
-        (EqId::Q22, [pr, im, ex, ib, sc]) => q22(ticket, pr, im, ex, ib, sc),
-        (EqId::Q23, [im, ex, ib, sc]) => q23(ticket, im, ex, ib, sc),
-        (EqId::Q24, [a, cc]) => q24(ticket, a, cc),
-        (EqId::Q25, [ac, conv, cc, xc, cof]) => q25(ticket, ac, conv, cc, xc, cof),
-        (EqId::Q26, [ac, cc, xc, cof]) => q26(ticket, ac, cc, xc, cof),
+    match inputs {
+        [a, b] => match id {
+            EqId::Q10 => q10(ticket, a, b),
+            EqId::Q11 => q11(ticket, a, b),
+            EqId::Q12 => q12(ticket, a, b),
+            EqId::Q13 => q13(ticket, a, b),
+            EqId::Q14 => q14(ticket, a, b),
+            EqId::Q15 => q15(ticket, a, b),
+            EqId::Q16 => q16(ticket, a, b),
+            EqId::Q17 => q17(ticket, a, b),
+            EqId::Q24 => q24(ticket, a, b),
+            _ => unreachable!(),
+        },
+        [a, b, c, d] => match id {
+            EqId::Q21 => q21(ticket, a, b, c, d),
+            EqId::Q23 => q23(ticket, a, b, c, d),
+            EqId::Q26 => q26(ticket, a, b, c, d),
+            _ => unreachable!(),
+        },
+        [a, b, c, d, e] => match id {
+            EqId::Q20 => q20(ticket, a, b, c, d, e),
+            EqId::Q22 => q22(ticket, a, b, c, d, e),
+            EqId::Q25 => q25(ticket, a, b, c, d, e),
+            _ => unreachable!(),
+        },
         _ => unreachable!(),
     }
 }

@@ -18,23 +18,38 @@ pub fn evaluate(id: EqId, ticket: Ticket, inputs: &[Input]) -> Result<Value, Ove
     requires count { length inputs.now ≡ length (parameters id) }
     ensures { result ≡ equation_value id inputs.now }
 {
-    match (id, inputs) {
-        (EqId::Q30, [mc, ccl]) => q30(ticket, mc, ccl),
-        (EqId::Q31, [cl, im, ex, ef]) => q31(ticket, cl, im, ex, ef),
-        (EqId::Q32, [mcl, ef, cf]) => q32(ticket, mcl, ef, cf),
-        (EqId::Q33, [ef, ml, cf, ch]) => q33(ticket, ef, ml, cf, ch),
-        (EqId::Q34, [mg, ef, cr]) => q34(ticket, mg, ef, cr),
-        (EqId::Q35, [m, efls, efd]) => q35(ticket, m, efls, efd),
-        (EqId::Q36, [mls, efls, md, efd]) => q36(ticket, mls, efls, md, efd),
-        (EqId::Q37, [ap, fr, ccf, cof, r]) => q37(ticket, ap, fr, ccf, cof, r),
-        (EqId::Q38, [ef, p]) => q38(ticket, ef, p),
-        (EqId::Q39, [ef, p, df, asuf]) => q39(ticket, ef, p, df, asuf),
-        (EqId::Q40, [bof, efb, eaf, efe, ohf, efo]) => q40(ticket, bof, efb, eaf, efe, ohf, efo),
-        (EqId::Q41, [efp, mpp, efs, mps]) => q41(ticket, efp, mpp, efs, mps),
-        (EqId::Q42, [ef, mp]) => q42(ticket, ef, mp),
-        (EqId::Q44, [s, aem, mp]) => q44(ticket, s, aem, mp),
-        (EqId::Q45, [cf, f]) => q45(ticket, cf, f),
-        (EqId::Q46, [lc, cc, odu]) => q46(ticket, lc, cc, odu),
+    match inputs {
+        [a, b] => match id {
+            EqId::Q30 => q30(ticket, a, b),
+            EqId::Q38 => q38(ticket, a, b),
+            EqId::Q42 => q42(ticket, a, b),
+            EqId::Q45 => q45(ticket, a, b),
+            _ => unreachable!(),
+        },
+        [a, b, c] => match id {
+            EqId::Q32 => q32(ticket, a, b, c),
+            EqId::Q34 => q34(ticket, a, b, c),
+            EqId::Q35 => q35(ticket, a, b, c),
+            EqId::Q44 => q44(ticket, a, b, c),
+            EqId::Q46 => q46(ticket, a, b, c),
+            _ => unreachable!(),
+        },
+        [a, b, c, d] => match id {
+            EqId::Q31 => q31(ticket, a, b, c, d),
+            EqId::Q33 => q33(ticket, a, b, c, d),
+            EqId::Q36 => q36(ticket, a, b, c, d),
+            EqId::Q39 => q39(ticket, a, b, c, d),
+            EqId::Q41 => q41(ticket, a, b, c, d),
+            _ => unreachable!(),
+        },
+        [a, b, c, d, e] => match id {
+            EqId::Q37 => q37(ticket, a, b, c, d, e),
+            _ => unreachable!(),
+        },
+        [a, b, c, d, e, f] => match id {
+            EqId::Q40 => q40(ticket, a, b, c, d, e, f),
+            _ => unreachable!(),
+        },
         _ => unreachable!(),
     }
 }

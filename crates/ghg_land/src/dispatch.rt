@@ -17,19 +17,34 @@ pub fn evaluate(id: EqId, ticket: Ticket, inputs: &[Input]) -> Result<Value, Ove
     requires count { length inputs.now ≡ length (parameters id) }
     ensures { result ≡ equation_value id inputs.now }
 {
-    match (id, inputs) {
-        (EqId::Q78, [a, gw, r, cf]) => q78(ticket, a, gw, r, cf),
-        (EqId::Q79, [a, iv, bcef, r, cf]) => q79(ticket, a, iv, bcef, r, cf),
-        (EqId::Q80, [h, bcef, r, cf]) => q80(ticket, h, bcef, r, cf),
-        (EqId::Q81, [ft, bcef, r, fp, d, cf]) => q81(ticket, ft, bcef, r, fp, d, cf),
-        (EqId::Q82, [a, bw, r, cf, fd]) => q82(ticket, a, bw, r, cf, fd),
-        (EqId::Q83, [g, l]) => q83(ticket, g, l),
-        (EqId::Q84, [c]) => q84(ticket, c),
-        (EqId::Q85, [sref, flu, fmg, fi, a]) => q85(ticket, sref, flu, fmg, fi, a),
-        (EqId::Q86, [s0, st]) => q86(ticket, s0, st),
-        (EqId::Q87, [a, ef]) => q87(ticket, a, ef),
-        (EqId::Q88, [a, mb, cb, gef]) => q88(ticket, a, mb, cb, gef),
-        (EqId::Q89, [a, mb, cb, gef]) => q89(ticket, a, mb, cb, gef),
+    match inputs {
+        [a] => match id {
+            EqId::Q84 => q84(ticket, a),
+            _ => unreachable!(),
+        },
+        [a, b] => match id {
+            EqId::Q83 => q83(ticket, a, b),
+            EqId::Q86 => q86(ticket, a, b),
+            EqId::Q87 => q87(ticket, a, b),
+            _ => unreachable!(),
+        },
+        [a, b, c, d] => match id {
+            EqId::Q78 => q78(ticket, a, b, c, d),
+            EqId::Q80 => q80(ticket, a, b, c, d),
+            EqId::Q88 => q88(ticket, a, b, c, d),
+            EqId::Q89 => q89(ticket, a, b, c, d),
+            _ => unreachable!(),
+        },
+        [a, b, c, d, e] => match id {
+            EqId::Q79 => q79(ticket, a, b, c, d, e),
+            EqId::Q82 => q82(ticket, a, b, c, d, e),
+            EqId::Q85 => q85(ticket, a, b, c, d, e),
+            _ => unreachable!(),
+        },
+        [a, b, c, d, e, f] => match id {
+            EqId::Q81 => q81(ticket, a, b, c, d, e, f),
+            _ => unreachable!(),
+        },
         _ => unreachable!(),
     }
 }

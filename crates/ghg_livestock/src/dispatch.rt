@@ -16,17 +16,29 @@ pub fn evaluate(id: EqId, ticket: Ticket, inputs: &[Input]) -> Result<Value, Ove
     requires count { length inputs.now ≡ length (parameters id) }
     ensures { result ≡ equation_value id inputs.now }
 {
-    match (id, inputs) {
-        (EqId::Q55, [ef, n]) => q55(ticket, ef, n),
-        (EqId::Q56, [ge, ym]) => q56(ticket, ge, ym),
-        (EqId::Q57, [mcf, ms]) => q57(ticket, mcf, ms),
-        (EqId::Q58, [vs, bo, sm]) => q58(ticket, vs, bo, sm),
-        (EqId::Q59, [n, nex, ms, ef3]) => q59(ticket, n, nex, ms, ef3),
-        (EqId::Q60, [n, nex, ms, fr]) => q60(ticket, n, nex, ms, fr),
-        (EqId::Q61, [nv, ef]) => q61(ticket, nv, ef),
-        (EqId::Q62, [nr, tam]) => q62(ticket, nr, tam),
-        (EqId::Q63, [n, nex, ms, fl, nb]) => q63(ticket, n, nex, ms, fl, nb),
-        (EqId::Q64, [n, nex, ms]) => q64(ticket, n, nex, ms),
+    match inputs {
+        [a, b] => match id {
+            EqId::Q55 => q55(ticket, a, b),
+            EqId::Q56 => q56(ticket, a, b),
+            EqId::Q57 => q57(ticket, a, b),
+            EqId::Q61 => q61(ticket, a, b),
+            EqId::Q62 => q62(ticket, a, b),
+            _ => unreachable!(),
+        },
+        [a, b, c] => match id {
+            EqId::Q58 => q58(ticket, a, b, c),
+            EqId::Q64 => q64(ticket, a, b, c),
+            _ => unreachable!(),
+        },
+        [a, b, c, d] => match id {
+            EqId::Q59 => q59(ticket, a, b, c, d),
+            EqId::Q60 => q60(ticket, a, b, c, d),
+            _ => unreachable!(),
+        },
+        [a, b, c, d, e] => match id {
+            EqId::Q63 => q63(ticket, a, b, c, d, e),
+            _ => unreachable!(),
+        },
         _ => unreachable!(),
     }
 }

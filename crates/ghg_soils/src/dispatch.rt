@@ -17,20 +17,36 @@ pub fn evaluate(id: EqId, ticket: Ticket, inputs: &[Input]) -> Result<Value, Ove
     requires count { length inputs.now ≡ length (parameters id) }
     ensures { result ≡ equation_value id inputs.now }
 {
-    match (id, inputs) {
-        (EqId::Q67, [fam, fsew, fcomp, fooa]) => q67(ticket, fam, fsew, fcomp, fooa),
-        (EqId::Q68, [na, ff, fu, fc]) => q68(ticket, na, ff, fu, fc),
-        (EqId::Q69, [fsn, fon, fcr, fsom, ef1]) => q69(ticket, fsn, fon, fcr, fsom, ef1),
-        (EqId::Q70, [a, ef2]) => q70(ticket, a, ef2),
-        (EqId::Q71, [fp, ef3]) => q71(ticket, fp, ef3),
-        (EqId::Q72, [fsn, fg, fon, fp, fm, ef4]) => q72(ticket, fsn, fg, fon, fp, fm, ef4),
-        (EqId::Q73, [fsn, fon, fp, fcr, fsom, fl, ef5]) => q73(
-            ticket, fsn, fon, fp, fcr, fsom, fl, ef5,
-        ),
-        (EqId::Q74, [ml, efl, md, efd]) => q74(ticket, ml, efl, md, efd),
-        (EqId::Q75, [m, ef]) => q75(ticket, m, ef),
-        (EqId::Q76, [efc, sfw, sfp, sfo, sfs]) => q76(ticket, efc, sfw, sfp, sfo, sfs),
-        (EqId::Q77, [ef, t, a]) => q77(ticket, ef, t, a),
+    match inputs {
+        [a, b] => match id {
+            EqId::Q70 => q70(ticket, a, b),
+            EqId::Q71 => q71(ticket, a, b),
+            EqId::Q75 => q75(ticket, a, b),
+            _ => unreachable!(),
+        },
+        [a, b, c] => match id {
+            EqId::Q77 => q77(ticket, a, b, c),
+            _ => unreachable!(),
+        },
+        [a, b, c, d] => match id {
+            EqId::Q67 => q67(ticket, a, b, c, d),
+            EqId::Q68 => q68(ticket, a, b, c, d),
+            EqId::Q74 => q74(ticket, a, b, c, d),
+            _ => unreachable!(),
+        },
+        [a, b, c, d, e] => match id {
+            EqId::Q69 => q69(ticket, a, b, c, d, e),
+            EqId::Q76 => q76(ticket, a, b, c, d, e),
+            _ => unreachable!(),
+        },
+        [a, b, c, d, e, f] => match id {
+            EqId::Q72 => q72(ticket, a, b, c, d, e, f),
+            _ => unreachable!(),
+        },
+        [a, b, c, d, e, f, g] => match id {
+            EqId::Q73 => q73(ticket, a, b, c, d, e, f, g),
+            _ => unreachable!(),
+        },
         _ => unreachable!(),
     }
 }

@@ -17,21 +17,36 @@ pub fn evaluate(id: EqId, ticket: Ticket, inputs: &[Input]) -> Result<Value, Ove
     requires count { length inputs.now ≡ length (parameters id) }
     ensures { result ≡ equation_value id inputs.now }
 {
-    match (id, inputs) {
-        (EqId::Q90, [w, doc, docf, mcf]) => q90(ticket, w, doc, docf, mcf),
-        (EqId::Q91, [dep, prev, d]) => q91(ticket, dep, prev, d),
-        (EqId::Q92, [prev, d]) => q92(ticket, prev, d),
-        (EqId::Q93, [dec, f]) => q93(ticket, dec, f),
-        (EqId::Q94, [generated, r, ox]) => q94(ticket, generated, r, ox),
-        (EqId::Q95, [m, ef, r]) => q95(ticket, m, ef, r),
-        (EqId::Q96, [m, ef]) => q96(ticket, m, ef),
-        (EqId::Q97, [sw, dm, cf, fcf, of]) => q97(ticket, sw, dm, cf, fcf, of),
-        (EqId::Q98, [bo, mcf]) => q98(ticket, bo, mcf),
-        (EqId::Q99, [p, bod, i]) => q99(ticket, p, bod, i),
-        (EqId::Q100, [x, tow, s, r]) => q100(ticket, x, tow, s, r),
-        (EqId::Q101, [u, t, ef]) => q101(ticket, u, t, ef),
-        (EqId::Q102, [p, pr, fnpr, fnon, find, ns]) => q102(ticket, p, pr, fnpr, fnon, find, ns),
-        (EqId::Q103, [n, ef]) => q103(ticket, n, ef),
+    match inputs {
+        [a, b] => match id {
+            EqId::Q92 => q92(ticket, a, b),
+            EqId::Q93 => q93(ticket, a, b),
+            EqId::Q96 => q96(ticket, a, b),
+            EqId::Q98 => q98(ticket, a, b),
+            EqId::Q103 => q103(ticket, a, b),
+            _ => unreachable!(),
+        },
+        [a, b, c] => match id {
+            EqId::Q91 => q91(ticket, a, b, c),
+            EqId::Q94 => q94(ticket, a, b, c),
+            EqId::Q95 => q95(ticket, a, b, c),
+            EqId::Q99 => q99(ticket, a, b, c),
+            EqId::Q101 => q101(ticket, a, b, c),
+            _ => unreachable!(),
+        },
+        [a, b, c, d] => match id {
+            EqId::Q90 => q90(ticket, a, b, c, d),
+            EqId::Q100 => q100(ticket, a, b, c, d),
+            _ => unreachable!(),
+        },
+        [a, b, c, d, e] => match id {
+            EqId::Q97 => q97(ticket, a, b, c, d, e),
+            _ => unreachable!(),
+        },
+        [a, b, c, d, e, f] => match id {
+            EqId::Q102 => q102(ticket, a, b, c, d, e, f),
+            _ => unreachable!(),
+        },
         _ => unreachable!(),
     }
 }
