@@ -1,7 +1,9 @@
 //! The limits of a workbook.
 
-/// The most lines.
-pub const MOST_LINES: usize = 5_000;
+use ghg_cell::MOST_PARTS;
+
+/// The most lines: as many as a total adds.
+pub const MOST_LINES: usize = MOST_PARTS;
 
 /// The most records.
 pub const MOST_RECORDS: usize = 500_000;
