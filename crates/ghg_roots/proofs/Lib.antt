@@ -1,3 +1,4 @@
 pub mod Powers
 pub mod Rounded
 pub mod Ends
+pub mod Found

@@ -1,7 +1,7 @@
 -- Decay factors at the scale of intervals, between two whole numbers of parts of a unit.
 -- Source: 2006 IPCC Guidelines, Volume 5, Chapter 3. A year leaves the share e^-k of decaying waste, with
 -- k = ln 2 / half-life. So two times the share to the power of the half-life is one.
-use Rattle.std.specs.Prelude.{ℕ, zero, suc, ℤ, pos, ◌+ℤ◌, ◌-ℤ◌, ◌*ℤ◌, ◌≤ℤ◌, ◌<ℤ◌}
+use Rattle.std.specs.Prelude.{ℕ, zero, suc, ◌+◌, Bool, if◌then◌else◌, ℤ, pos, ◌+ℤ◌, ◌-ℤ◌, ◌*ℤ◌, ◌≤ℤ◌, ◌<ℤ◌, int_le, int_lt}
 use Rattle.std.specs.Int.{int_pow}
 use Rattle.ghg_interval.specs.Bounds.{Bounds, unit_scale}
 use Rattle.ghg_interval.specs.Rounding.{floor_by, ceil_by}
@@ -41,3 +41,29 @@ pub record IsDecayBracket (parts exponent : ℕ) (b : Bounds) : Type 0 where
 pub record HoldsDecay (parts exponent : ℕ) (b : Bounds) : Type 0 where
   pub lo : (pos parts *ℤ int_pow b.lo exponent) ≤ℤ int_pow (pos unit_scale) exponent
   pub hi : int_pow (pos unit_scale) exponent ≤ℤ (pos parts *ℤ int_pow b.hi exponent)
+
+-- ---- the bracket itself
+
+-- the last number up to one that passes a test, and zero where none does
+unfoldable pub last_passing : (ℕ → Bool) → ℕ → ℕ
+last_passing passes zero = zero
+last_passing passes (suc n) = if passes (suc n) then suc n else last_passing passes n
+
+-- so many powers of the number are within a unit, though each product is rounded up
+abbrev pub is_within : (parts exponent : ℕ) → ℕ → Bool
+is_within parts exponent x = int_le (parts_up parts exponent (pos x)) (pos unit_scale)
+
+-- so many powers of it are below a unit, with each product rounded down
+abbrev pub is_below : (parts exponent : ℕ) → ℕ → Bool
+is_below parts exponent x = int_lt (parts_down parts exponent (pos x)) (pos unit_scale)
+
+-- from the last number that is within to the one after the last that is below
+unfoldable pub bracket_of : (parts exponent : ℕ) → Bounds
+bracket_of parts exponent = record {
+  lo = pos (last_passing (is_within parts exponent) unit_scale);
+  hi = pos (last_passing (is_below parts exponent) unit_scale + 1);
+}
+
+-- the bracket of the yearly decay factor for a half-life in years: its power by the half-life is one half
+abbrev pub decay_bounds : ℕ → Bounds
+decay_bounds half_life = bracket_of 2 half_life

@@ -5,7 +5,7 @@
 
 ghost use Rattle.std.specs.Prelude.{◌≡◌, ◌+◌, ◌-◌, ◌<◌, ◌≤◌, ◌+ℤ◌, ◌≤ℤ◌, ◌<ℤ◌, pos};
 ghost use Rattle.ghg_interval.specs.Bounds.{Bounds, between, unit_scale};
-ghost use Rattle.ghg_roots.specs.Decay.{HoldsDecay, IsDecayBracket, most_parts, parts_down, parts_up};
+ghost use Rattle.ghg_roots.specs.Decay.{HoldsDecay, IsDecayBracket, bracket_of, decay_bounds, most_parts, parts_down, parts_up};
 ghost use Rattle.ghg_roots.specs.Roots.{IsRootBracket};
 
 use ghg_interval::{Interval, SCALE};
@@ -31,6 +31,7 @@ pub fn sqrt_bracket(n: u128) -> (u128, u128)
 /// half-life).
 pub fn decay_bracket(half_life: u32) -> Interval
     requires { (1 ≤ half_life) × (half_life ≤ 60) }
+    ensures value { result ≡ decay_bounds half_life }
     ensures bracket { IsDecayBracket 2 half_life result }
     ensures only { (b : Bounds) → IsDecayBracket 2 half_life b → b ≡ result }
     ensures holds { HoldsDecay 2 half_life result }
@@ -44,6 +45,7 @@ pub fn decay_bracket(half_life: u32) -> Interval
 fn bracket(parts: u128, exponent: u32) -> Interval
     requires some_parts { (2 ≤ parts) × (parts ≤ most_parts) }
     requires positive { 1 ≤ exponent }
+    ensures value { result ≡ bracket_of parts exponent }
     ensures bracket { IsDecayBracket parts exponent result }
     ensures only { (b : Bounds) → IsDecayBracket parts exponent b → b ≡ result }
     ensures holds { HoldsDecay parts exponent result }
