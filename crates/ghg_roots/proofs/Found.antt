@@ -2,8 +2,8 @@
 use Rattle.std.proofs.Common.{◌≡◌, ℕ, zero, suc, ◌+◌, ◌<◌, ◌≤◌, Bool, true, false, if◌then◌else◌, inl, inr, eq-or-lt_of_le, refl, subst, arith, ℤ, pos, ◌-ℤ◌, ◌≤ℤ◌, ◌<ℤ◌, int_le, int_lt}
 use Rattle.std.proofs.lemmas.Int.{ints}
 use Rattle.ghg_interval.specs.Bounds.{Bounds, unit_scale}
-use Rattle.ghg_roots.specs.Decay.{IsDecayBracket, bracket_of, is_below, is_within, last_passing, parts_down}
-use Rattle.ghg_roots.proofs.Ends.{down_at_unit, down_at_zero, one_bracket, up_at_unit, up_at_zero}
+use Rattle.ghg_roots.specs.Decay.{IsDecayBracket, bracket_of, decay_bounds, is_below, is_within, last_passing, parts_down}
+use Rattle.ghg_roots.proofs.Ends.{bracket_ordered, down_at_unit, down_at_zero, one_bracket, up_at_unit, up_at_zero}
 
 -- a number up to n passes a test, and the next does not
 record IsLast (passes : ℕ → Bool) (n last : ℕ) : Type 0 where
@@ -103,6 +103,12 @@ module _ (parts exponent : ℕ) (some_parts : 2 ≤ parts) (positive : 1 ≤ exp
     hi_reaches = false_le _ _ high_next;
   }
 
+  pub found_ordered : (bracket_of parts exponent).lo ≤ℤ (bracket_of parts exponent).hi
+  found_ordered = bracket_ordered parts exponent positive (bracket_of parts exponent) bracket_found
+
   -- and no other is
   pub bracket_is : (b : Bounds) → IsDecayBracket parts exponent b → b ≡ bracket_of parts exponent
   bracket_is b is = one_bracket parts exponent (bracket_of parts exponent) b positive bracket_found is
+
+pub decay_ordered : (half_life : ℕ) → 1 ≤ half_life → (decay_bounds half_life).lo ≤ℤ (decay_bounds half_life).hi
+decay_ordered half_life positive = found_ordered 2 half_life (omega arith) positive
