@@ -75,6 +75,7 @@ named_line (key.Activity other year) name e = absurd (cc)
 named_line (key.Factor other start) name e = absurd (cc)
 named_line (key.Line other) name e = ap key.Line (some_is e)
 named_line (key.Bind other parameter) name e = absurd (cc)
+named_line (key.Uncert other) name e = absurd (cc)
 
 is_line : (name : Name) (r : Record) → IsRecord (key.Line name) r → is_some (as_line (Some r)) ≡ true
 is_line name (entry.Span s) h = absurd h
@@ -82,6 +83,7 @@ is_line name (entry.Activity f) h = absurd h
 is_line name (entry.Factor f) h = absurd h
 is_line name (entry.Line c e) h = refl
 is_line name (entry.Bind b) h = absurd h
+is_line name (entry.Uncert a f) h = absurd h
 
 line_there : (m : Data) → AreRecords m → (name : Name) → IsListed name (line_names m) → is_some (line m name) ≡ true
 line_there m records name h =

@@ -17,16 +17,18 @@ use Rattle.ghg_units.specs.declared.row.Binding.{Binding}
 use Rattle.ghg_units.specs.declared.row.Binding.TheVariants as bound
 use Rattle.ghg_units.specs.declared.row.Row.{Row}
 use Rattle.ghg_units.specs.declared.rule.Rule.{Rule}
-use Rattle.ghg_units.specs.WellFormed.{IsWellFormed}
+use Rattle.ghg_units.specs.Parameter.{uncertainty_word}
+use Rattle.ghg_units.specs.WellFormed.{IsParameterName, IsWellFormed}
 use Rattle.ghg_definitions.specs.declared.place.Place.{Place}
 use Rattle.ghg_definitions.specs.declared.record.Record.{Record}
+use Rattle.ghg_definitions.specs.declared.record.Record.TheVariants as entry
 use Rattle.ghg_definitions.specs.declared.record.RecordKey.{RecordKey}
 use Rattle.ghg_definitions.specs.declared.record.RecordKey.TheVariants as key
 use Rattle.ghg_definitions.specs.Data.{Data, Name, as_binding, binding, first_name, key_cmp, line, line_names, name_cmp}
 use Rattle.ghg_definitions.specs.Laws.{NamesRing, RingsAreNamed}
 use Rattle.ghg_definitions.specs.Rings.{IsAcyclic, IsLeastRing, IsRing, Leads, Takes, TakesBinding, leads_within, ring_line, taken, taken_by}
 use Rattle.ghg_definitions.specs.Rules.{after_rows, arranged, binds_parameter, dim_of_output, is_bound, is_line_of, is_sound, least_place, places, places_in, planned, unsound_place, without_ring}
-use Rattle.ghg_definitions.specs.Sound.{IsWorkbook}
+use Rattle.ghg_definitions.specs.Sound.{IsRecord, IsWorkbook}
 use Rattle.ghg_definitions.proofs.Alike.{first_so, second_so}
 use Rattle.ghg_definitions.proofs.Chains.{leading, turned, within}
 use Rattle.ghg_definitions.proofs.Decided.{decide_name}
@@ -104,6 +106,33 @@ places_sound m none p h = by (is_sound m p) refl
     by true e = refl
     by false e = absurd (unsound_listed m none p (listed_filter (λ p. not (is_sound m p)) p (places m) h (ap not e)))
 
+-- a binding's parameter is not the word of uncertainty records
+bound_parameter : (k parameter : Name) (r : Record) → IsRecord (key.Bind k parameter) r → IsParameterName parameter
+bound_parameter k parameter (entry.Span s) h = absurd h
+bound_parameter k parameter (entry.Activity f) h = absurd h
+bound_parameter k parameter (entry.Factor f) h = absurd h
+bound_parameter k parameter (entry.Line c e) h = absurd h
+bound_parameter k parameter (entry.Bind b) h = h.1
+bound_parameter k parameter (entry.Uncert a f) h = absurd h
+
+other_word : (parameter : Name) → IsParameterName parameter → bytes_eq parameter uncertainty_word ≡ false
+other_word parameter h = by (bytes_eq parameter uncertainty_word) refl
+  where
+    none : IsParameterName uncertainty_word → ⊥
+    none e = cc
+
+    by : (b : Bool) → bytes_eq parameter uncertainty_word ≡ b → b ≡ false
+    by true e = absurd (none (subst IsParameterName ((bytes_decides parameter uncertainty_word).0 e) h))
+    by false e = refl
+
+-- each binding of a workbook is that of a parameter of its line's equation
+binding_sound : (m : Data) → IsWorkbook m → (k parameter : Name) (r : Record) → get m (key.Bind k parameter) ≡ Some r → option_map_or (λ e. binds_parameter m e parameter (binding m k parameter)) (line m k) false ≡ true
+unfolding is_sound
+binding_sound m is k parameter r e =
+    subst (λ b. option_map_or (λ e. b || binds_parameter m e parameter (binding m k parameter)) (line m k) false ≡ true)
+    (other_word parameter (bound_parameter k parameter r (is.records (key.Bind k parameter) r e)))
+    (places_sound m is.bindings (record { line = k; parameter = parameter }) (bound_place m k parameter r e))
+
 -- the parameter is one of the equation's
 found_parameter : (m : Data) (e : EqId) (parameter : Name) (b : Option Binding) → binds_parameter m e parameter b ≡ true → (q : Quantity) × IsListed q (parameters e) × (q.name ≡ parameter)
 found_parameter m e parameter b h = by (parameters e) h
@@ -125,12 +154,8 @@ bound_record None name h = absurd h
 bound_record (Some r) name h = (r, refl)
 
 pub taken_of : (m : Data) → IsWorkbook m → (k name : Name) → Takes m k name → IsListed name (taken m k)
-unfolding is_sound
-taken_of m is k name t = by (line m k) (places_sound m is.bindings place (bound_place m k t.parameter found.0 found.1))
+taken_of m is k name t = by (line m k) (binding_sound m is k t.parameter found.0 found.1)
   where
-    place : Place
-    place = record { line = k; parameter = t.parameter }
-
     found : (r : Record) × (get m (key.Bind k t.parameter) ≡ Some r)
     found = bound_record (get m (key.Bind k t.parameter)) name t.bound
 
@@ -170,12 +195,8 @@ bound_line m d (Some (bound.Decay other)) name h t = absurd t
 bound_line m d (Some (bound.Key notation)) name h t = absurd t
 
 pub taken_present : (m : Data) → IsWorkbook m → (k name : Name) → Takes m k name → is_some (line m name) ≡ true
-unfolding is_sound
-taken_present m is k name t = by (line m k) (places_sound m is.bindings place (bound_place m k t.parameter found.0 found.1))
+taken_present m is k name t = by (line m k) (binding_sound m is k t.parameter found.0 found.1)
   where
-    place : Place
-    place = record { line = k; parameter = t.parameter }
-
     found : (r : Record) × (get m (key.Bind k t.parameter) ≡ Some r)
     found = bound_record (get m (key.Bind k t.parameter)) name t.bound
 
