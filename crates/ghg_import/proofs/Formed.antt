@@ -11,6 +11,9 @@ use Rattle.ghg_interval.specs.Bounds.{AreBounded, Bounds, bound_limit}
 use Rattle.ghg_interval.specs.declared.Over.{Over}
 use Rattle.ghg_interval.specs.Operations.{is_bounded_by}
 use Rattle.ghg_units.specs.declared.decimal.Decimal.{Decimal}
+use Rattle.ghg_units.specs.declared.row.Amount.{Amount}
+use Rattle.ghg_units.specs.declared.row.Amount.TheVariants as amounts
+use Rattle.ghg_units.specs.declared.row.Figure.{Figure}
 use Rattle.ghg_units.specs.declared.row.Act.{Act}
 use Rattle.ghg_units.specs.declared.row.Act.TheVariants.{Enter, Correct, Withdraw}
 use Rattle.ghg_units.specs.declared.row.Binding.TheVariants as bound
@@ -19,11 +22,14 @@ use Rattle.ghg_units.specs.declared.row.RowForm.{RowForm}
 use Rattle.ghg_units.specs.declared.row.RowForm.TheVariants as forms
 use Rattle.ghg_units.specs.declared.rule.Rule.{Rule}
 use Rattle.ghg_units.specs.declared.unit.Unit.{Unit as UnitWord}
-use Rattle.ghg_units.specs.Decimal.{decimal_in, number_of}
+use Rattle.ghg_units.specs.Decimal.{decimal_in, number_in, number_of}
+use Rattle.ghg_units.specs.HalfLife.{half_life_in, is_half_life, longest_half_life}
 use Rattle.ghg_units.specs.Name.{factor_name_in, is_digit, is_name, is_potential_name, name_in, plain_name_in}
-use Rattle.ghg_units.specs.Parameter.{parameter_in}
-use Rattle.ghg_units.specs.Units.{converted, interval_in}
-use Rattle.ghg_units.specs.WellFormed.{IsAmountOf, IsBinding, IsFactorName, IsFigure, IsForm, IsLeaf, IsPlainName, IsSpan, IsSum, IsWellFormed, IsYear, withdraws}
+use Rattle.ghg_units.specs.Parameter.{is_parameter, parameter_in}
+use Rattle.ghg_units.specs.Uncertainty.{uncertainty_in}
+use Rattle.ghg_units.proofs.Percentages.{within_greatest}
+use Rattle.ghg_units.specs.Units.{converted, interval_in, is_of_half_lives, unit_in}
+use Rattle.ghg_units.specs.WellFormed.{IsActivityFigure, IsAmountOf, IsBinding, IsFactorFigure, IsFactorName, IsFigure, IsForm, IsHalfLife, IsLeaf, IsParameterName, IsPlainName, IsSpan, IsSum, IsUncertainty, IsWellFormed, IsYear, decays, withdraws}
 use Rattle.ghg_units.specs.Words.{act_in, key_in}
 use Rattle.ghg_units.specs.Year.{earliest_year, is_year, latest_year, year_in}
 use Rattle.ghg_import.specs.declared.fault.Fault.{Fault}
@@ -34,16 +40,16 @@ use Rattle.ghg_import.specs.declared.kind.Chosen.{Chosen}
 use Rattle.ghg_import.specs.declared.kind.Kind.{Kind}
 use Rattle.ghg_import.specs.declared.kind.Kind.TheVariants as kinds
 use Rattle.ghg_import.specs.declared.kind.Manner.{Manner}
-use Rattle.ghg_import.specs.declared.kind.Manner.TheVariants.{Withdraws, Keyed, Valued}
+use Rattle.ghg_import.specs.declared.kind.Manner.TheVariants.{Withdraws, InYears, Keyed, Valued}
 use Rattle.ghg_import.specs.declared.rows.Rows.{Rows}
 use Rattle.ghg_import.specs.Body.{records_of}
-use Rattle.ghg_import.specs.Content.{amount_in, bound_in, content_of, figure_in, form_in, form_of, known_in, line_in, span_in, unless_withdrawn, unless_wrong}
+use Rattle.ghg_import.specs.Content.{amount_in, bound_in, content_of, figure_in, form_in, form_of, known_in, line_in, span_in, uncertainties_in, unless_withdrawn, unless_wrong}
 use Rattle.ghg_import.specs.Fault.{◌>>=◌}
 use Rattle.ghg_import.specs.Forms.{binding_in, is_sum, leaf_in, names_in, parts_of, quantity_in, target_in}
 use Rattle.ghg_import.specs.Kinds.{binding_form_in, kind_in}
 use Rattle.ghg_import.specs.Reading.{Reading, content_in, is_header, no_header, numbered, reading_of, row_content, row_in, rows_from, then_rows, under_header}
 use Rattle.ghg_import.specs.Shape.{Texts, columns_in}
-use Rattle.ghg_import.specs.Table.{chosen_in, manner_of, wrong_column}
+use Rattle.ghg_import.specs.Table.{chosen_in, is_in_years, manner_of, wrong_column}
 use Rattle.ghg_import.specs.Told.{Tells}
 use Rattle.ghg_import.proofs.Sums.{sum_formed}
 
@@ -109,6 +115,9 @@ year text y e =
     let to = and_second (nat_le earliest_year (number_of text)) (nat_le (number_of text) latest_year) within in
     subst IsYear parts.1 (leb-true _ _ from, leb-true _ _ to)
 
+parameter : (text name : List ℕ) → parameter_in text ≡ Some name → IsParameterName name
+parameter text name e = let same : text ≡ name = (chosen (is_parameter text) text name e).1 in subst (λ x. parameter_in x ≡ Some name) same e
+
 leaf : (text : List ℕ) (c : Category) → leaf_in text ≡ Some c → IsLeaf c
 unfolding leaf_in
 leaf text c e = by (named_in text) e
@@ -163,14 +172,56 @@ known_formed u row =
       record { lo = (bound_bounded u value low row.low is l).lo; hi = (bound_bounded u value high row.high is h).hi },
     )))))
 
-amount_formed : (m : Manner) (u : UnitWord) (row : Texts) → IfSome (amount_in m u row) (IsAmountOf u)
-amount_formed Withdraws u row = known_formed u row
-amount_formed Keyed u row = mapped _ (key_in row.value) (IsAmountOf u) (λ key e. tt)
-amount_formed Valued u row = known_formed u row
+half_life_formed : (text : List ℕ) (years : ℕ) → half_life_in text ≡ Some years → IsHalfLife years
+half_life_formed text years e = by (number_in 2 text) e
+  where
+    by : (o : Option ℕ) → option_and_then (λ y. if is_half_life y then Some y else None) o ≡ Some years → IsHalfLife years
+    by None e = absurd (cc)
+    by (Some y) e =
+        let parts = chosen (is_half_life y) y years e in
+        let from = and_first (nat_le 1 y) (nat_le y longest_half_life) parts.0 in
+        let to = and_second (nat_le 1 y) (nat_le y longest_half_life) parts.0 in
+        subst IsHalfLife parts.1 (leb-true _ _ from, leb-true _ _ to)
 
-figure_formed : (c : Chosen) (row : Texts) → IfSome (figure_in c row) IsFigure
+abbrev says_years : Manner → Bool
+says_years Withdraws = false
+says_years InYears = true
+says_years Keyed = false
+says_years Valued = false
+
+-- an amount of a unit that decays exactly in this manner
+abbrev IsAmountIn : Manner → UnitWord → Amount → Type 0
+IsAmountIn m u a = IsAmountOf u a × (decays a ≡ says_years m)
+
+known_amount : (u : UnitWord) (row : Texts) → IfSome (known_in u row) (λ a. IsAmountOf u a × (decays a ≡ false))
+unfolding known_in
+known_amount u row = by (known_in u row) (known_formed u row) (known_stays)
+  where
+    by : (o : Option Amount) → IfSome o (IsAmountOf u) → IfSome o (λ a. decays a ≡ false) → IfSome o (λ a. IsAmountOf u a × (decays a ≡ false))
+    by None is stays = tt
+    by (Some a) is stays = (is, stays)
+
+    known_stays : IfSome (known_in u row) (λ a. decays a ≡ false)
+    known_stays =
+        let P : Amount → Type 0 = λ a. decays a ≡ false in
+        reads (quantity_in u row.value) _ P (λ value v.
+        reads (bound_in u value row.low) _ P (λ low l.
+        reads (bound_in u value row.high) _ P (λ high h.
+        passes (int_le low.scaled value.scaled && int_le value.scaled high.scaled) _ P (λ ordered. refl))))
+
+amount_formed : (m : Manner) (u : UnitWord) (row : Texts) → IfSome (amount_in m u row) (IsAmountIn m u)
+amount_formed Withdraws u row = known_amount u row
+amount_formed InYears u row = mapped amounts.HalfLife (half_life_in row.value) (IsAmountIn InYears u) (λ years e. (half_life_formed row.value years e, refl))
+amount_formed Keyed u row = mapped amounts.Key (key_in row.value) (IsAmountIn Keyed u) (λ key e. (tt, refl))
+amount_formed Valued u row = known_amount u row
+
+-- a figure in the row's unit
+abbrev IsFigureIn : Chosen → Figure → Type 0
+IsFigureIn c f = IsFigure f × (decays f.amount ≡ says_years c.manner) × (c.unit ≡ Some f.unit)
+
+figure_formed : (c : Chosen) (row : Texts) → IfSome (figure_in c row) (IsFigureIn c)
 unfolding figure_in
-figure_formed c row = reads c.unit _ IsFigure (λ u e. keeps (amount_in c.manner u row) (IsAmountOf u) (amount_formed c.manner u row) _ IsFigure (λ a good. good))
+figure_formed c row = reads c.unit _ (IsFigureIn c) (λ u e. keeps (amount_in c.manner u row) (IsAmountIn c.manner u) (amount_formed c.manner u row) _ (IsFigureIn c) (λ a good. (good.0, good.1, e)))
 
 span_formed : (row : Texts) → IfSome (span_in row) IsSpan
 unfolding span_in
@@ -200,74 +251,113 @@ target_formed targets.Factor text = mapped bound.Factor (plain_name_in text) IsB
 target_formed targets.Line text = mapped bound.Line (plain_name_in text) IsBinding (plain_name text)
 target_formed targets.Prev text = mapped bound.Prev (plain_name_in text) IsBinding (plain_name text)
 target_formed targets.Sum text = mapped bound.Sum (names_in text) IsBinding (sum_named text)
+target_formed targets.Decay text = mapped bound.Decay (plain_name_in text) IsBinding (plain_name text)
 target_formed targets.Key text = mapped bound.Key (key_in text) IsBinding (λ key e. tt)
 
 binding_formed : (row : Texts) → IfSome (binding_in row) IsBinding
 unfolding binding_in
 binding_formed row = reads (binding_form_in row.value) _ IsBinding (λ form e. target_formed form row.low)
 
+-- ---- uncertainties
+
+abbrev AreUncertainties : ℕ × ℕ → Type 0
+AreUncertainties u = IsUncertainty u.0 × IsUncertainty u.1
+
+uncertainties_formed : (row : Texts) → IfSome (uncertainties_in row) AreUncertainties
+unfolding uncertainties_in
+uncertainties_formed row =
+    reads (uncertainty_in row.value) _ AreUncertainties (λ activity a. reads (uncertainty_in row.low) _ AreUncertainties (λ factor f.
+    (within_greatest row.value activity a, within_greatest row.low factor f)))
+
 -- ---- forms
 
 abbrev is_away : Manner → Bool
 is_away Withdraws = true
+is_away InYears = false
 is_away Keyed = false
 is_away Valued = false
 
-away : (act : Act) (row : Texts) → is_away (manner_of act row) ≡ withdraws act
-away Withdraw row = refl
-away Enter row = by (is_some (key_in row.value))
-  where
-    by : (b : Bool) → is_away (if b then Keyed else Valued) ≡ false
-    by true = refl
-    by false = refl
-away Correct row = by (is_some (key_in row.value))
-  where
-    by : (b : Bool) → is_away (if b then Keyed else Valued) ≡ false
-    by true = refl
-    by false = refl
+-- the manner of a row that does not withdraw
+abbrev staying : (years key : Bool) → Manner
+staying years key = if years then InYears else if key then Keyed else Valued
+
+stays_here : (years key : Bool) → is_away (staying years key) ≡ false
+stays_here true key = refl
+stays_here false true = refl
+stays_here false false = refl
+
+stays_in_years : (years key : Bool) → says_years (staying years key) ≡ years
+stays_in_years true key = refl
+stays_in_years false true = refl
+stays_in_years false false = refl
+
+away : (kind : Kind) (act : Act) (row : Texts) → is_away (manner_of kind act row) ≡ withdraws act
+away k Withdraw row = refl
+away k Enter row = stays_here (is_in_years k (unit_in row.unit)) (is_some (key_in row.value))
+away k Correct row = stays_here (is_in_years k (unit_in row.unit)) (is_some (key_in row.value))
+
+-- a row holds a half-life exactly where its kind and unit do, unless it withdraws
+in_years : (kind : Kind) (act : Act) (row : Texts) → is_away (manner_of kind act row) ≡ false → says_years (manner_of kind act row) ≡ is_in_years kind (unit_in row.unit)
+in_years k Withdraw row here = absurd (cc)
+in_years k Enter row here = stays_in_years (is_in_years k (unit_in row.unit)) (is_some (key_in row.value))
+in_years k Correct row here = stays_in_years (is_in_years k (unit_in row.unit)) (is_some (key_in row.value))
 
 -- what is said behind a key
-behind : {A : Type 0} (m : Manner) (said : Option A) (Q : A → Type 0) → IfSome said Q → (f : Option A → RowForm) → IsForm true (f None) → ((a : A) → Q a → IsForm false (f (Some a)))
+behind : {A : Type 0} (m : Manner) (said : Option A) (Q : A → Type 0) → IfSome said Q → (f : Option A → RowForm) → IsForm true (f None) → ((a : A) → is_away m ≡ false → Q a → IsForm false (f (Some a)))
     → IfSome (option_map f (unless_withdrawn m said)) (IsForm (is_away m))
 behind Withdraws said Q good f gone here = gone
+behind InYears None Q good f gone here = tt
+behind InYears (Some a) Q good f gone here = here a refl good
 behind Keyed None Q good f gone here = tt
-behind Keyed (Some a) Q good f gone here = here a good
+behind Keyed (Some a) Q good f gone here = here a refl good
 behind Valued None Q good f gone here = tt
-behind Valued (Some a) Q good f gone here = here a good
+behind Valued (Some a) Q good f gone here = here a refl good
 
-said_formed : (kind : Kind) (c : Chosen) (row : Texts) → IfSome (content_of kind c row) (IsForm (is_away c.manner))
+said_formed : (kind : Kind) (act : Act) (row : Texts) → IfSome (content_of kind (chosen_in kind act row) row) (IsForm (is_away (manner_of kind act row)))
 unfolding content_of
-said_formed kinds.Span c row = behind c.manner (span_in row) IsSpan (span_formed row) forms.Span refl (λ s ok. (refl, ok))
-said_formed kinds.Activity c row =
-    let P = IsForm (is_away c.manner) in
+said_formed kinds.Span act row = behind (manner_of kinds.Span act row) (span_in row) IsSpan (span_formed row) forms.Span refl (λ s here ok. (refl, ok))
+said_formed kinds.Activity act row =
+    let c : Chosen = chosen_in kinds.Activity act row in
+    let P : RowForm → Type 0 = IsForm (is_away c.manner) in
     reads (plain_name_in row.name) _ P (λ name n. reads (year_in row.year) _ P (λ y e.
     let plain = plain_name row.name name n in
     let is = year row.year y e in
-    behind c.manner (figure_in c row) IsFigure (figure_formed c row) (forms.Activity name y) (refl, plain, is) (λ f ok. (refl, plain, is, ok))))
-said_formed kinds.Factor c row =
-    let P = IsForm (is_away c.manner) in
+    behind c.manner (figure_in c row) (IsFigureIn c) (figure_formed c row) (forms.Activity name y) (refl, plain, is) (λ f here ok.
+    (refl, plain, is, (ok.0, ok.1 ∙ in_years kinds.Activity act row here)))))
+said_formed kinds.Factor act row =
+    let c : Chosen = chosen_in kinds.Factor act row in
+    let P : RowForm → Type 0 = IsForm (is_away c.manner) in
     reads (factor_name_in row.name) _ P (λ name n. reads (year_in row.year) _ P (λ y e.
     let own = factor_name row.name name n in
     let is = year row.year y e in
-    behind c.manner (figure_in c row) IsFigure (figure_formed c row) (forms.Factor name y) (refl, own, is) (λ f ok. (refl, own, is, ok))))
-said_formed kinds.Line c row =
-    reads (plain_name_in row.name) _ (IsForm (is_away c.manner)) (λ name n.
+    behind c.manner (figure_in c row) (IsFigureIn c) (figure_formed c row) (forms.Factor name y) (refl, own, is) (λ f here ok.
+    (refl, own, is, (ok.0, ok.1 ∙ in_years kinds.Factor act row here ∙ ap (is_in_years kinds.Factor) ok.2)))))
+said_formed kinds.Line act row =
+    let m : Manner = manner_of kinds.Line act row in
+    reads (plain_name_in row.name) _ (IsForm (is_away m)) (λ name n.
     let plain = plain_name row.name name n in
-    behind c.manner (line_in row) (λ l. IsLeaf l.0) (line_formed row) (forms.Line name) (refl, plain) (λ l ok. (refl, plain, ok)))
-said_formed kinds.Bind c row =
-    let P = IsForm (is_away c.manner) in
-    reads (plain_name_in row.subject) _ P (λ line l. reads (parameter_in row.name) _ P (λ parameter _.
+    behind m (line_in row) (λ l. IsLeaf l.0) (line_formed row) (forms.Line name) (refl, plain) (λ l here ok. (refl, plain, ok)))
+said_formed kinds.Bind act row =
+    let m : Manner = manner_of kinds.Bind act row in
+    let P : RowForm → Type 0 = IsForm (is_away m) in
+    reads (plain_name_in row.subject) _ P (λ line l. reads (parameter_in row.name) _ P (λ name n.
     let plain = plain_name row.subject line l in
-    behind c.manner (binding_in row) IsBinding (binding_formed row) (forms.Bind line parameter) (refl, plain) (λ b ok. (refl, plain, ok))))
+    let own = parameter row.name name n in
+    behind m (binding_in row) IsBinding (binding_formed row) (forms.Bind line name) (refl, plain, own) (λ b here ok. (refl, plain, own, ok))))
+said_formed kinds.Uncert act row =
+    let m : Manner = manner_of kinds.Uncert act row in
+    reads (plain_name_in row.name) _ (IsForm (is_away m)) (λ line l.
+    let plain = plain_name row.name line l in
+    behind m (uncertainties_in row) AreUncertainties (uncertainties_formed row) (forms.Uncert line) (refl, plain) (λ u here ok. (refl, plain, ok.0, ok.1)))
 
 form_formed : (kind : Kind) (act : Act) (row : Texts) → IfOk (form_in kind act row) (IsForm (withdraws act))
 unfolding form_of
-form_formed kind act row = by (wrong_column kind (chosen_in act row) row) (content_of kind (chosen_in act row) row) (said_formed kind (chosen_in act row) row)
+form_formed kind act row = by (wrong_column kind (chosen_in kind act row) row) (content_of kind (chosen_in kind act row) row) (said_formed kind act row)
   where
-    by : (fault : Option Fault) (o : Option RowForm) → IfSome o (IsForm (is_away (manner_of act row))) → IfOk (unless_wrong fault o) (IsForm (withdraws act))
+    by : (fault : Option Fault) (o : Option RowForm) → IfSome o (IsForm (is_away (manner_of kind act row))) → IfOk (unless_wrong fault o) (IsForm (withdraws act))
     by (Some fault) o good = tt
     by None None good = tt
-    by None (Some form) good = subst (λ b. IsForm b form) (away act row) good
+    by None (Some form) good = subst (λ b. IsForm b form) (away kind act row) good
 
 -- ---- rows
 

@@ -13,9 +13,11 @@ use Rattle.ghg_units.specs.declared.row.RowForm.{RowForm}
 use Rattle.ghg_units.specs.declared.row.RowForm.TheVariants as forms
 use Rattle.ghg_units.specs.declared.row.Span.{Span}
 use Rattle.ghg_units.specs.declared.unit.Unit.{Unit as UnitWord}
+use Rattle.ghg_units.specs.HalfLife.{half_life_in}
 use Rattle.ghg_units.specs.Name.{factor_name_in, plain_name_in}
 use Rattle.ghg_units.specs.Parameter.{parameter_in}
 use Rattle.ghg_units.specs.Steps.{◌>>=◌}
+use Rattle.ghg_units.specs.Uncertainty.{uncertainty_in}
 use Rattle.ghg_units.specs.Words.{key_in}
 use Rattle.ghg_units.specs.Year.{year_in}
 use Rattle.ghg_import.specs.declared.fault.Fault.{Fault}
@@ -24,7 +26,7 @@ use Rattle.ghg_import.specs.declared.kind.Chosen.{Chosen}
 use Rattle.ghg_import.specs.declared.kind.Kind.{Kind}
 use Rattle.ghg_import.specs.declared.kind.Kind.TheVariants as kinds
 use Rattle.ghg_import.specs.declared.kind.Manner.{Manner}
-use Rattle.ghg_import.specs.declared.kind.Manner.TheVariants.{Withdraws, Keyed}
+use Rattle.ghg_import.specs.declared.kind.Manner.TheVariants.{Withdraws, InYears, Keyed}
 use Rattle.ghg_import.specs.Forms.{binding_in, leaf_in, quantity_in}
 use Rattle.ghg_import.specs.Shape.{Texts}
 use Rattle.ghg_import.specs.Table.{chosen_in, wrong_column}
@@ -54,8 +56,9 @@ known_in u row = do
       (amounts.Known value low high)
       else None
 
--- a notation key, or a value
+-- a half-life, a notation key, or a value
 abbrev pub amount_in : Manner → UnitWord → Texts → Option Amount
+amount_in InYears u row = option_map amounts.HalfLife (half_life_in row.value)
 amount_in Keyed u row = option_map amounts.Key (key_in row.value)
 amount_in _ u row = known_in u row
 
@@ -70,6 +73,13 @@ line_in row = do
   category ← leaf_in row.subject
   equation ← named row.value
   Some (category, equation)
+
+-- the uncertainties of activity data and of an emission factor
+unfoldable pub uncertainties_in : Texts → Option (ℕ × ℕ)
+uncertainties_in row = do
+  activity ← uncertainty_in row.value
+  factor ← uncertainty_in row.low
+  Some (activity, factor)
 
 -- ---- what the row says
 
@@ -96,6 +106,9 @@ content_of kinds.Bind c row = do
   line ← plain_name_in row.subject
   parameter ← parameter_in row.name
   option_map (forms.Bind line parameter) (unless_withdrawn c.manner (binding_in row))
+content_of kinds.Uncert c row = do
+  line ← plain_name_in row.name
+  option_map (forms.Uncert line) (unless_withdrawn c.manner (uncertainties_in row))
 
 -- the wrong column, else disorder, else the content
 abbrev pub unless_wrong : {A : Type 0} → Option Fault → Option A → Result A Fault
@@ -107,4 +120,4 @@ form_of kind c row = unless_wrong (wrong_column kind c row) (content_of kind c r
 
 -- what a row of a kind says, or the first fault of its columns
 abbrev pub form_in : Kind → Act → Texts → Result RowForm Fault
-form_in kind act row = form_of kind (chosen_in act row) row
+form_in kind act row = form_of kind (chosen_in kind act row) row

@@ -48,6 +48,7 @@ target_in targets.Factor text = option_map bound.Factor (plain_name_in text)
 target_in targets.Line text = option_map bound.Line (plain_name_in text)
 target_in targets.Prev text = option_map bound.Prev (plain_name_in text)
 target_in targets.Sum text = option_map bound.Sum (names_in text)
+target_in targets.Decay text = option_map bound.Decay (plain_name_in text)
 target_in targets.Key text = option_map bound.Key (key_in text)
 
 -- what low names as the target of the form that the value names

@@ -14,6 +14,7 @@ kind_in text =
     else if bytes_eq text (codes "factor") then Some kinds.Factor
     else if bytes_eq text (codes "line") then Some kinds.Line
     else if bytes_eq text (codes "bind") then Some kinds.Bind
+    else if bytes_eq text (codes "uncert") then Some kinds.Uncert
     else None
 
 -- the form of a binding that a word names
@@ -24,5 +25,6 @@ binding_form_in text =
     else if bytes_eq text (codes "line") then Some targets.Line
     else if bytes_eq text (codes "prev") then Some targets.Prev
     else if bytes_eq text (codes "sum") then Some targets.Sum
+    else if bytes_eq text (codes "decay") then Some targets.Decay
     else if bytes_eq text (codes "key") then Some targets.Key
     else None

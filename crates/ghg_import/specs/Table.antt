@@ -7,9 +7,11 @@ use Rattle.ghg_units.specs.declared.row.Act.{Act}
 use Rattle.ghg_units.specs.declared.rule.Column.{Column}
 use Rattle.ghg_units.specs.declared.rule.Column.TheVariants as columns
 use Rattle.ghg_units.specs.declared.unit.Unit as measures
+use Rattle.ghg_units.specs.HalfLife.{half_life_in}
 use Rattle.ghg_units.specs.Name.{factor_name_in, plain_name_in}
 use Rattle.ghg_units.specs.Parameter.{parameter_in}
-use Rattle.ghg_units.specs.Units.{unit_in}
+use Rattle.ghg_units.specs.Uncertainty.{uncertainty_in}
+use Rattle.ghg_units.specs.Units.{is_of_half_lives, unit_in}
 use Rattle.ghg_units.specs.WellFormed.{withdraws}
 use Rattle.ghg_units.specs.Words.{key_in}
 use Rattle.ghg_units.specs.Year.{year_in}
@@ -19,9 +21,9 @@ use Rattle.ghg_import.specs.declared.kind.Chosen.{Chosen}
 use Rattle.ghg_import.specs.declared.kind.Kind.{Kind}
 use Rattle.ghg_import.specs.declared.kind.Kind.TheVariants as kinds
 use Rattle.ghg_import.specs.declared.kind.Manner.{Manner}
-use Rattle.ghg_import.specs.declared.kind.Manner.TheVariants.{Withdraws, Keyed, Valued}
+use Rattle.ghg_import.specs.declared.kind.Manner.TheVariants.{Withdraws, InYears, Keyed, Valued}
 use Rattle.ghg_import.specs.declared.table.Holding.{Holding}
-use Rattle.ghg_import.specs.declared.table.Holding.TheVariants.{Empty, LeafCategory, PlainName, FactorName, Parameter, Equation, Form, Target, NotationKey, UnitWord, Year, Figure, Bound}
+use Rattle.ghg_import.specs.declared.table.Holding.TheVariants.{Empty, LeafCategory, PlainName, FactorName, Parameter, Equation, Form, Target, NotationKey, UnitWord, Year, Figure, Bound, HalfLife, NoBound, Percentage}
 use Rattle.ghg_import.specs.declared.table.Holdings.{Holdings}
 use Rattle.ghg_import.specs.Forms.{binding_in, leaf_in, quantity_in}
 use Rattle.ghg_import.specs.Kinds.{binding_form_in}
@@ -34,20 +36,23 @@ columns_of subject name year value low high unit =
     record { subject = subject; name = name; year = year; value = value; low = low; high = high; unit = unit }
 
 -- For each kind the columns of its key, which alone a row that withdraws fills, and the columns of another
--- row. A notation key has no bounds.
+-- row. A notation key has no bounds, and no half-life has any.
 abbrev pub holdings_of : Kind → Manner → Holdings
 holdings_of kinds.Span Withdraws = columns_of Empty Empty Empty Empty Empty Empty Empty
 holdings_of kinds.Span _ = columns_of Empty Empty Year Year Year Empty Empty
 holdings_of kinds.Activity Withdraws = columns_of Empty PlainName Year Empty Empty Empty Empty
 holdings_of kinds.Activity Keyed = columns_of Empty PlainName Year NotationKey Empty Empty UnitWord
-holdings_of kinds.Activity Valued = columns_of Empty PlainName Year Figure Bound Bound UnitWord
+holdings_of kinds.Activity _ = columns_of Empty PlainName Year Figure Bound Bound UnitWord
 holdings_of kinds.Factor Withdraws = columns_of Empty FactorName Year Empty Empty Empty Empty
+holdings_of kinds.Factor InYears = columns_of Empty FactorName Year HalfLife NoBound NoBound UnitWord
 holdings_of kinds.Factor Keyed = columns_of Empty FactorName Year NotationKey Empty Empty UnitWord
 holdings_of kinds.Factor Valued = columns_of Empty FactorName Year Figure Bound Bound UnitWord
 holdings_of kinds.Line Withdraws = columns_of Empty PlainName Empty Empty Empty Empty Empty
 holdings_of kinds.Line _ = columns_of LeafCategory PlainName Empty Equation Empty Empty Empty
 holdings_of kinds.Bind Withdraws = columns_of PlainName Parameter Empty Empty Empty Empty Empty
 holdings_of kinds.Bind _ = columns_of PlainName Parameter Empty Form Target Empty Empty
+holdings_of kinds.Uncert Withdraws = columns_of Empty PlainName Empty Empty Empty Empty Empty
+holdings_of kinds.Uncert _ = columns_of Empty PlainName Empty Percentage Percentage Empty Empty
 
 abbrev pub holding_at : Holdings → Column → Holding
 holding_at h columns.Subject = h.subject
@@ -61,12 +66,21 @@ holding_at h _ = Empty
 
 -- ---- what a row's words choose for its other columns
 
-abbrev pub manner_of : Act → Texts → Manner
-manner_of act row = if withdraws act then Withdraws else if is_some (key_in row.value) then Keyed else Valued
+-- whether a row of this kind and unit holds a half-life
+abbrev pub is_in_years : Kind → Option measures.Unit → Bool
+is_in_years kinds.Factor (Some u) = is_of_half_lives u
+is_in_years _ _ = false
 
-abbrev pub chosen_in : Act → Texts → Chosen
-chosen_in act row =
-    record { manner = manner_of act row; unit = unit_in row.unit; binds = is_some (binding_in row) }
+abbrev pub manner_of : Kind → Act → Texts → Manner
+manner_of kind act row =
+    if withdraws act then Withdraws
+    else if is_in_years kind (unit_in row.unit) then InYears
+    else if is_some (key_in row.value) then Keyed
+    else Valued
+
+abbrev pub chosen_in : Kind → Act → Texts → Chosen
+chosen_in kind act row =
+    record { manner = manner_of kind act row; unit = unit_in row.unit; binds = is_some (binding_in row) }
 
 -- ---- what a column may hold
 
@@ -74,6 +88,9 @@ abbrev pub is_number : Holding → Bool
 is_number Year = true
 is_number Figure = true
 is_number Bound = true
+is_number HalfLife = true
+is_number NoBound = true
+is_number Percentage = true
 is_number _ = false
 
 -- whether a text is a number that is within the limit, in the unit that the row names
@@ -96,6 +113,9 @@ is_held UnitWord c row text = is_some c.unit
 is_held Year c row text = is_some (year_in text)
 is_held Figure c row text = is_quantity c.unit text
 is_held Bound c row text = ((length row.low == 0) && (length row.high == 0)) || is_quantity c.unit text
+is_held HalfLife c row text = is_some (half_life_in text)
+is_held NoBound c row text = length text == 0
+is_held Percentage c row text = is_some (uncertainty_in text)
 
 -- ---- the column that a row is refused for
 

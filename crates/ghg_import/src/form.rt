@@ -2,12 +2,12 @@
 
 ghost use Rattle.std.specs.Prelude.{◌≡◌, IfOk};
 ghost use Rattle.ghg_import.specs.declared.kind.Kind.TheVariants as kinds;
-ghost use Rattle.ghg_import.specs.Content.{amount_in, bound_in, content_of, figure_in, form_in, known_in, line_in, span_in, unless_withdrawn};
+ghost use Rattle.ghg_import.specs.Content.{amount_in, bound_in, content_of, figure_in, form_in, known_in, line_in, span_in, uncertainties_in, unless_withdrawn};
 ghost use Rattle.ghg_import.specs.Fault.{Gives};
 ghost use Rattle.ghg_import.specs.Forms.{binding_in, target_in};
 ghost use Rattle.ghg_import.specs.Reading.{content_in};
 ghost use Rattle.ghg_import.specs.Shape.{texts};
-ghost use Rattle.ghg_import.specs.Table.{chosen_in, manner_of};
+ghost use Rattle.ghg_import.specs.Table.{chosen_in, is_in_years, manner_of};
 
 use crate::columns::Columns;
 use crate::fault::{Fault, ReadError};
@@ -15,10 +15,10 @@ use crate::kind::{BindingForm, Chosen, Kind, Manner, binding_form_named, kind_na
 use crate::sum::names_named;
 use crate::table::{leaf_named, quantity, wrong_column};
 use ghg_categories::Category;
-use ghg_equations::{EqId, eq_named};
+use ghg_equations::{Dim, EqId, eq_named};
 use ghg_units::{
     Act, Amount, Binding, Column, Decimal, Figure, Name, ParamName, RowForm, Span, Unit, act_named,
-    key_named, read_year, unit_named,
+    dim, key_named, read_half_life, read_uncertainty, read_year, unit_named,
 };
 use std::alloc::{AllocError, Global};
 
@@ -40,7 +40,7 @@ fn form(alloc: Global, kind: Kind, act: Act, row: Columns<'_>) -> Result<RowForm
 {
     let binding = binding_named(alloc, row)?;
     let chosen = Chosen {
-        manner: manner_of(act, row),
+        manner: manner_of(kind, act, row),
         unit: unit_named(row.unit),
         binds: binding.is_some(),
     };
@@ -54,15 +54,27 @@ fn form(alloc: Global, kind: Kind, act: Act, row: Columns<'_>) -> Result<RowForm
 }
 
 // How a row is filled.
-fn manner_of(act: Act, row: Columns<'_>) -> Manner
-    ensures { result ≡ manner_of act (texts row.entry) }
+fn manner_of(kind: Kind, act: Act, row: Columns<'_>) -> Manner
+    ensures { result ≡ manner_of kind act (texts row.entry) }
 {
     if act == Act::Withdraw {
         Manner::Withdraws
+    } else if is_in_years(kind, unit_named(row.unit)) {
+        Manner::InYears
     } else if key_named(row.value).is_some() {
         Manner::Keyed
     } else {
         Manner::Valued
+    }
+}
+
+// Whether a row of this kind and unit holds a half-life.
+fn is_in_years(kind: Kind, unit: Option<Unit>) -> bool
+    ensures { result ≡ is_in_years kind unit }
+{
+    match (kind, unit) {
+        (Kind::Factor, Some(unit)) => dim(unit) == Dim::HalfLife,
+        _ => false,
     }
 }
 
@@ -82,6 +94,7 @@ fn content_of(
         Kind::Factor => factor(chosen, row),
         Kind::Line => line(chosen, row),
         Kind::Bind => bind(chosen, row, binding),
+        Kind::Uncert => uncert(chosen, row),
     }
 }
 
@@ -139,11 +152,12 @@ fn figure(chosen: Chosen, row: Columns<'_>) -> Option<Figure>
     Some(Figure { unit, amount })
 }
 
-// A notation key, or a value.
+// A half-life, a notation key, or a value.
 fn amount(manner: Manner, unit: Unit, row: Columns<'_>) -> Option<Amount>
     ensures { result ≡ amount_in manner unit (texts row.entry) }
 {
     match manner {
+        Manner::InYears => Some(Amount::HalfLife(read_half_life(row.value)?)),
         Manner::Keyed => Some(Amount::Key(key_named(row.value)?)),
         _ => known(unit, row),
     }
@@ -209,6 +223,27 @@ fn bind(chosen: Chosen, row: Columns<'_>, binding: Option<Binding>) -> Option<Ro
     }
 }
 
+#[tactic(auto, unfolding(crate::specs::Content::content_of))]
+fn uncert(chosen: Chosen, row: Columns<'_>) -> Option<RowForm>
+    ensures { result ≡ content_of kinds.Uncert chosen (texts row.entry) }
+{
+    let line = Name::plain(row.name)?;
+    match chosen.manner {
+        Manner::Withdraws => Some(RowForm::Uncert(line, None)),
+        _ => Some(RowForm::Uncert(line, Some(uncertainties(row)?))),
+    }
+}
+
+// The uncertainties of activity data and of an emission factor.
+#[tactic(auto, unfolding(crate::specs::Content::uncertainties_in))]
+fn uncertainties(row: Columns<'_>) -> Option<(u32, u32)>
+    ensures { result ≡ uncertainties_in (texts row.entry) }
+{
+    let activity = read_uncertainty(row.value)?;
+    let factor = read_uncertainty(row.low)?;
+    Some((activity, factor))
+}
+
 // What a row names as the target of the form that it names.
 #[tactic(auto, unfolding(crate::specs::Forms::binding_in))]
 fn binding_named(alloc: Global, row: Columns<'_>) -> Result<Option<Binding>, AllocError>
@@ -231,6 +266,7 @@ fn target(alloc: Global, form: BindingForm, text: &[u8]) -> Result<Option<Bindin
         BindingForm::Line => Ok(Name::plain(text).map(|name| Binding::Line(name))),
         BindingForm::Prev => Ok(Name::plain(text).map(|name| Binding::Prev(name))),
         BindingForm::Sum => Ok(names_named(alloc, text)?.map(|names| Binding::Sum(names))),
+        BindingForm::Decay => Ok(Name::plain(text).map(|name| Binding::Decay(name))),
         BindingForm::Key => Ok(key_named(text).map(|key| Binding::Key(key))),
     }
 }

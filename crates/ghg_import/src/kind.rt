@@ -13,6 +13,7 @@ pub(crate) enum Kind {
     Factor,
     Line,
     Bind,
+    Uncert,
 }
 
 /// The kind that a word names.
@@ -29,6 +30,8 @@ pub(crate) fn kind_named(text: &[u8]) -> Option<Kind>
         Some(Kind::Line)
     } else if text == b"bind".as_slice() {
         Some(Kind::Bind)
+    } else if text == b"uncert".as_slice() {
+        Some(Kind::Uncert)
     } else {
         None
     }
@@ -42,6 +45,7 @@ pub(crate) enum BindingForm {
     Line,
     Prev,
     Sum,
+    Decay,
     Key,
 }
 
@@ -59,6 +63,8 @@ pub(crate) fn binding_form_named(text: &[u8]) -> Option<BindingForm>
         Some(BindingForm::Prev)
     } else if text == b"sum".as_slice() {
         Some(BindingForm::Sum)
+    } else if text == b"decay".as_slice() {
+        Some(BindingForm::Decay)
     } else if text == b"key".as_slice() {
         Some(BindingForm::Key)
     } else {
@@ -71,6 +77,8 @@ pub(crate) fn binding_form_named(text: &[u8]) -> Option<BindingForm>
 pub(crate) enum Manner {
     /// It withdraws its record, and has the columns of the key alone.
     Withdraws,
+    /// It is a factor in the unit of half-lives, and its value is a half-life.
+    InYears,
     /// Its value is a notation key.
     Keyed,
     /// It has any other value.

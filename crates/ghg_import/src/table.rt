@@ -11,7 +11,8 @@ use crate::kind::{Chosen, Kind, Manner, binding_form_named};
 use ghg_categories::{Category, is_leaf};
 use ghg_equations::eq_named;
 use ghg_units::{
-    Column, Decimal, Name, ParamName, Unit, key_named, read_decimal, read_year, to_interval,
+    Column, Decimal, Name, ParamName, Unit, key_named, read_decimal, read_half_life,
+    read_uncertainty, read_year, to_interval,
 };
 
 /// What a column may hold: nothing, a word, or a number.
@@ -43,6 +44,12 @@ pub(crate) enum Holding {
     Figure,
     /// Such a number, or nothing where the other bound has nothing either.
     Bound,
+    /// A half-life.
+    HalfLife,
+    /// Nothing, where other figures have a bound: a half-life has none.
+    NoBound,
+    /// A percentage of an uncertainty.
+    Percentage,
 }
 
 /// What the columns from the subject to the unit may hold.
@@ -96,11 +103,16 @@ fn holdings_of(kind: Kind, manner: Manner) -> Holdings
         (Kind::Activity, Manner::Keyed) => {
             columns_of(Empty, PlainName, Year, NotationKey, Empty, Empty, UnitWord)
         }
-        (Kind::Activity, Manner::Valued) => {
+        (Kind::Activity, _) => {
             columns_of(Empty, PlainName, Year, Figure, Bound, Bound, UnitWord)
         }
         (Kind::Factor, Manner::Withdraws) => {
             columns_of(Empty, FactorName, Year, Empty, Empty, Empty, Empty)
+        }
+        (Kind::Factor, Manner::InYears) => {
+            columns_of(
+                Empty, FactorName, Year, HalfLife, NoBound, NoBound, UnitWord,
+            )
         }
         (Kind::Factor, Manner::Keyed) => {
             columns_of(Empty, FactorName, Year, NotationKey, Empty, Empty, UnitWord)
@@ -126,6 +138,14 @@ fn holdings_of(kind: Kind, manner: Manner) -> Holdings
             columns_of(PlainName, Parameter, Empty, Empty, Empty, Empty, Empty)
         }
         (Kind::Bind, _) => columns_of(PlainName, Parameter, Empty, Form, Target, Empty, Empty),
+        (Kind::Uncert, Manner::Withdraws) => {
+            columns_of(Empty, PlainName, Empty, Empty, Empty, Empty, Empty)
+        }
+        (Kind::Uncert, _) => {
+            columns_of(
+                Empty, PlainName, Empty, Percentage, Percentage, Empty, Empty,
+            )
+        }
     }
 }
 
@@ -148,7 +168,15 @@ fn holding_at(holdings: Holdings, column: Column) -> Holding
 fn is_number(holding: Holding) -> bool
     ensures { result ≡ is_number holding }
 {
-    matches!(holding, Holding::Year | Holding::Figure | Holding::Bound)
+    matches!(
+        holding,
+        Holding::Year
+            | Holding::Figure
+            | Holding::Bound
+            | Holding::HalfLife
+            | Holding::NoBound
+            | Holding::Percentage
+    )
 }
 
 /// The category that a text is the code of, where it has no children: lines stand at leaves alone.
@@ -205,6 +233,9 @@ fn is_held(holding: Holding, chosen: Chosen, row: Columns<'_>, text: &[u8]) -> b
         Holding::Bound => {
             row.low.is_empty() && row.high.is_empty() || is_quantity(chosen.unit, text)
         }
+        Holding::HalfLife => read_half_life(text).is_some(),
+        Holding::NoBound => text.is_empty(),
+        Holding::Percentage => read_uncertainty(text).is_some(),
     }
 }
 
