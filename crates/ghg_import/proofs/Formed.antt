@@ -28,8 +28,8 @@ use Rattle.ghg_units.specs.Name.{factor_name_in, is_digit, is_name, is_potential
 use Rattle.ghg_units.specs.Parameter.{is_parameter, parameter_in}
 use Rattle.ghg_units.specs.Uncertainty.{uncertainty_in}
 use Rattle.ghg_units.proofs.Percentages.{within_greatest}
-use Rattle.ghg_units.specs.Units.{converted, interval_in, is_of_half_lives, unit_in}
-use Rattle.ghg_units.specs.WellFormed.{IsActivityFigure, IsAmountOf, IsBinding, IsFactorFigure, IsFactorName, IsFigure, IsForm, IsHalfLife, IsLeaf, IsParameterName, IsPlainName, IsSpan, IsSum, IsUncertainty, IsWellFormed, IsYear, decays, withdraws}
+use Rattle.ghg_units.specs.Units.{converted, interval_in, unit_in}
+use Rattle.ghg_units.specs.WellFormed.{IsAmountOf, IsBinding, IsFactorName, IsFigure, IsForm, IsHalfLife, IsLeaf, IsParameterName, IsPlainName, IsSpan, IsSum, IsUncertainty, IsWellFormed, IsYear, decays, withdraws}
 use Rattle.ghg_units.specs.Words.{act_in, key_in}
 use Rattle.ghg_units.specs.Year.{earliest_year, is_year, latest_year, year_in}
 use Rattle.ghg_import.specs.declared.fault.Fault.{Fault}

@@ -3,14 +3,17 @@
 use crate::cases::{check, word};
 use ghg_categories::Category;
 use ghg_equations::{Dim, Gas, Output};
+use ghg_import::{Rows, is_too_long, read_rows};
 use ghg_interval::Interval;
 use ghg_tables::{Precision, Table, near, precision_for, reported, table_named};
 use ghg_units::{
     Act, Decimal, Name, Names, Node, NotationKey, ParamName, Rule, ShortText, Text, Unit,
     act_named, append_rule, base_word, dim, fixed_texts_read, is_potential_name, key_named, ratio,
-    read_decimal, read_number, read_year, to_interval, unit_named, write_fixed,
+    read_decimal, read_half_life, read_number, read_uncertainty, read_year, to_interval,
+    unit_named, write_fixed,
 };
 use std::alloc::{AllocError, Global};
+use std::process::Abort;
 
 // A number, its decimal places, and how it is printed.
 const FIXED: &[(i128, u32, &str)] = &[
@@ -78,6 +81,37 @@ const YEARS: &[(&str, Option<u32>)] = &[
     ("01900", None),
 ];
 
+// A text, and the half-life that it is, in years.
+const HALF_LIVES: &[(&str, Option<u32>)] = &[
+    ("1", Some(1)),
+    ("07", Some(7)),
+    ("60", Some(60)),
+    ("61", None),
+    ("0", None),
+    ("007", None),
+    ("1.5", None),
+    ("-1", None),
+    ("NO", None),
+    ("", None),
+];
+
+// A text, and the percentage that it is, in hundredths of a percent.
+const UNCERTAINTIES: &[(&str, Option<u32>)] = &[
+    ("0", Some(0)),
+    ("-0", Some(0)),
+    ("3", Some(300)),
+    ("0.05", Some(5)),
+    ("12.3", Some(1_230)),
+    ("1000.00", Some(100_000)),
+    ("1000.01", None),
+    ("3.000", None),
+    ("-1", None),
+    ("-0.01", None),
+    ("1e2", None),
+    ("3.", None),
+    ("", None),
+];
+
 #[test]
 fn numbers_are_read_within_their_digits(rt: HostRuntime) {
     for (text, want) in DECIMALS {
@@ -86,6 +120,12 @@ fn numbers_are_read_within_their_digits(rt: HostRuntime) {
     }
     for (text, want) in YEARS {
         check(&rt, read_year(text.as_bytes()) == *want, text);
+    }
+    for (text, want) in HALF_LIVES {
+        check(&rt, read_half_life(text.as_bytes()) == *want, text);
+    }
+    for (text, want) in UNCERTAINTIES {
+        check(&rt, read_uncertainty(text.as_bytes()) == *want, text);
     }
     check(&rt, read_number(b"0190", 4) == Some(190), "four digits");
     check(&rt, read_number(b"01900", 4).is_none(), "five digits");
@@ -113,6 +153,7 @@ const PARAMETERS: &[(&str, bool)] = &[
     ("9", true),
     ("Fc", false),
     ("F.C", false),
+    ("uncert", false),
     ("", false),
 ];
 
@@ -260,6 +301,7 @@ fn words_name_what_they_stand_for(rt: HostRuntime) {
         unit_named(b"tj").is_none() && unit_named(b"").is_none(),
         "no units",
     );
+    check(&rt, unit_named(b"yr") == Some(Unit::Year), "yr");
     check(&rt, base_word(Dim::EnFac) == "kg/TJ", "a base unit");
     check(&rt, table_named(b"cells") == Some(Table::Cells), "cells");
     check(
@@ -407,6 +449,99 @@ fn refusals_are_printed_with_their_place(rt: HostRuntime) {
         is_printed(rt.alloc(), national, "13 Overflow total:0:2100"),
         "the national total",
     );
+    let line = Name::new(b"ELEC.GAS").expect(&rt, "a name");
+    let uncertain = Rule::BadBinding(line, ParamName::uncertainty());
+    check(
+        &rt,
+        is_printed(rt.alloc(), uncertain, "10 BadBinding ELEC.GAS uncert"),
+        "an uncertainty",
+    );
+}
+
+// A row, and the rule that it breaks; nothing where it is read.
+const ROWS: &[(&str, &str)] = &[
+    ("enter,factor,,WOOD,1990,23,,,yr,", ""),
+    (
+        "enter,factor,,WOOD,1990,61,,,yr,",
+        "6 BadNumber row 1 column value",
+    ),
+    (
+        "correct,factor,,WOOD,1990,NE,1,,yr,",
+        "6 BadNumber row 1 column value",
+    ),
+    (
+        "enter,factor,,WOOD,1990,23,20,,yr,",
+        "6 BadNumber row 1 column low",
+    ),
+    (
+        "enter,factor,,WOOD,1990,23,,NO,yr,",
+        "6 BadNumber row 1 column high",
+    ),
+    ("enter,activity,,WOOD,1990,NO,,,yr,", ""),
+    ("enter,activity,,WOOD,1990,1.5,1,2,yr,", ""),
+    (
+        "withdraw,factor,,WOOD,1990,,,,yr,",
+        "5 UnknownWord row 1 column unit",
+    ),
+    ("enter,bind,STOCK,D,,decay,WOOD,,,", ""),
+    (
+        "enter,bind,STOCK,D,,decay,GWP.CO2,,,",
+        "5 UnknownWord row 1 column low",
+    ),
+    (
+        "enter,bind,STOCK,uncert,,key,NO,,,",
+        "5 UnknownWord row 1 column name",
+    ),
+    ("enter,uncert,,STOCK,,3,4.25,,,a note", ""),
+    ("withdraw,uncert,,STOCK,,,,,,", ""),
+    (
+        "withdraw,uncert,,STOCK,,3,,,,",
+        "5 UnknownWord row 1 column value",
+    ),
+    (
+        "enter,uncert,,STOCK,,3,,,,",
+        "6 BadNumber row 1 column low",
+    ),
+    (
+        "enter,uncert,,STOCK,,,4,,,",
+        "6 BadNumber row 1 column value",
+    ),
+    (
+        "enter,uncert,,STOCK,,3.000,4,5,,",
+        "5 UnknownWord row 1 column high",
+    ),
+    (
+        "enter,uncert,4A,STOCK,,3,4,,,",
+        "5 UnknownWord row 1 column subject",
+    ),
+];
+
+// Whether the row breaks this rule, or none.
+fn is_refused_so(rt: &impl Abort, alloc: Global, row: &str, want: &str) -> bool {
+    let mut body = Vec::from_slice(
+        alloc,
+        b"act,kind,subject,name,year,value,low,high,unit,note\n",
+    )
+    .ok()
+    .expect(rt, "memory");
+    check(
+        rt,
+        body.extend_from_slice(row.as_bytes()).is_ok(),
+        "memory",
+    );
+    assert!(rt; !is_too_long(&body));
+    let Rows { rows, rest } = read_rows(alloc, &body).ok().expect(rt, "memory");
+    match rest {
+        Some(rule) => is_printed(alloc, rule, want),
+        None => want.is_empty() && rows.len() == 1,
+    }
+}
+
+#[test]
+fn rows_hold_what_their_kind_and_their_unit_ask_for(rt: HostRuntime) {
+    for (row, want) in ROWS {
+        check(&rt, is_refused_so(&rt, rt.alloc(), row, want), row);
+    }
 }
 
 // A fraction, and the whole number that is nearest to it, ties away from zero.

@@ -1,5 +1,5 @@
 -- A percentage that is read is at most the greatest.
-use Rattle.std.proofs.Common.{◌≡◌, ◌≤◌, ◌/◌, ◌*◌, ◌&&◌, ◌==◌, ℕ, ℤ, pos, unsigned_abs, Bool, true, false, List, Option, Some, None, subst, cond, arith, refl, nat_le, int_le, option_and_then, if◌then◌else◌}
+use Rattle.std.proofs.Common.{◌≡◌, ◌≤◌, ◌/◌, ◌&&◌, ℕ, ℤ, unsigned_abs, Bool, true, false, List, Option, Some, None, subst, arith, refl, nat_le, option_and_then, if◌then◌else◌}
 use Rattle.ghg_units.specs.declared.decimal.Decimal.{Decimal}
 use Rattle.ghg_units.specs.Decimal.{decimal_in}
 use Rattle.ghg_units.specs.Uncertainty.{greatest_uncertainty, hundredth, is_percentage, places_in, uncertainty_in}
