@@ -498,10 +498,7 @@ const ROWS: &[(&str, &str)] = &[
         "withdraw,uncert,,STOCK,,3,,,,",
         "5 UnknownWord row 1 column value",
     ),
-    (
-        "enter,uncert,,STOCK,,3,,,,",
-        "6 BadNumber row 1 column low",
-    ),
+    ("enter,uncert,,STOCK,,3,,,,", "6 BadNumber row 1 column low"),
     (
         "enter,uncert,,STOCK,,,4,,,",
         "6 BadNumber row 1 column value",
@@ -524,11 +521,7 @@ fn is_refused_so(rt: &impl Abort, alloc: Global, row: &str, want: &str) -> bool 
     )
     .ok()
     .expect(rt, "memory");
-    check(
-        rt,
-        body.extend_from_slice(row.as_bytes()).is_ok(),
-        "memory",
-    );
+    check(rt, body.extend_from_slice(row.as_bytes()).is_ok(), "memory");
     assert!(rt; !is_too_long(&body));
     let Rows { rows, rest } = read_rows(alloc, &body).ok().expect(rt, "memory");
     match rest {
