@@ -6,6 +6,7 @@ import subprocess
 HERE = pathlib.Path(__file__).resolve().parent
 TOP = HERE.parent.parent
 PROGRAM = os.environ.get("GHG_PROGRAM") or str(TOP / "crates/ghg/out/ghg")
+HEADER = "act,kind,subject,name,year,value,low,high,unit,note\n"
 
 
 def workbook(*words, cwd=TOP):
@@ -17,3 +18,9 @@ def workbook(*words, cwd=TOP):
 def session(script):
     """What the program itself prints for a script."""
     return subprocess.run([PROGRAM, "compile"], input=script, capture_output=True, check=True).stdout
+
+
+def takes(*rows):
+    """Tells whether the program takes rows, so that a test of a form of theirs waits for a program that has it."""
+    body = HEADER + "".join(f"{row}\n" for row in rows)
+    return session(f"SUBMIT s {len(body.encode())}\n{body}END\n".encode()) == b"accepted 1\n"
