@@ -1,20 +1,27 @@
-"""An inventory with more than twenty different mistakes is mended after one check: `twenty/mended` is what the lines say to write."""
+"""An inventory with more than twenty different mistakes is mended after one check.
+
+Of each folder of `twenty`, `mistakes` holds the inventory with the lines due, and `mended` what these lines say to write.
+"""
 import unittest
 
 from tests.workbook.running import HERE, workbook
+
+INVENTORIES = sorted((HERE / "twenty").iterdir())
 
 
 class TwentyMistakes(unittest.TestCase):
     maxDiff = None
 
     def test_one_check_tells_all(self):
-        ran = workbook("check", HERE / "twenty/mistakes")
-        self.assertEqual(ran.stdout, (HERE / "twenty/mistakes/due.txt").read_text(encoding="utf-8"))
-        self.assertEqual(ran.returncode, 1)
+        for inventory in INVENTORIES:
+            ran = workbook("check", inventory / "mistakes")
+            self.assertEqual(ran.stdout, (inventory / "mistakes/due.txt").read_text(encoding="utf-8"))
+            self.assertEqual(ran.returncode, 1)
 
     def test_mended_as_told_there_is_no_fault(self):
-        ran = workbook("check", HERE / "twenty/mended", "--no-warnings")
-        self.assertEqual((ran.stdout, ran.returncode), ("4 files: 0 faults, 0 warnings\n", 0))
+        for inventory in INVENTORIES:
+            ran = workbook("check", inventory / "mended", "--no-warnings")
+            self.assertEqual((ran.stdout, ran.returncode), ("4 files: 0 faults, 0 warnings\n", 0), inventory.name)
 
 
 if __name__ == "__main__":
