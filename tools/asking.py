@@ -1,4 +1,6 @@
-"""What all explanations of a row do: they try what the writer may have meant, and the program says whether it takes it."""
+"""What all explanations of a row do: they try what the writer may have meant, and the program says whether
+it takes it.
+"""
 from tools import causes
 from tools.faults import at_row
 from tools.sheets import COLUMNS
@@ -10,13 +12,19 @@ STAND_INS = {"act": "enter", "subject": "X", "name": "X", "year": "2000", "value
 
 
 class Asking:
-    """Explanations. `takes` asks the program whether it takes a row at a column; `book` is what is in force."""
+    """Explanations.
+
+    `takes` asks the program whether it takes a row at a column; `book` is what is in force.
+    """
 
     def __init__(self, takes, book, refused):
         self.takes, self.book, self.refused = takes, book, refused
 
     def first_taken(self, row, column, candidates, otherwise):
-        """The first candidate that the program takes: a cause, a text and whether it is sure. Else the given cause."""
+        """The first candidate that the program takes: a cause, a text and whether it is sure.
+
+        Else the given cause.
+        """
         for cause, text, sure in candidates:
             changed = row.with_fields(**{column: text})
             if text != row.field(column) and self.takes(changed, column):
@@ -34,32 +42,49 @@ class Asking:
             cause = "upper case" if same and word.islower() else "lower case" if same else "no such word"
             candidates.append((cause_of(bare.causes + [cause]), word, True))
         what = said or f"{column} is {listed(known)}"
-        return self.first_taken(row, column, candidates, f"{'empty' if not bare.text else 'no such word'}; {what}")
+        otherwise = f"{'no such word' if bare.text else 'empty'}; {what}"
+        return self.first_taken(row, column, candidates, otherwise)
+
+    def filled(self, row, column, cause):
+        """A column that has to be empty."""
+        text = row.field(column)
+        if not causes.without_blanks(text).text:
+            blank = f"{causes.blank_name(text)} in a column that stays empty"
+            return self.first_taken(row, column, [(blank, "", True)], cause)
+        changed = row.with_fields(**{column: ""})
+        fault = at_row(row, f"{cause}; take it out", column)
+        return fault, changed if self.takes(changed, column) else None
 
     def stand_in(self, row, column):
         """The row with a word in place of one that is none, so that the rest of it is looked at, or None."""
-        if column not in STAND_INS or row.field(column) == STAND_INS[column] or is_empty(row) or is_header(row):
+        if row.field(column) == STAND_INS.get(column, row.field(column)) or is_empty(row) or is_header(row):
             return None
         changed = row.with_fields(**{column: STAND_INS[column]})
         return changed if self.takes(changed, column) else None
 
     def blank_figure(self, row):
-        """The record with NE in place of its figures, so that what takes it is there, where the program takes it."""
+        """The record with NE in place of its figures, so that what takes it is there, where the program
+        takes it.
+        """
         changed = row.with_fields(value="NE", low="", high="")
         return changed if self.takes(changed, None) else None
 
 
 def is_empty(row):
+    """Tells whether a row has nothing in it."""
     return not any(field.strip() for field in row.fields)
 
 
 def is_header(row):
+    """Tells whether a row is the header once more."""
     return [field.strip().casefold() for field in row.fields] == COLUMNS
 
 
 def cause_of(found):
+    """Causes as one."""
     return "; ".join(found)
 
 
 def article(kind):
+    """A kind of row with its article."""
     return f"an {kind}" if kind[:1] in "aeiou" else f"a {kind}"

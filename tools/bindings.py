@@ -1,22 +1,33 @@
 """Explains the refusals that name a line, a node or a limit: rules 10 to 13.
 
-They are judged with all rows of a file applied. What stands where is looked up in the book after these rows. To find the
-next fault, the row at fault is taken out, or a binding takes NE in its place, so that its line stays and is blank.
+They are judged with all rows of a file applied. What stands where is looked up in the book after these rows.
+To find the next fault, the row at fault is taken out, or a binding takes NE in its place, so that its line
+stays and is blank.
 """
 from tools import vocabulary
+from tools.asking import article
 from tools.book import lines_taken_by, record_taken_by
 from tools.faults import Fault, at_row, counted
 from tools.sheets import Row, joined
 from tools.vocabulary import limit, listed, nearest, said_of_parameter
 
 
+# The parameter by which the program names an uncertainty whose line there is not.
+UNCERTAINTY = "uncert"
+# The name of a half-life that no workbook has.
+HALF_LIFE = "NO.SUCH.HALF.LIFE.-.-.-."
+
+
 class After:
-    """The data after a file's rows, of which some are the file's own; the rows that were refused; and what later files enter."""
+    """The data after a file's rows, of which some are the file's own; the rows that were refused; and what
+    later files enter.
+    """
 
     def __init__(self, book, rows, refused, later):
         self.book, self.rows, self.refused, self.later = book, rows, refused, later
 
     def is_own(self, row):
+        """Tells whether a row is of the file at hand."""
         return row is not None and row.sheet is self.rows[0].sheet
 
     def acts_on(self, kind, name, acts=("enter", "correct", "withdraw")):
@@ -32,7 +43,9 @@ class After:
     def in_later_file(self, kind, name):
         """That a later file enters what is not there, or nothing."""
         row = self.later.entry(kind, name)
-        return f"{kind} {name} is entered in a later file ({row.place}); put that file in front of this one" if row else ""
+        if row is None:
+            return ""
+        return f"{kind} {name} is entered in a later file ({row.place}); put that file in front of this one"
 
     def changed(self, changed, **fields):
         """The file's rows with other fields in one of them."""
@@ -42,10 +55,30 @@ class After:
         """The file's rows with NE in place of what a binding takes."""
         return self.changed(bound, value="key", low="NE")
 
+    def with_half_life(self, bound):
+        """The file's rows with a half-life in place of what a binding takes, and that half-life where it
+        is not there.
+        """
+        rows = self.changed(bound, value="decay", low=HALF_LIFE)
+        if self.book.some_record("factor", HALF_LIFE):
+            return rows
+        key = ["enter", "factor", "", HALF_LIFE, limit("first_year")]
+        half_life = joined([*key, "1", "", "", vocabulary.HALF_LIFE_UNIT, ""])
+        return rows + [Row(bound.sheet, bound.line, half_life)]
+
+    def without_target(self, bound, parameter):
+        """The file's rows with something else in place of what a parameter takes."""
+        return self.with_half_life(bound) if vocabulary.is_decay(parameter) else self.blank(bound)
+
 
 def explain(line, parameter, after):
-    """The fault of an unsound binding, and the rows to go on with, or None."""
+    """The fault of an unsound binding or uncertainty, and the rows to go on with, or None.
+
+    Without a fault there are rows to go on with where something that stands in for a target is no sound one.
+    """
     book = after.book
+    if parameter == UNCERTAINTY:
+        return uncertainty_without_line(line, after)
     bound = book.bindings.get(line, {}).get(parameter)
     holder = book.lines.get(line)
     if holder is None:
@@ -57,6 +90,8 @@ def explain(line, parameter, after):
     if bound is None:
         return without_binding(holder, parameters[parameter], after)
     wanted = parameters[parameter]
+    if vocabulary.is_decay(wanted) != (bound.field("value") == "decay"):
+        return of_another_form(bound, holder, wanted, after)
     if record_taken_by(bound):
         return of_record(bound, holder, wanted, after)
     return of_lines(bound, holder, wanted, after)
@@ -67,7 +102,9 @@ def without_line(line, parameter, bound, after):
     gone = after.acts_on("line", line, ("withdraw",))
     if gone:
         names = listed(after.book.bindings[line], "and")
-        return at_row(gone[0], f"the line is withdrawn and its bindings stay; withdraw the bindings of {names} too"), after.without(gone)
+        more = ", and its uncertainty" if (UNCERTAINTY, line) in after.book.rows else ""
+        cause = f"the line is withdrawn and its bindings stay; withdraw the bindings of {names} too{more}"
+        return at_row(gone[0], cause), after.without(gone)
     if not after.is_own(bound):
         return None, None
     refused = after.refused.that_sets(("line", line))
@@ -77,15 +114,40 @@ def without_line(line, parameter, bound, after):
     own = [row for row in after.rows[1:] if row.field("kind") == "bind" and row.field("subject") == line]
     more = f" ({counted(len(own) - 1, 'further binding')} of it in this file)" if len(own) > 1 else ""
     if refused:
-        fault = at_row(own[0], f"there is no line {line}, since its row was refused{more}", "subject", follows=refused.place)
+        cause = f"there is no line {line}, since its row was refused{more}"
+        fault = at_row(own[0], cause, "subject", follows=refused.place)
     elif after.in_later_file("line", line):
         fault = at_row(own[0], after.in_later_file("line", line) + more, "subject")
     else:
         there = after.book.bindings.get(near[0], {}).get(parameter) if near else None
         bound_there = f", whose {parameter} is bound at {there.place}" if there else ""
-        fault = at_row(own[0], f"there is no line {line}{more}{nearest_line(near, after)}{bound_there}", "subject")
+        cause = f"there is no line {line}{more}{nearest_line(near, after)}{bound_there}"
+        fault = at_row(own[0], cause, "subject")
     after.refused.add(own)
     return fault, after.without(own)
+
+
+def uncertainty_without_line(line, after):
+    """An uncertainty of a line that there is not."""
+    row = after.book.rows.get((UNCERTAINTY, line))
+    gone = after.acts_on("line", line, ("withdraw",))
+    if gone:
+        withdrawn = Row(gone[0].sheet, gone[0].line, joined(["withdraw", UNCERTAINTY, "", line, *[""] * 6]))
+        cause = "the line is withdrawn and its uncertainty stays; withdraw that too"
+        return at_row(gone[0], cause), after.rows + [withdrawn]
+    if not after.is_own(row):
+        return None, None
+    refused = after.refused.that_sets(("line", line))
+    near = nearest(line, after.book.lines, 1, 0.75)
+    if refused:
+        cause = f"there is no line {line}, since its row was refused"
+        fault = at_row(row, cause, "name", follows=refused.place)
+    elif after.in_later_file("line", line):
+        fault = at_row(row, after.in_later_file("line", line), "name")
+    else:
+        fault = at_row(row, f"there is no line {line}{nearest_line(near, after)}", "name")
+    after.refused.add([row])
+    return fault, after.without([row])
 
 
 def misspelt_line(bound, line, after):
@@ -95,14 +157,18 @@ def misspelt_line(bound, line, after):
 
 
 def without_parameter(holder, bound, parameters, after):
-    """A binding of a parameter that the line's equation has not. It goes on as that of the parameter that is meant."""
+    """A binding of a parameter that the line's equation has not.
+
+    It goes on as that of the parameter that is meant.
+    """
     code, line = holder.field("value"), holder.field("name")
-    has = f"{code} has no {bound.field('name')}; its parameters are {listed(map(said_of_parameter, parameters.values()), 'and')}"
+    there = listed(map(said_of_parameter, parameters.values()), "and")
+    has = f"{code} has no {bound.field('name')}; its parameters are {there}"
     if not after.is_own(bound):
         if not after.is_own(holder):
             return None, None
-        cause = f"{has}; the binding of {bound.field('name')} at {bound.place} has to be withdrawn in this file"
-        return at_row(holder, cause, "value"), after.without([holder])
+        cause = f"{has}; the binding of {bound.field('name')} at {bound.place}"
+        return at_row(holder, f"{cause} has to be withdrawn in this file", "value"), after.without([holder])
     unbound = [name for name in parameters if name not in after.book.bindings[line]]
     free = [name for name in unbound if may_take(bound, parameters[name], after)]
     near = free if len(free) == 1 else nearest(bound.field("name"), free, 1, 0.4)
@@ -113,10 +179,12 @@ def without_parameter(holder, bound, parameters, after):
 
 
 def may_take(bound, parameter, after):
-    """Tells whether what a binding takes, where that is a record there is, measures what a parameter takes."""
+    """Tells whether what a binding takes, where that is a record there is, measures what a parameter
+    takes.
+    """
     taken = record_taken_by(bound)
     record = after.book.some_record(*taken) if taken else None
-    return record is None or vocabulary.measured_by(record.field("unit")) == parameter["measures"]
+    return record is None or vocabulary.measured_by(record.field("unit")) == vocabulary.record_of(parameter)
 
 
 def without_binding(holder, wanted, after):
@@ -125,11 +193,13 @@ def without_binding(holder, wanted, after):
     needs = f"{code} takes {said_of_parameter(wanted)}"
     gone = [row for row in after.acts_on("bind", name, ("withdraw",)) if row.field("subject") == line]
     if gone:
-        return at_row(gone[0], f"{line} is left without a binding that it needs: {needs}"), after.without(gone)
+        cause = f"{line} is left without a binding that it needs: {needs}"
+        return at_row(gone[0], cause), after.without(gone)
     if not after.is_own(holder):
         return None, None
     refused = after.refused.that_sets(("bind", line, name))
     added = Row(holder.sheet, holder.line, joined(["enter", "bind", line, name, "", "key", "NE", "", "", ""]))
+    added.has_other_figure = True
     if refused:
         cause = f"{needs}, and the row that binds it was refused"
         return at_row(holder, cause, "name", follows=refused.place), after.rows + [added]
@@ -138,12 +208,46 @@ def without_binding(holder, wanted, after):
     misspelt = [row for other, row in bound.items() if other not in parameters and after.is_own(row)]
     if misspelt:
         return without_parameter(holder, misspelt[0], parameters, after)
-    astray = [row for row in after.acts_on("bind", name, ("enter",)) if row.field("subject") not in after.book.lines]
-    astray = [row for row in astray if nearest(row.field("subject"), [line], 1, 0.75)]
+    astray = [row for row in after.acts_on("bind", name, ("enter",)) if is_astray(row, line, after)]
     if astray:
         return misspelt_line(astray[0], line, after)
-    write = f"a row enter,bind,{line},{name},,FORM,TARGET,,,"
+    form = "decay" if vocabulary.is_decay(wanted) else "FORM"
+    write = f"a row enter,bind,{line},{name},,{form},TARGET,,,"
     return at_row(holder, f"{needs}, and no row binds it", "name", write), after.rows + [added]
+
+
+def is_astray(bound, line, after):
+    """Tells whether a binding of no line is most likely one of this line."""
+    subject = bound.field("subject")
+    return subject not in after.book.lines and bool(nearest(subject, [line], 1, 0.75))
+
+
+def of_another_form(bound, holder, wanted, after):
+    """A yearly decay factor that is not bound by decay, or another parameter that is."""
+    if bound.has_other_figure:
+        return None, after.with_half_life(bound)
+    taken = record_taken_by(bound)
+    record = after.book.some_record(*taken) if taken else None
+    measures = vocabulary.measured_by(record.field("unit")) if record else None
+    cause = f"{wanted['name']} of {holder.field('value')} takes"
+    if vocabulary.is_decay(wanted):
+        cause = f"{cause} the {wanted['measures']} of a half-life, which decay alone gives"
+        meant = "decay"
+    else:
+        cause = f"{cause} {wanted['measures']} ({wanted['unit']}), and decay gives a yearly decay factor"
+        meant = "factor"
+    if not after.is_own(bound):
+        if not after.is_own(holder):
+            return None, None
+        cause += f"; the binding stands at {bound.place}"
+        return at_row(holder, cause, "value"), after.without([holder])
+    if taken:
+        after.refused.meant_records.add(taken)
+    if taken and taken[0] == "factor" and measures in (None, vocabulary.record_of(wanted)):
+        return at_row(bound, cause, "value", meant), after.changed(bound, value=meant)
+    if record and vocabulary.is_decay(wanted):
+        cause += f", and {taken[0]} {taken[1]} is in {record.field('unit')} ({measures}) at {record.place}"
+    return at_row(bound, cause, "value"), after.without_target(bound, wanted)
 
 
 def of_record(bound, holder, wanted, after):
@@ -151,13 +255,15 @@ def of_record(bound, holder, wanted, after):
     kind, name = record_taken_by(bound)
     record = after.book.some_record(kind, name)
     if record is None:
-        return without_record(bound, kind, name, after)
-    units = listed(vocabulary.units_that_measure(wanted["measures"]))
+        return without_record(bound, wanted, after)
+    units = listed(vocabulary.units_that_measure(vocabulary.record_of(wanted)))
     measured = f"{kind} {name} is in {record.field('unit')} ({vocabulary.measured_by(record.field('unit'))})"
     after.refused.meant_records.add((kind, name))
-    takes = f"{wanted['name']} of {holder.field('value')} takes {wanted['measures']} ({units})"
+    of = f"the {wanted['measures']} of a half-life" if vocabulary.is_decay(wanted) else wanted["measures"]
+    takes = f"{wanted['name']} of {holder.field('value')} takes {of} ({units})"
     if after.is_own(bound):
-        return at_row(bound, f"{takes}, and {measured} at {record.place}", "low"), after.blank(bound)
+        cause = f"{takes}, and {measured} at {record.place}"
+        return at_row(bound, cause, "low"), after.without_target(bound, wanted)
     changed = after.acts_on(kind, name) or [row for row in [holder] if after.is_own(row)]
     if not changed:
         return None, None
@@ -166,39 +272,41 @@ def of_record(bound, holder, wanted, after):
     return at_row(changed[0], cause, column), after.without(changed)
 
 
-def without_record(bound, kind, name, after):
+def without_record(bound, wanted, after):
     """A binding to an activity or a factor without records."""
+    kind, name = record_taken_by(bound)
     gone = after.acts_on(kind, name, ("withdraw",))
     if not after.is_own(bound):
         return taken_away(gone, f"{kind} {name}", bound, after)
     refused = after.refused.that_enters(kind, name)
     other = "factor" if kind == "activity" else "activity"
     if refused:
-        fault = at_row(bound, f"there is no {kind} {name}, since its row was refused", "low", follows=refused.place)
+        cause = f"there is no {kind} {name}, since its row was refused"
+        fault = at_row(bound, cause, "low", follows=refused.place)
     elif after.book.some_record(other, name) or after.refused.that_enters(other, name):
         place = (after.book.some_record(other, name) or after.refused.that_enters(other, name)).place
-        fault = at_row(bound, f"{name} is no {kind} but {said(other)} ({place})", "value", other)
+        column, write = ("low", None) if vocabulary.is_decay(wanted) else ("value", other)
+        fault = at_row(bound, f"{name} is no {kind} but {article(other)} ({place})", column, write)
         after.refused.meant_records.add((other, name))
     elif after.in_later_file(kind, name):
         fault = at_row(bound, after.in_later_file(kind, name), "low")
         after.refused.meant_records.add((kind, name))
     else:
         near = nearest(name, after.book.years[kind], 1, 0.7)
-        which = f"; the nearest is {near[0]} ({after.book.some_record(kind, near[0]).place})" if near else ": no row enters it"
+        which = ": no row enters it"
+        if near:
+            which = f"; the nearest is {near[0]} ({after.book.some_record(kind, near[0]).place})"
         fault = at_row(bound, f"there is no {kind} of this name{which}", "low")
         after.refused.meant_records.update((kind, found) for found in near)
-    return fault, after.blank(bound)
+    return fault, after.without_target(bound, wanted)
 
 
 def taken_away(gone, what, bound, after):
     """The fault of rows that withdraw what a binding of an earlier file takes."""
     if not gone:
         return None, None
-    return at_row(gone[-1], f"{what} is withdrawn, and line {bound.field('subject')} takes it at {bound.place}"), after.without(gone)
-
-
-def said(kind):
-    return f"an {kind}" if kind == "activity" else f"a {kind}"
+    cause = f"{what} is withdrawn, and line {bound.field('subject')} takes it at {bound.place}"
+    return at_row(gone[-1], cause), after.without(gone)
 
 
 def of_lines(bound, holder, wanted, after):
@@ -210,14 +318,16 @@ def of_lines(bound, holder, wanted, after):
         taken = after.book.lines[name]
         code = taken.field("value")
         if vocabulary.given_by(code) != wanted["measures"]:
-            gives = f"line {name} ({code} at {taken.place}) gives {given(code)}"
-            cause = f"{wanted['name']} of {holder.field('value')} takes {wanted['measures']} ({wanted['unit']}), and {gives}"
+            takes = f"{wanted['measures']} ({wanted['unit']})"
+            cause = f"{wanted['name']} of {holder.field('value')} takes {takes}"
+            cause += f", and line {name} ({code} at {taken.place}) gives {given(code)}"
             if after.is_own(bound):
                 return at_row(bound, cause, "low"), after.blank(bound)
             changed = [row for row in (taken, holder) if after.is_own(row)]
             if not changed:
                 return None, None
-            return at_row(changed[0], f"{cause}; the binding stands at {bound.place}", "value"), after.without(changed)
+            cause += f"; the binding stands at {bound.place}"
+            return at_row(changed[0], cause, "value"), after.without(changed)
     return None, None
 
 
@@ -251,6 +361,7 @@ def absent_line(name, refused, after):
 
 
 def nearest_line(near, after):
+    """The nearest line that there is, with its place."""
     return f"; the nearest is {near[0]} ({after.book.lines[near[0]].place})" if near else ""
 
 
@@ -260,7 +371,8 @@ def ring(line, after):
     own = [bound for bound in path if after.is_own(bound)]
     if not own:
         return None, None
-    steps = [f"{bound.field('subject')} takes {taken} ({bound.place})" for bound, taken in zip(path, following(path, line))]
+    steps = [f"{bound.field('subject')} takes {taken} ({bound.place})"
+             for bound, taken in zip(path, following(path, line))]
     cause = f"lines take each other's values of the same year in a ring: {listed(steps, 'and')}"
     cause += "; bind one of them to last year by prev, or to an activity"
     return at_row(own[0], cause, "low"), after.blank(own[0])
@@ -287,6 +399,7 @@ def bindings_to_itself(line, book):
 
 
 def path_to(name, reached):
+    """The bindings over which a line was reached."""
     path = []
     while name in reached:
         path.insert(0, reached[name])
@@ -305,10 +418,13 @@ def overflow(node, sheet, after):
         cause += "; look for a figure in a wrong unit"
         return Fault(sheet, 1, "", None, cause), None
     inputs = inputs_of(rest[0], year, after.book)
-    most = f"{limit('figure')} units" if kind == "line" else equivalents
+    what = f"line {rest[0]} in {year}, or a result on the way to it, is beyond {limit('figure')} units"
+    if kind == "equiv":
+        what = f"line {rest[0]} in {year} is beyond {equivalents}"
+        gas = f"GWP.{vocabulary.gas_of(after.book.lines[rest[0]].field('value'))}"
+        inputs.append((gas, after.book.in_force("factor", gas, year)))
     figures = [f"{name} is {row.field('value')} {row.field('unit')} ({row.place})" for name, row in inputs]
-    cause = f"line {rest[0]} in {year}, or a result on the way to it, is beyond {most}: {listed(figures, 'and')}"
-    cause += "; look at the units"
+    cause = f"{what}: {listed(figures, 'and')}; look at the units"
     own = [row for _, row in inputs if after.is_own(row)]
     if not own:
         return Fault(sheet, 1, "", None, cause), None
@@ -337,6 +453,6 @@ def too_many(named, sheet, after):
     """The fault of a limit of the whole workbook, and the rows without its span where that is too long."""
     spans = [row for row in after.rows[1:] if row.field("kind") == "span"]
     if named == "span" and spans:
-        return at_row(spans[-1], f"more than {limit('span')} years from the first to the last", "value"), after.without(spans)
-    what = f"more than {limit(named)} {named}" if named in ("lines", "records") else "too many bytes"
-    return Fault(sheet, 1, "", None, f"{what} with this file"), None
+        cause = f"more than {limit('span')} years from the first to the last"
+        return at_row(spans[-1], cause, "value"), after.without(spans)
+    return Fault(sheet, 1, "", None, f"more than {limit(named)} {named} with this file"), None

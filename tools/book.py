@@ -1,4 +1,6 @@
-"""The records of a workbook by their keys, as the accepted rows left them: to say where something stands, never to judge."""
+"""The records of a workbook by their keys, as the accepted rows left them: to say where something stands,
+never to judge.
+"""
 
 
 # What kind of record a form of a binding takes. A half-life is a factor.
@@ -8,7 +10,8 @@ KIND_TAKEN = {"activity": "activity", "factor": "factor", "decay": "factor"}
 class Book:
     """What is in force: of each key the row that set it last, and the row that entered it.
 
-    Keys are tuples: ("activity", name, year), ("factor", name, year), ("line", name), ("bind", line, parameter), ("span",).
+    Keys are tuples: ("activity", name, year), ("factor", name, year), ("line", name), ("bind", line,
+    parameter), ("uncert", line), ("span",).
     """
 
     def __init__(self):
@@ -22,7 +25,8 @@ class Book:
         """A book of its own with the same records."""
         other = Book()
         other.rows, other.entered = dict(self.rows), dict(self.entered)
-        other.years = {kind: {name: dict(years) for name, years in named.items()} for kind, named in self.years.items()}
+        for kind, named in self.years.items():
+            other.years[kind] = {name: dict(years) for name, years in named.items()}
         other.bindings = {line: dict(bound) for line, bound in self.bindings.items()}
         other.lines = dict(self.lines)
         return other
@@ -75,7 +79,9 @@ class Book:
         return years[max(begun)] if begun else None
 
     def taken(self):
-        """The activities and factors that lines take, as pairs of kind and name, each with the bindings that take it."""
+        """The activities and factors that lines take, as pairs of kind and name, each with the bindings
+        that take it.
+        """
         found = {}
         for bound in self.bindings.values():
             for row in bound.values():

@@ -1,4 +1,7 @@
-"""What is unusual in the text of a field, and the text without it. Whether that is taken, the program is asked."""
+"""What is unusual in the text of a field, and the text without it.
+
+Whether that is taken, the program is asked.
+"""
 import dataclasses
 import decimal
 import functools
@@ -12,14 +15,18 @@ UNSEEN = "\u200b\u200c\u200d\u2060\ufeff\u00ad"
 MINUS = "\u2212\u2010\u2011\u2012\u2013\u2014"
 # Units that people write, in the word of the table for the same size.
 SAME_SIZE = {
-    "tonne": "t", "tonnes": "t", "ton": "t", "tons": "t", "metricton": "t", "kilogram": "kg", "kilograms": "kg",
-    "kilotonne": "kt",
-    "kilotonnes": "kt", "gigagram": "Gg", "gigagrams": "Gg", "terajoule": "TJ", "terajoules": "TJ", "petajoule": "PJ",
-    "gigajoule": "GJ", "hectare": "ha", "hectares": "ha", "m^3": "m3", "cubicmetre": "m3", "cubicmetres": "m3", "heads": "head",
-    "animal": "head", "animals": "head", "persons": "person", "people": "person", "capita": "person", "inhabitants": "person",
-    "%": "pct", "percent": "pct", "percentage": "pct", "fraction": "1", "ratio": "1", "none": "1", "-": "1", "dimensionless": "1",
-    "days": "day", "g/mj": "kg/GJ", "kg/kg": "kg/kg", "mj/kg": "GJ/t", "gj/tonne": "GJ/t", "kt/pj": "t/TJ", "gg/pj": "t/TJ",
-    "t/tonne": "t/t", "kg/tonne": "kg/t", "1000ha": "kha", "1000t": "kt", "kg/animal": "kg/head", "tj/kt": "TJ/Gg",
+    "tonne": "t", "tonnes": "t", "ton": "t", "tons": "t", "metricton": "t",
+    "kilogram": "kg", "kilograms": "kg",
+    "kilotonne": "kt", "kilotonnes": "kt", "1000t": "kt", "gigagram": "Gg", "gigagrams": "Gg",
+    "terajoule": "TJ", "terajoules": "TJ", "petajoule": "PJ", "gigajoule": "GJ",
+    "hectare": "ha", "hectares": "ha", "1000ha": "kha", "m^3": "m3", "cubicmetre": "m3", "cubicmetres": "m3",
+    "heads": "head", "animal": "head", "animals": "head", "kg/animal": "kg/head",
+    "persons": "person", "people": "person", "capita": "person", "inhabitants": "person",
+    "%": "pct", "percent": "pct", "percentage": "pct",
+    "fraction": "1", "ratio": "1", "none": "1", "-": "1", "dimensionless": "1",
+    "days": "day", "year": "yr", "years": "yr", "yrs": "yr", "a": "yr",
+    "g/mj": "kg/GJ", "mj/kg": "GJ/t", "gj/tonne": "GJ/t", "tj/kt": "TJ/Gg", "kt/pj": "t/TJ", "gg/pj": "t/TJ",
+    "t/tonne": "t/t", "kg/tonne": "kg/t", "kg/kg": "kg/kg",
 }
 # Units of the same size whose case tells them apart.
 BY_CASE = {"Mg": "t"}
@@ -28,16 +35,20 @@ OTHER_SIZE = {
     "kwh": ("GWh", "divide by 1000000"), "mwh": ("GWh", "divide by 1000"), "twh": ("GWh", "multiply by 1000"),
     "j": ("GJ", "divide by 1000000000"), "kj": ("GJ", "divide by 1000000"), "mj": ("GJ", "divide by 1000"),
     "ej": ("PJ", "multiply by 1000"), "toe": ("ktoe", "divide by 1000"), "mtoe": ("ktoe", "multiply by 1000"),
-    "g": ("kg", "divide by 1000"), "mt": ("kt", "multiply by 1000; t where metric tons are meant"), "tg": ("Gg", "multiply by 1000"),
+    "g": ("kg", "divide by 1000"), "mt": ("kt", "multiply by 1000; t where metric tons are meant"),
+    "tg": ("Gg", "multiply by 1000"),
     "l": ("m3", "divide by 1000"), "litre": ("m3", "divide by 1000"), "km2": ("ha", "multiply by 100"),
     "mha": ("kha", "multiply by 1000"),
-    "km3": ("Mm3", "multiply by 1000"), "1000m3": ("m3", "multiply by 1000"), "1000head": ("head", "multiply by 1000"),
-    "mg/mj": ("g/GJ", "the same number"), "kg/mwh": ("kg/TJ", "divide by 0.0036"), "ppm": ("g/kg", "divide by 1000"),
+    "km3": ("Mm3", "multiply by 1000"), "1000m3": ("m3", "multiply by 1000"),
+    "1000head": ("head", "multiply by 1000"), "mg/mj": ("g/GJ", "the same number"),
+    "kg/mwh": ("kg/TJ", "divide by 0.0036"), "ppm": ("g/kg", "divide by 1000"),
 }
 
 
 def written_for(word):
-    """What people write for a unit of the table, or for one that is some tens, hundreds or thousands of it."""
+    """What people write for a unit of the table, or for one that is some tens, hundreds or thousands of
+    it.
+    """
     others = {written: other for written, (other, _) in OTHER_SIZE.items()}
     return " ".join(written for written, other in {**SAME_SIZE, **BY_CASE, **others}.items() if other == word)
 
@@ -80,7 +91,7 @@ def without_blanks(text):
     return mended
 
 
-def number(text):
+def number(text, most_decimals=None):
     """A number as it is written elsewhere, as this program takes it."""
     mended = ascii_digits(without_blanks(text))
     mended = mended.less("a minus sign of typography", re.sub(f"^[{MINUS}](?=[\\d.,])", "-", mended.text))
@@ -88,13 +99,14 @@ def number(text):
     if bracketed:
         mended = mended.less("parentheses for a negative number", "-" + bracketed.group(1))
     mended = mended.less("a plus sign", re.sub(r"^\+(?=[\d.,])", "", mended.text))
-    for separator, name in ((" \u2009", "a blank"), (NO_BREAK, "a no-break space"), ("'\u2019", "an apostrophe")):
+    separators = ((" \u2009", "a blank"), (NO_BREAK, "a no-break space"), ("'\u2019", "an apostrophe"))
+    for separator, name in separators:
         joined = re.sub(rf"(?<=\d)[{separator}](?=\d{{3}}(\D|$))", "", mended.text)
         mended = mended.less(f"{name} between thousands", joined)
     mended = exponent(points(mended))
     mended = mended.less("no digit in front of the point", re.sub(r"^(-?)\.(?=\d)", r"\g<1>0.", mended.text))
     mended = mended.less("no digit behind the point", re.sub(r"^(-?\d+)\.$", r"\1", mended.text))
-    return decimals(mended)
+    return decimals(mended, int(limit("decimals")) if most_decimals is None else most_decimals)
 
 
 def ascii_digits(mended):
@@ -111,7 +123,8 @@ def points(mended):
     if re.fullmatch(r"-?\d{1,3}(,\d{3}){2,}(\.\d+)?", text) or re.fullmatch(r"-?\d{1,3}(,\d{3})+\.\d+", text):
         return mended.less("commas between thousands", text.replace(",", ""))
     if re.fullmatch(r"-?\d{1,3}(\.\d{3})+,\d+", text):
-        return mended.less("points between thousands and a decimal comma", text.replace(".", "").replace(",", "."))
+        cause = "points between thousands and a decimal comma"
+        return mended.less(cause, text.replace(".", "").replace(",", "."))
     if re.fullmatch(r"-?\d{1,3}(\.\d{3}){2,}", text):
         return mended.less("points between thousands", text.replace(".", ""))
     if re.fullmatch(r"-?[1-9]\d{0,2},\d{3}", text):
@@ -124,22 +137,24 @@ def points(mended):
 
 
 def exponent(mended):
+    """Without an exponent."""
     if not re.fullmatch(r"-?(\d+(\.\d*)?|\.\d+)[eE][+-]?\d{1,3}", mended.text):
         return mended
     return mended.less("an exponent", format(decimal.Decimal(mended.text), "f"))
 
 
-def decimals(mended):
+def decimals(mended, most):
     """With as many decimals as a number may have. One that would be zero then is not sure."""
-    most = int(limit("decimals"))
     found = re.fullmatch(r"-?\d+\.(\d+)", mended.text)
     if not found or len(found.group(1)) <= most:
         return mended
     cause = f"{len(found.group(1))} decimals where {most} are the most"
-    exact, context = decimal.Decimal(mended.text), decimal.Context(prec=len(mended.text), rounding=decimal.ROUND_HALF_UP)
+    exact = decimal.Decimal(mended.text)
+    context = decimal.Context(prec=len(mended.text), rounding=decimal.ROUND_HALF_UP)
     rounded = exact.quantize(decimal.Decimal(1).scaleb(-most), context=context)
     if exact and not rounded:
-        return Mended(mended.causes + [f"{cause}, and no more than zero is left; choose a smaller unit"], mended.text, False)
+        cause += ", and no more than zero is left; choose a smaller unit"
+        return Mended(mended.causes + [cause], mended.text, False)
     return mended.less(cause, format(rounded, "f"))
 
 
@@ -162,16 +177,20 @@ def name(text):
     mended = without_blanks(text)
     mended = mended.less("lower case", mended.text.upper())
     mended = mended.less("a blank in a name", re.sub(r"\s+", ".", mended.text))
-    bare = "".join(letter for letter in unicodedata.normalize("NFKD", mended.text) if not unicodedata.combining(letter))
+    parts = unicodedata.normalize("NFKD", mended.text)
+    bare = "".join(letter for letter in parts if not unicodedata.combining(letter))
     mended = mended.less("a letter with an accent", bare)
     odd = sorted(set(re.findall(r"[^A-Z0-9._-]", mended.text)))
-    return mended.less(f"{' '.join(odd)} in a name", re.sub(r"[^A-Z0-9._-]+", ".", mended.text)) if odd else mended
+    if not odd:
+        return mended
+    return mended.less(f"{' '.join(odd)} in a name", re.sub(r"[^A-Z0-9._-]+", ".", mended.text))
 
 
 def unit_form(text):
     """A unit without case, blanks, gases and years, to compare units by."""
     text = unicodedata.normalize("NFKC", text).casefold()
     text = re.sub(r"\bper\b", "/", text)
-    text = re.sub(r"(?<![a-z0-9])(co2|ch4|n2o-n|n2o|cf4|c2f6)(-?eq|e)?(?![a-z0-9])|(?<=[tg])(co2|ch4|n2o)", "", text)
+    gas = r"(?<![a-z0-9])(co2|ch4|n2o-n|n2o|cf4|c2f6)(-?eq|e)?(?![a-z0-9])|(?<=[tg])(co2|ch4|n2o)"
+    text = re.sub(gas, "", text)
     text = re.sub(r"[\s\u00b7*]", "", text)
     return re.sub(r"/(yr|year|a|annum|y)\b", "", text)

@@ -1,8 +1,8 @@
 """Finds every fault of every file in one run of the program.
 
-Each file is submitted. At a refusal its place is recorded and the row taken out, or the text put in its place that the
-program takes and that alone can be meant; then the file is submitted again, until it is accepted. So each fault is one
-that the program found.
+Each file is submitted. At a refusal its place is recorded and the row taken out, or the text put in its place
+that the program takes and that alone can be meant; then the file is submitted again, until it is accepted. So
+each fault is one that the program found.
 """
 import collections
 
@@ -15,19 +15,23 @@ from tools.sheets import COLUMNS, joined
 from tools.vocabulary import limit
 
 HEADER = joined(COLUMNS)
-# A row that no workbook has its line for. Behind it no body is accepted: what a row breaks by itself comes first.
+# A row that no workbook has its line for. Behind it no body is accepted: what a row breaks by itself comes
+# first.
 NEVER_ACCEPTED = joined(["enter", "bind", "NO.SUCH.LINE.-.-.-.-.-", "X", "", "key", "NE", "", "", ""])
 OF_THE_ROW_ALONE = (4, 5, 6, 7)
 OF_A_ROW = (4, 5, 6, 7, 8, 9)
 
 
 class Refused:
-    """The rows that were refused and taken out, by what they would have set; and the records that a refused binding takes."""
+    """The rows that were refused and taken out, by what they would have set; and the records that a
+    refused binding takes.
+    """
 
     def __init__(self):
         self.rows, self.meant_records = {}, set()
 
     def add(self, rows):
+        """Adds rows that were taken out."""
         for row in rows:
             if row.field("act") == "withdraw":
                 continue
@@ -80,6 +84,7 @@ class Applied:
         self.book, self.rows, self.after, self.repeated = book, [], None, set()
 
     def book_after(self, rows):
+        """The book after these rows of the file."""
         changed = [(old, new) for old, new in zip(self.rows, rows) if old is not new]
         kept = self.rows and rows[0] is self.rows[0] and len(self.rows) <= len(rows)
         if kept and all(old.key == new.key and old.key not in self.repeated for old, new in changed):
@@ -142,7 +147,8 @@ class Check:
         if reply.rule in OF_A_ROW and reply.row and reply.row < len(rows):
             return self.swept(rows, reply)
         fault, changed = self.of_the_whole(sheet, rows, reply)
-        self.faults.append(fault or Fault(sheet, 1, "", None, f"the program answers: {reply.text}"))
+        if fault or changed is None:
+            self.faults.append(fault or Fault(sheet, 1, "", None, f"the program answers: {reply.text}"))
         return changed
 
     def of_the_whole(self, sheet, rows, reply):
@@ -163,7 +169,9 @@ class Check:
         return bindings.overflow(words[0], sheet, after)
 
     def swept(self, rows, reply):
-        """The rows without those that break a rule by themselves: the one that the reply names, and those that follow."""
+        """The rows without those that break a rule by themselves: the one that the reply names, and those
+        that follow.
+        """
         at = reply.row
         explainer = Explainer(self.takes, self.book_behind(rows[1:at]), self.refused)
         front, rows = rows[:at], self.alone(rows[at:], reply, explainer)
@@ -180,7 +188,10 @@ class Check:
         return book
 
     def alone(self, rows, reply, explainer):
-        """The rows without what they break of rules 4 to 7. Each but the first, whose reply is known, is asked for by itself."""
+        """The rows without what they break of rules 4 to 7.
+
+        Each but the first, whose reply is known, is asked for by itself.
+        """
         asked = [row for row in rows[1:] if id(row) not in self.clean]
         replies = {id(row): answer for row, answer in zip(asked, self.probe(asked))}
         replies[id(rows[0])] = reply
@@ -195,9 +206,11 @@ class Check:
         return kept
 
     def beside(self, front, rows, explainer):
-        """The rows behind others without what they break of rules 8 and 9, for which rows of one record alone count.
+        """The rows behind others without what they break of rules 8 and 9, for which rows of one record alone
+        count.
 
-        In each round a row of each record is asked for, behind the rows of the record that stand before it in the file.
+        In each round a row of each record is asked for, behind the rows of the record that stand before it in
+        the file.
         """
         before, waiting, kept = {}, {}, {}
         for row in front[1:]:
@@ -206,7 +219,8 @@ class Check:
             waiting.setdefault(row.key[:2], []).append((place, row))
         while waiting:
             asked = [(record, *left.pop(0)) for record, left in waiting.items()]
-            replies = self.probe([row for _, _, row in asked], [before.get(record, []) for record, _, _ in asked])
+            in_front = [before.get(record, []) for record, _, _ in asked]
+            replies = self.probe([row for _, _, row in asked], in_front)
             for (record, place, row), reply in zip(asked, replies):
                 row = self.settled(row, reply, explainer) if reply.rule in (8, 9) else row
                 if row is not None:
@@ -219,7 +233,8 @@ class Check:
     def settled(self, row, reply, explainer, lost=False):
         """A row without its faults, which are recorded, or None where it is taken out.
 
-        One that is lost is looked at for its further faults alone, with another word in place of one of its own.
+        One that is lost is looked at for its further faults alone, with another word in place of one of its
+        own.
         """
         if reply.rule == 7 and row.has_other_figure:
             return explainer.blank_figure(row)
@@ -239,17 +254,23 @@ class Check:
         return self.settled(row, reply, explainer, lost) if reply.rule in OF_THE_ROW_ALONE else row
 
     def takes(self, row, column):
-        """Asks the program whether it takes what stands in a column of a row, or where none is named, in all of them."""
+        """Asks the program whether it takes what stands in a column of a row, or where none is named, in
+        all of them.
+        """
         reply = self.probe([row])[0]
         if column is None:
             return reply.rule not in OF_THE_ROW_ALONE
         return reply.rule != 4 and not (reply.rule in (5, 6) and reply.column == column)
 
     def probe(self, rows, before=None):
-        """What the program answers to each row, behind other rows if need be. None of these bodies is accepted."""
+        """What the program answers to each row, behind other rows if need be.
+
+        None of these bodies is accepted.
+        """
         before = before or [[]] * len(rows)
         front = HEADER + b"\n" + NEVER_ACCEPTED + b"\n"
-        replies = self.program.submit_all(front + lines_of(others) + row.raw + b"\n" for row, others in zip(rows, before))
+        bodies = (front + lines_of(others) + row.raw + b"\n" for row, others in zip(rows, before))
+        replies = self.program.submit_all(bodies)
         for reply, others in zip(replies, before):
             if reply.rule in OF_A_ROW and reply.row != 2 + len(others):
                 reply.rule = 0
@@ -264,5 +285,7 @@ def lines_of(rows):
 def summary(faults, warnings, sheets):
     """The last line of a check."""
     followed = sum(1 for fault in faults if fault.follows)
-    rest = f", of which {followed} only {'follows' if followed == 1 else 'follow'} from others" if followed else ""
-    return f"{counted(len(sheets), 'file')}: {counted(len(faults), 'fault')}{rest}, {counted(len(warnings), 'warning')}"
+    found = f"{counted(len(sheets), 'file')}: {counted(len(faults), 'fault')}"
+    if followed:
+        found += f", of which {followed} only {'follows' if followed == 1 else 'follow'} from others"
+    return f"{found}, {counted(len(warnings), 'warning')}"

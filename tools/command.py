@@ -4,72 +4,88 @@ import os
 import sys
 import traceback
 
-from tools import check, complete, tables, wordlist
+from tools import check, complete, tables, vocabulary, wordlist
 from tools.faults import in_order
 from tools.program import Program, ProgramFailed, found_program
 from tools.sheets import FolderFault, read_folders
 from tools.notices import all_warnings, warn_left
 
-FOLDER = ("a folder of CSV files, in the order of its ORDER.txt, else of their names with 2 before 10; several go one "
-          "after the other")
+FOLDER = (
+    "a folder of CSV files, in the order of its ORDER.txt, else of their names with 2 before 10; "
+    "several go one after the other"
+)
+STATUSES = "Statuses: 0 nothing is wrong, 1 there are faults or gaps, 2 the command could not be carried out."
 PROGRAM = "the built program; else GHG_PROGRAM of the environment, else ./ghg, which builds it"
 
 
 def parser():
+    """The reader of the words behind `./workbook`."""
     top = argparse.ArgumentParser(
-        prog="./workbook", description="Everyday tools around the proved program, which alone judges what is a fault.",
-        epilog="Statuses: 0 nothing is wrong, 1 there are faults or gaps, 2 the command could not be carried out.")
+        prog="./workbook",
+        description="Everyday tools around the proved program, which alone judges what is a fault.",
+        epilog=STATUSES,
+    )
     commands = top.add_subparsers(dest="command", required=True, metavar="COMMAND")
-    add_check(commands)
-    add_tables(commands)
-    add_complete(commands)
-    add_words(commands)
+    for add in (add_check, add_tables, add_complete, add_words):
+        add(commands)
     return top
 
 
 def command(commands, name, what, example, function):
-    made = commands.add_parser(name, help=what, description=what[0].upper() + what[1:] + ".", epilog=f"Example: {example}")
+    """A command by its name, with what it does, an example, and the function that carries it out."""
+    said = f"{what[0].upper()}{what[1:]}."
+    shown = f"Example: ./workbook {name} {example}"
+    made = commands.add_parser(name, help=what, description=said, epilog=shown)
     made.set_defaults(function=function)
     return made
 
 
-def with_program(made):
+def over_folders(commands, name, what, example, function):
+    """A command over folders of CSV files, which the program judges."""
+    made = command(commands, name, what, example, function)
     made.add_argument("folders", nargs="+", metavar="FOLDER", help=FOLDER)
     made.add_argument("--program", metavar="PATH", help=PROGRAM)
+    return made
 
 
 def add_check(commands):
-    made = command(commands, "check", "find every fault of every file in one run, and tell its cause",
-                   "./workbook check examples/power-plants", run_check)
-    with_program(made)
+    """Adds the command `check`."""
+    what = "find every fault of every file in one run, and tell its cause"
+    made = over_folders(commands, "check", what, "examples/power-plants", run_check)
     made.add_argument("--no-warnings", action="store_true", help="print faults alone")
 
 
 def add_tables(commands):
-    made = command(commands, "tables", "compile the files and write the tables of a year as CSV files",
-                   "./workbook tables examples/fuel-combustion 2020 -o out", run_tables)
-    with_program(made)
-    made.add_argument("year", type=int, metavar="YEAR", help="the year of the tables; of series, the last one")
-    made.add_argument("-o", "--output", metavar="OUT", help="the folder to write the files to; without it the tables are printed")
-    made.add_argument("--table", action="append", metavar="TABLE", help="one table only; may be given again")
+    """Adds the command `tables`."""
+    what = "compile the files and write the tables of a year as CSV files"
+    example = "examples/fuel-combustion 2020 -o out"
+    made = over_folders(commands, "tables", what, example, compiled(tables.run))
+    year = "the year of the tables; of series, the last one"
+    made.add_argument("year", type=int, metavar="YEAR", help=year)
+    where = "the folder to write the files to; without it the tables are printed"
+    made.add_argument("-o", "--output", metavar="OUT", help=where)
+    one = f"one table only, of {', '.join(vocabulary.words()['tables'])}; may be given again"
+    made.add_argument("--table", action="append", metavar="TABLE", help=one)
     made.add_argument("--partial", action="store_true", help="write the tables also where a file is refused")
 
 
 def add_complete(commands):
-    made = command(commands, "complete", "show for each category and gas which years are estimated, and list gaps",
-                   "./workbook complete examples/fuel-combustion", run_complete)
-    with_program(made)
+    """Adds the command `complete`."""
+    what = "show for each category and gas which years are estimated, and list gaps"
+    made = over_folders(commands, "complete", what, "examples/fuel-combustion", compiled(complete.run))
     made.add_argument("--csv", action="store_true", help="print the years as CSV, one column for each")
 
 
 def add_words(commands):
-    made = command(commands, "words", "search units, categories, equations and parameters by any word of their names",
-                   "./workbook words equations nitric", run_words)
-    made.add_argument("words", nargs="*", metavar="WORD",
-                      help=f"optionally one of {', '.join(wordlist.PARTS)}; then words that all have to be found")
+    """Adds the command `words`."""
+    what = "search units, categories, equations and parameters by any word of their names"
+    made = command(commands, "words", what, "equations nitric", run_words)
+    words = f"optionally one of {', '.join(wordlist.PARTS)}; then words that all have to be found"
+    made.add_argument("words", nargs="*", metavar="WORD", help=words)
 
 
 def run_check(arguments):
+    """Prints every fault and every warning, then a summary, and answers the status."""
     sheets, left = read_folders(arguments.folders)
     with Program(found_program(arguments.program)) as program:
         checked = check.Check(program, sheets)
@@ -89,23 +105,22 @@ def run_check(arguments):
 
 
 def print_all(lines):
+    """Prints texts or faults, one on a line."""
     for line in lines:
         print(line)
 
 
-def run_tables(arguments):
-    sheets, _ = read_folders(arguments.folders)
-    with Program(found_program(arguments.program)) as program:
-        return tables.run(program, sheets, arguments)
-
-
-def run_complete(arguments):
-    sheets, _ = read_folders(arguments.folders)
-    with Program(found_program(arguments.program)) as program:
-        return complete.run(program, sheets, arguments)
+def compiled(run):
+    """The function of a command that works on what the program makes of the files."""
+    def function(arguments):
+        sheets, _ = read_folders(arguments.folders)
+        with Program(found_program(arguments.program)) as program:
+            return run(program, sheets, arguments)
+    return function
 
 
 def run_words(arguments):
+    """Searches the vocabulary, and answers the status."""
     return wordlist.run(arguments.words)
 
 
@@ -113,10 +128,12 @@ def said_of_own(error):
     """A fault of the tools themselves as a sentence, with its place in them."""
     place = traceback.extract_tb(error.__traceback__)[-1]
     where = f"{os.path.basename(place.filename)}:{place.lineno}"
-    return f"a fault of the tools themselves, and none of your files: {type(error).__name__} {error} at {where}"
+    what = f"{type(error).__name__} {error}"
+    return f"a fault of the tools themselves, and none of your files: {what} at {where}"
 
 
 def main(words):
+    """Carries out the command that words name, and answers the status. What goes wrong is one line."""
     for stream in (sys.stdout, sys.stderr):
         stream.reconfigure(encoding="utf-8", errors="backslashreplace")
     arguments = parser().parse_args(words)

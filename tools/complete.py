@@ -1,7 +1,7 @@
 """Which years of each category and gas are estimated, and where the records have gaps.
 
-Whether a line's year has a value is what the program prints of it. Why it has none, or a zero, is told by the records that
-the line takes.
+Whether a line's year has a value is what the program prints of it. Why it has none, or a zero, is told by the
+records that the line takes.
 """
 import sys
 
@@ -93,6 +93,7 @@ def matrix(book, cells, years):
 
 
 def print_matrix(rows, years, as_csv):
+    """Prints the states, one row for a category and gas."""
     if as_csv:
         print(",".join(["category", "gas", *map(str, years)]))
         for (code, gas), states in rows.items():
@@ -114,6 +115,7 @@ def gaps(book, years):
 
 
 def said_of(warnings):
+    """Warnings as items of a list."""
     return [f"{warning.cause} ({warning.place})" for warning in warnings]
 
 
@@ -125,6 +127,7 @@ def without_line(book):
 
 
 def print_list(heading, items):
+    """Prints a list with its heading."""
     print(f"\n{heading}: {'none' if not items else ''}".rstrip())
     for item in items:
         print(f"  {item}")
@@ -135,7 +138,8 @@ def run(program, sheets, arguments):
     accepted = submit_all(program, sheets)
     refused = len(sheets) - len(accepted)
     if refused:
-        say_refused(refused, sheets, arguments.folders, f"the years are without {'it' if refused == 1 else 'them'}")
+        so = f"the years are without {'it' if refused == 1 else 'them'}"
+        say_refused(refused, sheets, arguments.folders, so)
     book = Book()
     for sheet in accepted:
         for row in sheet.rows[1:]:

@@ -1,4 +1,7 @@
-"""Explains a refusal that names a row: rules 4 to 9. What it says to write is what the program took when it was asked."""
+"""Explains a refusal that names a row: rules 4 to 9.
+
+What it says to write is what the program took when it was asked.
+"""
 import re
 
 from tools import vocabulary
@@ -46,8 +49,8 @@ class Explainer(WordFaults, NumberFaults, Shifts):
             return at_row(row, f"{cause}: write a comma for each empty column too"), changed
         pair = self.number_in_two(row)
         if pair:
-            cause += f": a comma in the number {pair}; write a point for a decimal comma, and nothing between thousands"
-            return at_row(row, cause), None
+            cause += f": a comma in the number {pair}; write a point for a decimal comma"
+            return at_row(row, f"{cause}, and nothing between thousands"), None
         if not any(fields[10:]):
             commas = "comma" if count == 11 else f"{count - 10} commas"
             return at_row(row, f"{cause}; take out the {commas} at the end"), self.of_ten(row, fields[:10])
@@ -61,7 +64,9 @@ class Explainer(WordFaults, NumberFaults, Shifts):
         return changed if self.takes(changed, None) else None
 
     def number_in_two(self, row):
-        """A number with a comma that stands in two columns, in a row whose unit stands that much further right."""
+        """A number with a comma that stands in two columns, in a row whose unit stands that much further
+        right.
+        """
         fields = row.fields
         if fields[1] not in ("activity", "factor") or fields[len(fields) - 2] not in vocabulary.units():
             return None
@@ -71,38 +76,56 @@ class Explainer(WordFaults, NumberFaults, Shifts):
         return None
 
     def not_utf8(self, row):
+        """Bytes that are no UTF-8. The row goes on as if they were Latin-1."""
         latin = row.raw.decode("cp1252", "replace")
         odd = next(letter for field in row.fields for letter in field if 0xDC80 <= ord(letter) <= 0xDCFF)
         meant = bytes([ord(odd) - 0xDC00]).decode("cp1252", "replace")
-        cause = f"the byte {ord(odd) - 0xDC00:02X} is not UTF-8 (in Latin-1 it is {meant}); save the file as CSV UTF-8"
-        return at_row(row, cause), type(row)(row.sheet, row.line, latin.encode("utf-8"))
+        cause = f"the byte {ord(odd) - 0xDC00:02X} is not UTF-8 (in Latin-1 it is {meant})"
+        mended = type(row)(row.sheet, row.line, latin.encode("utf-8"))
+        return at_row(row, f"{cause}; save the file as CSV UTF-8"), mended
 
     # Rules 8 and 9
 
     def unit_of_another_dimension(self, row):
+        """A unit that its record cannot have."""
         kind, name, unit = row.field("kind"), row.field("name"), row.field("unit")
         measures = vocabulary.measured_by(unit)
+        if kind == "activity" and unit == vocabulary.HALF_LIFE_UNIT:
+            return self.activity_of_years(row)
         if name.startswith("GWP."):
-            return at_row(row, f"measures {measures}, and a warming potential is a ratio", "unit", "1"), row.with_fields(unit="1")
+            cause = f"measures {measures}, and a warming potential is a ratio"
+            return at_row(row, cause, "unit", "1"), row.with_fields(unit="1")
         record = self.book.some_record(kind, name)
         if not record:
-            return at_row(row, f"measures {measures}, and another record of {kind} {name} measures something else", "unit"), None
+            cause = f"measures {measures}, and another record of {kind} {name} measures something else"
+            return at_row(row, cause, "unit"), None
         other = record.field("unit")
         known = listed(vocabulary.units_that_measure(vocabulary.measured_by(other)))
-        cause = f"measures {measures}, and {kind} {name} is in {other} ({vocabulary.measured_by(other)}) at {record.place}"
-        cause += f"; write {known}, or give this record another name"
+        cause = f"measures {measures}, and {kind} {name} is in {other} ({vocabulary.measured_by(other)})"
+        cause += f" at {record.place}; write {known}, or give this record another name"
         return at_row(row, cause, "unit"), self.blank_figure(row.with_fields(unit=other))
 
+    def activity_of_years(self, row):
+        """An activity in the unit of half-lives, which are factors.
+
+        It goes on as one where the program takes it.
+        """
+        changed = row.with_fields(kind="factor")
+        fault = at_row(row, "a half-life is a factor and no activity", "kind", "factor")
+        return fault, changed if self.takes(changed, None) else None
+
     def exists(self, row):
+        """A record that is entered already."""
         key = row.key
         entered = self.book.entered.get(key)
         where = f" at {entered.place}" if entered and key in self.book.rows else ""
         if entered and self.book.rows.get(key) is entered and entered.fields[:9] == row.fields[:9]:
-            cause = f"{said_of_key(key)} is entered already{where}, with the same figures; take one of the two out"
-            return at_row(row, cause), None
+            cause = f"{said_of_key(key)} is entered already{where}, with the same figures"
+            return at_row(row, f"{cause}; take one of the two out"), None
         cause = f"{said_of_key(key)} is entered already{where}"
-        other = {"activity": "give this one another name or year", "factor": "give this one another name or year",
-                 "line": "give this one another name"}.get(key[0], "take one of the two out")
+        other = "take one of the two out"
+        if key[0] in ("activity", "factor", "line"):
+            other = f"give this one another name{'' if key[0] == 'line' else ' or year'}"
         return at_row(row, f"{cause}; to change it use correct, else {other}"), None
 
     def absent(self, row):
@@ -110,7 +133,8 @@ class Explainer(WordFaults, NumberFaults, Shifts):
         key, act = row.key, row.field("act")
         entered = self.refused.that_sets(key)
         if entered:
-            return at_row(row, f"there is no {said_of_key(key)} to {act}, since its row was refused", follows=entered.place), None
+            cause = f"there is no {said_of_key(key)} to {act}, since its row was refused"
+            return at_row(row, cause, follows=entered.place), None
         years = self.book.years.get(key[0], {}).get(key[1]) if len(key) > 1 else None
         there = f"; there are records of {years_said(years)}" if years else ""
         near = self.nearest_name(key)
@@ -122,6 +146,8 @@ class Explainer(WordFaults, NumberFaults, Shifts):
     def nearest_name(self, key):
         """The nearest name that there is, where the key's own is none."""
         named = self.book.years.get(key[0], self.book.lines)
+        if key[0] == "uncert":
+            named = [other[1] for other in self.book.rows if other[0] == "uncert"]
         if len(key) == 1 or key[1] in named:
             return None
         near = nearest(key[1], named, 1, 0.75)
@@ -132,4 +158,6 @@ def said_of_key(key):
     """A record as a sentence names it."""
     if key[0] == "bind":
         return f"binding of {key[2]} of {key[1]}"
+    if key[0] == "uncert":
+        return f"uncertainty of {key[1]}"
     return " ".join(part for part in key if part)

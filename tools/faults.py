@@ -1,4 +1,6 @@
-"""A fault or a warning as one line: the place as an editor counts it, the text found, the cause and what to write."""
+"""A fault or a warning as one line: the place as an editor counts it, the text found, the cause and what
+to write.
+"""
 import dataclasses
 
 from tools.vocabulary import listed
@@ -8,7 +10,10 @@ LONGEST = 60
 
 @dataclasses.dataclass
 class Fault:
-    """A fault that the program found. It follows from another where that one's row would have prevented it."""
+    """A fault that the program found.
+
+    It follows from another where that one's row would have prevented it.
+    """
     sheet: object
     line: int
     column: str = ""
@@ -21,9 +26,11 @@ class Fault:
 
     @property
     def place(self):
+        """The file and the line."""
         return f"{self.sheet.name}:{self.line}"
 
     def same_but_for_the_line(self):
+        """What like faults have in common."""
         return (self.column, self.text, self.cause, self.write, self.follows)
 
     def __str__(self):
@@ -52,6 +59,7 @@ def written_out(text):
 
 
 def seen(letter):
+    """A letter, or how it is written where it cannot be seen."""
     code = ord(letter)
     if 0xDC80 <= code <= 0xDCFF:
         return f"<{code - 0xDC00:02X}>"

@@ -1,4 +1,6 @@
-"""Faults of a whole file: its encoding, what stands between its fields, its header, and quotes that are never closed."""
+"""Faults of a whole file: its encoding, what stands between its fields, its header, and quotes that are
+never closed.
+"""
 import csv
 import io
 import re
@@ -10,11 +12,14 @@ from tools.sheets import COLUMNS, Row, joined
 HEADER = ",".join(COLUMNS)
 # How a text of UTF-16 begins: with a mark, or with an ASCII letter.
 UTF16 = {rb"\xff\xfe|\xfe\xff": "utf-16", rb"[\x20-\x7e]\x00": "utf-16-le", rb"\x00[\x20-\x7e]": "utf-16-be"}
+# How a further row begins within a quote.
+FURTHER_ROW = re.compile(rb"[\r\n]\s*\"?(enter|correct|withdraw)\"?,")
 SPREADSHEETS = (b"PK\x03\x04", b"\xd0\xcf\x11\xe0")
 SAVE = "save it as CSV UTF-8 with commas"
 # A title and notes in front of the header are looked for in so many rows.
 ROWS_IN_FRONT = 30
-# A file may have so many faults of this kind one behind the other, as semicolons, a title in front and an empty column.
+# A file may have so many faults of this kind one behind the other, as semicolons, a title in front and an
+# empty column.
 MOST_FAULTS = 6
 
 
@@ -51,10 +56,12 @@ def of_rows(rows):
     between = delimiter(rows)
     if between:
         name = {";": "semicolons", "\t": "tabs", "|": "bars"}[between]
-        return f"{name} between the fields; {SAVE}, and numbers with a point", [with_comma(row, between) for row in rows]
+        cause = f"{name} between the fields; {SAVE}, and numbers with a point"
+        return cause, [with_comma(row, between) for row in rows]
     found = [at for at, row in enumerate(rows[:ROWS_IN_FRONT]) if bare(row.fields)[:10] == COLUMNS]
     if found and found[0] > 0:
-        return f"{counted(found[0], 'row')} in front of the header; take {'it' if found[0] == 1 else 'them'} out", rows[found[0]:]
+        cause = f"{counted(found[0], 'row')} in front of the header"
+        return f"{cause}; take {'it' if found[0] == 1 else 'them'} out", rows[found[0]:]
     names = bare(rows[0].fields)
     if found and len(names) > 10:
         return eleventh(rows)
@@ -87,6 +94,7 @@ def with_comma(row, between):
 
 
 def bare(fields):
+    """Fields without blanks at their ends, in lower case."""
     return [field.strip().casefold() for field in fields]
 
 
@@ -100,7 +108,9 @@ def other_words(rows, names):
     order = [names.index(column) for column in COLUMNS]
     if names == COLUMNS:
         odd = [field for field in rows[0].fields if field not in COLUMNS]
-        cause = f'the header has "{odd[0]}"; write {bare(odd)[0]}' if len(odd) == 1 else f"the header is written {HEADER}"
+        cause = f"the header is written {HEADER}"
+        if len(odd) == 1:
+            cause = f'the header has "{odd[0]}"; write {bare(odd)[0]}'
         return cause, [header_of(rows)] + rows[1:]
     placed = [reordered(row, order) for row in rows[1:]]
     return f"the columns stand in another order; the header is {HEADER}", [header_of(rows)] + placed
@@ -108,7 +118,9 @@ def other_words(rows, names):
 
 def reordered(row, order):
     """A row of ten fields with its fields in another order."""
-    return Row(row.sheet, row.line, joined([row.fields[at] for at in order])) if len(row.fields) == 10 else row
+    if len(row.fields) != 10:
+        return row
+    return Row(row.sheet, row.line, joined([row.fields[at] for at in order]))
 
 
 def eleventh(rows):
@@ -119,7 +131,8 @@ def eleventh(rows):
         cause = f'an eleventh column, "{name}"; take it out, or write what it holds in the note'
     else:
         cause = f"{width} columns in place of 10; take out the empty ones behind note"
-    narrow = [Row(row.sheet, row.line, joined(row.fields[:10])) if len(row.fields) == width else row for row in rows]
+    narrow = [Row(row.sheet, row.line, joined(row.fields[:10])) if len(row.fields) == width else row
+              for row in rows]
     return cause, narrow
 
 
@@ -131,12 +144,16 @@ def missing(first):
     if len(absent) > 5:
         return f"no header; the first row is {HEADER}"
     named = f", and has {', '.join(odd)}" if odd else ""
-    lacks = f"the header has no column {', '.join(absent)}{named}" if absent else "the header has a column twice"
+    lacks = "the header has a column twice"
+    if absent:
+        lacks = f"the header has no column {', '.join(absent)}{named}"
     return f"{lacks}; it is {HEADER}"
 
 
 def close_quotes(sheet):
-    """The faults of quotes that take in further rows, and the rows as they are with each such quote closed on its line."""
+    """The faults of quotes that take in further rows, and the rows as they are with each such quote closed
+    on its line.
+    """
     if b'"' not in sheet.data or not any(takes_in_rows(row) for row in sheet.rows):
         return [], sheet.rows
     faults, rows, waiting = [], [], list(sheet.rows)
@@ -148,7 +165,9 @@ def close_quotes(sheet):
         first, *rest = sheets.LINE_END.split(row.raw, maxsplit=1)
         closed, how = without_open_quote(Row(sheet, row.line, first))
         last = row.line + len(sheets.LINE_END.findall(row.raw.rstrip(b"\r\n")))
-        taken = f"it takes in the rows up to line {last}" if last > row.line else "it goes on to the end of the file"
+        taken = "it goes on to the end of the file"
+        if last > row.line:
+            taken = f"it takes in the rows up to line {last}"
         cause = f"an open quote: {taken}; {how}"
         faults.append(Fault(sheet, row.line, "", None, cause, row=row))
         rows.append(closed)
@@ -157,7 +176,9 @@ def close_quotes(sheet):
 
 
 def without_open_quote(row):
-    """A row of one line with its open quote closed at the end, or taken out where ten fields come of that alone; and which."""
+    """A row of one line with its open quote closed at the end, or taken out where ten fields come of that
+    alone; and which.
+    """
     at = sheets.open_quote(row.raw)
     bare = Row(row.sheet, row.line, row.raw[:at] + row.raw[at + 1:])
     closed = Row(row.sheet, row.line, row.raw + b'"')
@@ -173,4 +194,4 @@ def moved(rows, line):
 
 def takes_in_rows(row):
     """Tells whether a quote of the row is open, or holds what looks like further rows."""
-    return sheets.open_quote(row.raw) is not None or re.search(rb"[\r\n]\s*\"?(enter|correct|withdraw)\"?,", row.raw) is not None
+    return sheets.open_quote(row.raw) is not None or FURTHER_ROW.search(row.raw) is not None

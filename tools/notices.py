@@ -7,7 +7,8 @@ from tools.faults import Fault, at_row, counted, years_said
 from tools.vocabulary import listed, nearest
 
 MEMOS = ("MB", "MC", "RA")
-# A file of nothing but factors, as one of defaults, may have more than these that no line takes: they are one warning.
+# A file of nothing but factors, as one of defaults, may have more than these that no line takes: they are one
+# warning.
 FEW = 3
 # The changes of stocks of the reference approach have a sign.
 SIGNED = {"SC"}
@@ -25,34 +26,45 @@ def all_warnings(book, refused, sheets, left):
     if not span and refused.that_sets(("span",)):
         return found
     if not span:
-        return found + [Fault(sheets[0], 1, "warning", None, "no span is in force, so that there is no table")]
+        return found + [warn_of(sheets[0], "no span is in force, so that there is no table")]
     first, last = book.span
     found += outside(book, first, last)
     found += holes(book, refused, first, last)
     found += late_factors(book, refused, first, last)
     found += without_potential(book, refused)
+    found += without_uncertainty(book, refused)
     return found + ([] if refused.has_activity_of(last) else without_last_year(book, span, last))
 
 
 def warn(row, cause):
+    """A warning of a row."""
     fault = at_row(row, cause)
     fault.column = "warning"
     return fault
 
 
+def warn_of(sheet, cause):
+    """A warning of a whole file."""
+    return Fault(sheet, 1, "warning", None, cause)
+
+
 def headers_alone(sheets):
-    return [Fault(sheet, 1, "warning", None, "a header alone: the file has no rows") for sheet in sheets if len(sheet.rows) == 1]
+    """Files without a row."""
+    cause = "a header alone: the file has no rows"
+    return [warn_of(sheet, cause) for sheet in sheets if len(sheet.rows) == 1]
 
 
 def untaken(book, refused, kind):
     """The names of a kind that no line takes, nor was meant to."""
     taken = set(book.taken()) | refused.meant_records
-    return [name for name in sorted(book.years[kind]) if (kind, name) not in taken and not name.startswith("GWP.")]
+    return [name for name in sorted(book.years[kind])
+            if (kind, name) not in taken and not name.startswith("GWP.")]
 
 
 def orphans(book, refused, sheets):
     """Activities and factors that no line takes."""
-    found = [warn(book.some_record("activity", name), orphan_activity(book, name)) for name in untaken(book, refused, "activity")]
+    found = [warn(book.some_record("activity", name), orphan_activity(book, name))
+             for name in untaken(book, refused, "activity")]
     by_sheet = {}
     for name in untaken(book, refused, "factor"):
         row = book.some_record("factor", name)
@@ -60,16 +72,16 @@ def orphans(book, refused, sheets):
     for rows in by_sheet.values():
         sheet = rows[0][1].sheet
         if len(rows) > FEW and all(row.field("kind") == "factor" for row in sheet.rows[1:]):
-            names = [name for name, _ in rows]
-            more = f" and {len(names) - NAMES_SHOWN} more" if len(names) > NAMES_SHOWN else ""
-            cause = f"no line takes {len(names)} of its factors: {', '.join(names[:NAMES_SHOWN])}{more}"
-            found.append(warn(rows[0][1], cause))
+            names = shortened([row for _, row in rows])
+            found.append(warn(rows[0][1], f"no line takes {len(rows)} of its factors: {names}"))
         else:
-            found += [warn(row, f"no line takes factor {name}{other_name(book, 'factor', name)}") for name, row in rows]
+            found += [warn(row, f"no line takes factor {name}{other_name(book, 'factor', name)}")
+                      for name, row in rows]
     return found
 
 
 def orphan_activity(book, name):
+    """What is said of an activity that no line takes."""
     years = book.years["activity"][name]
     return f"no line takes activity {name} ({years_said(years)}){other_name(book, 'activity', name)}"
 
@@ -91,8 +103,8 @@ def outside(book, first, last):
     for name, years in sorted(book.years["activity"].items()):
         beyond = [year for year in years if not first <= year <= last]
         if beyond:
-            cause = f"activity {name} of {years_said(beyond)} is outside the span, {first} to {last}; no line reads it"
-            found.append(warn(years[min(beyond)], cause))
+            cause = f"activity {name} of {years_said(beyond)} is outside the span, {first} to {last}"
+            found.append(warn(years[min(beyond)], f"{cause}; no line reads it"))
     for name, years in sorted(book.years["factor"].items()):
         beyond = [year for year in years if year > last]
         if beyond:
@@ -106,17 +118,20 @@ def lines_of(bindings):
     names = sorted({row.field("subject") for row in bindings})
     if len(names) == 1:
         return f"line {names[0]} is"
-    shown = names if len(names) <= NAMES_SHOWN else [*names[:NAMES_SHOWN - 1], f"{len(names) - NAMES_SHOWN + 1} more"]
-    return f"lines {listed(shown, 'and')} are"
+    if len(names) > NAMES_SHOWN:
+        names = [*names[:NAMES_SHOWN - 1], f"{len(names) - NAMES_SHOWN + 1} more"]
+    return f"lines {listed(names, 'and')} are"
 
 
 def holes(book, refused, first, last):
     """Activities that lines take and that lack years between others."""
     found, taken = [], book.taken()
     for name, years in sorted(book.years["activity"].items()):
-        lacking = [year for year in range(max(min(years), first), min(max(years), last) + 1) if year not in years]
+        between = range(max(min(years), first), min(max(years), last) + 1)
+        lacking = [year for year in between if year not in years]
         if lacking and ("activity", name) in taken and not refused.that_enters("activity", name):
-            cause = f"activity {name} has no record of {years_said(lacking)}; {lines_of(taken['activity', name])} blank there"
+            blank = f"{lines_of(taken['activity', name])} blank there"
+            cause = f"activity {name} has no record of {years_said(lacking)}; {blank}"
             found.append(warn(years[min(years)], cause))
     return found
 
@@ -156,8 +171,29 @@ def without_potential(book, refused):
             found.append(warn(rows[0], f"{lines}, and there is no factor GWP.{gas}; totals count it as zero"))
         elif min(years) > first:
             row = years[min(years)]
-            found.append(warn(row, f"{lines}, and GWP.{gas} begins in {min(years)}; totals before count it as zero"))
+            cause = f"{lines}, and GWP.{gas} begins in {min(years)}; totals before count it as zero"
+            found.append(warn(row, cause))
     return found
+
+
+def without_uncertainty(book, refused):
+    """The lines of the tree that emit a gas and have no uncertainty, where others have one."""
+    emitting = [row for rows in emitted(book).values() for row in rows if row.field("subject") not in MEMOS]
+    known = {key[1] for key in book.rows if key[0] == "uncert"}
+    lacking = [row for row in emitting if row.field("name") not in known]
+    lacking = [row for row in lacking if not refused.that_sets(("uncert", row.field("name")))]
+    if not known or not lacking:
+        return []
+    lines = f"{counted(len(lacking), 'line')} {'has' if len(lacking) == 1 else 'have'} no uncertainty"
+    cause = f"{lines}, and others have one; where one of them has a value, the total has none"
+    return [warn(lacking[0], f"{cause}: {shortened(lacking)}")]
+
+
+def shortened(rows):
+    """The names of rows, the first of them where they are many."""
+    names = [row.field("name") for row in rows]
+    more = f" and {len(names) - NAMES_SHOWN} more" if len(names) > NAMES_SHOWN else ""
+    return f"{', '.join(names[:NAMES_SHOWN])}{more}"
 
 
 def without_last_year(book, span, last):
@@ -165,7 +201,8 @@ def without_last_year(book, span, last):
     if not book.years["activity"] or any(last in years for years in book.years["activity"].values()):
         return []
     latest = max(max(years) for years in book.years["activity"].values())
-    return [warn(span, f"the span goes to {last}, and no activity has a record of it; the latest is of {latest}")]
+    cause = f"the span goes to {last}, and no activity has a record of it; the latest is of {latest}"
+    return [warn(span, cause)]
 
 
 def figures(row):
@@ -189,7 +226,8 @@ def ratios(book):
     for kind, name, records in named_records(book):
         if vocabulary.measured_by(records[0][1].field("unit")) != "ratio":
             continue
-        odd = [row for _, row in records if not row.has_other_figure and any(not 0 <= figure <= 1 for figure in figures(row))]
+        odd = [row for _, row in records
+               if not row.has_other_figure and any(not 0 <= figure <= 1 for figure in figures(row))]
         if odd:
             row = odd[0]
             low, high = row.field("low"), row.field("high")
@@ -238,10 +276,14 @@ def double_lines(book):
 
 
 def what_it_takes(book, name, code):
-    """The equation of a line, its activities and what its ratios are bound to; None where it takes no activity."""
+    """The equation of a line, its activities and what its ratios are bound to;
+
+    None where it takes no activity.
+    """
     parameters = vocabulary.parameters_of(code)
     bound = book.bindings.get(name, {})
-    activities = frozenset((parameter, row.field("low")) for parameter, row in bound.items() if row.field("value") == "activity")
+    activities = frozenset((parameter, row.field("low")) for parameter, row in bound.items()
+                           if row.field("value") == "activity")
     shares = frozenset((parameter, row.field("value"), row.field("low")) for parameter, row in bound.items()
                        if parameters[parameter]["measures"] == "ratio")
     return (code, activities, shares) if activities else None
@@ -257,4 +299,5 @@ class Nothing:
     meant_records = frozenset()
 
     def that_enters(self, kind, name):
+        """No row enters anything."""
         return None

@@ -1,7 +1,7 @@
 """The built program as a process: a command is written to it, and its reply read.
 
-The program answers command by command, and a refused submission changes nothing. So a file that was refused is submitted
-again, changed, to the same process, and nothing has to be submitted twice.
+The program answers command by command, and a refused submission changes nothing. So a file that was refused
+is submitted again, changed, to the same process, and nothing has to be submitted twice.
 """
 import dataclasses
 import os
@@ -22,7 +22,10 @@ class ProgramFailed(Exception):
 
 @dataclasses.dataclass
 class Reply:
-    """What the program answers to a submission. Row and column say where a rule is broken, and rest says it of rules 10 to 13."""
+    """What the program answers to a submission.
+
+    Row and column say where a rule is broken, and rest says it of rules 10 to 13.
+    """
     text: str
     rule: int = 0
     row: int | None = None
@@ -31,6 +34,7 @@ class Reply:
 
     @property
     def accepted(self):
+        """Tells whether the submission is in force."""
         return self.rule == 0
 
 
@@ -46,7 +50,9 @@ def read_reply(text):
 
 
 def found_program(given=None):
-    """The program's path: the given one, or that of GHG_PROGRAM, or the launcher, which builds it where it is missing."""
+    """The program's path: the given one, or that of GHG_PROGRAM, or the launcher, which builds it where it
+    is missing.
+    """
     path = given or os.environ.get("GHG_PROGRAM") or str(TOP / "ghg")
     if not os.access(path, os.X_OK) or os.path.isdir(path):
         raise ProgramFailed(f"there is no program at {path}")

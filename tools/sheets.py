@@ -5,8 +5,8 @@ import pathlib
 import re
 
 BYTE_ORDER_MARK = b"\xef\xbb\xbf"
-# A field to its end: a quoted one over closed pairs of quotes, or one without a quote in front. The flag of the second
-# group is set where the closing quote is missing.
+# A field to its end: a quoted one over closed pairs of quotes, or one without a quote in front. The flag of
+# the second group is set where the closing quote is missing.
 FIELD = re.compile(rb'"[^"]*(?:""[^"]*)*(?:"[^,\r\n]*|(\Z))|[^,\r\n]*')
 LINE_END = re.compile(rb"\r\n|\r|\n")
 
@@ -14,7 +14,10 @@ LINE_END = re.compile(rb"\r\n|\r|\n")
 COLUMNS = ["act", "kind", "subject", "name", "year", "value", "low", "high", "unit", "note"]
 COLUMN_AT = {column: at for at, column in enumerate(COLUMNS)}
 # The columns that name a record, of each kind; of any other kind all that may.
-COLUMNS_OF_KEY = {"span": [], "activity": ["name", "year"], "factor": ["name", "year"], "line": ["name"], "bind": ["subject", "name"]}
+COLUMNS_OF_KEY = {
+    "span": [], "activity": ["name", "year"], "factor": ["name", "year"], "line": ["name"],
+    "bind": ["subject", "name"], "uncert": ["name"],
+}
 ANY_KEY = ["subject", "name", "year"]
 
 
@@ -25,7 +28,7 @@ class FolderFault(Exception):
 class Row:
     """A record of a file: the line that it begins on, its bytes without the end of the line, and its fields.
 
-    One with a figure that is not the writer's is marked.
+    One with a figure or a target that is not the writer's is marked.
     """
 
     __slots__ = ("sheet", "line", "raw", "has_other_figure", "_fields", "_key")
@@ -44,6 +47,7 @@ class Row:
 
     @property
     def place(self):
+        """The file and the line."""
         return f"{self.sheet.name}:{self.line}"
 
     @property
@@ -70,7 +74,9 @@ class Row:
 
 
 class Sheet:
-    """A file of a folder: the name to show for it, its bytes and its rows, of which the first is the header."""
+    """A file of a folder: the name to show for it, its bytes and its rows, of which the first is the
+    header.
+    """
 
     def __init__(self, name, data):
         self.name, self.data = name, data

@@ -1,4 +1,6 @@
-"""Explains a row whose fields stand one column too far left or right, since a comma is missing or there is one more."""
+"""Explains a row whose fields stand one column too far left or right, since a comma is missing or there is
+one more.
+"""
 from tools import vocabulary
 from tools.asking import Asking
 from tools.faults import at_row, shown
@@ -26,27 +28,34 @@ class Shifts(Asking):
         if row.fields[due] in words:
             return None
         if row.fields[due - 1] in words and not row.fields[-1]:
-            return self.first_of(row, self.moved_right(row, due - 1), "left; write one more comma in front of it")
+            meant = self.moved_right(row, due - 1)
+            return self.first_of(row, meant, "left; write one more comma in front of it")
         if row.fields[due + 1] in words:
             return self.first_of(row, self.moved_left(row, due), "right; take out a comma in front of it")
         return None
 
     def first_of(self, row, candidates, where):
+        """The fault and the first of some rows that the program takes, or None."""
         for text, fields in candidates:
             meant = Row(row.sheet, row.line, joined(fields))
             if self.takes(meant, None):
-                return at_row(row, f"the fields from {shown(text)} on stand one column too far {where}"), meant
+                cause = f"the fields from {shown(text)} on stand one column too far {where}"
+                return at_row(row, cause), meant
         return None
 
     @staticmethod
     def moved_right(row, last):
-        """The row with an empty field more in front of a field, each up to the last that may be meant; and that field."""
+        """The row with an empty field more in front of a field, each up to the last that may be meant; and
+        that field.
+        """
         for at in range(last, 1, -1):
             yield row.fields[at], row.fields[:at] + [""] + row.fields[at:-1]
 
     @staticmethod
     def moved_left(row, last):
-        """The row without one of its empty fields, each up to the last that may be meant; and what stands behind it."""
+        """The row without one of its empty fields, each up to the last that may be meant; and what stands
+        behind it.
+        """
         for at in range(last, 1, -1):
             if not row.fields[at]:
                 yield next(filter(None, row.fields[at:])), row.fields[:at] + row.fields[at + 1:] + [""]

@@ -44,13 +44,15 @@ def run(program, sheets, arguments):
         say_refused(refused, sheets, arguments.folders, "no table is written")
         return 1
     if refused:
-        say_refused(refused, sheets, arguments.folders, f"the tables are without {'it' if refused == 1 else 'them'}")
+        so = f"the tables are without {'it' if refused == 1 else 'them'}"
+        say_refused(refused, sheets, arguments.folders, so)
     names = arguments.table or vocabulary.words()["tables"]
     shown = {name: program.show(name, arguments.year) for name in names}
     missing = [name for name, lines in shown.items() if lines is None]
     if missing:
-        print(f"./workbook: there is no table {' or '.join(missing)} of {arguments.year}: the span has another year, or there is "
-              f"no span, or the tables are {', '.join(vocabulary.words()['tables'])}", file=sys.stderr)
+        what = f"there is no table {' or '.join(missing)} of {arguments.year}: the span has another year"
+        known = ", ".join(vocabulary.words()["tables"])
+        print(f"./workbook: {what}, or there is no span, or the tables are {known}", file=sys.stderr)
         return 1
     write(shown, arguments)
     return 1 if refused else 0

@@ -5,6 +5,8 @@ import json
 import pathlib
 import re
 
+# Half-lives are in this unit, out of which the form `decay` of a binding makes a yearly decay factor.
+HALF_LIFE_UNIT = "yr"
 PATH = pathlib.Path(__file__).resolve().parent / "vocabulary.json"
 
 
@@ -60,6 +62,21 @@ def measured_by(word):
     return unit["measures"] if unit else None
 
 
+def half_life():
+    """What the unit of half-lives measures, or None where no row holds one."""
+    return measured_by(HALF_LIFE_UNIT)
+
+
+def is_decay(parameter):
+    """Tells whether a parameter takes a yearly decay factor: the one that has no unit."""
+    return parameter["unit"] is None
+
+
+def record_of(parameter):
+    """What a record measures that a parameter takes: of a yearly decay factor, a half-life."""
+    return half_life() if is_decay(parameter) else parameter["measures"]
+
+
 def parameters_of(code):
     """The parameters of an equation by their names."""
     return {parameter["name"]: parameter for parameter in equations()[code]["parameters"]}
@@ -77,9 +94,9 @@ def gas_of(code):
 
 
 def said_of_parameter(parameter):
-    """A parameter with what it measures and the base unit, if it has one."""
-    unit = f' ({parameter["unit"]})' if parameter["unit"] else ""
-    return f'{parameter["name"]} {parameter["measures"]}{unit}'
+    """A parameter with what it measures, and the base unit or the form that gives it."""
+    of = "by decay" if is_decay(parameter) else parameter["unit"]
+    return f'{parameter["name"]} {parameter["measures"]} ({of})'
 
 
 def listed(items, last="or"):

@@ -3,6 +3,7 @@ import re
 
 from tools import causes, vocabulary
 from tools.asking import Asking, article, cause_of, is_empty, is_header
+from tools.book import KIND_TAKEN
 from tools.faults import at_row
 from tools.sheets import COLUMNS_OF_KEY
 from tools.vocabulary import limit, listed, nearest
@@ -12,6 +13,7 @@ class WordFaults(Asking):
     """Explanations of words."""
 
     def word(self, row, column):
+        """A word that is none of its column, or a column that has to be empty."""
         if is_empty(row):
             return at_row(row, "an empty row; take it out", column), None
         if is_header(row):
@@ -21,42 +23,43 @@ class WordFaults(Asking):
             return self.choice(row, column, vocabulary.words()[column + "s"])
         if row.field("act") == "withdraw" and column in ("subject", "year", "value", "low", "high", "unit"):
             if (kind, column) not in (("bind", "subject"),):
-                return self.filled(row, column, f"in a row that withdraws {article(kind)} only what names the record is filled")
+                cause = f"in a row that withdraws {article(kind)} only what names the record is filled"
+                return self.filled(row, column, cause)
         explained = {
             ("line", "subject"): self.category, ("line", "name"): self.name, ("line", "value"): self.equation,
             ("bind", "subject"): self.name, ("bind", "name"): self.parameter, ("bind", "value"): self.form,
             ("bind", "low"): self.target, ("activity", "name"): self.name, ("factor", "name"): self.name,
-            ("activity", "unit"): self.unit, ("factor", "unit"): self.unit,
+            ("activity", "unit"): self.unit, ("factor", "unit"): self.unit, ("uncert", "name"): self.name,
         }.get((kind, column))
         if explained:
             return explained(row, column)
         if kind not in COLUMNS_OF_KEY:
-            return at_row(row, "no word of this column's form; docs/FORMATS.md says what it takes", column), None
+            cause = "no word of this column's form; docs/FORMATS.md says what it takes"
+            return at_row(row, cause, column), None
         if column in ("low", "high") and kind in ("activity", "factor"):
-            return self.filled(row, column, f"beside the notation key {row.field('value')} low and high stay empty")
+            cause = f"beside the notation key {row.field('value')} low and high stay empty"
+            return self.filled(row, column, cause)
         return self.filled(row, column, f"this column stays empty in {article(kind)} row")
 
-    def filled(self, row, column, cause):
-        """A column that has to be empty."""
-        text = row.field(column)
-        if not causes.without_blanks(text).text:
-            return self.first_taken(row, column, [(f"{causes.blank_name(text)} in a column that stays empty", "", True)], cause)
-        changed = row.with_fields(**{column: ""})
-        return at_row(row, f"{cause}; take it out", column), (changed if self.takes(changed, column) else None)
-
     def form(self, row, column):
+        """The form of a binding, which goes on with NE."""
         forms = vocabulary.words()["forms"]
         fault, changed = self.choice(row, column, forms, f"a binding is by {listed(forms)}")
         return fault, changed or self.blank_binding(row)
 
     def blank_binding(self, row):
-        """The binding with NE as its target, so that its line is not left without it, where the program takes it."""
+        """The binding with NE as its target, so that its line is not left without it, where the program
+        takes it.
+        """
         changed = row.with_fields(value="key", low="NE")
+        changed.has_other_figure = True
         return changed if self.takes(changed, None) else None
 
     def name(self, row, column):
+        """A name of a record, or of the line of a binding."""
         text = row.field(column)
-        what = "name of a line" if row.field("kind") in ("line", "bind") else f"name of {article(row.field('kind'))}"
+        of_line = row.field("kind") in ("line", "bind", "uncert")
+        what = "name of a line" if of_line else f"name of {article(row.field('kind'))}"
         if text.upper().startswith("GWP."):
             return self.potential(row, column)
         mended = causes.name(text)
@@ -64,14 +67,17 @@ class WordFaults(Asking):
         return self.first_taken(row, column, [(cause_of(mended.causes), mended.text, True)], otherwise)
 
     def potential(self, row, column):
+        """A name that begins like that of a warming potential."""
         known = vocabulary.words()["potentials"]
         if row.field("kind") != "factor":
-            return at_row(row, "names that begin with GWP. are of factors, the warming potentials", column), None
+            cause = "names that begin with GWP. are of factors, the warming potentials"
+            return at_row(row, cause, column), None
         bare = causes.name(row.field(column))
         otherwise = f"no such potential; there are {listed(known, 'and')}"
         return self.first_taken(row, column, [(cause_of(bare.causes), bare.text, True)], otherwise)
 
     def parameter(self, row, column):
+        """A parameter of a binding."""
         mended = causes.name(row.field(column))
         line = self.book.lines.get(row.field("subject"))
         has = ""
@@ -82,7 +88,10 @@ class WordFaults(Asking):
         return self.first_taken(row, column, [(cause_of(mended.causes), mended.text, True)], otherwise)
 
     def category(self, row, column):
-        """A code of the tree. The line goes on at a memo code where its own is not known, so that its bindings are seen."""
+        """A code of the tree.
+
+        The line goes on at a memo code where its own is not known, so that its bindings are seen.
+        """
         text = row.field(column)
         bare = causes.without_blanks(text)
         code = re.sub(r"[\s.]", "", bare.text)
@@ -101,19 +110,23 @@ class WordFaults(Asking):
         return changed if self.takes(changed, column) else None
 
     def equation(self, row, column):
+        """A code of an equation."""
         text = row.field(column)
         bare = causes.without_blanks(text)
         code = re.sub(r"\s", "", bare.text).upper()
-        candidates = [(cause_of(bare.causes), bare.text, True), ("an equation is written like Q10", code, True)]
+        candidates = [(cause_of(bare.causes), bare.text, True)]
+        candidates.append(("an equation is written like Q10", code, True))
         if code.isdigit():
             candidates.append(("the code of an equation begins with Q", "Q" + code, True))
         known = equations_near(code, bare.text)
-        near = f"; near it {'is' if len(known) == 1 else 'are'} {listed(map(said_of_equation, known), 'and')}" if known else ""
-        what = f"no equation of this code{near}" if code else "empty; here stands the code of an equation"
+        what = f"no equation of this code{near_it(map(said_of_equation, known))}"
+        if not code:
+            what = "empty; here stands the code of an equation"
         otherwise = f"{what}; ./workbook words equations lists them"
         return self.first_taken(row, column, candidates, otherwise)
 
     def unit(self, row, column):
+        """A unit."""
         text = row.field(column)
         bare = causes.without_blanks(text)
         form = causes.unit_form(bare.text)
@@ -147,21 +160,25 @@ class WordFaults(Asking):
         if text.upper() in vocabulary.words()["potentials"]:
             return at_row(row, "a potential is no target: equivalents take it by themselves", column), None
         if form in ("line", "prev") and len(re.findall(r"[^\s,;+]+", text)) > 1:
-            return at_row(row, f"more than one line; a binding by {form} takes one, and by sum several", column), None
+            cause = f"more than one line; a binding by {form} takes one, and by sum several"
+            return at_row(row, cause, column), None
         mended = causes.name(text)
         candidates = [(cause_of(mended.causes), mended.text, mended.sure)]
         return self.first_taken(row, column, candidates, name_otherwise(mended.text, "name"))
 
     def sum_target(self, row, column):
+        """The lines of a sum."""
         text = row.field(column)
         names = re.split(r"[\s,;+]+", text.strip())
         once = list(dict.fromkeys(name for name in names if name))
+        meant = " ".join(causes.name(name).text for name in once)
         candidates = [
             ("one space stands between two lines of a sum", " ".join(names), True),
             ("a line stands twice in the sum", " ".join(once), False),
-            ("names are in upper case, with one space between two", " ".join(causes.name(name).text for name in once), True),
+            ("names are in upper case, with one space between two", meant, True),
         ]
-        return self.first_taken(row, column, candidates, f"no sum: it is 1 to {limit('sum')} different lines with one space between two")
+        otherwise = f"no sum: it is 1 to {limit('sum')} different lines with one space between two"
+        return self.first_taken(row, column, candidates, otherwise)
 
 
 def equations_near(code, text):
@@ -170,22 +187,34 @@ def equations_near(code, text):
     if found:
         number = int(found.group(1))
         return sorted(vocabulary.equations(), key=lambda known: abs(int(known[1:]) - number))[:3]
-    return named_like(text, {known: equation["computes"] for known, equation in vocabulary.equations().items()})
+    names = {known: equation["computes"] for known, equation in vocabulary.equations().items()}
+    return named_like(text, names)
 
 
 def named_like(text, names):
     """The codes whose names hold each word of a text of some letters, three at the most."""
     if len(text) < 3:
         return []
-    return [code for code, name in names.items() if all(word in name.casefold() for word in text.casefold().split())][:3]
+    words = text.casefold().split()
+    return [code for code, name in names.items() if all(word in name.casefold() for word in words)][:3]
+
+
+def near_it(known):
+    """What is near a text that is none of its column, where anything is."""
+    known = list(known)
+    return f"; near it {'is' if len(known) == 1 else 'are'} {listed(known, 'and')}" if known else ""
 
 
 def said_of_equation(code):
+    """An equation with what it computes."""
     return f"{code} ({vocabulary.equations()[code]['computes']})"
 
 
 def target_of(form):
-    return {"activity": "an activity", "factor": "a factor", "key": "a notation key", "sum": "lines"}.get(form, "a line")
+    """What a binding by a form names."""
+    if form in KIND_TAKEN:
+        return article(KIND_TAKEN[form])
+    return {"key": "a notation key", "sum": "lines"}.get(form, "a line")
 
 
 def name_otherwise(text, what):
@@ -194,7 +223,8 @@ def name_otherwise(text, what):
         return f"empty; here stands the {what}"
     length = len(text.encode("utf-8", "replace"))
     if length > int(limit("name")):
-        return f"{length} letters where {limit('name')} are the most; write a shorter name, the same everywhere"
+        most = f"{length} letters where {limit('name')} are the most"
+        return f"{most}; write a shorter name, the same everywhere"
     if not re.match("[A-Z]", text):
         return "a name begins with a letter"
     return f"a name is 1 to {limit('name')} of A to Z, 0 to 9, . _ and -, and begins with a letter"
@@ -213,8 +243,7 @@ def category_otherwise(code, text):
         return f"no category of this tree; under {above} it has {listed(there, 'and')}"
     leaves = {leaf: f"{known[leaf]['name']}; {known[leaf]['also']}" for leaf in vocabulary.leaves()}
     like = [f"{leaf} ({known[leaf]['name']})" for leaf in named_like(text, leaves)]
-    near = f"; near it {'is' if len(like) == 1 else 'are'} {listed(like, 'and')}" if like else ""
-    return f"no category of this tree{near}; ./workbook words categories lists them"
+    return f"no category of this tree{near_it(like)}; ./workbook words categories lists them"
 
 
 def unit_otherwise(text, form, dimension):

@@ -4,17 +4,22 @@ from tools.sheets import COLUMNS
 
 PARTS = ["units", "categories", "equations", "parameters"]
 # What a row of each year has; what measures anything else is a factor.
-MEASURED_YEARLY = {"mass", "energy", "area", "volume", "animals", "people", "carbon", "gas", "days", "anode effect minutes"}
+MEASURED_YEARLY = {
+    "mass", "energy", "area", "volume", "animals", "people", "carbon", "gas", "days", "anode effect minutes",
+}
 
 
 def units():
+    """Each unit with what it measures, and what people write for it."""
     for word, unit in vocabulary.units().items():
         base = vocabulary.units_that_measure(unit["measures"])[0]
         ratio = f"{unit['over']}" if unit["under"] == 1 else f"{unit['over']}/{unit['under']}"
-        yield word, f"{unit['measures']}{'' if word == base else f', {ratio} {base}'}", causes.written_for(word)
+        of_base = "" if word == base else f", {ratio} {base}"
+        yield word, f"{unit['measures']}{of_base}", causes.written_for(word)
 
 
 def categories():
+    """Each category with its name and the codes under it."""
     for code, category in vocabulary.categories().items():
         children = category["children"]
         leaf = f" (not a leaf: {', '.join(children)})" if children else ""
@@ -23,6 +28,7 @@ def categories():
 
 
 def equations():
+    """Each equation with what it computes and its source, and what its parameters are."""
     for code, equation in vocabulary.equations().items():
         yield code, f"{equation['computes']}, {equation['source']}", equation["about"]
 
@@ -32,9 +38,10 @@ def parameters():
     found = {}
     for code, equation in vocabulary.equations().items():
         for parameter in equation["parameters"]:
-            found.setdefault((parameter["name"], parameter["measures"], parameter["unit"]), []).append(code)
-    for (name, measures, unit), codes in found.items():
-        yield name, f"{measures}{f' ({unit})' if unit else ''}: {', '.join(codes)}", ""
+            said = vocabulary.said_of_parameter(parameter)
+            found.setdefault((parameter["name"], said.split(" ", 1)[1]), []).append(code)
+    for (name, said), codes in found.items():
+        yield name, f"{said}: {', '.join(codes)}", ""
 
 
 def found_in(items, words):
@@ -45,8 +52,11 @@ def found_in(items, words):
 
 def sample(parameter):
     """The rows of a template that give a parameter its figure."""
-    kind = "activity" if parameter["measures"] in MEASURED_YEARLY else "factor"
     name = f"NAME.{parameter['name']}"
+    if vocabulary.is_decay(parameter):
+        half_life = f"enter,factor,,{name},YEAR,VALUE,,,{vocabulary.HALF_LIFE_UNIT},"
+        return f"enter,bind,NAME,{parameter['name']},,decay,{name},,,", half_life
+    kind = "activity" if parameter["measures"] in MEASURED_YEARLY else "factor"
     bound = f"enter,bind,NAME,{parameter['name']},,{kind},{name},,,"
     return bound, f"enter,{kind},,{name},YEAR,VALUE,LOW,HIGH,{parameter['unit']},"
 
@@ -55,14 +65,17 @@ def print_equation(code):
     """An equation with its parameters and a template of its rows."""
     equation = vocabulary.equations()[code]
     output = equation["output"]
-    gives = f"{output['gas']} in Gg" if "gas" in output else f"{output['measures']} in {output['unit']}, for other lines to take"
+    gives = f"{output['gas']} in Gg"
+    if "gas" not in output:
+        gives = f"{output['measures']} in {output['unit']}, for other lines to take"
     print(f"{code} {equation['computes']}\n{equation['source']}\n{equation['about']}\n")
     print(f"gives {gives}: {equation['expression']}\n")
     for parameter in equation["parameters"]:
-        others = vocabulary.units_that_measure(parameter["measures"])
-        given = f"in {vocabulary.listed(others)}" if others else "which no row can give yet"
+        given = f"in {vocabulary.listed(vocabulary.units_that_measure(parameter['measures']))}"
+        if vocabulary.is_decay(parameter):
+            given = f"by decay, of a factor in {vocabulary.HALF_LIFE_UNIT}"
         print(f"  {parameter['name']:8} {parameter['measures']}, {given}")
-    rows = [sample(parameter) for parameter in equation["parameters"] if parameter["unit"]]
+    rows = [sample(parameter) for parameter in equation["parameters"]]
     print(f"\n{','.join(COLUMNS)}\nenter,line,CATEGORY,NAME,,{code},,,,")
     print("\n".join([bound for bound, _ in rows] + [figure for _, figure in rows]))
 
@@ -92,6 +105,7 @@ def run(words):
 
 
 def print_items(part, items, with_heading):
+    """Prints the words of a part with what is said of them."""
     if with_heading:
         print(f"{part}:")
     width = max(len(word) for word, _ in items)

@@ -11,8 +11,9 @@ HEADER = "act,kind,subject,name,year,value,low,high,unit,note\n"
 
 def workbook(*words, cwd=TOP):
     """What a command of `./workbook` prints, and its status."""
-    return subprocess.run([TOP / "workbook", *words], cwd=cwd, capture_output=True, text=True, encoding="utf-8",
-                          env={**os.environ, "GHG_PROGRAM": PROGRAM, "PYTHONUTF8": "1"})
+    environment = {**os.environ, "GHG_PROGRAM": PROGRAM, "PYTHONUTF8": "1"}
+    return subprocess.run([TOP / "workbook", *words], cwd=cwd, env=environment, capture_output=True,
+                          text=True, encoding="utf-8")
 
 
 def session(script):
@@ -21,6 +22,8 @@ def session(script):
 
 
 def takes(*rows):
-    """Tells whether the program takes rows, so that a test of a form of theirs waits for a program that has it."""
+    """Tells whether the program takes rows, so that a test of a form of theirs waits for a program that
+    has it.
+    """
     body = HEADER + "".join(f"{row}\n" for row in rows)
     return session(f"SUBMIT s {len(body.encode())}\n{body}END\n".encode()) == b"accepted 1\n"

@@ -1,4 +1,6 @@
-"""Which years are estimated, and the gaps: the folder `complete` has each state, and due.txt says what is printed."""
+"""Which years are estimated, and the gaps: the folder `complete` has each state, and due.txt says what is
+printed.
+"""
 import pathlib
 import tempfile
 import unittest
@@ -20,7 +22,8 @@ class States(unittest.TestCase):
     def test_csv(self):
         ran = workbook("complete", HERE / "complete", "--csv")
         self.assertEqual(ran.stdout.splitlines(), [
-            "category,gas,2017,2018,2019,2020", "1A1a,CO2,E,E,!,E", "1A1b,CO2,!,NO,IE,NA", "1A1b,CH4,NE,NE,NE,NE", "1A2,CO2,NO,E,NE,E"])
+            "category,gas,2017,2018,2019,2020", "1A1a,CO2,E,E,!,E", "1A1b,CO2,!,NO,IE,NA",
+            "1A1b,CH4,NE,NE,NE,NE", "1A2,CO2,NO,E,NE,E"])
         self.assertEqual(ran.returncode, 1)
 
     def test_over_many_lines(self):
@@ -28,8 +31,10 @@ class States(unittest.TestCase):
         for number in range(1000):
             rows += [f"enter,line,RA,L{number},,Q22,,,,", f"enter,bind,L{number},PR,,line,L{number + 1},,,"]
             rows += [f"enter,bind,L{number},{name},,key,NO,,," for name in ("IM", "EX", "IB", "SC")]
-        rows += ["enter,line,RA,L1000,,Q13,,,,", "enter,bind,L1000,FM,,activity,T,,,", "enter,bind,L1000,NCV,,key,NO,,,"]
-        rows += ["enter,activity,,T,2020,1,,,t,", "enter,line,RA,CO2,,Q10,,,,", "enter,bind,CO2,FC,,line,L0,,,", "enter,bind,CO2,EF,,key,NE,,,"]
+        rows += ["enter,line,RA,L1000,,Q13,,,,", "enter,bind,L1000,FM,,activity,T,,,"]
+        rows += ["enter,bind,L1000,NCV,,key,NO,,,", "enter,activity,,T,2020,1,,,t,"]
+        rows += ["enter,line,RA,CO2,,Q10,,,,", "enter,bind,CO2,FC,,line,L0,,,"]
+        rows += ["enter,bind,CO2,EF,,key,NE,,,"]
         with tempfile.TemporaryDirectory() as room:
             (pathlib.Path(room) / "1.csv").write_text("\n".join(rows) + "\n")
             ran = workbook("complete", room)
@@ -37,13 +42,15 @@ class States(unittest.TestCase):
 
     def test_a_refused_file_is_told(self):
         ran = workbook("complete", "examples/power-plants")
-        self.assertIn("1 of 4 files is refused, and the years are without it; ./workbook check examples/power-plants tells why", ran.stderr)
+        self.assertIn("1 of 4 files is refused, and the years are without it; "
+                      "./workbook check examples/power-plants tells why", ran.stderr)
         self.assertEqual(ran.returncode, 1)
 
     def test_nothing_is_wrong(self):
         ran = workbook("complete", "examples/how-to")
         self.assertEqual(ran.stdout.splitlines()[:5], [
-            "           18 19 20", "1A1a CO2   NO NE E", "2A1  CO2   E  NE E", "2B2  N2O   E  E  E", "3B3  CO2   E  E  E"])
+            "           18 19 20", "1A1a CO2   NO NE E", "2A1  CO2   E  NE E", "2B2  N2O   E  E  E",
+            "3B3  CO2   E  E  E"])
         self.assertEqual(ran.returncode, 0)
 
 

@@ -4,11 +4,13 @@ import tempfile
 import unittest
 
 from tests.workbook.running import TOP, session, workbook
+from tools import vocabulary
 
 COUNTRY = ("examples/fuel-combustion", "examples/small-country")
 
 
 def files():
+    """The country's files in their order."""
     return [path for folder in COUNTRY for path in sorted((TOP / folder).glob("*.csv"))]
 
 
@@ -31,13 +33,13 @@ class Country(unittest.TestCase):
         self.assertNotIn("no line takes", ran.stdout)
 
     def test_tables_are_those_of_the_program(self):
-        names = ("cells", "summary", "series")
+        names = vocabulary.words()["tables"]
         due = session(script(*(f"{name} 2020" for name in names))).decode().split("accepted 11\n")[1]
         with tempfile.TemporaryDirectory() as out:
             ran = workbook("tables", *COUNTRY, "2020", "-o", out)
             written = {path.name: path.read_text() for path in pathlib.Path(out).iterdir()}
         self.assertEqual(ran.returncode, 0)
-        self.assertEqual(sorted(written), ["cells-2020.csv", "series-2020.csv", "summary-2020.csv"])
+        self.assertEqual(sorted(written), sorted(f"{name}-2020.csv" for name in names))
         for name in names:
             rows = written[f"{name}-2020.csv"]
             self.assertIn(f"table {name} 2020 rows {rows.count(chr(10))}\n{rows}", due)

@@ -37,7 +37,8 @@ def fuels(name, *fronts):
 class Defaults(unittest.TestCase):
     def test_each_is_accepted_behind_a_span(self):
         for path in files():
-            self.assertEqual(session(script([SPAN, path.read_bytes()])), b"accepted 1\naccepted 2\n", path.name)
+            replies = session(script([SPAN, path.read_bytes()]))
+            self.assertEqual(replies, b"accepted 1\naccepted 2\n", path.name)
 
     def test_all_are_accepted_together_with_one_report(self):
         others = [path for path in files() if "second" not in path.name and "fifth" not in path.name]
@@ -46,10 +47,11 @@ class Defaults(unittest.TestCase):
 
     def test_each_row_names_its_table_or_report(self):
         for path in FILES:
+            table = path.stem.replace("volume-", "Volume ").replace("-table-", " Table ")
             for row in rows_of(path.name):
                 self.assertRegex(row["note"], NOTE, path.name)
                 if path.name.startswith("volume"):
-                    self.assertIn(path.stem.removeprefix("volume-").replace("-table-", " Table ") + ":", row["note"])
+                    self.assertIn(f"{table}:", row["note"])
 
     def test_each_fuel_has_its_three_gases(self):
         burnt, = fuels("volume-2-table-1.4.csv", "CO2.")
@@ -70,7 +72,8 @@ class Defaults(unittest.TestCase):
             rate = decimal.Decimal(row["note"].split(" at k ")[1].split(",")[0])
             half_life = decimal.Decimal(2).ln() / rate
             self.assertIn(f"ln 2 / k is {half_life:.2f} years", row["note"])
-            self.assertEqual((row["value"], row["low"], row["high"], row["unit"]), (f"{half_life:.0f}", "", "", "yr"))
+            columns = [row[column] for column in ("value", "low", "high", "unit")]
+            self.assertEqual(columns, [f"{half_life:.0f}", "", "", "yr"])
 
 
 if __name__ == "__main__":

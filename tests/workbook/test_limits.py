@@ -1,11 +1,12 @@
 """Files beyond a limit of the program, and rows that are many."""
+import itertools
+import os
 import pathlib
 import tempfile
 import unittest
 
-from tests.workbook.running import workbook
+from tests.workbook.running import HEADER, workbook
 
-HEADER = "act,kind,subject,name,year,value,low,high,unit,note\n"
 SPAN = "enter,span,,,1990,2020,1990,,,\n"
 
 
@@ -20,7 +21,8 @@ def checked(*bodies):
 class Limits(unittest.TestCase):
     def test_a_file_that_is_too_long(self):
         long = HEADER + "".join(f"enter,activity,,A{n},2000,1,,,t,{'n' * 200}\n" for n in range(20000))
-        line = HEADER + "enter,line,1A1a,L,,Q11,,,,\nenter,bind,L,FC,,activity,A1,,,\nenter,bind,L,EF,,key,NO,,,\n"
+        line = HEADER + "enter,line,1A1a,L,,Q11,,,,\n"
+        line += "enter,bind,L,FC,,activity,A1,,,\nenter,bind,L,EF,,key,NO,,,\n"
         self.assertEqual(checked(HEADER + SPAN, long, line), [
             f"2.csv:1: {len(long):,} bytes where 4,194,304 are the most; split the file",
             '3.csv:3 low "A1": there is no activity A1, since its row was refused (follows from 2.csv:3)',
@@ -48,6 +50,33 @@ class Limits(unittest.TestCase):
         said = "is entered already at 2.csv:2, with the same figures; take one of the two out"
         self.assertEqual(printed[0], f"3.csv:2: activity A0 2000 {said}")
         self.assertEqual((len(printed), printed[-1]), (2001, "3 files: 2000 faults, 0 warnings"))
+
+    def test_lines_beyond_the_limit(self):
+        lines = "".join(
+            f"enter,line,RA,L{n},,Q83,,,,\nenter,bind,L{n},G,,key,NO,,,\nenter,bind,L{n},L,,key,NO,,,\n"
+            for n in range(5001))
+        self.assertEqual(checked(HEADER + SPAN, HEADER + lines), [
+            "2.csv:1: more than 5,000 lines with this file", "2 files: 1 fault, 0 warnings"])
+
+    def test_records_beyond_the_limit(self):
+        names = map("".join, itertools.product("ABCDEFGHIJKLMNOPQRSTUVWXYZ", repeat=3))
+        rows = [f"enter,activity,,{name},{year},1,,,t,\n"
+                for name in itertools.islice(names, 2500) for year in range(1900, 2100)]
+        bodies = [HEADER + "".join(rows[at:at + 125000]) for at in range(0, 500000, 125000)]
+        self.assertEqual(checked(HEADER + SPAN, *bodies), [
+            "5.csv:1: more than 500,000 records with this file", "5 files: 1 fault, 0 warnings"])
+
+    def test_bytes_beyond_the_limit(self):
+        front = HEADER + "correct,span,,,1990,2020,1990,,,"
+        with tempfile.TemporaryDirectory() as room:
+            (pathlib.Path(room) / "1.csv").write_text(HEADER + SPAN)
+            (pathlib.Path(room) / "2.csv").write_text(front + "n" * (4194304 - len(front)))
+            for at in range(3, 130):
+                os.link(pathlib.Path(room) / "2.csv", pathlib.Path(room) / f"{at}.csv")
+            ran = workbook("check", room, "--no-warnings")
+        self.assertEqual(ran.stdout.splitlines(), [
+            "129.csv:1: more than 536,870,912 bytes with this file",
+            "129 files: 1 fault, 0 warnings"])
 
 
 if __name__ == "__main__":

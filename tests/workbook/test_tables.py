@@ -8,7 +8,8 @@ import tempfile
 import time
 import unittest
 
-from tests.workbook.running import TOP, workbook
+from tests.workbook.running import HEADER, TOP, workbook
+from tools import vocabulary
 
 PLANTS = "examples/power-plants"
 
@@ -25,7 +26,8 @@ class Refused(unittest.TestCase):
     def test_partial_writes_all_the_same(self):
         with tempfile.TemporaryDirectory() as out:
             ran = workbook("tables", PLANTS, "2020", "-o", out, "--partial")
-            self.assertEqual(len(list(pathlib.Path(out).iterdir())), 3)
+            written = sorted(path.name for path in pathlib.Path(out).iterdir())
+        self.assertEqual(written, sorted(f"{name}-2020.csv" for name in vocabulary.words()["tables"]))
         self.assertEqual(ran.returncode, 1)
 
     def test_a_year_outside_the_span(self):
@@ -44,21 +46,21 @@ class Refused(unittest.TestCase):
 
 class Folders(unittest.TestCase):
     def folder_of(self, room, **files):
+        """Writes files into a folder, with `__` in place of the point of a name."""
         for name, text in files.items():
             (pathlib.Path(room) / name.replace("__", ".")).write_text(text)
         return room
 
     def test_natural_order(self):
-        header = "act,kind,subject,name,year,value,low,high,unit,note\n"
         with tempfile.TemporaryDirectory() as room:
-            self.folder_of(room, **{"10__csv": header, "2__csv": header})
+            self.folder_of(room, **{"10__csv": HEADER, "2__csv": HEADER})
             ran = workbook("tables", room, "2020")
         self.assertEqual([line.split(":")[0] for line in ran.stderr.splitlines()[:2]], ["2.csv", "10.csv"])
 
     def test_order_file(self):
-        header = "act,kind,subject,name,year,value,low,high,unit,note\n"
         with tempfile.TemporaryDirectory() as room:
-            self.folder_of(room, **{"10__csv": header, "2__csv": header, "3__csv": header, "ORDER__txt": "# first\n10.csv\n\n2.csv\n"})
+            self.folder_of(room, **{"10__csv": HEADER, "2__csv": HEADER, "3__csv": HEADER},
+                           ORDER__txt="# first\n10.csv\n\n2.csv\n")
             ran = workbook("check", room)
         self.assertEqual(ran.stdout.splitlines(), [
             "10.csv:1 warning: a header alone: the file has no rows",
@@ -86,7 +88,8 @@ class Folders(unittest.TestCase):
         with tempfile.TemporaryDirectory() as room:
             self.folder_of(room, **{"1\u00b22__csv": "", "1\u00b21__csv": ""})
             ran = workbook("check", room)
-        self.assertEqual([line.split(":")[0] for line in ran.stdout.splitlines()[:2]], ["1\u00b21.csv", "1\u00b22.csv"])
+        names = [line.split(":")[0] for line in ran.stdout.splitlines()[:2]]
+        self.assertEqual(names, ["1\u00b21.csv", "1\u00b22.csv"])
 
     def test_output_that_is_no_folder(self):
         with tempfile.NamedTemporaryFile() as file:
@@ -107,10 +110,12 @@ class Folders(unittest.TestCase):
 
 class Tools(unittest.TestCase):
     def test_a_fault_of_their_own_is_one_line(self):
-        broken = "import tools.wordlist, tools.command as c; tools.wordlist.run = lambda words: {}['Q104']; exit(c.main(['words']))"
+        broken = ("import tools.wordlist, tools.command\ntools.wordlist.run = lambda words: {}['Q104']\n"
+                  "exit(tools.command.main(['words']))")
         ran = subprocess.run([sys.executable, "-B", "-c", broken], cwd=TOP, capture_output=True, text=True)
         self.assertEqual((ran.returncode, ran.stdout), (2, ""))
-        self.assertEqual(ran.stderr, "./workbook: a fault of the tools themselves, and none of your files: KeyError 'Q104' at <string>:1\n")
+        said = "./workbook: a fault of the tools themselves, and none of your files"
+        self.assertEqual(ran.stderr, f"{said}: KeyError 'Q104' at <string>:2\n")
 
 
 class Programs(unittest.TestCase):
@@ -125,24 +130,27 @@ class Programs(unittest.TestCase):
         return ran.stderr
 
     def test_that_ends(self):
-        self.assertEqual(self.said_with("exit 3"), "./workbook: the program ended with status 3 before it had answered\n")
+        said = "./workbook: the program ended with status 3 before it had answered\n"
+        self.assertEqual(self.said_with("exit 3"), said)
 
     def test_that_is_interrupted(self):
         with tempfile.TemporaryDirectory() as room:
             program = pathlib.Path(room) / "program"
             program.write_text(f"#!/bin/sh\ntouch {room}/started\nexec sleep 60\n")
             program.chmod(0o755)
-            run = subprocess.Popen([TOP / "workbook", "check", PLANTS, "--program", program], cwd=TOP, text=True,
-                                   stdout=subprocess.PIPE, stderr=subprocess.PIPE, start_new_session=True)
+            words = [TOP / "workbook", "check", PLANTS, "--program", program]
+            run = subprocess.Popen(words, cwd=TOP, text=True, stdout=subprocess.PIPE, stderr=subprocess.PIPE,
+                                   start_new_session=True)
             while run.poll() is None and not (pathlib.Path(room) / "started").exists():
                 time.sleep(0.01)
             os.killpg(run.pid, signal.SIGINT)
             self.assertEqual((*run.communicate(timeout=60), run.returncode), ("", "", 130))
 
     def test_that_answers_something_else(self):
-        self.assertEqual(self.said_with("read line; echo hello; cat > /dev/null"), "./workbook: the program answered a submission with: hello\n")
+        said = "./workbook: the program answered a submission with: "
+        self.assertEqual(self.said_with("read line; echo hello; cat > /dev/null"), f"{said}hello\n")
         odd = self.said_with("read line; printf '\\377\\n'; cat > /dev/null")
-        self.assertEqual(odd, "./workbook: the program answered a submission with: \\xff\n")
+        self.assertEqual(odd, f"{said}\\xff\n")
 
 
 if __name__ == "__main__":

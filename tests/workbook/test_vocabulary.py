@@ -2,10 +2,9 @@
 import subprocess
 import unittest
 
-from tests.workbook.running import TOP, session, workbook
+from tests.workbook.running import HEADER, TOP, session, workbook
 from tools import vocabulary
 
-HEADER = "act,kind,subject,name,year,value,low,high,unit,note\n"
 SPAN = HEADER + "enter,span,,,2019,2020,2019,,,\n"
 
 
@@ -50,38 +49,43 @@ class Words(unittest.TestCase):
         self.accepted(HEADER + "\n".join(rows) + "\n")
 
     def test_units_of_two_dimensions_are_refused(self):
-        bases = list(dict.fromkeys(vocabulary.units_that_measure(unit["measures"])[0] for unit in vocabulary.units().values()))
-        bodies = [HEADER + f"enter,factor,,U,2019,1,,,{one},\nenter,factor,,U,2020,1,,,{other},\n" for one, other in zip(bases, bases[1:])]
+        measured = dict.fromkeys(unit["measures"] for unit in vocabulary.units().values())
+        bases = [vocabulary.units_that_measure(measures)[0] for measures in measured]
+        bodies = [HEADER + f"enter,factor,,U,2019,1,,,{one},\nenter,factor,,U,2020,1,,,{other},\n"
+                  for one, other in zip(bases, bases[1:])]
         self.assertEqual(set(replies(SPAN, *bodies)[1:]), {"refused 8 WrongUnit row 2"})
 
     def test_leaves_alone_are_taken(self):
         bodies = [HEADER + f"enter,line,{code},L,,Q10,,,,\n" for code in vocabulary.categories()]
         for code, reply in zip(vocabulary.categories(), replies(SPAN, *bodies)[1:]):
             leaf = code in vocabulary.leaves()
-            self.assertEqual(reply, "refused 10 BadBinding L EF" if leaf else "refused 5 UnknownWord row 1 column subject", code)
+            due = "10 BadBinding L EF" if leaf else "5 UnknownWord row 1 column subject"
+            self.assertEqual(reply, f"refused {due}", code)
 
     def test_equations_have_their_parameters(self):
         self.accepted(*(line_of(code) for code in bindable()))
 
     def test_outputs_are_as_said(self):
-        shown = session((
-            "".join(f"SUBMIT s{at} {len(body)}\n{body}" for at, body in enumerate([SPAN, *map(line_of, bindable())]))
-            + "SHOW cells 2020\nEND\n").encode()).decode().splitlines()
+        bodies = enumerate([SPAN, *map(line_of, bindable())])
+        submitted = "".join(f"SUBMIT s{at} {len(body)}\n{body}" for at, body in bodies)
+        shown = session(f"{submitted}SHOW cells 2020\nEND\n".encode()).decode().splitlines()
         rows = {row.split(",")[2]: row.split(",")[3:5] for row in shown if row.startswith("L.")}
         for code in bindable():
             output = vocabulary.equations()[code]["output"]
-            self.assertEqual(rows[code], [output["gas"], "Gg"] if "gas" in output else ["-", output["unit"]], code)
+            due = [output["gas"], "Gg"] if "gas" in output else ["-", output["unit"]]
+            self.assertEqual(rows[code], due, code)
 
     def test_tables_acts_forms_and_keys(self):
-        words = vocabulary.words()
+        words, unknown_kind = vocabulary.words(), "refused 5 UnknownWord row 1 column kind"
         self.assertEqual(len(words["acts"]), 3)
         for act in words["acts"]:
-            self.assertEqual(replies(HEADER + f"{act},,,,,,,,,\n"), ["refused 5 UnknownWord row 1 column kind"])
+            self.assertEqual(replies(HEADER + f"{act},,,,,,,,,\n"), [unknown_kind])
         for kind in words["kinds"]:
-            self.assertNotEqual(replies(HEADER + f"enter,{kind},,,,,,,,\n"), ["refused 5 UnknownWord row 1 column kind"])
+            self.assertNotEqual(replies(HEADER + f"enter,{kind},,,,,,,,\n"), [unknown_kind])
         script = SPAN_SCRIPT + "".join(f"SHOW {table} 2020\n" for table in words["tables"]) + "END\n"
         self.assertNotIn("no table", session(script.encode()).decode())
-        self.accepted(HEADER + "".join(f"enter,activity,,A{at},2020,{key},,,t,\n" for at, key in enumerate(words["keys"])))
+        keys = [f"enter,activity,,A{at},2020,{key},,,t,\n" for at, key in enumerate(words["keys"])]
+        self.accepted(HEADER + "".join(keys))
         self.accepted(HEADER + "".join(f"enter,factor,,{name},2020,1,,,1,\n" for name in words["potentials"]))
 
     def test_limits_are_those_of_the_program(self):
@@ -92,9 +96,12 @@ class Words(unittest.TestCase):
 
         for more, due in ((0, "accepted"), (1, "refused")):
             bodies = [
-                activity("D", 2020, "1." + "1" * (limits["decimals"] + more)), activity("W", 2020, "1" * (limits["digits"] + more)),
-                activity("N" * (limits["name"] + more), 2020, 1), activity("F", limits["first_year"] - more, 1),
-                activity("L", limits["last_year"] + more, 1), HEADER + f"enter,span,,,1950,{1950 + limits['span'] + more},1950,,,\n"]
+                activity("D", 2020, "1." + "1" * (limits["decimals"] + more)),
+                activity("W", 2020, "1" * (limits["digits"] + more)),
+                activity("N" * (limits["name"] + more), 2020, 1),
+                activity("F", limits["first_year"] - more, 1),
+                activity("L", limits["last_year"] + more, 1),
+                HEADER + f"enter,span,,,1950,{1950 + limits['span'] + more},1950,,,\n"]
             self.assertEqual([reply.split()[0] for reply in replies(*bodies)], [due] * len(bodies))
 
     def test_file_is_what_the_pages_make(self):
@@ -107,11 +114,13 @@ SPAN_SCRIPT = f"SUBMIT s {len(SPAN)}\n{SPAN}"
 
 class Search(unittest.TestCase):
     def test_by_a_word_of_the_name(self):
-        self.assertIn("1A1a  Main activity electricity and heat production (also public electricity and heat; power plants)\n",
+        self.assertIn("1A1a  Main activity electricity and heat production "
+                      "(also public electricity and heat; power plants)\n",
                       workbook("words", "categories", "public", "heat").stdout)
         self.assertIn("Q39  Nitric or adipic acid with abatement, to N2O, Volume 3, Equations 3.6 and 3.8",
                       workbook("words", "equations", "nitric").stdout)
-        self.assertIn("g/GJ   emission factor of fuel, 1 kg/TJ\n", workbook("words", "units", "fuel", "emission").stdout)
+        self.assertIn("g/GJ   emission factor of fuel, 1 kg/TJ\n",
+                      workbook("words", "units", "fuel", "emission").stdout)
         self.assertIn("FC     energy (TJ): Q10, Q11, Q12\n", workbook("words", "parameters", "FC").stdout)
 
     def test_by_what_people_write(self):
@@ -124,13 +133,11 @@ class Search(unittest.TestCase):
         self.assertEqual((ran.returncode, ran.stdout), (1, "nothing has unobtainium in it\n"))
 
     def test_templates_are_rows_that_the_program_takes(self):
-        for code in vocabulary.equations():
-            shown = workbook("words", code).stdout if code in ("Q10", "Q39", "Q63") else None
-            if shown is None:
-                continue
-            body = HEADER + shown.split(HEADER)[1]
-            for blank, filled in (("CATEGORY", "RA"), ("YEAR,VALUE,LOW,HIGH", "2020,1,0.5,2")):
-                body = body.replace(blank, filled)
+        filled = {"CATEGORY": "RA", "YEAR,VALUE,LOW,HIGH": "2020,1,0.5,2", "YEAR,VALUE,,": "2020,1,,"}
+        for code in [code for code in ("Q10", "Q39", "Q63", "Q91") if code in bindable()]:
+            body = HEADER + workbook("words", code).stdout.split(HEADER)[1]
+            for blank, text in filled.items():
+                body = body.replace(blank, text)
             self.assertEqual(replies(SPAN, body), ["accepted 1", "accepted 2"], code)
 
 
