@@ -57,7 +57,9 @@ class Asking:
 
     def stand_in(self, row, column):
         """The row with a word in place of one that is none, so that the rest of it is looked at, or None."""
-        if row.field(column) == STAND_INS.get(column, row.field(column)) or is_empty(row) or is_header(row):
+        if column not in STAND_INS or row.field(column) == STAND_INS[column]:
+            return None
+        if is_empty(row) or is_header(row):
             return None
         changed = row.with_fields(**{column: STAND_INS[column]})
         return changed if self.takes(changed, column) else None

@@ -355,6 +355,7 @@ def absent_line(name, refused, after):
         return f"there is no line {name}, since its row was refused"
     activity = after.book.some_record("activity", name)
     if activity:
+        after.refused.meant_records.add(("activity", name))
         return f"{name} is no line but an activity ({activity.place})"
     near = nearest(name, after.book.lines, 1, 0.7)
     return after.in_later_file("line", name) or f"there is no line {name}{nearest_line(near, after)}"

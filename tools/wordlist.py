@@ -65,8 +65,9 @@ def print_equation(code):
     """An equation with its parameters and a template of its rows."""
     equation = vocabulary.equations()[code]
     output = equation["output"]
-    gives = f"{output['gas']} in Gg"
-    if "gas" not in output:
+    if "gas" in output:
+        gives = f"{output['gas']} in Gg"
+    else:
         gives = f"{output['measures']} in {output['unit']}, for other lines to take"
     print(f"{code} {equation['computes']}\n{equation['source']}\n{equation['about']}\n")
     print(f"gives {gives}: {equation['expression']}\n")
