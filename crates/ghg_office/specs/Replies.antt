@@ -1,5 +1,5 @@
 -- The texts of replies.
-use Rattle.std.specs.Prelude.{◌≡◌, ⊤, ℕ, List, ◌++◌, codes, Result, Ok, Err}
+use Rattle.std.specs.Prelude.{◌≡◌, ⊤, ℕ, Bool, true, false, List, ◌++◌, codes, Result, Ok, Err}
 use Rattle.std.specs.Fmt.{decimal}
 use Rattle.ghg_data.specs.declared.refusal.PlanRefusal.{PlanRefusal}
 use Rattle.ghg_data.specs.declared.refusal.PlanRefusal.TheVariants as refusal
@@ -16,6 +16,15 @@ reply_text (Refused rule) = codes "refused " ++ refusal_text rule
 reply_text (Table text) = text
 reply_text NoTable = codes "no table"
 reply_text Memory = codes "memory"
+
+-- whether the line of the reply has a fixed length at most, and needs no memory
+abbrev pub is_short : Reply → Bool
+is_short (Accepted seq) = true
+is_short (Repeated seq) = true
+is_short (Refused rule) = false
+is_short (Table text) = false
+is_short NoTable = true
+is_short Memory = false
 
 -- the reply is that of the answer, and the state the one after it; where memory ran out, nothing changed
 abbrev pub Answers : Answer → Reply → State → State → Type 0

@@ -11,4 +11,4 @@ pub use laws::{
     accepted_lists_rebuild_states, bounds_hold_in_force, repeats_act_once, states_stay_in_force,
 };
 pub use office::Office;
-pub use reply::{Reply, append_reply};
+pub use reply::{Reply, ShortLine, append_reply, short_text};
