@@ -1,4 +1,4 @@
--- A body that is read block by block, and of which the front is kept.
+-- A body that is read block by block, and of which a prefix is kept.
 use Rattle.std.proofs.Common.{◌≡◌, inl, inr, ℕ, zero, suc, ◌+◌, ◌-◌, ◌≤◌, ◌<◌, List, [], ◌∷◌, ◌++◌, refl, length, take, length-append, length-take, sym, ap, ◌∙◌, arith}
 use Rattle.ghg_outer.specs.Tape.{Consumes, Rose, Tape}
 use Rattle.ghg_outer.proofs.Tapes.{consumes_more, consumes_no_more, rose_later}
@@ -9,17 +9,17 @@ use Rattle.ghg_session.specs.Reader.{StoppedInBody, TookBody, TookFewer}
 pub kept_is_short : (text kept : List ℕ) → kept ≡ take most_kept text → length kept ≤ most_kept
 kept_is_short text kept e = omega (arith, ap length e, length-take most_kept text)
 
-front_of_both : (most : ℕ) (xs ys : List ℕ) → take most (xs ++ ys) ≡ take most xs ++ take (most - length xs) ys
-front_of_both zero xs ys = let none : 0 - length xs ≡ 0 = omega arith in rw none refl
-front_of_both (suc most) [] ys = let all : suc most - 0 ≡ suc most = omega arith in rw all refl
-front_of_both (suc most) (x ∷ xs) ys =
+prefix_of_both : (most : ℕ) (xs ys : List ℕ) → take most (xs ++ ys) ≡ take most xs ++ take (most - length xs) ys
+prefix_of_both zero xs ys = let none : 0 - length xs ≡ 0 = omega arith in rw none refl
+prefix_of_both (suc most) [] ys = let all : suc most - 0 ≡ suc most = omega arith in rw all refl
+prefix_of_both (suc most) (x ∷ xs) ys =
     let less : suc most - suc (length xs) ≡ most - length xs = omega arith in
-    rw less (ap (λ (l : List ℕ). x ∷ l) (front_of_both most xs ys))
+    rw less (ap (λ (l : List ℕ). x ∷ l) (prefix_of_both most xs ys))
 
 kept_more : (most : ℕ) (text kept piece : List ℕ) → kept ≡ take most text → kept ++ take (most - length kept) piece ≡ take most (text ++ piece)
 kept_more most text kept piece e =
     let room : most - length kept ≡ most - length text = omega (arith, ap length e, length-take most text) in
-    rw (room, e) (sym (front_of_both most text piece))
+    rw (room, e) (sym (prefix_of_both most text piece))
 
 pub body_grows : (a b c : Tape) (at given : ℕ) (kept kept' piece : List ℕ) → TookBody a b at kept → Consumes b c piece
     → length piece ≡ given → kept' ≡ kept ++ take (most_kept - length kept) piece → TookBody a c (at + given) kept'
@@ -27,7 +27,7 @@ body_grows a b c at given kept kept' piece p q e f = record {
   text = p.text ++ piece;
   read = consumes_more a b c p.text piece p.read q;
   whole = length-append p.text piece ∙ ap (λ (n : ℕ). n + length piece) p.whole ∙ ap (λ (n : ℕ). at + n) e;
-  front = f ∙ kept_more most_kept p.text kept piece p.front;
+  prefix = f ∙ kept_more most_kept p.text kept piece p.prefix;
 }
 
 -- the input ended within the body

@@ -97,7 +97,7 @@ pub found_body : (a b c : Tape) (words id kept : List ℕ) (n : ℕ) → Found l
 found_body a b c words id kept n m f p = record {
   text = m.text ++ p.text;
   read = consumes_more a b c m.text p.text m.read p.read;
-  each = λ rest. rw (append_assoc, p.front)
+  each = λ rest. rw (append_assoc, p.prefix)
       (by_form (m.text ++ (p.text ++ rest)) words (p.text ++ rest) (line.Submit id n) (m.each (p.text ++ rest)) f
       ∙ enough id p.text rest n p.whole);
 }
@@ -106,9 +106,9 @@ pub too_few : (id bytes : List ℕ) (n : ℕ) → length bytes < n → command_o
 too_few id bytes n h = let fails : nat_le n (length bytes) ≡ false = grind arith in rw fails refl
 
 -- fewer bytes than the line asked for
-cut_short : (words id text front : List ℕ) (n : ℕ) → ((rest : List ℕ) → line_at (text ++ rest) ≡ Some (words, rest))
-    → form_of words ≡ Some (line.Submit id n) → length front < n → command_at (text ++ front) ≡ None
-cut_short words id text front n e f h = by_form (text ++ front) words front (line.Submit id n) (e front) f ∙ too_few id front n h
+cut_short : (words id text body : List ℕ) (n : ℕ) → ((rest : List ℕ) → line_at (text ++ rest) ≡ Some (words, rest))
+    → form_of words ≡ Some (line.Submit id n) → length body < n → command_at (text ++ body) ≡ None
+cut_short words id text body n e f h = by_form (text ++ body) words body (line.Submit id n) (e body) f ∙ too_few id body n h
 
 pub missing_body : (a b c : Tape) (words id : List ℕ) (n : ℕ) → Found lines a b words → form_of words ≡ Some (line.Submit id n)
     → IsAtEnd c × TookFewer b c n → Missing commands a c

@@ -76,9 +76,9 @@ within_line : (bytes words rest : List ℕ) (at : ℕ) (fits : Bool) → nat_le 
     → line_to bytes at ≡ Some (words, rest) → length bytes ≡ length words + 1 + length rest
 within_line bytes words rest at true e h found =
     let both = rw e at found in
-    let front : take at bytes ≡ words = ap (λ o. option_map_or (λ p. p.0) o []) both in
+    let prefix : take at bytes ≡ words = ap (λ o. option_map_or (λ p. p.0) o []) both in
     let back : drop (at + 1) bytes ≡ rest = ap (λ o. option_map_or (λ p. p.1) o []) both in
-    omega (arith, h, ap length front, ap length back, length-take at bytes, length-drop (at + 1) bytes)
+    omega (arith, h, ap length prefix, ap length back, length-take at bytes, length-drop (at + 1) bytes)
 within_line bytes words rest at false e h found = let none = rw e at found in absurd cc
 
 pub line_length : (bytes words rest : List ℕ) → line_at bytes ≡ Some (words, rest) → length bytes ≡ length words + 1 + length rest

@@ -39,9 +39,9 @@ first_feed (x ∷ xs) more h = feed_stays x xs more (nat_eq x 10) refl h (first_
 split_extends : (at : ℕ) (bytes more : List ℕ) (fits : Bool) → nat_le at longest_line ≡ fits → at < length bytes
     → extended more (line_to bytes at) (line_to (bytes ++ more) at)
 split_extends at bytes more true e h =
-    let front : take at (bytes ++ more) ≡ take at bytes = take-append-le at bytes more (omega arith) in
+    let prefix : take at (bytes ++ more) ≡ take at bytes = take-append-le at bytes more (omega arith) in
     let back : drop (at + 1) (bytes ++ more) ≡ drop (at + 1) bytes ++ more = drop-append-le (at + 1) bytes more (omega arith) in
-    rw (e, front, back) refl
+    rw (e, prefix, back) refl
 split_extends at bytes more false e h = rw e tt
 
 by_feed : (bytes more : List ℕ) (within : Bool) → nat_lt (before_feed bytes) (length bytes) ≡ within → extended more (line_at bytes) (line_at (bytes ++ more))

@@ -34,17 +34,17 @@ others t xs = list_all (λ b. not (b == t)) xs
 
 record Split (t : ℕ) (xs : List ℕ) : Type 0 where
   whole : xs ≡ take (first t xs) xs ++ t ∷ drop (first t xs + 1) xs
-  front : others t (take (first t xs) xs) ≡ true
+  prefix : others t (take (first t xs) xs) ≡ true
 
 split_step : (t x : ℕ) (xs : List ℕ) (same : Bool) → nat_eq x t ≡ same → first t (x ∷ xs) < length (x ∷ xs)
     → (first t xs < length xs → Split t xs) → Split t (x ∷ xs)
-split_step t x xs true e h go = record { whole = rw e (ap (λ (b : ℕ). b ∷ xs) (eqb-true x t e)); front = rw e refl }
+split_step t x xs true e h go = record { whole = rw e (ap (λ (b : ℕ). b ∷ xs) (eqb-true x t e)); prefix = rw e refl }
 split_step t x xs false e h go =
     let inside = rw e at h in
     let later : Split t xs = go (omega (arith, inside)) in
     let next : 1 + first t xs ≡ suc (first t xs) = omega arith in
     let after : suc (first t xs) + 1 ≡ suc (first t xs + 1) = omega arith in
-    record { whole = rw (e, next, after) (ap (λ (l : List ℕ). x ∷ l) later.whole); front = rw (e, next, e) later.front }
+    record { whole = rw (e, next, after) (ap (λ (l : List ℕ). x ∷ l) later.whole); prefix = rw (e, next, e) later.prefix }
 
 split_first : (t : ℕ) (xs : List ℕ) → first t xs < length xs → Split t xs
 split_first t [] h = absurd (omega (arith, h))
@@ -163,7 +163,7 @@ line_is bytes text rest h = by (nat_lt (first 10 bytes) (length bytes)) refl
         split.whole ∙ ap (λ (l : List ℕ). l ++ 10 ∷ drop (first 10 bytes + 1) bytes) parts.0 ∙ ap (λ (l : List ℕ). text ++ 10 ∷ l) parts.1 in
         record {
           whole = whole ∙ sym (append_assoc text (10 ∷ []) rest);
-          plain = ap (others 10) (sym parts.0) ∙ split.front;
+          plain = ap (others 10) (sym parts.0) ∙ split.prefix;
         }
     at false e inside found = let none = rw e at found in absurd cc
 
@@ -198,7 +198,7 @@ parts_are text word more h = by (nat_lt (first 32 text) (length text)) refl
         let split = split_first 32 text inside in
         record {
           whole = split.whole ∙ ap (λ (l : List ℕ). l ++ 32 ∷ drop (first 32 text + 1) text) parts.0 ∙ ap (λ (l : List ℕ). word ++ 32 ∷ l) parts.1;
-          plain = ap (others 32) (sym parts.0) ∙ split.front;
+          plain = ap (others 32) (sym parts.0) ∙ split.prefix;
         }
     by false e = let none = rw e at h in absurd cc
 
@@ -207,10 +207,10 @@ word_is word bytes rest h = by (bytes_eq (take (length word) bytes) word) refl
   where
     by : (same : Bool) → bytes_eq (take (length word) bytes) word ≡ same → bytes ≡ word ++ rest
     by true e =
-        let front : take (length word) bytes ≡ word = (bytes_eq-Decides (take (length word) bytes) word).0 e in
+        let prefix : take (length word) bytes ≡ word = (bytes_eq-Decides (take (length word) bytes) word).0 e in
         let found = rw e at h in
         let back : drop (length word) bytes ≡ rest = ap (λ o. option_map_or (λ l. l) o []) found in
-        sym (take-append-drop (length word) bytes) ∙ ap (λ (l : List ℕ). l ++ drop (length word) bytes) front ∙ ap (λ (l : List ℕ). word ++ l) back
+        sym (take-append-drop (length word) bytes) ∙ ap (λ (l : List ℕ). l ++ drop (length word) bytes) prefix ∙ ap (λ (l : List ℕ). word ++ l) back
     by false e = let none = rw e at h in absurd cc
 
 -- ---- from the text of a command to the command
@@ -247,7 +247,7 @@ submission_parses id kept text rest s =
     ap command_at bytes
     ∙ by_form (line_of all ++ (s.body ++ rest)) all (s.body ++ rest) (line.Submit id (length s.body)) (line_parses all (s.body ++ rest) short plain) form
     ∙ enough id s.body rest (length s.body) refl
-    ∙ ap (λ (l : List ℕ). Some (command.Request (request.Submit id l), rest)) (sym s.front)
+    ∙ ap (λ (l : List ℕ). Some (command.Request (request.Submit id l), rest)) (sym s.prefix)
 
 table_parses : (table : List ℕ) (year : ℕ) (text rest : List ℕ) → IsTableRequest table year text
     → command_at (text ++ rest) ≡ Some (command.Request (request.Show table year), rest)
@@ -366,7 +366,7 @@ form_is text form h = by_end (bytes_eq text (codes "END")) refl
         same_form line.End form text found ((bytes_eq-Decides text (codes "END")).0 e)
     by_end false e = let found = rw e at h in by_submit (after_word (codes "SUBMIT ") text) refl found
 
--- the text of a command at the front of bytes
+-- the text of a command as a prefix of bytes
 abbrev BeginsWith : List ℕ → List ℕ → Command Request → Type 0
 BeginsWith bytes rest found = (text : List ℕ) × (bytes ≡ text ++ rest) × IsTextOf found text
 
@@ -400,7 +400,7 @@ by_submission bytes text behind rest id n found l f h = by (nat_le n (length beh
             id_length = f.2;
             id_bytes = all_both (λ b. not (b == 32)) (λ b. not (b == 10)) id f.3 plain;
             body_length = f.4 ∙ ap Some (sym count);
-            front = refl;
+            prefix = refl;
           },
         )
     by false e = let none = rw e at h in absurd (no_command_none (found, rest) none)

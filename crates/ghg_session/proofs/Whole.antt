@@ -8,12 +8,25 @@ use Rattle.ghg_session.specs.declared.session.End.{End}
 use Rattle.ghg_session.specs.declared.session.End.TheVariants.{Script}
 use Rattle.ghg_session.specs.declared.stop.Stop.{Stop}
 use Rattle.ghg_session.specs.declared.stop.Stop.TheVariants.{Input, Output}
-use Rattle.ghg_session.specs.Interruptions.{Interrupted, IsBegun, IsCutShort, IsDone, IsLeftBehind, IsUnfinished, NextIsNone, SpendsWithin, StopsInCommand, StopsInRefusal, StopsInReply}
+use Rattle.ghg_session.specs.Interruptions.{Interrupted, IsDue, IsLeftBehind, IsUnfinished, NextIsNone, SpendsWithin, StopsInCommand, StopsInRefusal, StopsInReply}
 use Rattle.ghg_session.specs.Protocol.{Protocol}
 use Rattle.ghg_session.specs.Script.{Reading, after_requests, most_commands, no_command, with_more}
 use Rattle.ghg_session.specs.Session.{Continues, Ends, SessionPosition, Snapshot, end_status, outcome, position, reading_from, replies, session_from, status_of, steps_of, wrong_line}
 use Rattle.ghg_session.proofs.Stops.{input_is_not_written, output_is_not_read}
 use Rattle.ghg_session.proofs.Readings.{from_none, from_request, output_after, steps_of-append}
+
+-- all that is due was written, and this is its status
+abbrev pub IsDone : {S R : Type 0} → Protocol S R → SessionPosition S → Snapshot S → ℕ → Type 0
+IsDone p from after status =
+    IsDue p from (λ due. Appends from.at.output after.output due.output × (due.status ≡ status))
+
+-- a prefix of it was written
+abbrev pub IsBegun : {S R : Type 0} → Protocol S R → SessionPosition S → Snapshot S → Type 0
+IsBegun p from after = IsDue p from (λ due. AppendsPrefix from.at.output after.output due.output)
+
+-- a proper prefix of it was written
+abbrev pub IsCutShort : {S R : Type 0} → Protocol S R → SessionPosition S → Snapshot S → Type 0
+IsCutShort p from after = IsDue p from (λ due. AppendsProperPrefix from.at.output after.output due.output)
 
 -- where the bytes that were left are known, those that follow what was read are known too
 known_rest : (bytes text : List ℕ) (new : Option (List ℕ)) → known.Consumes (Some bytes) new text
@@ -78,7 +91,7 @@ ends_spends p from after end e = record { text = e.text; read = e.read; spent = 
 
 -- ---- a session that was interrupted
 
--- the output that was due of bytes whose front was answered
+-- the output that was due of bytes of which a prefix was answered
 due_later : {S R : Type 0} (p : Protocol S R) (from to : SessionPosition S) (c : Continues p from to) (rest : List ℕ)
     → (session_from p from (c.text ++ rest)).output
     ≡ replies p from.at.state c.requests ++ (session_from p to rest).output

@@ -1,7 +1,7 @@
 -- Sessions that stop before their end: the requests that were answered, and what was done of the next
 -- command.
 use Rattle.std.specs.Prelude.{◌≡◌, ⊤, ℕ, ◌+◌, ◌≤◌, ◌<◌, true, ◌⊎◌, List, ◌++◌, length, Option, Some, IfSome, Result, MatchResult, MatchOption}
-use Rattle.ghg_outer.specs.Tape.{Appends, AppendsPrefix, AppendsProperPrefix, Consumes, IsAtEnd, Rose, Tape}
+use Rattle.ghg_outer.specs.Tape.{Appends, Consumes, IsAtEnd, Rose, Tape}
 use Rattle.ghg_session.specs.declared.command.Command.TheVariants as command
 use Rattle.ghg_session.specs.declared.session.End.{End}
 use Rattle.ghg_session.specs.declared.stop.Stop.{Stop}
@@ -10,7 +10,7 @@ use Rattle.ghg_session.specs.Protocol.{Protocol}
 use Rattle.ghg_session.specs.Reader.{Found, Stopped}
 use Rattle.ghg_session.specs.Script.{most_commands, no_command}
 use Rattle.ghg_session.specs.Writing.{StoppedWriting}
-use Rattle.ghg_session.specs.Session.{Continues, Ends, SessionPosition, Snapshot, position, reading_from, replies, session_from, state_after, steps_of, wrong_line}
+use Rattle.ghg_session.specs.Session.{Continues, Ends, Outcome, SessionPosition, Snapshot, position, reading_from, replies, session_from, state_after, steps_of, wrong_line}
 
 -- In the middle of a command, of which nothing was answered. What was read of it before a fault is no
 -- command.
@@ -20,20 +20,24 @@ pub record StopsInCommand {State Request : Type 0} (p : Protocol State Request) 
   pub stopped : Stopped p.commands from.at.input after.input stop
   pub rest : after ≡ record from.at { input = after.input }
 
--- The office answered a request with this state: it changed as the request asks, or it is as before, since
--- memory ran out. Only a request that takes memory is left undone.
-abbrev pub Answered : {State Request : Type 0} → Protocol State Request → State → Request → State → Type 0
-Answered p s asked new = (new ≡ p.next_state s asked) ⊎ ((new ≡ s) × (p.takes_memory s asked ≡ true))
+-- The request was left undone, since it takes memory to answer it. Nothing changed, and nothing was written.
+pub record IsUndone {State Request : Type 0} (p : Protocol State Request) (before : Snapshot State)
+    (asked : Request) (after : Snapshot State) : Type 0 where
+  pub memory : p.takes_memory before.state asked ≡ true
+  pub state : after.state ≡ before.state
+  pub output : after.output ≡ before.output
 
--- In the reply to a request, of which a proper prefix was written: the output failed in it, or memory ran out.
--- Nothing was read behind the request.
+-- In the reply to a request, of which a proper prefix was written: the output failed in it, or memory ran
+-- out there, once the state was changed as the request asks; or it was left undone. Nothing was read behind
+-- the request.
 pub record StopsInReply {State Request : Type 0} (p : Protocol State Request) (from : SessionPosition State)
     (after : Snapshot State) (stop : Stop) : Type 0 where
   pub allowed : from.answered < most_commands
   pub request : Request
   pub found : Found p.commands from.at.input after.input (command.Request request)
   pub stopped : StoppedWriting from.at.output after.output (p.reply from.at.state request) stop
-  pub state : Answered p from.at.state request after.state
+  pub state : (after.state ≡ p.next_state from.at.state request)
+      ⊎ ((stop ≡ Memory) × IsUndone p from.at request after)
   pub spent : after.steps ≤ from.at.steps + p.steps from.at.state request
 
 -- What was read is no command, or one too many: nothing is left, or it is none whatever follows.
@@ -100,25 +104,10 @@ pub record SpendsWithin {State Request : Type 0} (p : Protocol State Request) (f
   pub read : Consumes from.at.input after.input text
   pub spent : after.steps ≤ from.at.steps + steps_of p from.at.state (reading_from p from text).requests
 
--- Where the input tells what is left: the output of the session of these bytes was written, and this is
--- its status.
-abbrev pub IsDone : {State Request : Type 0} → Protocol State Request
-    → SessionPosition State → Snapshot State → ℕ → Type 0
-IsDone p from after status = IfSome from.at.input.left (λ bytes.
-    Appends from.at.output after.output (session_from p from bytes).output
-    × ((session_from p from bytes).status ≡ status))
-
--- a prefix of it was written
-abbrev pub IsBegun : {State Request : Type 0} → Protocol State Request
-    → SessionPosition State → Snapshot State → Type 0
-IsBegun p from after = IfSome from.at.input.left
-    (λ bytes. AppendsPrefix from.at.output after.output (session_from p from bytes).output)
-
--- a proper prefix of it was written
-abbrev pub IsCutShort : {State Request : Type 0} → Protocol State Request
-    → SessionPosition State → Snapshot State → Type 0
-IsCutShort p from after = IfSome from.at.input.left
-    (λ bytes. AppendsProperPrefix from.at.output after.output (session_from p from bytes).output)
+-- Where the input tells what is left: so it is with what comes of the session of these bytes.
+abbrev pub IsDue : {State Request : Type 0} → Protocol State Request → SessionPosition State
+    → (Outcome → Type 0) → Type 0
+IsDue p from holds = IfSome from.at.input.left (λ bytes. holds (session_from p from bytes))
 
 -- what stands behind END is left
 abbrev pub IsLeftBehind : {State Request : Type 0} → Protocol State Request

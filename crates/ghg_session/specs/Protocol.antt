@@ -2,7 +2,7 @@
 use Rattle.std.specs.Prelude.{ℕ, Bool, List, Option}
 use Rattle.ghg_session.specs.declared.command.Command.{Command}
 
--- how a value stands at the front of bytes
+-- which values the prefixes of bytes are texts of
 pub record Grammar (T : Type 0) : Type 0 where
   -- the value that bytes begin with, and what follows it
   pub parse : List ℕ → Option (T × List ℕ)
@@ -15,7 +15,7 @@ pub record Protocol (State Request : Type 0) : Type 0 where
   -- the lines that reply to a request
   pub reply : State → Request → List ℕ
   pub next_state : State → Request → State
-  -- whether it takes memory to change the state as the request asks
+  -- whether it takes memory to answer the request
   pub takes_memory : State → Request → Bool
   -- the most steps that the request may take
   pub steps : State → Request → ℕ

@@ -51,12 +51,12 @@ pub record StoppedInLine (before after : Tape) (stop : Stop) : Type 0 where
   pub cause : stop ≡ Input → Rose before after
   pub only : (stop ≡ Input) ⊎ (stop ≡ Memory)
 
--- so many bytes of a body were read, and of them the front was kept
+-- so many bytes of a body were read, and of them the prefix was kept
 pub record TookBody (before after : Tape) (count : ℕ) (kept : List ℕ) : Type 0 where
   pub text : List ℕ
   pub read : Consumes before after text
   pub whole : length text ≡ count
-  pub front : kept ≡ take most_kept text
+  pub prefix : kept ≡ take most_kept text
 
 -- fewer bytes were read
 pub record TookFewer (before after : Tape) (count : ℕ) : Type 0 where

@@ -1,16 +1,14 @@
 -- What the office replies to requests, as bytes, and its state after them.
-use Rattle.std.specs.Prelude.{ℕ, Bool, false, ◌&&◌, List, ◌++◌, ◌==◌, length, codes, count_by, is_none, nat_le}
+use Rattle.std.specs.Prelude.{ℕ, Bool, true, false, List, ◌++◌, ◌==◌, codes, count_by}
 use Rattle.std.specs.Fmt.{decimal}
-use Rattle.ghg_import.specs.Body.{max_body}
 use Rattle.ghg_session.specs.declared.command.Request.{Request}
 use Rattle.ghg_session.specs.declared.command.Request.TheVariants.{Submit, Show}
 use Rattle.ghg_session.specs.declared.reply.Lines.{Lines}
-use Rattle.ghg_office.specs.Accepted.{kept_from}
-use Rattle.ghg_office.specs.Id.{is_id}
+use Rattle.ghg_session.specs.declared.reply.Lines.TheVariants.{Short, Long}
 use Rattle.ghg_office.specs.Office.{Answer, State, evaluations, submitted, requested}
 use Rattle.ghg_office.specs.Replies.{reply_text}
 use Rattle.ghg_office.specs.declared.reply.Reply.{Reply}
-use Rattle.ghg_office.specs.declared.reply.Reply.TheVariants.{Table}
+use Rattle.ghg_office.specs.declared.reply.Reply.TheVariants.{NoTable, Repeated, Table}
 use Rattle.ghg_session.specs.Commands.{commands}
 use Rattle.ghg_session.specs.Protocol.{Protocol}
 use Rattle.ghg_session.specs.Session.{line_of}
@@ -32,7 +30,8 @@ table_lines table year reply = line_of (reply_text reply)
 
 -- the bytes of lines
 abbrev pub bytes_of : Lines → List ℕ
-bytes_of lines = lines.first.items ++ lines.below
+bytes_of (Short line) = line.items
+bytes_of (Long first below) = first.items ++ below
 
 -- the office's answer to a request, and the state after it
 abbrev pub answer_of : State → Request → Answer
@@ -53,18 +52,17 @@ state_after s asked = (answer_of s asked).after
 
 -- ---- the protocol of the office
 
--- the submission is a new one whose body is read
-abbrev pub is_read : State → List ℕ → List ℕ → Bool
-is_read s id body = is_id id && is_none (kept_from 1 id s.accepted) && nat_le (length body) max_body
+-- a repeat is answered without memory, and so is a request for a table that is not there
+abbrev pub needs_memory : Reply → Bool
+needs_memory (Repeated seq) = false
+needs_memory NoTable = false
+needs_memory reply = true
 
--- A new submission takes memory to be entered. A repeat does not, and neither does a table, which changes
--- nothing.
 unfoldable pub takes_memory : State → Request → Bool
-takes_memory s (Submit id body) = is_read s id body
-takes_memory s (Show table year) = false
+takes_memory s asked = needs_memory (answer_of s asked).reply
 
 -- A step is the evaluation of a node. A table evaluates none.
-unfoldable pub steps_for : State → Request → ℕ
+abbrev pub steps_for : State → Request → ℕ
 steps_for s (Submit id body) = evaluations s id body
 steps_for s (Show table year) = 0
 

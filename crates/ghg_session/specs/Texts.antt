@@ -14,7 +14,7 @@ abbrev pub is_id_byte : ℕ → Bool
 is_id_byte b = not (b == 32) && not (b == 10)
 
 -- A submission: an id of 1 to 60 bytes, the length of the body in 1 to 8 digits, and behind the line the
--- body, of which a front is kept.
+-- body, of which a prefix is kept.
 pub record IsSubmission (id kept text : List ℕ) : Type 0 where
   pub digits : List ℕ
   pub body : List ℕ
@@ -22,7 +22,7 @@ pub record IsSubmission (id kept text : List ℕ) : Type 0 where
   pub id_length : has_length 1 60 id ≡ true
   pub id_bytes : list_all is_id_byte id ≡ true
   pub body_length : number_in 8 digits ≡ Some (length body)
-  pub front : kept ≡ take most_kept body
+  pub prefix : kept ≡ take most_kept body
 
 -- A request for a table: its name of 1 to 16 lower-case letters, and a year of four digits.
 pub record IsTableRequest (table : List ℕ) (year : ℕ) (text : List ℕ) : Type 0 where
@@ -39,7 +39,7 @@ IsTextOf (command.Request (request.Submit id kept)) text = IsSubmission id kept 
 IsTextOf (command.Request (request.Show table year)) text = IsTableRequest table year text
 IsTextOf command.End text = text ≡ line_of (codes "END")
 
--- Bytes begin with a command exactly where its text stands at their front.
+-- Bytes begin with a command exactly where its text is a prefix of them.
 abbrev pub ParsesTexts : Type 0
 ParsesTexts = (bytes rest : List ℕ) (found : Command Request)
     → (command_at bytes ≡ Some (found, rest))

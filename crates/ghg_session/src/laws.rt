@@ -3,7 +3,7 @@
 ghost use Rattle.ghg_session.specs.Laws.{ReadsLocally, ReadsOnce};
 ghost use Rattle.ghg_session.specs.Texts.{ParsesTexts};
 
-/// Bytes begin with a command exactly where its text stands at their front.
+/// Bytes begin with a command exactly where its text is a prefix of them.
 pub fn parses_texts()
     ensures { ParsesTexts }
 {}

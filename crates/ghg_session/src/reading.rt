@@ -79,7 +79,7 @@ fn next_byte<S: Source>(source: &mut S) -> Result<Option<u8>, Stop>
 /// How many bytes of a body are read at once.
 const BLOCK: usize = 4096;
 
-// A body of so many bytes, of which the front is kept, or nothing where the input ends before.
+// A body of so many bytes, of which a prefix is kept, or nothing where the input ends before.
 fn read_body<S: Source>(
     alloc: Global,
     source: &mut S,
@@ -99,7 +99,7 @@ fn read_body<S: Source>(
         match source.read(&mut block[..wanted]) {
             Ok(0) => return Ok(None),
             Ok(given) => {
-                keep_front(&mut body, &block[..given])?;
+                keep_prefix(&mut body, &block[..given])?;
                 at += given;
             }
             Err(_) => return Err(Stop::Input),
@@ -112,7 +112,7 @@ fn read_body<S: Source>(
 const MOST_KEPT: usize = MAX_BODY + 1;
 
 // Appends as much of the piece as is kept of a body.
-fn keep_front(body: &mut Vec<u8>, piece: &[u8]) -> Result<(), AllocError>
+fn keep_prefix(body: &mut Vec<u8>, piece: &[u8]) -> Result<(), AllocError>
     requires { length body.old.items ≤ most_kept }
     ensures { OnOk result (body.new.items
         ≡ body.old.items ++ take (most_kept - length body.old.items) piece.now) }

@@ -1,19 +1,21 @@
 //! The lines that reply to requests.
 
-ghost use Rattle.std.specs.Prelude.{◌≡◌, ◌≢◌, IfOk, OnOk};
-ghost use Rattle.ghg_office.specs.Replies.{reply_text};
+ghost use Rattle.std.specs.Prelude.{◌≡◌, ◌≢◌, false, IfOk, OnErr, OnOk};
+ghost use Rattle.ghg_office.specs.Replies.{is_short, reply_text};
 ghost use Rattle.ghg_session.specs.Replies.{bytes_of, heading, line_count, table_lines};
 ghost use Rattle.ghg_session.specs.Session.{line_of};
 
-use ghg_office::{Reply, append_reply};
+use ghg_office::{Reply, ShortLine, append_reply, short_text};
 use ghg_units::Text;
 use std::alloc::{AllocError, Global};
 
-/// The lines of a reply: the first one, and the text of a table that stands under it.
+/// The lines of a reply.
 #[derive(Drop)]
-pub struct Lines {
-    pub first: Vec<u8>,
-    pub below: Text,
+pub enum Lines {
+    /// One line, in a buffer of fixed size.
+    Short(ShortLine),
+    /// A first line, and the text of a table that stands under it.
+    Long { first: Vec<u8>, below: Text },
 }
 
 /// The lines that reply to a request for a table. That memory ran out is no reply.
@@ -25,11 +27,12 @@ pub fn table_lines(
 ) -> Result<Lines, AllocError>
     ensures lines { IfOk result (λ lines. bytes_of lines ≡ table_lines table.now year reply) }
     ensures answered { OnOk result (reply ≢ Reply.Memory) }
+    ensures short { OnErr result (is_short reply ≡ false) }
 {
     match reply {
         Reply::Table(text) => {
             let first = heading(alloc, table, year, text.as_slice())?;
-            Ok(Lines { first, below: text })
+            Ok(Lines::Long { first, below: text })
         }
         other => one_line(alloc, &other),
     }
@@ -55,18 +58,27 @@ fn line_count(text: &[u8]) -> usize
     text.iter().filter(|b| **b == b'\n').count()
 }
 
-/// The line of a reply, with nothing under it. That memory ran out is no reply.
+/// The line of a reply, with nothing under it. That memory ran out is no reply. A short line needs no memory.
 pub fn one_line(alloc: Global, reply: &Reply) -> Result<Lines, AllocError>
     ensures line { IfOk result (λ lines. bytes_of lines ≡ line_of (reply_text reply.now)) }
     ensures answered { OnOk result (reply.now ≢ Reply.Memory) }
+    ensures short { OnErr result (is_short reply.now ≡ false) }
 {
-    let first = reply_line(alloc, reply)?;
-    let below = Text::new(Vec::new(alloc));
-    Ok(Lines { first, below })
+    match short_text(reply) {
+        Some(mut line) => {
+            line.push(b'\n');
+            Ok(Lines::Short(line))
+        }
+        None => {
+            let first = long_line(alloc, reply)?;
+            let below = Text::new(Vec::new(alloc));
+            Ok(Lines::Long { first, below })
+        }
+    }
 }
 
-// The line of a reply. That memory ran out is no reply.
-fn reply_line(alloc: Global, reply: &Reply) -> Result<Vec<u8>, AllocError>
+// The line of a reply, in memory. That memory ran out is no reply.
+fn long_line(alloc: Global, reply: &Reply) -> Result<Vec<u8>, AllocError>
     ensures line { IfOk result (λ line. line.items ≡ line_of (reply_text reply.now)) }
     ensures answered { OnOk result (reply.now ≢ Reply.Memory) }
 {

@@ -1,8 +1,8 @@
 //! Answers a whole script.
 
-ghost use Rattle.std.specs.Prelude.{◌≡◌, ◌+◌, ◌<◌, ◌≤◌, ◌^◌, IfOk, OnErr, OnOk};
-ghost use Rattle.ghg_session.specs.Interruptions.{Answered, AnswersScript, TakesTurn};
-ghost use Rattle.ghg_session.specs.Replies.{bytes_of, protocol, reply_of, state_after, steps_for};
+ghost use Rattle.std.specs.Prelude.{◌≡◌, ◌+◌, ◌<◌, ◌≤◌, ◌^◌, true, IfOk, OnErr, OnOk};
+ghost use Rattle.ghg_session.specs.Interruptions.{AnswersScript, TakesTurn};
+ghost use Rattle.ghg_session.specs.Replies.{bytes_of, protocol, reply_of, state_after, steps_for, takes_memory};
 ghost use Rattle.ghg_session.specs.Script.{most_commands};
 ghost use Rattle.ghg_session.specs.Session.{beginning, end_status, position, snapshot, wrong_line};
 ghost use Rattle.ghg_session.specs.Writing.{WritesAll};
@@ -12,9 +12,11 @@ use crate::reading::next_command;
 use crate::reply::{Lines, one_line, table_lines};
 use crate::stop::Stop;
 use crate::writing::write_all;
+use arrayvec::ArrayVec;
 use ghg_office::Office;
 use ghg_outer::{Sink, Source};
 use ghg_steps::Steps;
+use itoa::Buffer;
 use std::alloc::{AllocError, Global};
 use std::sync::ledger::Ledger;
 
@@ -62,7 +64,7 @@ pub fn answer_script<S: Source, W: Sink, L: Ledger>(
             Err(stop) => return Err(stop),
         }
     }
-    match refuse(alloc, out, MOST_COMMANDS + 1) {
+    match refuse(out, MOST_COMMANDS + 1) {
         Ok(()) => Ok(End::NoScript),
         Err(stop) => Err(stop),
     }
@@ -83,61 +85,57 @@ fn turn<S: Source, W: Sink, L: Ledger>(
         (snapshot office.new (S.tape input.new) (W.tape out.new) steps.new) result }
 {
     match next_command(alloc, input)? {
-        None => match refuse(alloc, out, done + 1) {
+        None => match refuse(out, done + 1) {
             Ok(()) => Ok(Some(End::NoScript)),
             Err(stop) => Err(stop),
         },
         Some(Command::End) => Ok(Some(End::Script)),
-        Some(Command::Request(request)) => match reply(alloc, out, office, &request, steps) {
-            Ok(()) => Ok(None),
-            Err(stop) => Err(stop),
-        },
+        Some(Command::Request(request)) => {
+            let lines = answer(alloc, office, &request, steps)?;
+            match write_lines(out, &lines) {
+                Ok(()) => Ok(None),
+                Err(stop) => Err(stop),
+            }
+        }
     }
 }
 
 // Reports the command of this number as malformed.
-fn refuse<W: Sink>(alloc: Global, out: &mut W, number: u32) -> Result<(), Stop>
+fn refuse<W: Sink>(out: &mut W, number: u32) -> Result<(), Stop>
     ensures { WritesAll (W.tape out.old) (W.tape out.new) (wrong_line number) result }
 {
-    let line = refusal(alloc, number)?;
-    write_all(out, &line)
+    write_all(out, refusal(number).as_slice())
 }
 
-fn refusal(alloc: Global, number: u32) -> Result<Vec<u8>, AllocError>
-    ensures { IfOk result (λ line. line.items ≡ wrong_line number) }
+// Words of 22 bytes, the digits of a number of 32 bits, and the line feed.
+fn refusal(number: u32) -> ArrayVec<u8, 33>
+    ensures { result.items ≡ wrong_line number }
 {
-    Ok(format!(in alloc; "not a script: command {number}\n")?.into_bytes())
-}
-
-// Writes the office's reply to a request.
-fn reply<W: Sink, L: Ledger>(
-    alloc: Global,
-    out: &mut W,
-    office: &mut Office,
-    request: &Request,
-    steps: &mut Steps<L>,
-) -> Result<(), Stop>
-    ensures wrote { WritesAll (W.tape out.old) (W.tape out.new) (reply_of office.old request.now) result }
-    ensures after { OnOk result (office.new ≡ state_after office.old request.now) }
-    ensures stopped { OnErr result (Answered protocol office.old request.now office.new) }
-    ensures steps { steps.new ≤ steps.old + steps_for office.old request.now }
-{
-    let lines = answer(alloc, office, request, steps)?;
-    write_lines(out, &lines)
+    let mut digits = Buffer::new();
+    let mut line = ArrayVec::new();
+    line.try_extend_from_slice(b"not a script: command ")
+        .unwrap();
+    line.try_extend_from_slice(digits.format(number).as_bytes())
+        .unwrap();
+    line.push(b'\n');
+    line
 }
 
 // Writes all lines.
 fn write_lines<W: Sink>(out: &mut W, lines: &Lines) -> Result<(), Stop>
     ensures { WritesAll (W.tape out.old) (W.tape out.new) (bytes_of lines.now) result }
 {
-    match write_all(out, &lines.first) {
-        Ok(()) => write_all(out, lines.below.as_slice()),
-        Err(stop) => Err(stop),
+    match lines {
+        Lines::Short(line) => write_all(out, line.as_slice()),
+        Lines::Long { first, below } => match write_all(out, first) {
+            Ok(()) => write_all(out, below.as_slice()),
+            Err(stop) => Err(stop),
+        },
     }
 }
 
-// The lines that reply to a request.
-#[tactic(auto, unfolding(crate::specs::Replies::reply_of, crate::specs::Replies::state_after, crate::specs::Replies::steps_for))]
+// The lines that reply to a request. Only a request that takes memory is left undone for want of it.
+#[tactic(auto, unfolding(crate::specs::Replies::reply_of, crate::specs::Replies::state_after))]
 fn answer<L: Ledger>(
     alloc: Global,
     office: &mut Office,
@@ -146,7 +144,8 @@ fn answer<L: Ledger>(
 ) -> Result<Lines, AllocError>
     ensures lines { IfOk result (λ lines. bytes_of lines ≡ reply_of office.old request.now) }
     ensures after { OnOk result (office.new ≡ state_after office.old request.now) }
-    ensures stopped { OnErr result (Answered protocol office.old request.now office.new) }
+    ensures undone { OnErr result (office.new ≡ office.old) }
+    ensures memory { OnErr result (takes_memory office.old request.now ≡ true) }
     ensures steps { steps.new ≤ steps.old + steps_for office.old request.now }
 {
     match request {

@@ -16,20 +16,20 @@ returns-in-Err g c =
     let short : c.pieces.at < c.args.count = omega arith in
     body_fails _ _ _ _ _ _ c.pieces.invariant.took c.in-Err.ensures.read (c.in-Err.ensures.failed refl) short
 
-pub keep_front-requires : goal.keep_front-requires
-keep_front-requires g c = kept_is_short _ _ c.pieces.invariant.took.front
+pub keep_prefix-requires : goal.keep_prefix-requires
+keep_prefix-requires g c = kept_is_short _ _ c.pieces.invariant.took.prefix
 
 pub pieces-preserved : goal.pieces-preserved
 pieces-preserved g c =
     let bound = c.in-Ok.ensures.bound in
-    let kept = rw (take-append-le c.in-Ok.given c.read.new.buf (drop c.min-wanted.result c.pieces.block) bound.0) at c.in_ok-keep_front-in-Ok.ensures in
+    let kept = rw (take-append-le c.in-Ok.given c.read.new.buf (drop c.min-wanted.result c.pieces.block) bound.0) at c.in_ok-keep_prefix-in-Ok.ensures in
     record {
       took = body_grows _ _ _ _ _ _ _ _ c.pieces.invariant.took c.in-Ok.ensures.read (sym bound.1) kept;
       within = omega (arith, length-take c.min-wanted.result c.pieces.block);
     }
 
-pub returns-in_err-keep_front-in-Ok : goal.returns-in_err-keep_front-in-Ok
-returns-in_err-keep_front-in-Ok g c =
+pub returns-in_err-keep_prefix-in-Ok : goal.returns-in_err-keep_prefix-in-Ok
+returns-in_err-keep_prefix-in-Ok g c =
     let bound = c.in-Ok.ensures.bound in
     let within : c.pieces.at + c.in-Ok.given ≤ c.args.count = omega (arith, length-take c.min-wanted.result c.pieces.block) in
     let p = err_from_is_err_and c.from_residual.result c.from_residual.ensures.1 in

@@ -1,6 +1,8 @@
+use Rattle.std.proofs.Common.{refl}
 use Rattle.std.proofs.lemmas.Result.{err_from_is_err_and}
 use Rattle.ghg_session.specs.Replies.{protocol}
-use Rattle.ghg_session.proofs.Turns.{answers_one, ends_at_end, ends_refused, next_is_none, stops_in_command, stops_in_refusal, stops_in_reply}
+use Rattle.ghg_session.proofs.Answering.{reply_is_some}
+use Rattle.ghg_session.proofs.Turns.{answers_one, ends_at_end, ends_refused, next_is_none, stops_in_command, stops_in_refusal, stops_in_reply, stops_undone}
 use Rattle.ghg_session.proofs.session.turn.Goals as goal
 
 pub returns-in_err-next_command : goal.returns-in_err-next_command
@@ -24,14 +26,25 @@ returns-in-Some-End g c =
     let found = rw c.in-Some-End.field-0-is at end in
     ends_at_end protocol _ (g.S.Told.tape c.next_command.new.source) c.requires found
 
-pub returns-in-Ok-reply : goal.returns-in-Ok-reply
-returns-in-Ok-reply g c =
+pub returns-in-Ok-write_lines : goal.returns-in-Ok-write_lines
+returns-in-Ok-write_lines g c =
     let asked = rw c.in-Some-Request.is at c.in_ok-next_command.ensures in
     let found = rw c.in-Some-Request.field-0-is at asked in
-    answers_one protocol _ _ _ c.requires found c.in-Ok-reply.ensures.wrote c.in-Ok-reply.ensures.after c.in-Ok-reply.ensures.steps
+    let answer = c.in_ok-lines-in-Some-Request.ensures in
+    answers_one protocol _ _ _ c.requires found (rw answer.lines at c.in-Ok-write_lines.ensures) answer.after c.answer.ensures.steps
 
 pub returns : goal.returns
 returns g c =
     let asked = rw c.in-Some-Request.is at c.in_ok-next_command.ensures in
     let found = rw c.in-Some-Request.field-0-is at asked in
-    stops_in_reply protocol _ _ _ _ c.requires found c.in-Err-reply.ensures.wrote c.in-Err-reply.ensures.stopped c.in-Err-reply.ensures.steps
+    let answer = c.in_ok-lines-in-Some-Request.ensures in
+    stops_in_reply protocol _ _ _ _ c.requires found (rw answer.lines at c.in-Err-write_lines.ensures) answer.after c.answer.ensures.steps
+
+pub returns-in_err-lines-in-Some-Request : goal.returns-in_err-lines-in-Some-Request
+returns-in_err-lines-in-Some-Request g c =
+    let asked = rw c.in-Some-Request.is at c.in_ok-next_command.ensures in
+    let found = rw c.in-Some-Request.field-0-is at asked in
+    let left = c.in_err-lines-in-Some-Request.ensures in
+    let p = err_from_is_err_and c.from_residual-in_err-lines-in-Some-Request.result c.from_residual-in_err-lines-in-Some-Request.ensures.1 in
+    rw (p.1, p.2) (stops_undone protocol _ _ _ c.requires found (reply_is_some _ _)
+    (record { memory = left.memory; state = left.undone; output = refl }) c.answer.ensures.steps)
