@@ -6,12 +6,12 @@ use Rattle.ghg_office.proofs.InForce.{requested_sound, states_stay}
 use Rattle.ghg_outer.proofs.Tapes.{whole_prefix}
 use Rattle.ghg_session.specs.declared.command.Request.{Request}
 use Rattle.ghg_session.specs.declared.command.Request.TheVariants.{Submit, Show}
-use Rattle.ghg_session.specs.Interruptions.{IsBegun, IsDone}
 use Rattle.ghg_session.specs.Replies.{protocol, reply_of, state_after}
 use Rattle.ghg_session.specs.Commands.{commands}
 use Rattle.ghg_session.specs.Script.{reading_of}
 use Rattle.ghg_session.specs.Session.{Snapshot, beginning, replies}
-use Rattle.ghg.specs.Bounds.{AreSoundLines, AreSoundReplies, IsSoundPrefix, IsSoundSession}
+use Rattle.ghg_session.proofs.Whole.{IsBegun, IsDone}
+use Rattle.ghg.specs.Bounds.{AreSoundLines, AreSoundReplies, AreSoundWhenDue}
 use Rattle.ghg.specs.Laws.{RepliesAreSound}
 
 stays : (s : State) (asked : Request) → IsInForce s → IsInForce (state_after s asked)
@@ -34,25 +34,14 @@ sound_replies s h (first ∷ rest) =
     let next = state_after s first in
     (reply_of s first, replies protocol next rest, refl, sound_lines s first h, sound_replies next (stays s first h) rest)
 
--- what is done of a script is a sound session
-pub sound_session : (before after : Snapshot State) (status : ℕ) → IsInForce before.state
-    → IsDone protocol (beginning before) after status → IsSoundSession before after
-sound_session before after status h done =
-    for_some before.input.left _ _ (λ bytes d. (
-      replies protocol before.state (reading_of commands bytes).requests,
-      d.0,
-      sound_replies before.state h (reading_of commands bytes).requests,
-    )) done
-
--- and what is begun of one is a prefix of it
-pub sound_prefix : (before after : Snapshot State) → IsInForce before.state
-    → IsBegun protocol (beginning before) after → IsSoundPrefix before after
-sound_prefix before after h begun =
-    for_some before.input.left _ _ (λ bytes p. (
-      replies protocol before.state (reading_of commands bytes).requests,
-      p,
-      sound_replies before.state h (reading_of commands bytes).requests,
-    )) begun
+-- the replies that are due are sound
+pub sound_when_due : (before : Snapshot State) → IsInForce before.state → AreSoundWhenDue before
+sound_when_due before h = by before.input.left
+  where
+    by : (left : Option (List ℕ)) → IfSome left (λ bytes. let asked = (reading_of commands bytes).requests in
+        AreSoundReplies before.state asked (replies protocol before.state asked))
+    by None = tt
+    by (Some bytes) = sound_replies before.state h (reading_of commands bytes).requests
 
 -- what was written whole is a prefix
 pub done_begun : (before after : Snapshot State) (status : ℕ) → IsDone protocol (beginning before) after status

@@ -14,7 +14,7 @@ use Rattle.ghg_session.specs.Writing.{StoppedWriting, stop_status}
 use Rattle.ghg_session.proofs.Stops.{input_is_not_written}
 use Rattle.ghg_session.proofs.Whole.{ends_behind, ends_done, ends_spends, interrupted_begun, interrupted_short, interrupted_spends, interrupted_unfinished}
 use Rattle.ghg.specs.Run.{CompileRun, NoCommandRun, bad_command_line, is_end}
-use Rattle.ghg.proofs.Held.{done_begun, sound_prefix, sound_session}
+use Rattle.ghg.proofs.Held.{done_begun, sound_when_due}
 
 -- ---- words that are no command
 
@@ -99,8 +99,7 @@ compile_ended before after end h e =
       short = λ five. absurd (end_is_no_stop end Output five);
       begun = done_begun before after (end_status end) done;
       steps = ends_spends protocol (beginning before) after end e;
-      bounds = λ _. sound_session before after (end_status end) h done;
-      bounds_begun = sound_prefix before after h (done_begun before after (end_status end) done);
+      bounds = sound_when_due before h;
     }
 
 stop_is_no_end : (stop : Stop) → is_end (stop_status stop) ≡ true → ⊥
@@ -123,7 +122,6 @@ complete before after Memory i calm still memory = absurd (memory refl)
 pub compile_interrupted : (before after : Snapshot State) (stop : Stop) → IsInForce before.state
     → Interrupted protocol (beginning before) after stop → CompileRun before after (stop_status stop)
 compile_interrupted before after stop h i =
-    let begun = interrupted_begun protocol (beginning before) after stop i in
     record {
       session = (Err stop, i, refl);
       done = λ e. absurd (stop_is_no_end stop e);
@@ -135,10 +133,9 @@ compile_interrupted before after stop h i =
       short = λ five.
           interrupted_short protocol (beginning before) after
           (subst (Interrupted protocol (beginning before) after) (one_stop stop Output five) i);
-      begun = begun;
+      begun = interrupted_begun protocol (beginning before) after stop i;
       steps = interrupted_spends protocol (beginning before) after stop i;
-      bounds = λ e. absurd (stop_is_no_end stop e);
-      bounds_begun = sound_prefix before after h begun;
+      bounds = sound_when_due before h;
     }
 
 -- ---- causes

@@ -3,13 +3,12 @@ use Rattle.std.specs.Prelude.{◌≡◌, ℕ, List, [], ◌∷◌, ◌++◌, IfS
 use Rattle.ghg_office.specs.declared.reply.Reply.{Reply}
 use Rattle.ghg_office.specs.Office.{State}
 use Rattle.ghg_office.specs.Sound.{IsSoundReply}
-use Rattle.ghg_outer.specs.Tape.{Appends, AppendsPrefix}
 use Rattle.ghg_session.specs.declared.command.Request.{Request}
 use Rattle.ghg_session.specs.declared.command.Request.TheVariants.{Submit, Show}
 use Rattle.ghg_session.specs.Commands.{commands}
-use Rattle.ghg_session.specs.Replies.{reply_of, state_after, table_lines}
+use Rattle.ghg_session.specs.Replies.{protocol, reply_of, state_after, table_lines}
 use Rattle.ghg_session.specs.Script.{reading_of}
-use Rattle.ghg_session.specs.Session.{Snapshot, last_line}
+use Rattle.ghg_session.specs.Session.{Snapshot, replies}
 
 -- The lines reply to a request. To a request for a table they are the office's reply, a table under its
 -- heading or that there is none, and in a table the bounds hold.
@@ -24,15 +23,8 @@ AreSoundReplies s [] output = output ≡ []
 AreSoundReplies s (asked ∷ rest) output = (lines more : List ℕ) × (output ≡ lines ++ more)
     × AreSoundLines s asked lines × AreSoundReplies (state_after s asked) rest more
 
--- Where the input tells what is left: the session of that was written, such replies to its requests and
--- the line that names the command that is none.
-abbrev pub IsSoundSession : Snapshot State → Snapshot State → Type 0
-IsSoundSession before after = IfSome before.input.left (λ bytes. (output : List ℕ)
-    × Appends before.output after.output (output ++ last_line (reading_of commands bytes).wrong)
-    × AreSoundReplies before.state (reading_of commands bytes).requests output)
-
--- A prefix of that was written, and nothing else.
-abbrev pub IsSoundPrefix : Snapshot State → Snapshot State → Type 0
-IsSoundPrefix before after = IfSome before.input.left (λ bytes. (output : List ℕ)
-    × AppendsPrefix before.output after.output (output ++ last_line (reading_of commands bytes).wrong)
-    × AreSoundReplies before.state (reading_of commands bytes).requests output)
+-- Where the input tells what is left, the replies to what that asks for are such.
+abbrev pub AreSoundWhenDue : Snapshot State → Type 0
+AreSoundWhenDue before = IfSome before.input.left (λ bytes.
+    let asked = (reading_of commands bytes).requests in
+    AreSoundReplies before.state asked (replies protocol before.state asked))

@@ -1,14 +1,14 @@
 -- What the program owes for its words and its input.
 use Rattle.std.specs.Prelude.{◌≡◌, ◌≢◌, ℕ, ◌⊎◌, true, Bool, ◌||◌, ◌==◌, List, Result, codes}
 use Rattle.ghg_office.specs.Office.{State}
-use Rattle.ghg_outer.specs.Tape.{Appends, Consumes, Rose, Tape}
+use Rattle.ghg_outer.specs.Tape.{Appends, AppendsPrefix, AppendsProperPrefix, Consumes, Rose, Tape}
 use Rattle.ghg_session.specs.declared.session.End.{End}
 use Rattle.ghg_session.specs.declared.stop.Stop.{Stop}
-use Rattle.ghg_session.specs.Interruptions.{AnswersScript, IsBegun, IsCutShort, IsDone, IsLeftBehind, IsUnfinished, SpendsWithin}
+use Rattle.ghg_session.specs.Interruptions.{AnswersScript, IsDue, IsLeftBehind, IsUnfinished, SpendsWithin}
 use Rattle.ghg_session.specs.Replies.{protocol}
 use Rattle.ghg_session.specs.Session.{Snapshot, beginning, line_of, result_status}
 use Rattle.ghg_session.specs.Writing.{StoppedWriting, stop_status}
-use Rattle.ghg.specs.Bounds.{IsSoundPrefix, IsSoundSession}
+use Rattle.ghg.specs.Bounds.{AreSoundWhenDue}
 
 -- ---- whatever the words
 
@@ -49,7 +49,8 @@ pub record CompileRun (before after : Snapshot State) (status : ℕ) : Type 0 wh
       × (status ≡ result_status result)
   -- With statuses 0 and 3 all that is due was written. One of them comes where neither the input nor the
   -- output failed and memory did not run out.
-  pub done : is_end status ≡ true → IsDone protocol (beginning before) after status
+  pub done : is_end status ≡ true → IsDue protocol (beginning before)
+      (λ due. Appends before.output after.output due.output × (due.status ≡ status))
   pub complete : (Rose before.input after.input → ⊥) → (Rose before.output after.output → ⊥) → status ≢ 8
       → is_end status ≡ true
   -- With status 0 what stands behind END is left.
@@ -57,14 +58,14 @@ pub record CompileRun (before after : Snapshot State) (status : ℕ) : Type 0 wh
   -- With status 4 each whole request that was read was answered, and nothing more was written.
   pub unfinished : status ≡ 4 → IsUnfinished protocol (beginning before) after
   -- With status 5 not all that is due was written, and with every status a prefix of it.
-  pub short : status ≡ 5 → IsCutShort protocol (beginning before) after
-  pub begun : IsBegun protocol (beginning before) after
+  pub short : status ≡ 5 → IsDue protocol (beginning before)
+      (λ due. AppendsProperPrefix before.output after.output due.output)
+  pub begun : IsDue protocol (beginning before) (λ due. AppendsPrefix before.output after.output due.output)
   -- No more steps were taken than the requests ask for that were read.
   pub steps : SpendsWithin protocol (beginning before) after
-  -- In each table the bounds hold the exact values of the nodes of the data then in force, wherever the
-  -- inputs are within their supplied bounds.
-  pub bounds : is_end status ≡ true → IsSoundSession before after
-  pub bounds_begun : IsSoundPrefix before after
+  -- In each table that is due the bounds hold the exact values of the nodes of the data then in force,
+  -- wherever the inputs are within their supplied bounds.
+  pub bounds : AreSoundWhenDue before
 
 -- every status of the program
 abbrev pub is_status : ℕ → Bool
