@@ -450,10 +450,10 @@ def inputs_of(line, year, book):
     return found
 
 
-def too_many(named, sheet, after):
+def too_many(named, sheet, rows):
     """The fault of a limit of the whole workbook, and the rows without its span where that is too long."""
-    spans = [row for row in after.rows[1:] if row.field("kind") == "span"]
-    if named == "span" and spans:
+    spans = [row for row in rows[1:] if named == "span" and row.field("kind") == "span"]
+    if spans:
         cause = f"more than {limit('span')} years from the first to the last"
-        return at_row(spans[-1], cause, "value"), after.without(spans)
+        return at_row(spans[-1], cause, "value"), [row for row in rows if row not in spans]
     return Fault(sheet, 1, "", None, f"more than {limit(named)} {named} with this file"), None

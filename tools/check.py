@@ -158,12 +158,12 @@ class Check:
             return Fault(sheet, 1, "", None, cause), None
         if reply.rule < 10:
             return None, None
-        after = bindings.After(self.applied.book_after(rows), rows, self.refused, self.later)
         words = reply.rest.split()
+        if reply.rule == 11:
+            return bindings.too_many(words[0], sheet, rows)
+        after = bindings.After(self.applied.book_after(rows), rows, self.refused, self.later)
         if reply.rule == 10:
             return bindings.explain(*words, after)
-        if reply.rule == 11:
-            return bindings.too_many(words[0], sheet, after)
         if reply.rule == 12:
             return bindings.ring(words[0], after)
         return bindings.overflow(words[0], sheet, after)

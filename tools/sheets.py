@@ -19,6 +19,7 @@ COLUMNS_OF_KEY = {
     "bind": ["subject", "name"], "uncert": ["name"],
 }
 ANY_KEY = ["subject", "name", "year"]
+KEY_AT = {kind: [COLUMN_AT[column] for column in columns] for kind, columns in COLUMNS_OF_KEY.items()}
 
 
 class FolderFault(Exception):
@@ -54,8 +55,11 @@ class Row:
     def key(self):
         """The key of the record that the row speaks of, out of its fields as they are."""
         if self._key is None:
-            kind = self.field("kind")
-            self._key = (kind, *(self.field(column) for column in COLUMNS_OF_KEY.get(kind, ANY_KEY)))
+            kind, fields = self.field("kind"), self.fields
+            if kind in KEY_AT and len(fields) == len(COLUMNS):
+                self._key = (kind, *[fields[at] for at in KEY_AT[kind]])
+            else:
+                self._key = (kind, *[self.field(column) for column in COLUMNS_OF_KEY.get(kind, ANY_KEY)])
         return self._key
 
     def field(self, column):

@@ -1,21 +1,20 @@
 """Files beyond a limit of the program, and rows that are many."""
 import itertools
-import os
 import pathlib
 import tempfile
 import unittest
 
-from tests.workbook.running import HEADER, workbook
+from tests.workbook.running import HEADER, PROGRAM, workbook
 
 SPAN = "enter,span,,,1990,2020,1990,,,\n"
 
 
-def checked(*bodies):
+def checked(*bodies, program=PROGRAM):
     """What check prints of files with these bodies."""
     with tempfile.TemporaryDirectory() as room:
         for at, body in enumerate(bodies, 1):
             (pathlib.Path(room) / f"{at}.csv").write_text(body)
-        return workbook("check", room, "--no-warnings").stdout.splitlines()
+        return workbook("check", room, "--no-warnings", "--program", program).stdout.splitlines()
 
 
 class Limits(unittest.TestCase):
@@ -67,16 +66,14 @@ class Limits(unittest.TestCase):
             "5.csv:1: more than 500,000 records with this file", "5 files: 1 fault, 0 warnings"])
 
     def test_bytes_beyond_the_limit(self):
-        front = HEADER + "correct,span,,,1990,2020,1990,,,"
+        # The limit is half a GiB of bodies, so a script answers in the program's place.
         with tempfile.TemporaryDirectory() as room:
-            (pathlib.Path(room) / "1.csv").write_text(HEADER + SPAN)
-            (pathlib.Path(room) / "2.csv").write_text(front + "n" * (4194304 - len(front)))
-            for at in range(3, 130):
-                os.link(pathlib.Path(room) / "2.csv", pathlib.Path(room) / f"{at}.csv")
-            ran = workbook("check", room, "--no-warnings")
-        self.assertEqual(ran.stdout.splitlines(), [
-            "129.csv:1: more than 536,870,912 bytes with this file",
-            "129 files: 1 fault, 0 warnings"])
+            program = pathlib.Path(room) / "program"
+            program.write_text("#!/bin/sh\necho accepted 1\necho refused 11 TooMany bytes\ncat > /dev/null\n")
+            program.chmod(0o755)
+            printed = checked(HEADER + SPAN, HEADER + SPAN.replace("enter", "correct"), program=program)
+        self.assertEqual(printed, [
+            "2.csv:1: more than 536,870,912 bytes with this file", "2 files: 1 fault, 0 warnings"])
 
 
 if __name__ == "__main__":
