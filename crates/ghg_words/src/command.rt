@@ -1,0 +1,88 @@
+//! Commands, and the words that ask for them.
+
+ghost use Rattle.std.specs.Prelude.{◌≡◌, map, option_map, option_and_then};
+ghost use Rattle.std.specs.String.{string_bytes};
+ghost use Rattle.ghg_words.specs.Command.{command_in, compile_of, serve_of, settings_of};
+ghost use Rattle.ghg_words.specs.Options.{seen};
+
+use crate::options::{Options, read_options};
+use crate::values::{StoreName, number_within};
+
+/// What a command line asks for.
+#[derive(Debug, Drop)]
+pub enum Command<'a> {
+    /// To answer a script.
+    Compile(Settings<'a>),
+    /// To serve connections.
+    Serve(Service<'a>),
+}
+
+/// What every command takes.
+#[derive(Debug, Drop)]
+pub struct Settings<'a> {
+    /// The number of workers.
+    pub workers: u32,
+    /// The store that keeps the accepted submissions, where one is named.
+    pub store: Option<StoreName<'a>>,
+}
+
+/// How connections are served.
+#[derive(Debug, Drop)]
+pub struct Service<'a> {
+    pub settings: Settings<'a>,
+    /// The port on loopback, from 1.
+    pub port: u16,
+    /// How many connections are served, from 1 to 1,000,000.
+    pub connections: u32,
+}
+
+/// Reads the words after the program's name. `None` where they are no command.
+#[tactic(auto, unfolding(crate::specs::Command::command_in))]
+pub fn read_command(words: &[String]) -> Option<Command<'_>>
+    ensures { result ≡ command_in (map string_bytes words.now) }
+{
+    let (word, rest) = words.split_first()?;
+    let options = read_options(rest)?;
+    match word.as_str() {
+        "compile" => compile_with(options),
+        "serve" => serve_with(options),
+        _ => None,
+    }
+}
+
+fn compile_with(options: Options<'_>) -> Option<Command<'_>>
+    ensures { result ≡ compile_of (seen options.entry) }
+{
+    if options.port.is_some() || options.connections.is_some() {
+        return None;
+    }
+    Some(Command::Compile(settings_from(options)?))
+}
+
+fn serve_with(options: Options<'_>) -> Option<Command<'_>>
+    ensures { result ≡ serve_of (seen options.entry) }
+{
+    Some(Command::Serve(Service {
+        settings: settings_from(options)?,
+        port: number_within(1, 65_535, options.port?)? as u16,
+        connections: number_within(1, 1_000_000, options.connections?)?,
+    }))
+}
+
+// The settings that the options give.
+fn settings_from(options: Options<'_>) -> Option<Settings<'_>>
+    ensures { result ≡ settings_of (seen options.entry) }
+{
+    let workers = match options.workers {
+        None => 1,
+        Some(text) => number_within(1, MOST_WORKERS, text)?,
+    };
+    let store = match options.store {
+        None => None,
+        Some(text) => Some(StoreName::new(text)?),
+    };
+    Some(Settings { workers, store })
+}
+
+// The most workers of a command. There is one.
+const MOST_WORKERS: u32 = 1;

@@ -1,0 +1,14 @@
+//! The reader of the program's command line.
+//!
+//! [`read_command`] gives the command that the words after the program's name ask for. Its contract says for
+//! every list of words which command that is, or that there is none: a function of the words, which
+//! `specs/Command.antt` defines. [`options_stand_in_any_order`] says that the order of the options decides
+//! nothing.
+#![tactic(auto)]
+
+mod command;
+mod options;
+mod values;
+
+pub use command::{Command, Service, Settings, read_command};
+pub use values::StoreName;
