@@ -1,4 +1,6 @@
 pub mod Bytes
 pub mod Counts
+pub mod Doors
+pub mod Links
 pub mod Plans
 pub mod Tape

@@ -1,5 +1,5 @@
-ghost use Rattle.std.specs.Prelude.{◌≡◌, IsTrue};
-ghost use Rattle.ghg_outer.specs.Counts.{IsCounted};
+ghost use Rattle.std.specs.Prelude.{◌≡◌, ⊤, IsTrue};
+ghost use Rattle.ghg_outer.specs.Counts.{IsCounted, raised};
 ghost use Rattle.ghg_outer.specs.Plans.{planned, fails_next, after_call};
 
 use std::marker::Model;
@@ -46,5 +46,13 @@ impl FaultPlan {
             self.faults = self.faults.saturating_add(1);
         }
         fails
+    }
+
+    /// Counts a failure that is not listed.
+    pub fn fail(&mut self)
+        ensures plan { self.new ≡ record self.old { faults = raised self.old.faults } }
+        ensures faults { IsCounted self.old.faults self.new.faults ⊤ }
+    {
+        self.faults = self.faults.saturating_add(1);
     }
 }

@@ -4,23 +4,34 @@
 //! written, where that is known, and how many calls failed. A read takes from the front of what is left, and
 //! a write appends. Neither does anything else, and a call fails only where the count rose.
 //!
-//! The forms in memory are proved to meet this. [`InputSource`] and [`OutputSink`] are the trusted edge: what
-//! the process's own input and output hold is known to no contract. It is proved that their count rose where
-//! they answer an error. They make a call again that a signal interrupted, which tests show.
+//! A link is both a source and a sink, and a door gives links and takes them back.
+//!
+//! The forms in memory are proved to meet this. [`InputSource`], [`OutputSink`], [`TcpDoor`] and [`TcpLink`]
+//! are the trusted edge: what the process's own input, output and connections hold is known to no contract. It
+//! is proved that their count rose where they answer an error. They make a call again that a signal
+//! interrupted, which tests show for input and output.
 #![tactic(auto)]
 
+mod door;
 mod fault_plan;
+mod links;
 mod memory;
+mod memory_door;
 mod sink;
 mod source;
 mod steady;
 mod streams;
+mod tcp;
 mod told;
 
+pub use door::Door;
 pub use fault_plan::FaultPlan;
+pub use links::{MemoryLink, SteadyLink};
 pub use memory::{MemorySink, MemorySource};
+pub use memory_door::MemoryDoor;
 pub use sink::{Sink, WriteError};
 pub use source::{Failed, Source};
 pub use steady::{SteadySink, SteadySource};
 pub use streams::{InputSource, OutputSink};
+pub use tcp::{TcpDoor, TcpLink};
 pub use told::Told;

@@ -54,7 +54,7 @@ impl<R: Read + Drop> Source for InputSource<R> {
 
 // Reads as the reader does, and again where a signal interrupted that.
 // Where that was so 2^64 - 1 times, the call timed out.
-fn read_again<R: Read>(reader: &mut R, buf: &mut [u8]) -> io::Result<usize>
+pub(crate) fn read_again<R: Read>(reader: &mut R, buf: &mut [u8]) -> io::Result<usize>
     ensures bound { ReadsAtMost result buf.new }
     ensures bytes { ReadConsumes (R.remaining reader.old) (R.remaining reader.new) result buf.new }
     ensures retried { IfErr result (λ error. error_kind error ≢ ErrorKind.Interrupted) }
@@ -122,7 +122,7 @@ impl<W: Write + Drop> Sink for OutputSink<W> {
 
 // Writes as the writer does, and again where a signal interrupted that.
 // Where that was so 2^64 - 1 times, the call timed out.
-fn write_again<W: Write>(writer: &mut W, piece: &[u8]) -> io::Result<usize>
+pub(crate) fn write_again<W: Write>(writer: &mut W, piece: &[u8]) -> io::Result<usize>
     ensures bound { WritesAtMost result piece.now }
     ensures bytes { WriteAppends (W.contents writer.old) (W.contents writer.new) result piece.now }
     ensures retried { IfErr result (λ error. error_kind error ≢ ErrorKind.Interrupted) }

@@ -20,7 +20,8 @@ store_of (Some text) = option_map (λ name. Some name) (store_name text)
 
 abbrev pub settings_of : Options → Option Settings
 settings_of o =
-    option_and_then (λ workers. option_map (λ store. record { workers = workers; store = store }) (store_of o.store))
+    option_and_then (λ workers.
+    option_map (λ store. record { workers = workers; store = store }) (store_of o.store))
     (workers_of o.workers)
 
 abbrev pub compile_of : Options → Option Command

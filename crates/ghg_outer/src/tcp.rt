@@ -1,0 +1,164 @@
+// Connections over TCP, which are the trusted edge.
+ghost use Rattle.std.specs.Prelude.{◌≡◌, ⊤, None};
+ghost use Rattle.ghg_outer.specs.Counts.{IsCounted};
+
+use crate::streams::{read_again, write_again};
+use crate::{Door, Failed, Sink, Source, Told, WriteError};
+use std::alloc::AllocError;
+use std::io;
+use std::io::{ErrorKind, Read, Write};
+use std::net::{Ipv4Addr, Net, OpenListener, OpenStream, Shutdown, TcpListener};
+use std::time::Duration;
+
+/// A connection over TCP, with a count of its errors. A call that a signal interrupted is made again, and is
+/// no error. Where the peer takes nothing of a piece, that is an error.
+///
+/// It is part of the trusted edge and tells nothing of its bytes. It is proved that the count rose where an
+/// error is answered.
+#[derive(Drop)]
+pub struct TcpLink<S: Drop> {
+    stream: S,
+    faults: u64,
+}
+
+impl<S: Drop> TcpLink<S> {
+    // A link over a new connection.
+    fn new(stream: S) -> TcpLink<S>
+        ensures { result.faults ≡ 0 }
+    {
+        TcpLink { stream, faults: 0 }
+    }
+
+    // Counts an error.
+    fn count_fault(&mut self)
+        ensures { IsCounted self.old.faults self.new.faults ⊤ }
+    {
+        self.faults = self.faults.saturating_add(1);
+    }
+}
+
+impl<S: Drop> Told for TcpLink<S> {
+    ghost tape = { λ l. record { left = None; taken = None; written = None; faults = l.faults } };
+}
+
+impl<S: Read + Drop> Source for TcpLink<S> {
+    fn read(&mut self, buf: &mut [u8]) -> Result<usize, Failed> {
+        match read_again(&mut self.stream, buf) {
+            Ok(count) => Ok(count),
+            Err(_) => {
+                self.count_fault();
+                Err(Failed)
+            }
+        }
+    }
+}
+
+impl<S: Write + Drop> Sink for TcpLink<S> {
+    fn write(&mut self, piece: &[u8]) -> Result<usize, WriteError> {
+        match write_again(&mut self.stream, piece) {
+            Ok(count) if count > 0 => Ok(count),
+            _ => {
+                self.count_fault();
+                Err(WriteError::Failed)
+            }
+        }
+    }
+}
+
+/// Connections on a port of loopback, with a count of errors.
+///
+/// It is part of the trusted edge and tells nothing of its port and its links. It is proved that the count
+/// rose where an error is answered.
+#[derive(Drop)]
+pub struct TcpDoor<R: Net + Drop> {
+    net: R,
+    listener: Option<R::Listener>,
+    faults: u64,
+}
+
+impl<R: Net + Drop> TcpDoor<R> {
+    /// A door whose port is closed, with no fault yet.
+    pub fn new(net: R) -> TcpDoor<R>
+        ensures { (⟦<TcpDoor<R> as Door>⟧.register result).faults ≡ 0 }
+    {
+        TcpDoor {
+            net,
+            listener: None,
+            faults: 0,
+        }
+    }
+}
+
+impl<R: Net + Drop> Door for TcpDoor<R> {
+    type Link = TcpLink<R::Stream>;
+
+    ghost register = { λ d. record { port = None; given = None; finished = None; faults = d.faults } };
+
+    fn listen(&mut self, port: u16) -> Result<(), Failed> {
+        match TcpListener::bind(&self.net, (Ipv4Addr::LOCALHOST, port)) {
+            Ok(listener) => {
+                self.listener = Some(listener);
+                Ok(())
+            }
+            Err(_) => {
+                self.faults = self.faults.saturating_add(1);
+                Err(Failed)
+            }
+        }
+    }
+
+    fn next(&mut self) -> Result<TcpLink<R::Stream>, Failed> {
+        if let Some(listener) = &self.listener
+            && let Ok(stream) = accept_again(listener)
+        {
+            let patience = Some(Duration::from_secs(PATIENCE));
+            let _ = stream.set_read_timeout(patience);
+            let _ = stream.set_write_timeout(patience);
+            return Ok(TcpLink::new(stream));
+        }
+        self.faults = self.faults.saturating_add(1);
+        Err(Failed)
+    }
+
+    fn finish(&mut self, link: TcpLink<R::Stream>) -> Result<(), AllocError> {
+        let mut stream = link.stream;
+        let _ = stream.shutdown(Shutdown::Write);
+        let _ = stream.set_read_timeout(Some(Duration::from_secs(FAREWELL)));
+        read_past(&mut stream);
+        Ok(())
+    }
+}
+
+// How many seconds a read or a write waits for a peer. Connections are served one after the other, so one
+// that stays silent would keep all others waiting.
+const PATIENCE: u64 = 30;
+
+// How many seconds the end of a connection waits for what the peer still sends.
+const FAREWELL: u64 = 1;
+
+// The next connection. One that a signal interrupted, or that its peer gave up, is passed over.
+// Where that was so 2^64 - 1 times, the call timed out.
+fn accept_again<L: OpenListener>(listener: &L) -> io::Result<L::Stream> {
+    for _ in 0..u64::MAX {
+        match listener.accept() {
+            Ok((stream, _)) => return Ok(stream),
+            Err(error) => match error.kind() {
+                ErrorKind::Interrupted | ErrorKind::ConnectionAborted => {}
+                _ => return Err(error),
+            },
+        }
+    }
+    Err(io::Error::from(ErrorKind::TimedOut))
+}
+
+// Reads what a peer still sends, up to its end or 8 MiB. A connection that is closed with bytes unread is
+// reset, and a reset may take the reply away before the peer reads it.
+fn read_past<S: Read>(stream: &mut S) {
+    let mut buf = [0; 16_384];
+    for _ in 0..512 {
+        match read_again(stream, &mut buf) {
+            Ok(count) if count > 0 => {}
+            _ => return,
+        }
+    }
+}
