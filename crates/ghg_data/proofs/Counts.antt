@@ -28,6 +28,8 @@ shape away (forms.Line name None) h = ap not (sym h.0)
 shape away (forms.Line name (Some e)) h = ap not (sym h.0)
 shape away (forms.Bind line parameter None) h = ap not (sym h.0)
 shape away (forms.Bind line parameter (Some b)) h = ap not (sym h.0)
+shape away (forms.Uncert line None) h = ap not (sym h.0)
+shape away (forms.Uncert line (Some u)) h = ap not (sym h.0)
 
 counted : (m : Data) (k : RecordKey) (c : Option Record) (n : ℕ) (act : Act) (b : Bool) → is_some (get m k) ≡ b → presence_fault n act b ≡ None → is_some c ≡ not (withdraws act) → len (with_record m k c) ≡ count_after act (len m)
 counted m k (Some r) n Enter false at e f = len-insert keys_total m k r ∙ ap (λ b. cond b (len m) (len m + 1)) at

@@ -11,16 +11,17 @@ use Rattle.ghg_definitions.specs.declared.place.Place.{Place}
 use Rattle.ghg_definitions.specs.declared.record.Record.{Record}
 use Rattle.ghg_definitions.specs.declared.record.RecordKey.{RecordKey}
 use Rattle.ghg_definitions.specs.declared.record.RecordKey.TheVariants as key
-use Rattle.ghg_definitions.specs.Data.{Data, Name, as_binding, as_line, binding, key_cmp, line, line_name, line_names}
-use Rattle.ghg_definitions.specs.Rules.{is_bound, is_sound, places_in}
+use Rattle.ghg_definitions.specs.Data.{Data, Name, as_binding, as_line, as_uncertainty, binding, key_cmp, line, line_name, line_names, uncertainty}
+use Rattle.ghg_definitions.specs.Rules.{binds_parameter, is_bound, is_sound, is_uncertainty, places_in}
 use Rattle.ghg_definitions.specs.Sound.{IsWorkbook}
-use Rattle.ghg_definitions.proofs.Alike.{first_so}
+use Rattle.ghg_definitions.proofs.Alike.{first_so, second_so}
 use Rattle.ghg_definitions.proofs.Consistent.{workbook_consistent}
 use Rattle.ghg_definitions.proofs.Keys.{equal_by, keys_same}
 use Rattle.ghg_data.specs.Changes.{Change, applied}
-use Rattle.ghg_data.specs.Faults.{is_fault, is_place, key_places, line_places, takes}
+use Rattle.ghg_data.specs.Faults.{is_fault, is_place, key_places, line_places, places_about, takes}
 use Rattle.ghg_data.proofs.Applied.{get-applied, over}
-use Rattle.ghg_data.proofs.Faults.{IsAmong, IsLeastFault, among_flat, among_left, among_right, either, held_line, least_fault, or_left, takes_among, with_equation}
+use Rattle.ghg_data.proofs.EquationParameters.{uncertain_at}
+use Rattle.ghg_data.proofs.Faults.{IsAmong, IsLeastFault, among_flat, among_left, among_right, either, held_line, least_fault, or_left, place_parameter, place_uncertain, takes_among, uncertain_place, with_equation}
 
 -- ---- keys
 
@@ -78,10 +79,31 @@ sound_by : (m : Data) (n : Name) (o : Option EqId) (f : EqId → Quantity → Bo
 sound_by m n None f h = absurd (cc)
 sound_by m n (Some e) f h = (e, refl, find_any (λ (q : Quantity). bytes_eq q.name n) (f e) (parameters e) h)
 
--- the line is there, and takes the parameter
-pub sound_takes : (m : Data) (p : Place) → is_sound m p ≡ true → (e : EqId) × (line m p.line ≡ Some e) × (takes e p.parameter ≡ true)
+-- the line is there,
+pub sound_line : (m : Data) (p : Place) → is_sound m p ≡ true → (e : EqId) × (line m p.line ≡ Some e)
 unfolding is_sound
-sound_takes m p h = sound_by m p.parameter (line m p.line) (λ e q. is_bound m q.dim (binding m p.line p.parameter)) h
+sound_line m p h = by (line m p.line) h
+  where
+    by : (o : Option EqId) → option_map_or (λ e. is_uncertainty p || binds_parameter m e p.parameter (binding m p.line p.parameter)) o false ≡ true → (e : EqId) × (o ≡ Some e)
+    by None h = absurd (cc)
+    by (Some e) h = (e, refl)
+
+-- and takes the parameter
+pub sound_takes : (m : Data) (p : Place) → is_uncertainty p ≡ false → is_sound m p ≡ true → (e : EqId) × (line m p.line ≡ Some e) × (takes e p.parameter ≡ true)
+unfolding is_sound
+sound_takes m p u h = sound_by m p.parameter (line m p.line) (λ e q. is_bound m q.dim (binding m p.line p.parameter))
+    ((λ i. option_map_or (λ e. sym u i || binds_parameter m e p.parameter (binding m p.line p.parameter)) (line m p.line) false) ∙ h)
+
+-- a fault at the place of an uncertainty record: the line has one, and is absent
+pub left_behind : (m : Data) (p : Place) → is_uncertainty p ≡ true → is_fault m p ≡ true → (is_some (uncertainty m p.line) ≡ true) × (line m p.line ≡ None)
+left_behind m p u h = let both = sym (uncertain_at m p u) ∙ h in (first_so _ _ both, absent (line m p.line) (second_so (is_some (uncertainty m p.line)) _ both))
+  where
+    absent : (o : Option EqId) → not (is_some o) ≡ true → o ≡ None
+    absent None e = refl
+    absent (Some q) e = absurd (cc)
+
+pub never_both : {A : Type 0} (o : Option A) (x : A) → o ≡ Some x → o ≡ None → ⊥
+never_both o x e f = cc
 
 no_fault : (a b : Bool) → a && not b ≡ false → a ≡ true → b ≡ true
 no_fault true true e f = refl
@@ -102,18 +124,39 @@ module _ (m : Data) (w : IsWorkbook m) (cs : List Change) where
   by_key : (p : Place) (k : RecordKey) → IsAmong k (map (λ d. d.0) cs) → IsAmong p (key_places (applied m cs) k) → IsAmong p (flat_map (line_places m) (line_names m) ++ flat_map (key_places (applied m cs)) (map (λ d. d.0) cs))
   by_key p k i h = among_right p (flat_map (line_places m) (line_names m)) _ (among_flat (key_places (applied m cs)) k p (map (λ d. d.0) cs) i h)
 
-  pub covered : (p : Place) → is_fault (applied m cs) p ≡ true → IsAmong p (flat_map (line_places m) (line_names m) ++ flat_map (key_places (applied m cs)) (map (λ d. d.0) cs))
-  covered p h = elim (either (is_some (binding (applied m cs) p.line p.parameter)) _ (first_so (is_place (applied m cs) p) _ h)) [
+  -- the record was changed, or its line is
+  by_uncertainty : (p : Place) → is_uncertainty p ≡ true → is_fault (applied m cs) p ≡ true → IsAmong p (flat_map (line_places m) (line_names m) ++ flat_map (key_places (applied m cs)) (map (λ d. d.0) cs))
+  by_uncertainty p u h =
+      let parts = left_behind (applied m cs) p u h in
+      elim (changed_or_kept m cs (key.Uncert p.line)) [
+        | inl changed ↦ by_key p (key.Uncert p.line) changed (inl (uncertain_place p u))
+        | inr kept ↦
+            let e = sound_line m p (sound_before w p (place_uncertain m p u ∙ ap (λ o. is_some (as_uncertainty o)) (sym kept) ∙ parts.0)) in
+            elim (changed_or_kept m cs (key.Line p.line)) [
+              | inl changed ↦ by_key p (key.Line p.line) changed (subst (λ o. IsAmong p (places_about (key.Line p.line) o)) (sym parts.1) (inl (uncertain_place p u)))
+              | inr stays ↦ absurd (never_both _ e.0 (ap as_line stays ∙ e.1) parts.1)
+            ]
+      ]
+
+  by_parameter : (p : Place) → is_uncertainty p ≡ false → is_fault (applied m cs) p ≡ true → IsAmong p (flat_map (line_places m) (line_names m) ++ flat_map (key_places (applied m cs)) (map (λ d. d.0) cs))
+  by_parameter p u h = elim (either (is_some (binding (applied m cs) p.line p.parameter)) _ (sym (place_parameter (applied m cs) p u) ∙ first_so (is_place (applied m cs) p) _ h)) [
     | inl bound ↦ elim (changed_or_kept m cs (key.Bind p.line p.parameter)) [
       | inl changed ↦ by_key p (key.Bind p.line p.parameter) changed (inl refl)
       | inr kept ↦
-          let taken = sound_takes m p (sound_before w p (or_left _ _ (ap (λ o. is_some (as_binding o)) (sym kept) ∙ bound))) in
+          let taken = sound_takes m p u (sound_before w p (place_parameter m p u ∙ or_left _ _ (ap (λ o. is_some (as_binding o)) (sym kept) ∙ bound))) in
           by_line p taken.0 taken.1 taken.2
     ]
     | inr taken ↦
         let e = with_equation (line (applied m cs) p.line) p.parameter taken in
         elim (changed_or_kept m cs (key.Line p.line)) [
-          | inl changed ↦ by_key p (key.Line p.line) changed (subst (λ o. IsAmong p (places_in (key.Line p.line) o)) (sym e.1) (takes_among p.line p.parameter (parameters e.0) e.2))
+          | inl changed ↦ by_key p (key.Line p.line) changed (subst (λ o. IsAmong p (places_about (key.Line p.line) o)) (sym e.1) (takes_among p.line p.parameter (parameters e.0) e.2))
           | inr kept ↦ by_line p e.0 (ap as_line (sym kept) ∙ e.1) e.2
         ]
   ]
+
+  pub covered : (p : Place) → is_fault (applied m cs) p ≡ true → IsAmong p (flat_map (line_places m) (line_names m) ++ flat_map (key_places (applied m cs)) (map (λ d. d.0) cs))
+  covered p h = by (is_uncertainty p) refl
+    where
+      by : (b : Bool) → is_uncertainty p ≡ b → IsAmong p (flat_map (line_places m) (line_names m) ++ flat_map (key_places (applied m cs)) (map (λ d. d.0) cs))
+      by true u = by_uncertainty p u h
+      by false u = by_parameter p u h

@@ -81,6 +81,7 @@ key_of_date (key.Activity name year) t z e = ap (λ p. dated p.0 p.1) (same_date
 key_of_date (key.Factor name start) t z e = ap (λ p. dated p.0 p.1) (same_date (series.Factor name, start) (t, z) e)
 key_of_date (key.Line name) t z e = absurd (cc)
 key_of_date (key.Bind line parameter) t z e = absurd (cc)
+key_of_date (key.Uncert line) t z e = absurd (cc)
 
 dates_tie : (t s : Series) (z y : ℕ) → key_eq (dated t z) (dated s y) ≡ same_series t s && (z == y)
 dates_tie (series.Activity a) (series.Activity b) z y = refl

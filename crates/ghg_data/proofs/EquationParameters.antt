@@ -1,20 +1,22 @@
 -- The parameters of equations, as the code has them and as the table names them.
-use Rattle.std.proofs.Common.{◌≡◌, Bool, true, false, cond, not, ◌||◌, ◌&&◌, List, [], ◌∷◌, map, Option, Some, None, is_some, option_and_then, refl, ◌∙◌, sym, ap, subst}
+use Rattle.std.proofs.Common.{◌≡◌, Bool, true, false, cond, not, ◌||◌, ◌&&◌, List, [], ◌∷◌, map, Option, Some, None, is_some, option_and_then, if◌then◌else◌, refl, ◌∙◌, sym, ap, subst}
 use Rattle.std.specs.List.{AllByRecursion, find, list_all, list_any}
 use Rattle.std.specs.Option.{option_map, option_map_or}
 use Rattle.std.specs.Str.{bytes_eq}
+use Rattle.std.specs.Cmp.Lexicographic.{bytes_decides}
 use Rattle.ghg_equations.specs.declared.eq_id.EqId.{EqId}
 use Rattle.ghg_equations.specs.declared.eq_id.EqId.TheVariants.{Q10}
 use Rattle.ghg_equations.specs.declared.quantity.Dim.{Dim}
 use Rattle.ghg_equations.specs.declared.row.Equation.{Equation}
 use Rattle.ghg_equations.specs.declared.row.Param.{Param}
 use Rattle.ghg_equations.specs.Table.{Quantity, parameters, row, seen}
-use Rattle.ghg_units.specs.Parameter.{is_parameter}
+use Rattle.ghg_units.specs.Parameter.{is_parameter, uncertainty_word}
 use Rattle.ghg_units.specs.declared.row.Binding.{Binding}
 use Rattle.ghg_definitions.specs.declared.place.Place.{Place}
-use Rattle.ghg_definitions.specs.Data.{Data, Name, binding, line}
-use Rattle.ghg_definitions.specs.Rules.{binds_parameter, is_bound, is_sound}
-use Rattle.ghg_data.specs.Faults.{dim_of_place, is_fault, takes}
+use Rattle.ghg_definitions.specs.Data.{Data, Name, binding, line, uncertainty}
+use Rattle.ghg_definitions.specs.Rules.{binds_parameter, is_bound, is_sound, is_uncertainty}
+use Rattle.ghg_definitions.proofs.Alike.{first_so, met, second_so}
+use Rattle.ghg_data.specs.Faults.{dim_of_place, is_fault, is_parameter_place, takes}
 use Rattle.ghg_data.specs.Parameters.{quantity}
 
 pub parameters_seen : (e : Equation) (id : EqId) → seen e ≡ row id → map quantity e.params.now ≡ parameters id
@@ -65,17 +67,49 @@ module _ (m : Data) (p : Place) (b : Option Binding) where
   by_line None = named_alone (is_some b)
   by_line (Some e) = by_found e (find (λ q. bytes_eq q.name p.parameter) (parameters e)) (takes_found e p.parameter)
 
-pub fault_at : (m : Data) (p : Place) (d : Option Dim) → d ≡ dim_of_place m p
+pub fault_at : (m : Data) (p : Place) → is_uncertainty p ≡ false → (d : Option Dim) → d ≡ dim_of_place m p
     → is_fault m p ≡ option_map_or (λ k. not (is_bound m k (binding m p.line p.parameter))) d (is_some (binding m p.line p.parameter))
 unfolding is_sound
-fault_at m p d e =
+fault_at m p u d e =
     let b = binding m p.line p.parameter in
-    by_line m p b (line m p.line) ∙ ap (λ o. option_map_or (λ k. not (is_bound m k b)) o (is_some b)) (sym e)
+    (λ i. (if u i then is_some (uncertainty m p.line) else is_parameter_place m p) && not (option_map_or (λ e. u i || binds_parameter m e p.parameter b) (line m p.line) false))
+    ∙ by_line m p b (line m p.line) ∙ ap (λ o. option_map_or (λ k. not (is_bound m k b)) o (is_some b)) (sym e)
+
+-- the place of an uncertainty record is a fault where the line has one and is absent
+pub uncertain_at : (m : Data) (p : Place) → is_uncertainty p ≡ true → is_fault m p ≡ is_some (uncertainty m p.line) && not (is_some (line m p.line))
+unfolding is_sound
+uncertain_at m p u =
+    (λ i. (if u i then is_some (uncertainty m p.line) else is_parameter_place m p) && not (option_map_or (λ e. u i || binds_parameter m e p.parameter (binding m p.line p.parameter)) (line m p.line) false))
+    ∙ ap (λ b. is_some (uncertainty m p.line) && not b) (present (line m p.line))
+  where
+    present : (o : Option EqId) → option_map_or (λ e. true) o false ≡ is_some o
+    present None = refl
+    present (Some e) = refl
 
 -- each parameter's name is one, by computation, each code in a case of its own
 named_parameters : (id : EqId) → list_all (λ q. is_parameter q.name) (parameters id) ≡ true
 named_parameters Q10 = refl
 named_parameters _ = refl
+
+-- the word of uncertainty records is no parameter's name
+pub parameter_apart : (n : Name) → is_parameter n ≡ true → bytes_eq n uncertainty_word ≡ false
+parameter_apart n h = by (bytes_eq n uncertainty_word) refl
+  where
+    by : (b : Bool) → bytes_eq n uncertainty_word ≡ b → b ≡ false
+    by true e = absurd (met (is_parameter n) (ap is_parameter ((bytes_decides n uncertainty_word).0 e)) h)
+    by false e = refl
+
+named_by : (n : Name) (qs : List Quantity) → list_all (λ q. is_parameter q.name) qs ≡ true → list_any (λ q. bytes_eq q.name n) qs ≡ true → is_parameter n ≡ true
+named_by n [] all any = absurd (cc)
+named_by n (q ∷ qs) all any = by (bytes_eq q.name n) refl any (named_by n qs (second_so (is_parameter q.name) _ all))
+  where
+    by : (b : Bool) → bytes_eq q.name n ≡ b → b || list_any (λ x. bytes_eq x.name n) qs ≡ true → (list_any (λ x. bytes_eq x.name n) qs ≡ true → is_parameter n ≡ true) → is_parameter n ≡ true
+    by true is any rest = ap is_parameter (sym ((bytes_decides q.name n).0 is)) ∙ first_so (is_parameter q.name) _ all
+    by false is any rest = rest any
+
+-- so no equation takes it
+pub takes_apart : (id : EqId) (n : Name) → takes id n ≡ true → bytes_eq n uncertainty_word ≡ false
+takes_apart id n h = parameter_apart n (named_by n (parameters id) (named_parameters id) h)
 
 each_passes : {X : Type 0} (p : X → Bool) (xs : List X) → list_all p xs ≡ true → AllByRecursion (λ x. p x ≡ true) xs
 each_passes p [] e = tt

@@ -16,13 +16,15 @@ use Rattle.ghg_definitions.specs.declared.record.Record.{Record}
 use Rattle.ghg_definitions.specs.declared.record.Record.TheVariants as entry
 use Rattle.ghg_definitions.specs.declared.record.RecordKey.{RecordKey}
 use Rattle.ghg_definitions.specs.declared.record.RecordKey.TheVariants as key
-use Rattle.ghg_definitions.specs.Data.{Data, Name, as_binding, as_line, binding, first_name, line}
-use Rattle.ghg_definitions.specs.Rules.{is_sound, least_place, lesser_place, place_cmp, places, places_in, unsound_place}
+use Rattle.ghg_definitions.specs.Data.{Data, Name, as_binding, as_line, as_uncertainty, binding, first_name, line, uncertainty}
+use Rattle.ghg_definitions.specs.Rules.{is_sound, is_uncertainty, least_place, lesser_place, place_cmp, places, places_in, unsound_place}
 use Rattle.ghg_definitions.specs.Sound.{IsConsistent, IsRecord}
 use Rattle.ghg_definitions.proofs.Alike.{both, first_so, met, second_so}
 use Rattle.ghg_definitions.proofs.Keys.{both_equal, equal_by, keys_same, keys_total, names_same}
 use Rattle.ghg_definitions.proofs.Members.{any_entry, entry_any}
-use Rattle.ghg_data.specs.Faults.{considered, is_fault, is_place, takes}
+use Rattle.ghg_units.specs.Parameter.{is_parameter, parameter_in, uncertainty_word}
+use Rattle.ghg_data.specs.Faults.{considered, is_fault, is_parameter_place, is_place, takes, uncertainty_place}
+use Rattle.ghg_data.proofs.EquationParameters.{parameter_apart, takes_apart}
 
 -- ---- lists
 
@@ -216,22 +218,61 @@ pub with_equation : (o : Option EqId) (n : Name) → option_map_or (λ e. takes 
 with_equation None n h = absurd (cc)
 with_equation (Some e) n h = (e, refl, h)
 
-place_listed : (m : Data) (p : Place) → is_place m p ≡ true → IsAmong p (places m)
+held_uncertainty : (o : Option Record) → is_some (as_uncertainty o) ≡ true → (r : Record) × (o ≡ Some r)
+held_uncertainty None e = absurd (cc)
+held_uncertainty (Some r) e = (r, refl)
+
+-- the place of an uncertainty record is its line's
+pub uncertain_place : (p : Place) → is_uncertainty p ≡ true → p ≡ uncertainty_place p.line
+uncertain_place p u = let word = (bytes_decides p.parameter uncertainty_word).0 u in λ i. record { line = p.line; parameter = word i }
+
+pub place_parameter : (m : Data) (p : Place) → is_uncertainty p ≡ false → is_place m p ≡ is_parameter_place m p
+place_parameter m p u = ap (λ b. if b then is_some (uncertainty m p.line) else is_parameter_place m p) u
+
+pub place_uncertain : (m : Data) (p : Place) → is_uncertainty p ≡ true → is_place m p ≡ is_some (uncertainty m p.line)
+place_uncertain m p u = ap (λ b. if b then is_some (uncertainty m p.line) else is_parameter_place m p) u
+
+listed_at : (m : Data) (p : Place) (k : RecordKey) (r : Record) → get m k ≡ Some r → IsAmong p (places_of m (k, r)) → IsAmong p (places m)
 unfolding places_of
-place_listed m p h = any_among p (places m) (any_flat (places_of m) (same p) (entries m) ∙ elim (either (is_some (binding m p.line p.parameter)) _ h) as (λ _. list_any (λ e. list_any (same p) (places_of m e)) (entries m) ≡ true) [
-  | inl bound ↦
-      let r = held_binding (get m (key.Bind p.line p.parameter)) bound in
-      entry_any keys_total keys_same (λ (e : RecordKey × Record). list_any (same p) (places_of m e)) m (key.Bind p.line p.parameter) r.0 r.1 (among_any p (p ∷ []) (inl refl))
+listed_at m p k r at h = any_among p (places m) (any_flat (places_of m) (same p) (entries m)
+    ∙ entry_any keys_total keys_same (λ (e : RecordKey × Record). list_any (same p) (places_of m e)) m k r at (among_any p (places_of m (k, r)) h))
+
+parameter_listed : (m : Data) (p : Place) → is_parameter_place m p ≡ true → IsAmong p (places m)
+unfolding places_of
+parameter_listed m p h = elim (either (is_some (binding m p.line p.parameter)) _ h) [
+  | inl bound ↦ let r = held_binding (get m (key.Bind p.line p.parameter)) bound in listed_at m p (key.Bind p.line p.parameter) r.0 r.1 (inl refl)
   | inr taken ↦
       let e = with_equation (line m p.line) p.parameter taken in
       let r = held_line (get m (key.Line p.line)) e.0 e.1 in
-      entry_any keys_total keys_same (λ (e : RecordKey × Record). list_any (same p) (places_of m e)) m (key.Line p.line) r.0 r.1
-      (among_any p _ (subst (λ o. IsAmong p (places_in (key.Line p.line) o)) (sym e.1) (takes_among p.line p.parameter (parameters e.0) e.2)))
-])
+      listed_at m p (key.Line p.line) r.0 r.1
+      (subst (λ o. IsAmong p (places_in (key.Line p.line) o)) (sym e.1) (takes_among p.line p.parameter (parameters e.0) e.2))
+]
+
+place_listed : (m : Data) (p : Place) → is_place m p ≡ true → IsAmong p (places m)
+unfolding places_of
+place_listed m p h = by (is_uncertainty p) refl
+  where
+    by : (b : Bool) → is_uncertainty p ≡ b → IsAmong p (places m)
+    by true u =
+        let r = held_uncertainty (get m (key.Uncert p.line)) (sym (place_uncertain m p u) ∙ h) in
+        listed_at m p (key.Uncert p.line) r.0 r.1 (inl (uncertain_place p u))
+    by false u = parameter_listed m p (sym (place_parameter m p u) ∙ h)
 
 bound_record : (l n : Name) (r : Record) → IsRecord (key.Bind l n) r → is_some (as_binding (Some r)) ≡ true
 bound_record l n (entry.Bind b) h = refl
 bound_record l n _ h = absurd h
+
+named : (n : Name) (b : Bool) → is_parameter n ≡ b → (if b then Some n else None) ≡ Some n → is_parameter n ≡ true
+named n true e h = e
+named n false e h = absurd (cc)
+
+bound_name : (l n : Name) (r : Record) → IsRecord (key.Bind l n) r → is_parameter n ≡ true
+bound_name l n (entry.Bind b) h = named n (is_parameter n) refl h.1
+bound_name l n _ h = absurd h
+
+uncertain_record : (l : Name) (r : Record) → IsRecord (key.Uncert l) r → is_some (as_uncertainty (Some r)) ≡ true
+uncertain_record l (entry.Uncert a f) h = refl
+uncertain_record l _ h = absurd h
 
 listed_by : {m : Data} → IsConsistent m → (p : Place) (k : RecordKey) (r : Record) → get m k ≡ Some r → (o : Option EqId) → line m (first_name k) ≡ o → IsAmong p (places_in k o) → is_place m p ≡ true
 listed_by {m} is p key.Span r at o e h = absurd h
@@ -240,10 +281,14 @@ listed_by {m} is p (key.Factor name start) r at o e h = absurd h
 listed_by {m} is p (key.Line name) r at None e h = absurd h
 listed_by {m} is p (key.Line name) r at (Some q) e h =
     let taken = among_takes p name (parameters q) h in
-    or_right (is_some (binding m p.line p.parameter)) _ (ap (λ o. option_map_or (λ e. takes e p.parameter) o false) (ap (line m) taken.0 ∙ e) ∙ taken.1)
+    place_parameter m p (takes_apart q p.parameter taken.1) ∙ or_right (is_some (binding m p.line p.parameter)) _ (ap (λ o. option_map_or (λ e. takes e p.parameter) o false) (ap (line m) taken.0 ∙ e) ∙ taken.1)
 listed_by {m} is p (key.Bind l n) r at o e (inl one) =
-    or_left _ _ (ap (λ x. is_some (binding m x.line x.parameter)) one ∙ ap (λ o. is_some (as_binding o)) at ∙ bound_record l n r (is.records (key.Bind l n) r at))
+    place_parameter m p (ap (λ (x : Place). is_uncertainty x) one ∙ parameter_apart n (bound_name l n r (is.records (key.Bind l n) r at)))
+    ∙ or_left _ _ (ap (λ x. is_some (binding m x.line x.parameter)) one ∙ ap (λ o. is_some (as_binding o)) at ∙ bound_record l n r (is.records (key.Bind l n) r at))
 listed_by {m} is p (key.Bind l n) r at o e (inr h) = absurd h
+listed_by {m} is p (key.Uncert l) r at o e (inl one) =
+    ap (is_place m) one ∙ ap (λ o. is_some (as_uncertainty o)) at ∙ uncertain_record l r (is.records (key.Uncert l) r at)
+listed_by {m} is p (key.Uncert l) r at o e (inr h) = absurd h
 
 listed_place : {m : Data} → IsConsistent m → (p : Place) → IsAmong p (places m) → is_place m p ≡ true
 unfolding places_of

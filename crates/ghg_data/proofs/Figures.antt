@@ -45,6 +45,7 @@ activities_are m name = same_filter_map _ _ (λ (e : Entry). by e.0 e.1) (entrie
     by (key.Factor other start) r = refl
     by (key.Line other) r = refl
     by (key.Bind l p) r = refl
+    by (key.Uncert l) r = refl
 
 factors_are : (m : Data) (name : Name) → factors m name ≡ figures m (key.Factor name 0)
 factors_are m name = same_filter_map _ _ (λ (e : Entry). by e.0 e.1) (entries m)
@@ -55,6 +56,7 @@ factors_are m name = same_filter_map _ _ (λ (e : Entry). by e.0 e.1) (entries m
     by (key.Factor other start) r = refl
     by (key.Line other) r = refl
     by (key.Bind l p) r = refl
+    by (key.Uncert l) r = refl
 
 is_filled : List Figure → Bool
 is_filled [] = false

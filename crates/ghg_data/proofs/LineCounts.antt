@@ -87,6 +87,7 @@ named_line l (k ∷ ks) h = by k h (named_line l ks)
     by (key.Line name) (inl e) rest = inl (ap key.Line e)
     by (key.Line name) (inr i) rest = inr (rest i)
     by (key.Bind name parameter) h rest = inr (rest h)
+    by (key.Uncert name) h rest = inr (rest h)
 
 module _ (m : Data) (l : Name) where
   pub present_named : is_some (get m (key.Line l)) ≡ true → IsAmong l (line_names m)
@@ -125,6 +126,7 @@ form_counted m (forms.Activity name year g) n act e f = refl
 form_counted m (forms.Factor name year g) n act e f = refl
 form_counted m (forms.Line name q) n act e f = line_counted m name (record_of (forms.Line name q)) n act (is_some (get m (key.Line name))) refl e f
 form_counted m (forms.Bind line parameter b) n act e f = refl
+form_counted m (forms.Uncert line u) n act e f = refl
 
 pub lines_counted : (m : Data) (row : Row) → IsWellFormed row → row_fault m row ≡ None → length (line_names (after_row m row)) ≡ line_count_after row (length (line_names m))
 lines_counted m row well e =

@@ -1,5 +1,5 @@
 -- What a change of a record does to the names of the lines.
-use Rattle.std.proofs.Common.{◌≡◌, ℕ, zero, suc, drop, slice_get, Bool, true, false, cond, not, ◌&&◌, List, [], ◌∷◌, map, Option, Some, None, refl, sym, ap, ◌∙◌, subst, Ordering, Less, Equal, Greater, is_eq, is_some, T}
+use Rattle.std.proofs.Common.{◌≡◌, ℕ, zero, suc, ◌<◌, arith, drop, slice_get, Bool, true, false, cond, not, ◌&&◌, List, [], ◌∷◌, map, Option, Some, None, refl, sym, ap, ◌∙◌, subst, Ordering, Less, Equal, Greater, is_eq, is_some, T}
 use Rattle.std.specs.Ordering.{eq_by_cmp, is_lt, ordering_then}
 use Rattle.std.specs.List.{cons_option, filter_map}
 use Rattle.std.specs.FinMap.{entries, entries-insert, entries_sorted, insert, is_sorted, put, remove}
@@ -7,7 +7,7 @@ use Rattle.std.specs.FinMap.Entries.{below_all, by_order, where_key}
 use Rattle.ghg_definitions.specs.declared.record.Record.{Record}
 use Rattle.ghg_definitions.specs.declared.record.RecordKey.{RecordKey}
 use Rattle.ghg_definitions.specs.declared.record.RecordKey.TheVariants as key
-use Rattle.ghg_definitions.specs.Data.{Data, Name, key_cmp, line_name, line_names, name_cmp}
+use Rattle.ghg_definitions.specs.Data.{Data, Name, key_cmp, kind, line_name, line_names, name_cmp}
 use Rattle.ghg_definitions.specs.Rows.{with_record}
 use Rattle.ghg_definitions.proofs.Keys.{equal_by, keys_same, keys_total}
 use Rattle.ghg_definitions.proofs.Members.{entries-remove}
@@ -29,17 +29,26 @@ second false b p = absurd p
 
 -- ---- a record that is put
 
--- no line stands behind a binding
-none_after : (l p : Name) (es : Entries) → T (below_all key_cmp (key.Bind l p) es) → names es ≡ []
-none_after l p [] h = refl
-none_after l p (e ∷ es) h = by e.0 (first _ _ h) (none_after l p es (second _ _ h))
+before_line : (q : RecordKey) (name : Name) → 3 < kind q → T (is_lt (key_cmp q (key.Line name))) → ⊥
+before_line key.Span name later h = omega arith
+before_line (key.Activity other year) name later h = omega arith
+before_line (key.Factor other start) name later h = omega arith
+before_line (key.Line other) name later h = omega arith
+before_line (key.Bind l p) name later h = h
+before_line (key.Uncert l) name later h = h
+
+-- no line stands behind a binding or an uncertainty record
+none_after : (q : RecordKey) → 3 < kind q → (es : Entries) → T (below_all key_cmp q es) → names es ≡ []
+none_after q later [] h = refl
+none_after q later (e ∷ es) h = by e.0 (first _ _ h) (none_after q later es (second _ _ h))
   where
-    by : (k : RecordKey) → T (is_lt (key_cmp (key.Bind l p) k)) → names es ≡ [] → cons_option (line_name k) (names es) ≡ []
+    by : (k : RecordKey) → T (is_lt (key_cmp q k)) → names es ≡ [] → cons_option (line_name k) (names es) ≡ []
     by key.Span h rest = rest
     by (key.Activity name year) h rest = rest
     by (key.Factor name start) h rest = rest
-    by (key.Line name) h rest = absurd h
+    by (key.Line name) h rest = absurd (before_line q name later h)
     by (key.Bind name parameter) h rest = rest
+    by (key.Uncert name) h rest = rest
 
 put_line : (n : Name) (r : Record) (es : Entries) → T (is_sorted key_cmp es) → names (put key_cmp (key.Line n) r es) ≡ with_name n (names es)
 put_line n r [] h = refl
@@ -51,13 +60,17 @@ put_line n r (e ∷ es) h = by e.0 refl (first _ _ h) (put_line n r es (second _
     line x Equal rest = refl
     line x Greater rest = ap (λ xs. x ∷ xs) rest
 
+    alone : names es ≡ [] → n ∷ names es ≡ with_name n (names es)
+    alone none = ap (λ xs. n ∷ xs) none ∙ sym (ap (with_name n) none)
+
     by : (k : RecordKey) → k ≡ e.0 → T (below_all key_cmp e.0 es) → names (put key_cmp (key.Line n) r es) ≡ with_name n (names es)
         → names (by_order (key_cmp (key.Line n) k) ((key.Line n, r) ∷ (k, e.1) ∷ es) ((k, r) ∷ es) ((k, e.1) ∷ put key_cmp (key.Line n) r es)) ≡ with_name n (cons_option (line_name k) (names es))
     by key.Span is h rest = rest
     by (key.Activity name year) is h rest = rest
     by (key.Factor name start) is h rest = rest
     by (key.Line x) is h rest = line x (name_cmp n x) rest
-    by (key.Bind l p) is h rest = let none = none_after l p es (subst (λ k. T (below_all key_cmp k es)) (sym is) h) in ap (λ xs. n ∷ xs) none ∙ sym (ap (with_name n) none)
+    by (key.Bind l p) is h rest = alone (none_after (key.Bind l p) (omega arith) es (subst (λ k. T (below_all key_cmp k es)) (sym is) h))
+    by (key.Uncert l) is h rest = alone (none_after (key.Uncert l) (omega arith) es (subst (λ k. T (below_all key_cmp k es)) (sym is) h))
 
 put_other : (k : RecordKey) (r : Record) (es : Entries) → line_name k ≡ None → names (put key_cmp k r es) ≡ names es
 put_other k r [] e = ap (λ o. cons_option o []) e
@@ -88,6 +101,7 @@ taken n (e ∷ es) = by e.0 (taken n es)
     by (key.Factor name start) rest = rest
     by (key.Line x) rest = line x (name_cmp n x) rest
     by (key.Bind l p) rest = rest
+    by (key.Uncert l) rest = rest
 
 taken_other : (k : RecordKey) (es : Entries) → line_name k ≡ None → names (where_key key_cmp (λ x. not (eq_by_cmp key_cmp k x)) es) ≡ names es
 taken_other k [] e = refl
@@ -119,6 +133,8 @@ line_names-with_record m (key.Factor n y) (Some r) = put_names m (key.Factor n y
 line_names-with_record m (key.Factor n y) None = taken_names m (key.Factor n y) _ (taken_other (key.Factor n y) (entries m) refl)
 line_names-with_record m (key.Bind l p) (Some r) = put_names m (key.Bind l p) r _ (put_other (key.Bind l p) r (entries m) refl)
 line_names-with_record m (key.Bind l p) None = taken_names m (key.Bind l p) _ (taken_other (key.Bind l p) (entries m) refl)
+line_names-with_record m (key.Uncert l) (Some r) = put_names m (key.Uncert l) r _ (put_other (key.Uncert l) r (entries m) refl)
+line_names-with_record m (key.Uncert l) None = taken_names m (key.Uncert l) _ (taken_other (key.Uncert l) (entries m) refl)
 
 -- ---- a change by its number
 

@@ -44,6 +44,7 @@ of_series {m} is k q f e o = by k q (figure_dated is q f e).0 (alike_parts k q (
     by k key.Span h parts = no_year h
     by k (key.Line name) h parts = no_year h
     by k (key.Bind line parameter) h parts = no_year h
+    by k (key.Uncert line) h parts = no_year h
     by (key.Activity a y) (key.Activity b z) h parts = (series.Activity a, refl, ap (λ n. key.Activity n z) (sym parts.1), h)
     by (key.Factor a y) (key.Factor b z) h parts = (series.Factor a, refl, ap (λ n. key.Factor n z) (sym parts.1), h)
     by _ _ h parts = absurd (omega arith)

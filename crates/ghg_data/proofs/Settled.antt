@@ -20,19 +20,19 @@ use Rattle.ghg_definitions.specs.declared.record.Record.{Record}
 use Rattle.ghg_definitions.specs.declared.record.Record.TheVariants as entry
 use Rattle.ghg_definitions.specs.declared.record.RecordKey.{RecordKey}
 use Rattle.ghg_definitions.specs.declared.record.RecordKey.TheVariants as key
-use Rattle.ghg_definitions.specs.Data.{Data, Name, as_binding, as_figure, as_line, binding, key_cmp, line, line_names}
-use Rattle.ghg_definitions.specs.Rules.{binds_parameter, dim_of_output, gives_decay, gives_dimension, has_dimension, is_bound, is_line_of, is_sound, places_in, unsound_place}
+use Rattle.ghg_definitions.specs.Data.{Data, Name, as_binding, as_figure, as_line, as_uncertainty, binding, key_cmp, line, line_names}
+use Rattle.ghg_definitions.specs.Rules.{binds_parameter, dim_of_output, gives_decay, gives_dimension, has_dimension, is_bound, is_line_of, is_sound, is_uncertainty, unsound_place}
 use Rattle.ghg_definitions.specs.Sound.{IsConsistent, IsWorkbook}
 use Rattle.ghg_definitions.proofs.Alike.{both, first_so, met, second_so}
 use Rattle.ghg_definitions.proofs.Consistent.{workbook_consistent}
 use Rattle.ghg_definitions.proofs.Dims.{dim_same}
 use Rattle.ghg_definitions.proofs.Keys.{equal_by, keys_same}
 use Rattle.ghg_data.specs.Changes.{Change, applied}
-use Rattle.ghg_data.specs.Faults.{considered, is_fault, is_place, key_places, line_places, takes}
+use Rattle.ghg_data.specs.Faults.{considered, is_fault, is_parameter_place, is_place, key_places, line_places, places_about, takes}
 use Rattle.ghg_data.specs.Settling.{keeps_dimension, unsettled_places, unsettles, unsettles_record}
 use Rattle.ghg_data.proofs.Applied.{get-applied, over}
-use Rattle.ghg_data.proofs.Covered.{changed_or_kept, covered, sound_before, sound_takes}
-use Rattle.ghg_data.proofs.Faults.{IsAmong, among_flat, either, or_left, takes_among, unsound_found, with_equation}
+use Rattle.ghg_data.proofs.Covered.{changed_or_kept, covered, left_behind, never_both, sound_before, sound_line, sound_takes}
+use Rattle.ghg_data.proofs.Faults.{IsAmong, among_flat, either, or_left, place_parameter, place_uncertain, takes_among, uncertain_place, unsound_found, with_equation}
 use Rattle.ghg_data.proofs.Figures.{AreKept, activities_kept, factors_kept}
 use Rattle.ghg_data.proofs.Lines.{drop_at}
 
@@ -70,6 +70,7 @@ module _ (m : Data) (cs : List Change) (settled : unsettles m cs ≡ false) wher
   line_settled (Some (entry.Factor f)) r e h u = absurd (cc)
   line_settled (Some (entry.Line c q)) r e h u = absurd (cc)
   line_settled (Some (entry.Bind b)) r e h u = absurd (cc)
+  line_settled (Some (entry.Uncert a f)) r e h u = absurd (cc)
 
   -- a line that was there has its equation
   pub line_kept : (l : Name) (e : EqId) → line m l ≡ Some e → get (applied m cs) (key.Line l) ≡ get m (key.Line l)
@@ -93,6 +94,7 @@ module _ (m : Data) (cs : List Change) (settled : unsettles m cs ≡ false) wher
   figure_settled (Some (entry.Factor f)) r g e u = like g (as_figure r) (ap (λ (x : Figure). not (keeps_dimension x r)) (sym (same_figure f g e)) ∙ u)
   figure_settled (Some (entry.Line c q)) r g e u = absurd (cc)
   figure_settled (Some (entry.Bind b)) r g e u = absurd (cc)
+  figure_settled (Some (entry.Uncert a f)) r g e u = absurd (cc)
 
   figures_stand : AreKept m (applied m cs)
   figures_stand q g e = elim (kept_or_settled q) [
@@ -113,6 +115,10 @@ unsettled_at m cs i c at = ap (unsettles m) (drop_at cs i c at) ∙ ap (λ j. un
 so_too : {A : Type 0} (f g : A → Bool) → ((x : A) → f x ≡ true → g x ≡ true) → (o : Option A) → option_map_or f o false ≡ true → option_map_or g o false ≡ true
 so_too f g h None e = e
 so_too f g h (Some x) e = h x e
+
+or_too : (a b c : Bool) → (b ≡ true → c ≡ true) → a || b ≡ true → a || c ≡ true
+or_too true b c h e = refl
+or_too false b c h e = h e
 
 all_too : {A : Type 0} (f g : A → Bool) → ((x : A) → f x ≡ true → g x ≡ true) → (xs : List A) → list_all f xs ≡ true → list_all g xs ≡ true
 all_too f g h [] e = refl
@@ -156,23 +162,36 @@ module _ (m : Data) (w : IsWorkbook m) (cs : List Change) (settled : unsettles m
   sound_too : (p : Place) → get (applied m cs) (key.Line p.line) ≡ get m (key.Line p.line) → get (applied m cs) (key.Bind p.line p.parameter) ≡ get m (key.Bind p.line p.parameter) → is_sound m p ≡ true → is_sound (applied m cs) p ≡ true
   unfolding is_sound
   sound_too p l b h =
-      (λ i. option_map_or (λ e. binds_parameter (applied m cs) e p.parameter (as_binding (b i))) (as_line (l i)) false)
-      ∙ so_too (λ e. binds_parameter m e p.parameter (binding m p.line p.parameter)) _
-      (λ e. so_too (λ (q : Quantity). is_bound m q.dim (binding m p.line p.parameter)) _ (λ q. bound_too q.dim (binding m p.line p.parameter)) (find (λ q. bytes_eq q.name p.parameter) (parameters e))) (line m p.line) h
+      (λ i. option_map_or (λ e. is_uncertainty p || binds_parameter (applied m cs) e p.parameter (as_binding (b i))) (as_line (l i)) false)
+      ∙ so_too (λ e. is_uncertainty p || binds_parameter m e p.parameter (binding m p.line p.parameter)) _
+      (λ e. or_too (is_uncertainty p) _ _ (so_too (λ (q : Quantity). is_bound m q.dim (binding m p.line p.parameter)) _ (λ q. bound_too q.dim (binding m p.line p.parameter)) (find (λ q. bytes_eq q.name p.parameter) (parameters e)))) (line m p.line) h
 
   among_key : (p : Place) (k : RecordKey) → IsAmong k (map (λ d. d.0) cs) → IsAmong p (key_places (applied m cs) k) → IsAmong p (flat_map (key_places (applied m cs)) (map (λ d. d.0) cs))
   among_key p k i h = among_flat (key_places (applied m cs)) k p (map (λ d. d.0) cs) i h
 
   -- each fault stands under a changed key
-  by_keys : (p : Place) → is_fault (applied m cs) p ≡ true → IsAmong p (flat_map (key_places (applied m cs)) (map (λ d. d.0) cs))
-  by_keys p h = elim (changed_or_kept m cs (key.Bind p.line p.parameter)) [
+  by_uncertainty : (p : Place) → is_uncertainty p ≡ true → is_fault (applied m cs) p ≡ true → IsAmong p (flat_map (key_places (applied m cs)) (map (λ d. d.0) cs))
+  by_uncertainty p u h =
+      let parts = left_behind (applied m cs) p u h in
+      elim (changed_or_kept m cs (key.Uncert p.line)) [
+        | inl changed ↦ among_key p (key.Uncert p.line) changed (inl (uncertain_place p u))
+        | inr kept ↦
+            let e = sound_line m p (sound_before w p (place_uncertain m p u ∙ ap (λ o. is_some (as_uncertainty o)) (sym kept) ∙ parts.0)) in
+            absurd (never_both _ e.0 (ap as_line (line_kept m cs settled p.line e.0 e.1) ∙ e.1) parts.1)
+      ]
+
+  by_parameter : (p : Place) → is_uncertainty p ≡ false → is_fault (applied m cs) p ≡ true → IsAmong p (flat_map (key_places (applied m cs)) (map (λ d. d.0) cs))
+  by_parameter p u h = elim (changed_or_kept m cs (key.Bind p.line p.parameter)) [
     | inl changed ↦ among_key p (key.Bind p.line p.parameter) changed (inl refl)
-    | inr kept ↦ unbound kept (changed_or_kept m cs (key.Line p.line)) (either (is_some (binding (applied m cs) p.line p.parameter)) _ (first_so (is_place (applied m cs) p) _ h))
+    | inr kept ↦ unbound kept (changed_or_kept m cs (key.Line p.line)) (either (is_some (binding (applied m cs) p.line p.parameter)) _ now_placed)
   ]
     where
+      now_placed : is_parameter_place (applied m cs) p ≡ true
+      now_placed = sym (place_parameter (applied m cs) p u) ∙ first_so (is_place (applied m cs) p) _ h
+
       still : get (applied m cs) (key.Bind p.line p.parameter) ≡ get m (key.Bind p.line p.parameter) → get (applied m cs) (key.Line p.line) ≡ get m (key.Line p.line) → ⊥
       still b l =
-          let placed : is_place m p ≡ true = (λ i. is_some (as_binding (sym b i)) || option_map_or (λ e. takes e p.parameter) (as_line (sym l i)) false) ∙ first_so (is_place (applied m cs) p) _ h in
+          let placed : is_place m p ≡ true = place_parameter m p u ∙ (λ i. is_some (as_binding (sym b i)) || option_map_or (λ e. takes e p.parameter) (as_line (sym l i)) false) ∙ now_placed in
           met _ (not_so _ (second_so (is_place (applied m cs) p) _ h)) (sound_too p l b (sound_before w p placed))
         where
           not_so : (b : Bool) → not b ≡ true → b ≡ false
@@ -183,11 +202,18 @@ module _ (m : Data) (w : IsWorkbook m) (cs : List Change) (settled : unsettles m
           → (is_some (binding (applied m cs) p.line p.parameter) ≡ true) ⊎ (option_map_or (λ e. takes e p.parameter) (line (applied m cs) p.line) false ≡ true) → IsAmong p (flat_map (key_places (applied m cs)) (map (λ d. d.0) cs))
       unbound b (inr l) r = absurd (still b l)
       unbound b (inl changed) (inl named) =
-          let taken = sound_takes m p (sound_before w p (or_left _ _ (ap (λ o. is_some (as_binding o)) (sym b) ∙ named))) in
+          let taken = sound_takes m p u (sound_before w p (place_parameter m p u ∙ or_left _ _ (ap (λ o. is_some (as_binding o)) (sym b) ∙ named))) in
           absurd (still b (line_kept m cs settled p.line taken.0 taken.1))
       unbound b (inl changed) (inr taken) =
           let e = with_equation (line (applied m cs) p.line) p.parameter taken in
-          among_key p (key.Line p.line) changed (subst (λ o. IsAmong p (places_in (key.Line p.line) o)) (sym e.1) (takes_among p.line p.parameter (parameters e.0) e.2))
+          among_key p (key.Line p.line) changed (subst (λ o. IsAmong p (places_about (key.Line p.line) o)) (sym e.1) (takes_among p.line p.parameter (parameters e.0) e.2))
+
+  by_keys : (p : Place) → is_fault (applied m cs) p ≡ true → IsAmong p (flat_map (key_places (applied m cs)) (map (λ d. d.0) cs))
+  by_keys p h = by (is_uncertainty p) refl
+    where
+      by : (b : Bool) → is_uncertainty p ≡ b → IsAmong p (flat_map (key_places (applied m cs)) (map (λ d. d.0) cs))
+      by true u = by_uncertainty p u h
+      by false u = by_parameter p u h
 
 -- ---- what is looked at
 

@@ -9,3 +9,4 @@ pub mod Settling
 pub mod YearSet
 pub mod Series
 pub mod Calendar
+pub mod Brackets

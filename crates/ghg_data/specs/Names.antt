@@ -30,3 +30,4 @@ names_after (key.Factor name start) present xs = xs
 names_after (key.Line name) true xs = with_name name xs
 names_after (key.Line name) false xs = without_name name xs
 names_after (key.Bind line parameter) present xs = xs
+names_after (key.Uncert line) present xs = xs

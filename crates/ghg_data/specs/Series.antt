@@ -26,6 +26,7 @@ date_of (key.Activity name year) = Some (series.Activity name, year)
 date_of (key.Factor name start) = Some (series.Factor name, start)
 date_of (key.Line name) = None
 date_of (key.Bind line parameter) = None
+date_of (key.Uncert line) = None
 
 -- each of the series has a year
 abbrev pub EachHasAYear : List (Series × YearSet) → Type 0

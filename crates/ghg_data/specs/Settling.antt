@@ -25,6 +25,7 @@ unsettles_record (Some (entry.Activity f)) c = not (keeps_dimension f c)
 unsettles_record (Some (entry.Factor f)) c = not (keeps_dimension f c)
 unsettles_record (Some (entry.Line category e)) c = true
 unsettles_record (Some (entry.Bind b)) c = false
+unsettles_record (Some (entry.Uncert activity factor)) c = false
 
 -- some change does so to what its key had
 abbrev pub unsettles : Data → List Change → Bool

@@ -7,10 +7,10 @@ ghost use Rattle.std.specs.Str.{bytes_eq};
 ghost use Rattle.ghg_equations.specs.Table.{parameters};
 ghost use Rattle.ghg_units.specs.Parameter.{is_parameter};
 ghost use Rattle.ghg_definitions.specs.Data.{first_name, line, line_names};
-ghost use Rattle.ghg_definitions.specs.Rules.{activities, are_of, dim_of_output, factors, gives_decay, gives_dimension, is_bound, is_line_of, lesser_place, places_in, unsound_place};
+ghost use Rattle.ghg_definitions.specs.Rules.{activities, are_of, dim_of_output, factors, gives_decay, gives_dimension, is_bound, is_line_of, is_uncertainty, lesser_place, places_in, unsound_place};
 ghost use Rattle.ghg_definitions.specs.Sound.{IsConsistent, IsWorkbook};
 ghost use Rattle.ghg_data.specs.Changes.{applied};
-ghost use Rattle.ghg_data.specs.Faults.{considered, dim_of_place, is_fault, key_places, line_places};
+ghost use Rattle.ghg_data.specs.Faults.{considered, dim_of_place, is_fault, key_places, line_places, uncertainty_place};
 ghost use Rattle.ghg_data.specs.Settling.{unsettled_places};
 
 use crate::draft::{Draft, equation_in};
@@ -128,11 +128,21 @@ fn dim_of_place(draft: &Draft<'_>, place: &Place) -> Option<Dim>
     dim_of_parameter(draft.line(&place.line)?, &place.parameter)
 }
 
+// The place is that of an uncertainty record.
+fn is_uncertainty(place: &Place) -> bool
+    ensures { result ≡ is_uncertainty place.now }
+{
+    place.parameter.as_bytes() == ParamName::uncertainty().as_bytes()
+}
+
 // The line takes the parameter, which is not bound to what it measures; or a binding names it, and no line
-// takes it.
+// takes it; or the line has an uncertainty record and is absent.
 fn is_fault(draft: &Draft<'_>, place: &Place) -> bool
     ensures { result ≡ is_fault draft.now place.now }
 {
+    if is_uncertainty(place) {
+        return draft.has_uncertainty(&place.line) && draft.line(&place.line).is_none();
+    }
     let binding = draft.binding(&place.line, &place.parameter);
     match dim_of_place(draft, place) {
         Some(dim) => !is_bound(draft, dim, binding),
@@ -183,16 +193,30 @@ fn consider_params(draft: &Draft<'_>, least: &mut Option<Place>, line: &Name, pa
     }
 }
 
-// Looks at the places that a key is about.
+// Looks at the place of a line's uncertainty record.
+fn consider_uncertainty(draft: &Draft<'_>, least: &mut Option<Place>, line: &Name)
+    ensures { least.new ≡ considered draft.now least.old (uncertainty_place line.now) }
+{
+    consider(
+        draft,
+        least,
+        &Place {
+            line: *line,
+            parameter: ParamName::uncertainty(),
+        },
+    );
+}
+
+// Looks at the places that a key is about. A line that is withdrawn may leave its uncertainty record behind.
 fn consider_key(draft: &Draft<'_>, least: &mut Option<Place>, key: &RecordKey)
     ensures { least.new ≡ fold (considered draft.now) least.old (key_places draft.now key.now) }
 {
     match key {
-        RecordKey::Line(name) => {
-            if let Some(id) = draft.line(name) {
-                consider_parameters(draft, least, name, id);
-            }
-        }
+        RecordKey::Line(name) => match draft.line(name) {
+            Some(id) => consider_parameters(draft, least, name, id),
+            None => consider_uncertainty(draft, least, name),
+        },
+        RecordKey::Uncert(line) => consider_uncertainty(draft, least, line),
         RecordKey::Bind(line, parameter) => consider(
             draft,
             least,

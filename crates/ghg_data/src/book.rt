@@ -19,6 +19,7 @@ use crate::refusal::PlanRefusal;
 use crate::series::Series;
 use crate::view::After;
 use ghg_definitions::{Record, RecordKey};
+use ghg_interval::Interval;
 use ghg_units::{Name, Row, Rule, Span};
 use std::alloc::{AllocError, Global};
 use std::marker::Model;
@@ -68,6 +69,10 @@ impl Records for Book {
         years.last_until(year)
     }
 
+    fn decay_bracket(&self, half_life: u32) -> Interval {
+        self.holdings.decay_bracket(half_life)
+    }
+
     fn lines(&self, alloc: Global) -> Result<Vec<Name>, AllocError> {
         Vec::from_slice(alloc, self.holdings.lines())
     }
@@ -90,7 +95,8 @@ impl Book {
     /// bodies have with this one. The first rule that is broken is answered: that of the first row that
     /// breaks one on units or presence, `rest`, the least unsound binding, and the first limit. Each key of
     /// the edits is that of some row, and there are no more edits than rows. The records stay with every
-    /// answer.
+    /// answer. With edits, the decay bracket of each half-life that the rows bring is computed, unless the
+    /// book has it already.
     pub fn plan(
         &mut self,
         alloc: Global,
@@ -109,6 +115,7 @@ impl Book {
     {
         let edits = planned_edits(alloc, &self.holdings, rows, rest, kept_bytes)?;
         self.holdings.reserve(edits.len())?;
+        self.holdings.note_half_lives(rows);
         Ok(edits)
     }
 

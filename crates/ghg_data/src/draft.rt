@@ -2,11 +2,13 @@
 
 ghost use Rattle.std.specs.Prelude.{◌≡◌, ℕ, true, ◌&&◌, None, is_some, option_copied, IfOk, IfSome, IfNone};
 ghost use Rattle.std.specs.FinMap as finite;
-ghost use Rattle.ghg_definitions.specs.Data.{as_line, as_span, binding, figure, line, line_names, span};
+ghost use Rattle.ghg_definitions.specs.Data.{as_line, as_span, binding, figure, line, line_names, span, uncertainty};
 ghost use Rattle.ghg_definitions.specs.Rules.{is_other_year};
 ghost use Rattle.ghg_definitions.specs.Sound.{IsConsistent};
 ghost use Rattle.ghg_data.specs.Series.{dated};
 ghost use Rattle.ghg_data.specs.Changes.{applied};
+ghost use Rattle.ghg_roots.specs.Decay.{decay_bounds};
+ghost use Rattle.ghg_units.specs.WellFormed.{IsHalfLife};
 ghost use Rattle.ghg_units.specs.Year.{is_year};
 ghost use Rattle.ghg_data.specs.YearSet.{has_year};
 
@@ -17,6 +19,7 @@ use crate::series::{Series, date_of};
 use crate::year_set::YearSet;
 use ghg_definitions::{Record, RecordKey};
 use ghg_equations::EqId;
+use ghg_interval::Interval;
 use ghg_units::{Binding, Figure, LATEST_YEAR, Name, ParamName, Span};
 use std::alloc::{AllocError, Global};
 use std::marker::Model;
@@ -87,6 +90,14 @@ impl<'a> Draft<'a> {
         lines_after(alloc, self.holdings, self.edits)
     }
 
+    /// The bracket of the yearly decay factor of a half-life.
+    pub(crate) fn decay_bracket(&self, half_life: u32) -> Interval
+        requires { IsHalfLife half_life }
+        ensures { result ≡ decay_bounds half_life }
+    {
+        self.holdings.decay_bracket(half_life)
+    }
+
     /// The equation of a line that is present.
     pub(crate) fn line(&self, name: &Name) -> Option<EqId>
         ensures { result ≡ line self.now name.now }
@@ -102,6 +113,16 @@ impl<'a> Draft<'a> {
             Some(Record::Bind(binding)) => Some(binding),
             _ => None,
         }
+    }
+
+    /// Whether a line has an uncertainty record.
+    pub(crate) fn has_uncertainty(&self, line: &Name) -> bool
+        ensures { result ≡ is_some (uncertainty self.now line.now) }
+    {
+        matches!(
+            self.get(&RecordKey::Uncert(*line)),
+            Some(Record::Uncert(_, _))
+        )
     }
 
     /// The years of the records of a series.

@@ -3,33 +3,39 @@
 ghost use Rattle.std.specs.Prelude.{◌≡◌, ℕ, ◌+◌, ◌^◌, ◌≤◌, ◌<◌, ◌&&◌, OnOk, is_some, option_copied, length};
 ghost use Rattle.std.specs.FinMap as finite;
 ghost use Rattle.std.specs.FinMap.{from_entries};
+ghost use Rattle.std.specs.List.{AllByRecursion};
 ghost use Rattle.indexmap.specs.IndexMap.{spare};
 ghost use Rattle.ghg_definitions.specs.Data.{key_cmp, line_names};
 ghost use Rattle.ghg_definitions.specs.Rows.{with_record};
 ghost use Rattle.ghg_data.specs.Calendar.{IsCalendarOf};
 ghost use Rattle.ghg_data.specs.Series.{dated};
 ghost use Rattle.ghg_data.specs.Changes.{applied};
+ghost use Rattle.ghg_roots.specs.Decay.{decay_bounds};
+ghost use Rattle.ghg_units.specs.WellFormed.{IsHalfLife, IsWellFormed};
 ghost use Rattle.ghg_units.specs.Year.{is_year};
 ghost use Rattle.ghg_data.specs.YearSet.{has_year};
 
+use crate::brackets::Brackets;
 use crate::calendar::Calendar;
 use crate::edits::Edits;
 use crate::names::change_names;
 use crate::series::Series;
 use crate::year_set::YearSet;
 use ghg_definitions::{Record, RecordKey};
-use ghg_units::Name;
+use ghg_interval::Interval;
+use ghg_units::{Name, Row};
 use indexmap::IndexMap;
 use std::alloc::{AllocError, Global};
 use std::marker::Model;
 
-/// Records by their keys with the names of the lines in order and the years of each activity and factor, and
-/// room for more.
+/// Records by their keys with the names of the lines in order, the years of each activity and factor and the
+/// brackets of half-lives, and room for more.
 #[derive(Drop)]
 pub(crate) struct Holdings {
     records: IndexMap<RecordKey, Record>,
     lines: Vec<Name>,
     calendar: Calendar,
+    brackets: Brackets,
 }
 
 impl Model for Holdings {
@@ -64,6 +70,7 @@ impl Holdings {
             records: IndexMap::new(alloc),
             lines: Vec::new(alloc),
             calendar: Calendar::new(alloc),
+            brackets: Brackets::new(),
         }
     }
 
@@ -95,6 +102,22 @@ impl Holdings {
             (finite.get self.now.content (dated series.now y)) }
     {
         self.calendar.years(series)
+    }
+
+    /// The bracket of the yearly decay factor of a half-life.
+    pub(crate) fn decay_bracket(&self, half_life: u32) -> Interval
+        requires { IsHalfLife half_life }
+        ensures { result ≡ decay_bounds half_life }
+    {
+        self.brackets.get(half_life)
+    }
+
+    /// Keeps the bracket of each half-life that the rows bring. It takes no memory.
+    pub(crate) fn note_half_lives(&mut self, rows: &[Row])
+        requires { AllByRecursion IsWellFormed rows.now }
+        ensures { self.new ≡ self.old }
+    {
+        self.brackets.note(rows);
     }
 
     /// Makes room for so many more changes.

@@ -3,6 +3,7 @@
 
 mod bindings;
 mod book;
+mod brackets;
 mod calendar;
 mod draft;
 mod edits;

@@ -1,10 +1,10 @@
-//! What activities and factors give in a year.
+//! What activities, factors and half-lives give in a year.
 
-ghost use Rattle.std.specs.Prelude.{◌≡◌, IfSome, option_copied};
+ghost use Rattle.std.specs.Prelude.{◌≡◌, IfSome, option_copied, pos};
 ghost use Rattle.ghg_definitions.specs.Data.{figure};
-ghost use Rattle.ghg_definitions.specs.Lookups.{activity_input, factor_input, input_of_amount, input_of_figure, input_of_key, zero_input};
+ghost use Rattle.ghg_definitions.specs.Lookups.{activity_input, decay_input, decay_of_figure, factor_input, input_of_amount, input_of_figure, input_of_key, zero_input};
 ghost use Rattle.ghg_definitions.specs.Sound.{IsWorkbook};
-ghost use Rattle.ghg_interval.specs.Bounds.{AreBounded};
+ghost use Rattle.ghg_interval.specs.Bounds.{AreBounded, point};
 ghost use Rattle.ghg_units.specs.Units.{converted};
 ghost use Rattle.ghg_units.specs.WellFormed.{IsAmountOf, IsFigure};
 
@@ -33,6 +33,17 @@ pub(crate) fn factor<R: Records>(records: &R, name: &Name, year: u32) -> Input
     }
 }
 
+/// The decay of the half-life in a factor's record with the greatest start year that is not after the year.
+pub(crate) fn decay<R: Records>(records: &R, name: &Name, year: u32) -> Input
+    ensures input { result ≡ decay_input (R.content records.now) name.now year }
+    ensures workbook { IsWorkbook (R.content records.now) }
+{
+    match records.start_year(name, year) {
+        Some(start) => decay_of(records, figure(records, &RecordKey::Factor(*name, start))),
+        None => Input::Blank,
+    }
+}
+
 // The figure of an activity's or a factor's record.
 fn figure<'a, R: Records>(records: &'a R, key: &RecordKey) -> Option<&'a Figure>
     ensures figure { option_copied result ≡ figure (R.content records.now) key.now }
@@ -57,6 +68,27 @@ fn input(figure: Option<&Figure>) -> Input
     match figure.amount {
         Amount::Key(key) => input_of_key(key),
         Amount::Known { value, low, high } => known(figure.unit, value, low, high),
+        Amount::HalfLife(years) => whole(years),
+    }
+}
+
+// The bracket of a half-life's yearly decay factor; blank where there is no half-life.
+fn decay_of<R: Records>(records: &R, figure: Option<&Figure>) -> Input
+    requires { IfSome figure (λ f. IsFigure f.now) }
+    ensures { result ≡ decay_of_figure (option_copied figure.entry) }
+{
+    let Some(figure) = figure else {
+        return Input::Blank;
+    };
+    match figure.amount {
+        Amount::HalfLife(years) => {
+            let bracket = records.decay_bracket(years);
+            Input::Known {
+                point: bracket,
+                range: bracket,
+            }
+        }
+        _ => Input::Blank,
     }
 }
 
@@ -91,7 +123,15 @@ pub fn input_of_key(key: NotationKey) -> Input
 fn zero() -> Input
     ensures { result ≡ zero_input }
 {
-    let point = Interval::whole(0).unwrap();
+    whole(0)
+}
+
+// A whole number of base units, the same at each choice.
+fn whole(number: u32) -> Input
+    requires { AreBounded (point (pos number)) }
+    ensures { result ≡ Input.Known (point (pos number)) (point (pos number)) }
+{
+    let point = Interval::whole(i128::from(number)).unwrap();
     Input::Known {
         point,
         range: point,

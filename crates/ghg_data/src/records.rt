@@ -8,8 +8,10 @@ ghost use Rattle.ghg_units.specs.Parameter.{is_parameter};
 ghost use Rattle.ghg_definitions.specs.declared.record.RecordKey.TheVariants as key;
 ghost use Rattle.ghg_definitions.specs.Choices.{HoldsSource};
 ghost use Rattle.ghg_definitions.specs.Data.{Data, binding, category, line, line_names, name_cmp, span};
-ghost use Rattle.ghg_definitions.specs.Lookups.{activity, activity_input, factor, factor_input, factor_key};
+ghost use Rattle.ghg_definitions.specs.Lookups.{activity, activity_input, decay, decay_input, factor, factor_input, factor_key};
 ghost use Rattle.ghg_definitions.specs.Sound.{IsWorkbook};
+ghost use Rattle.ghg_roots.specs.Decay.{decay_bounds};
+ghost use Rattle.ghg_units.specs.WellFormed.{IsHalfLife};
 
 use crate::lookups;
 use crate::parameters::name_of;
@@ -17,6 +19,7 @@ use ghg_categories::Category;
 use ghg_cell::Input;
 use ghg_definitions::{Record, RecordKey};
 use ghg_equations::{EqId, Param};
+use ghg_interval::Interval;
 use ghg_units::{Binding, Name, ParamName, Span};
 use std::alloc::{AllocError, Global};
 
@@ -46,6 +49,12 @@ pub trait Records {
         ensures start { option_map (λ start. key.Factor name.now start) result ≡ factor_key
             (content self.now) name.now year }
         ensures workbook { IsWorkbook (content self.now) };
+
+    /// The bracket of the yearly decay factor of a half-life in whole years. It costs a look-up: the bracket
+    /// of a half-life that some record has was computed when a row first brought it.
+    fn decay_bracket(&self, half_life: u32) -> Interval
+        requires { IsHalfLife half_life }
+        ensures { result ≡ decay_bounds half_life };
 
     /// The category at which a line stands, and its equation; `None` exactly where the line is not present.
     final fn line(&self, name: &Name) -> Option<(Category, EqId)>
@@ -94,5 +103,15 @@ pub trait Records {
         ensures holds { HoldsSource (content self.now) (factor (content self.now) name.now year) result }
     {
         lookups::factor(self, name, year)
+    }
+
+    /// The share of decaying waste that a year leaves, by the half-life that a factor has in the year: the
+    /// bracket of its yearly decay factor (2006 IPCC Guidelines, Volume 5, Chapter 3), as point and as range,
+    /// which holds what is chosen likewise. Blank where there is no record, or one that is no half-life.
+    final fn decay(&self, name: &Name, year: u32) -> Input
+        ensures input { result ≡ decay_input (content self.now) name.now year }
+        ensures holds { HoldsSource (content self.now) (decay (content self.now) name.now year) result }
+    {
+        lookups::decay(self, name, year)
     }
 }

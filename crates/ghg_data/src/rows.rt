@@ -5,7 +5,7 @@ ghost use Rattle.std.specs.Option.{option_map_or};
 ghost use Rattle.ghg_units.specs.Units.{dim_of};
 ghost use Rattle.ghg_definitions.specs.Data.{as_figure};
 ghost use Rattle.ghg_definitions.specs.Rows.{key_of, record_of};
-ghost use Rattle.ghg_definitions.specs.Rules.{breaks_potential, breaks_unit, meets_other_dimension, presence_fault, row_fault};
+ghost use Rattle.ghg_definitions.specs.Rules.{breaks_activity, breaks_potential, breaks_unit, meets_other_dimension, presence_fault, row_fault};
 
 use crate::draft::Draft;
 use ghg_definitions::{Record, RecordKey};
@@ -23,6 +23,7 @@ pub(crate) fn key_of(form: &RowForm) -> RecordKey
         RowForm::Factor(name, start, _) => RecordKey::Factor(*name, *start),
         RowForm::Line(name, _) => RecordKey::Line(*name),
         RowForm::Bind(line, parameter, _) => RecordKey::Bind(*line, *parameter),
+        RowForm::Uncert(line, _) => RecordKey::Uncert(*line),
     }
 }
 
@@ -38,6 +39,9 @@ pub(crate) fn record_of(alloc: Global, form: &RowForm) -> Result<Option<Record>,
             *category, *equation,
         ))),
         RowForm::Bind(_, _, Some(binding)) => Ok(Some(Record::Bind(copied(alloc, binding)?))),
+        RowForm::Uncert(_, Some((activity, factor))) => {
+            Ok(Some(Record::Uncert(*activity, *factor)))
+        }
         _ => Ok(None),
     }
 }
@@ -85,10 +89,20 @@ fn breaks_potential(form: &RowForm) -> bool
     }
 }
 
+// An activity is no half-life.
+fn breaks_activity(form: &RowForm) -> bool
+    ensures { result ≡ breaks_activity form.now }
+{
+    match form {
+        RowForm::Activity(_, _, Some(figure)) => ghg_units::dim(figure.unit) == Dim::HalfLife,
+        _ => false,
+    }
+}
+
 fn breaks_unit(draft: &Draft<'_>, form: &RowForm) -> bool
     ensures { result ≡ breaks_unit draft.now form.now }
 {
-    breaks_potential(form) || meets_other_figure(draft, form)
+    breaks_potential(form) || breaks_activity(form) || meets_other_figure(draft, form)
 }
 
 // Whether the row's figure meets a record of another dimension.

@@ -10,6 +10,7 @@ use crate::edits::Edits;
 use crate::records::Records;
 use crate::series::Series;
 use ghg_definitions::{Record, RecordKey};
+use ghg_interval::Interval;
 use ghg_units::{Name, Span};
 use std::alloc::{AllocError, Global};
 use std::marker::Model;
@@ -61,6 +62,10 @@ impl<'a> Records for After<'a> {
     fn start_year(&self, name: &Name, year: u32) -> Option<u32> {
         let years = self.draft.years(&Series::Factor(*name));
         years.last_until(year)
+    }
+
+    fn decay_bracket(&self, half_life: u32) -> Interval {
+        self.draft.decay_bracket(half_life)
     }
 
     fn lines(&self, alloc: Global) -> Result<Vec<Name>, AllocError> {

@@ -17,6 +17,7 @@ no_line (key.Activity name year) h = refl
 no_line (key.Factor name start) h = refl
 no_line (key.Line name) h = absurd (h name refl)
 no_line (key.Bind line parameter) h = refl
+no_line (key.Uncert line) h = refl
 
 pub loop-key-preserved : goal.loop-key-preserved
 loop-key-preserved c =
