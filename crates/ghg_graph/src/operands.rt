@@ -21,8 +21,8 @@ pub enum Operand<'a> {
     Sum(&'a [Name], u32),
 }
 
-/// What a binding gives in a year of a span that begins with the first; a blank where there is no binding. No
-/// row binds a parameter to a half-life yet. It takes no memory.
+/// What a binding gives in a year of a span that begins with the first; a blank where there is no binding. It
+/// takes no memory.
 pub fn bound_operand<'a, R: Records>(
     records: &R,
     first: u32,
@@ -41,6 +41,7 @@ pub fn bound_operand<'a, R: Records>(
         Some(Binding::Prev(name)) => Operand::Value(Node::Line(*name, year - 1)),
         Some(Binding::Sum(names)) => Operand::Sum(names.as_slice(), year),
         Some(Binding::Key(key)) => Operand::Given(input_of_key(*key)),
-        Some(Binding::Decay(_)) | None => Operand::Given(Input::Blank),
+        Some(Binding::Decay(name)) => Operand::Given(records.decay(name, year)),
+        None => Operand::Given(Input::Blank),
     }
 }
