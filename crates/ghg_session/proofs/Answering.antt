@@ -113,13 +113,7 @@ show_undone s table year (Refused rule) h there long = ap needs_memory (sym h)
 show_undone s table year (Table text) h there long = ap needs_memory (sym h)
 show_undone s table year NoTable h there long = absurd cc
 
--- a short reply is not that memory ran out
-pub short_is_answer : (reply : Reply) → is_short reply ≡ true → reply ≢ Memory
-short_is_answer reply short e = no_short (ap is_short (sym e) ∙ short)
-  where
-    no_short : is_short Memory ≡ true → ⊥
-    no_short e = cc
-
+-- of a result that is an error
 pub map_on_err : {T E : Type 0} (r : Result T E) (P Q : Type 0) → (P → Q) → OnErr r P → OnErr r Q
 map_on_err (Ok v) P Q f h = tt
 map_on_err (Err e) P Q f h = f h
