@@ -40,6 +40,14 @@ class After:
         out = {id(row) for row in rows}
         return [row for row in self.rows if id(row) not in out]
 
+    def without_line(self, line):
+        """The file's rows without what they say of a line and of its bindings, which stay as they were."""
+        return self.without([*self.acts_on("line", line), *self.bindings_of(line)])
+
+    def bindings_of(self, line):
+        """The file's own rows on bindings of a line."""
+        return [row for row in self.rows[1:] if row.field("kind") == "bind" and row.field("subject") == line]
+
     def in_later_file(self, kind, name):
         """That a later file enters what is not there, or nothing."""
         row = self.later.entry(kind, name)
@@ -101,17 +109,18 @@ def without_line(line, parameter, bound, after):
     """A binding of a line that there is not."""
     gone = after.acts_on("line", line, ("withdraw",))
     if gone:
-        names = listed(after.book.bindings[line], "and")
+        names = after.book.bindings[line]
+        bindings = f"binding{'' if len(names) == 1 else 's'} of {listed(names, 'and')}"
         more = ", and its uncertainty" if (UNCERTAINTY, line) in after.book.rows else ""
-        cause = f"the line is withdrawn and its bindings stay; withdraw the bindings of {names} too{more}"
-        return at_row(gone[0], cause), after.without(gone)
+        cause = f"the line is withdrawn and its bindings stay; withdraw the {bindings} too{more}"
+        return at_row(gone[0], cause), after.without_line(line)
     if not after.is_own(bound):
         return None, None
     refused = after.refused.that_sets(("line", line))
     near = nearest(line, after.book.lines, 1, 0.75)
     if near and not refused and parameter not in after.book.bindings.get(near[0], {}):
         return misspelt_line(bound, near[0], after)
-    own = [row for row in after.rows[1:] if row.field("kind") == "bind" and row.field("subject") == line]
+    own = after.bindings_of(line)
     more = f" ({counted(len(own) - 1, 'further binding')} of it in this file)" if len(own) > 1 else ""
     if refused:
         cause = f"there is no line {line}, since its row was refused{more}"
@@ -167,8 +176,10 @@ def without_parameter(holder, bound, parameters, after):
     if not after.is_own(bound):
         if not after.is_own(holder):
             return None, None
-        cause = f"{has}; the binding of {bound.field('name')} at {bound.place}"
-        return at_row(holder, f"{cause} has to be withdrawn in this file", "value"), after.without([holder])
+        parameter = bound.field("name")
+        cause = f"{has}; the binding of {parameter} at {bound.place} has to be withdrawn in this file"
+        withdrawn = Row(holder.sheet, holder.line, joined(["withdraw", "bind", line, parameter, *[""] * 6]))
+        return at_row(holder, cause, "value"), after.rows + [withdrawn]
     unbound = [name for name in parameters if name not in after.book.bindings[line]]
     free = [name for name in unbound if may_take(bound, parameters[name], after)]
     near = free if len(free) == 1 else nearest(bound.field("name"), free, 1, 0.4)
@@ -240,7 +251,7 @@ def of_another_form(bound, holder, wanted, after):
         if not after.is_own(holder):
             return None, None
         cause += f"; the binding stands at {bound.place}"
-        return at_row(holder, cause, "value"), after.without([holder])
+        return at_row(holder, cause, "value"), after.without_line(holder.field("name"))
     if taken:
         after.refused.meant_records.add(taken)
     if taken and taken[0] == "factor" and measures in (None, vocabulary.record_of(wanted)):
@@ -264,12 +275,13 @@ def of_record(bound, holder, wanted, after):
     if after.is_own(bound):
         cause = f"{takes}, and {measured} at {record.place}"
         return at_row(bound, cause, "low"), after.without_target(bound, wanted)
-    changed = after.acts_on(kind, name) or [row for row in [holder] if after.is_own(row)]
-    if not changed:
-        return None, None
-    column = "unit" if changed[0].field("kind") == kind else "value"
     cause = f"{takes}, and {measured}; the binding stands at {bound.place}"
-    return at_row(changed[0], cause, column), after.without(changed)
+    entered = after.acts_on(kind, name, ("enter", "correct"))
+    if entered:
+        return at_row(entered[0], cause, "unit"), after.without(after.acts_on(kind, name))
+    if after.is_own(holder):
+        return at_row(holder, cause, "value"), after.without_line(holder.field("name"))
+    return None, None
 
 
 def without_record(bound, wanted, after):
@@ -277,7 +289,7 @@ def without_record(bound, wanted, after):
     kind, name = record_taken_by(bound)
     gone = after.acts_on(kind, name, ("withdraw",))
     if not after.is_own(bound):
-        return taken_away(gone, f"{kind} {name}", bound, after)
+        return taken_away(gone, f"{kind} {name}", bound, after.without(gone))
     refused = after.refused.that_enters(kind, name)
     other = "factor" if kind == "activity" else "activity"
     if refused:
@@ -301,12 +313,12 @@ def without_record(bound, wanted, after):
     return fault, after.without_target(bound, wanted)
 
 
-def taken_away(gone, what, bound, after):
-    """The fault of rows that withdraw what a binding of an earlier file takes."""
+def taken_away(gone, what, bound, rest):
+    """The fault of rows that withdraw what a binding of an earlier file takes, and the rest of the rows."""
     if not gone:
         return None, None
     cause = f"{what} is withdrawn, and line {bound.field('subject')} takes it at {bound.place}"
-    return at_row(gone[-1], cause), after.without(gone)
+    return at_row(gone[-1], cause), rest
 
 
 def of_lines(bound, holder, wanted, after):
@@ -327,7 +339,7 @@ def of_lines(bound, holder, wanted, after):
             if not changed:
                 return None, None
             cause += f"; the binding stands at {bound.place}"
-            return at_row(changed[0], cause, "value"), after.without(changed)
+            return at_row(changed[0], cause, "value"), after.without_line(changed[0].field("name"))
     return None, None
 
 
@@ -341,7 +353,7 @@ def absent_lines(bound, names, after):
     """A binding to lines that are not there. A sum goes on with the others."""
     if not after.is_own(bound):
         gone = after.acts_on("line", names[0], ("withdraw",))
-        return taken_away(gone, f"line {names[0]}", bound, after)
+        return taken_away(gone, f"line {names[0]}", bound, after.without_line(names[0]))
     refused = [after.refused.that_sets(("line", name)) for name in names]
     cause = "; ".join(absent_line(name, row, after) for name, row in zip(names, refused))
     fault = at_row(bound, cause, "low", follows=refused[0].place if all(refused) else None)

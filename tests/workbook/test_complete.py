@@ -5,7 +5,7 @@ import pathlib
 import tempfile
 import unittest
 
-from tests.workbook.running import HERE, workbook
+from tests.workbook.running import HEADER, HERE, workbook
 
 
 class States(unittest.TestCase):
@@ -27,7 +27,7 @@ class States(unittest.TestCase):
         self.assertEqual(ran.returncode, 1)
 
     def test_over_many_lines(self):
-        rows = ["act,kind,subject,name,year,value,low,high,unit,note", "enter,span,,,2019,2020,2019,,,"]
+        rows = ["enter,span,,,2019,2020,2019,,,"]
         for number in range(1000):
             rows += [f"enter,line,RA,L{number},,Q22,,,,", f"enter,bind,L{number},PR,,line,L{number + 1},,,"]
             rows += [f"enter,bind,L{number},{name},,key,NO,,," for name in ("IM", "EX", "IB", "SC")]
@@ -36,7 +36,7 @@ class States(unittest.TestCase):
         rows += ["enter,line,RA,CO2,,Q10,,,,", "enter,bind,CO2,FC,,line,L0,,,"]
         rows += ["enter,bind,CO2,EF,,key,NE,,,"]
         with tempfile.TemporaryDirectory() as room:
-            (pathlib.Path(room) / "1.csv").write_text("\n".join(rows) + "\n")
+            (pathlib.Path(room) / "1.csv").write_text(HEADER + "\n".join(rows) + "\n")
             ran = workbook("complete", room)
         self.assertEqual(ran.stdout.splitlines()[:2], ["           19 20", "RA   CO2   !  NE"])
 
@@ -45,6 +45,13 @@ class States(unittest.TestCase):
         self.assertIn("1 of 4 files is refused, and the years are without it; "
                       "./workbook check examples/power-plants tells why", ran.stderr)
         self.assertEqual(ran.returncode, 1)
+
+    def test_without_a_span(self):
+        with tempfile.TemporaryDirectory() as room:
+            (pathlib.Path(room) / "1.csv").write_text(f"{HEADER}enter,activity,,A,2020,1,,,t,\n")
+            ran = workbook("complete", room)
+        self.assertEqual((ran.returncode, ran.stdout), (1, ""))
+        self.assertIn("./workbook: no span is in force, so that there are no years\n", ran.stderr)
 
     def test_nothing_is_wrong(self):
         ran = workbook("complete", "examples/how-to")

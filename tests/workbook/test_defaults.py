@@ -3,10 +3,10 @@ import csv
 import decimal
 import unittest
 
-from tests.workbook.running import TOP, session, takes
+from tests.workbook.running import HEADER, TOP, session, takes
 
 FILES = sorted((TOP / "defaults").glob("*.csv"))
-SPAN = b"act,kind,subject,name,year,value,low,high,unit,note\nenter,span,,,1990,2020,1990,,,\n"
+SPAN = f"{HEADER}enter,span,,,1990,2020,1990,,,\n".encode()
 HALF_LIVES = "volume-5-table-3.3.csv"
 NOTE = r"^(Volume \d Table [\d.]+|\w+ Assessment Report, \d{4}).*: .*, from memory$"
 

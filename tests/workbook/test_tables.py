@@ -76,6 +76,19 @@ class Folders(unittest.TestCase):
         self.assertEqual(ran.returncode, 2)
         self.assertIn("there is no file 2.csv", ran.stderr)
 
+    def test_order_file_with_a_name_twice(self):
+        with tempfile.TemporaryDirectory() as room:
+            self.folder_of(room, **{"1__csv": HEADER, "ORDER__txt": "1.csv\n1.csv\n"})
+            ran = workbook("check", room)
+        self.assertEqual((ran.returncode, ran.stdout), (2, ""))
+        self.assertEqual(ran.stderr, f"./workbook: {room}/ORDER.txt: the file 1.csv stands there twice\n")
+
+    def test_folder_without_files(self):
+        with tempfile.TemporaryDirectory() as room:
+            ran = workbook("check", room)
+        self.assertEqual((ran.returncode, ran.stdout), (2, ""))
+        self.assertEqual(ran.stderr, f"./workbook: {room} has no CSV files\n")
+
     def test_order_file_that_is_no_text(self):
         with tempfile.TemporaryDirectory() as room:
             self.folder_of(room, **{"1__csv": ""})
