@@ -21,9 +21,10 @@ def session(script):
     return subprocess.run([PROGRAM, "compile"], input=script, capture_output=True, check=True).stdout
 
 
-def takes(*rows):
-    """Tells whether the program takes rows, so that a test of a form of theirs waits for a program that
-    has it.
-    """
-    body = HEADER + "".join(f"{row}\n" for row in rows)
+def takes_rows_for(folder):
+    """Tells whether the program takes the rows that a folder of `faults` needs: those of its needs.txt."""
+    needs = HERE / "faults" / folder / "needs.txt"
+    if not needs.exists():
+        return True
+    body = HEADER + needs.read_text(encoding="utf-8")
     return session(f"SUBMIT s {len(body.encode())}\n{body}END\n".encode()) == b"accepted 1\n"

@@ -3,10 +3,15 @@ import pathlib
 import tempfile
 import unittest
 
-from tests.workbook.running import TOP, session, workbook
+from tests.workbook.running import TOP, session, takes_rows_for, workbook
 from tools import vocabulary
 
-COUNTRY = ("examples/fuel-combustion", "examples/small-country")
+# The folders of the country, each with the folder of `faults` whose rows it needs.
+FOLDERS = {
+    "examples/fuel-combustion": "", "examples/small-country": "", "examples/waste": "half-lives",
+    "examples/uncertainties": "uncertainties",
+}
+COUNTRY = [folder for folder, needs in FOLDERS.items() if takes_rows_for(needs)]
 
 
 def files():
@@ -29,12 +34,12 @@ class Country(unittest.TestCase):
     def test_check_finds_no_fault(self):
         ran = workbook("check", *COUNTRY)
         self.assertEqual(ran.returncode, 0)
-        self.assertRegex(ran.stdout.splitlines()[-1], r"^11 files: 0 faults, \d+ warnings$")
+        self.assertRegex(ran.stdout.splitlines()[-1], rf"^{len(files())} files: 0 faults, \d+ warnings$")
         self.assertNotIn("no line takes", ran.stdout)
 
     def test_tables_are_those_of_the_program(self):
         names = vocabulary.words()["tables"]
-        due = session(script(*(f"{name} 2020" for name in names))).decode().split("accepted 11\n")[1]
+        due = session(script(*(f"{name} 2020" for name in names))).decode().split(f"accepted {len(files())}\n")[1]
         with tempfile.TemporaryDirectory() as out:
             ran = workbook("tables", *COUNTRY, "2020", "-o", out)
             written = {path.name: path.read_text() for path in pathlib.Path(out).iterdir()}
@@ -44,7 +49,7 @@ class Country(unittest.TestCase):
             rows = written[f"{name}-2020.csv"]
             self.assertIn(f"table {name} 2020 rows {rows.count(chr(10))}\n{rows}", due)
         replies = [line for line in ran.stderr.splitlines() if "accepted" in line]
-        self.assertEqual(len(replies), 11)
+        self.assertEqual(len(replies), len(files()))
         self.assertIn("examples/fuel-combustion/3-fuel-consumption.csv: accepted, 403 rows", replies)
 
     def test_one_table_is_printed(self):

@@ -3,7 +3,7 @@ import csv
 import decimal
 import unittest
 
-from tests.workbook.running import HEADER, TOP, session, takes
+from tests.workbook.running import HEADER, TOP, session, takes_rows_for
 
 FILES = sorted((TOP / "defaults").glob("*.csv"))
 SPAN = f"{HEADER}enter,span,,,1990,2020,1990,,,\n".encode()
@@ -18,8 +18,8 @@ def script(bodies):
 
 def files():
     """The files whose rows the program takes."""
-    takes_half_lives = takes("enter,factor,,H,2000,10,,,yr,")
-    return [path for path in FILES if path.name != HALF_LIVES or takes_half_lives]
+    left = [] if takes_rows_for("half-lives") else [HALF_LIVES]
+    return [path for path in FILES if path.name not in left]
 
 
 def rows_of(name):

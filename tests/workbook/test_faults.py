@@ -5,7 +5,7 @@ A folder with a file needs.txt is tried with a program that takes the rows of th
 """
 import unittest
 
-from tests.workbook.running import HERE, takes, workbook
+from tests.workbook.running import HERE, takes_rows_for, workbook
 
 
 class Faults(unittest.TestCase):
@@ -16,8 +16,7 @@ class Faults(unittest.TestCase):
 def of_folder(folder):
     """The test of a folder."""
     def test(self):
-        needs = folder / "needs.txt"
-        if needs.exists() and not takes(*needs.read_text(encoding="utf-8").splitlines()):
+        if not takes_rows_for(folder.name):
             self.skipTest("the program does not take these rows yet")
         ran = workbook("check", folder)
         due = (folder / "due.txt").read_text(encoding="utf-8")
