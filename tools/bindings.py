@@ -8,7 +8,7 @@ from tools import vocabulary
 from tools.asking import article
 from tools.book import lines_taken_by, record_taken_by
 from tools.faults import Fault, at_row, counted
-from tools.sheets import Row, joined
+from tools.sheets import COLUMNS, Row, joined
 from tools.vocabulary import limit, listed, nearest, said_of_parameter
 
 
@@ -71,12 +71,18 @@ class After:
         if self.book.some_record("factor", HALF_LIFE):
             return rows
         key = ["enter", "factor", "", HALF_LIFE, limit("first_year")]
-        half_life = joined([*key, "1", "", "", vocabulary.HALF_LIFE_UNIT, ""])
-        return rows + [Row(bound.sheet, bound.line, half_life)]
+        return rows + [added(bound, *key, "1", "", "", vocabulary.HALF_LIFE_UNIT)]
 
     def without_target(self, bound, parameter):
         """The file's rows with something else in place of what a parameter takes."""
         return self.with_half_life(bound) if vocabulary.is_decay(parameter) else self.blank(bound)
+
+
+def added(place, *fields):
+    """A row of the tools' own at the place of another row, with nothing behind its fields."""
+    made = Row(place.sheet, place.line, joined([*fields, *[""] * (len(COLUMNS) - len(fields))]))
+    made.has_other_figure = True
+    return made
 
 
 def explain(line, parameter, after):
@@ -141,9 +147,8 @@ def uncertainty_without_line(line, after):
     row = after.book.rows.get((UNCERTAINTY, line))
     gone = after.acts_on("line", line, ("withdraw",))
     if gone:
-        withdrawn = Row(gone[0].sheet, gone[0].line, joined(["withdraw", UNCERTAINTY, "", line, *[""] * 6]))
         cause = "the line is withdrawn and its uncertainty stays; withdraw that too"
-        return at_row(gone[0], cause), after.rows + [withdrawn]
+        return at_row(gone[0], cause), after.rows + [added(gone[0], "withdraw", UNCERTAINTY, "", line)]
     if not after.is_own(row):
         return None, None
     refused = after.refused.that_sets(("line", line))
@@ -178,8 +183,7 @@ def without_parameter(holder, bound, parameters, after):
             return None, None
         parameter = bound.field("name")
         cause = f"{has}; the binding of {parameter} at {bound.place} has to be withdrawn in this file"
-        withdrawn = Row(holder.sheet, holder.line, joined(["withdraw", "bind", line, parameter, *[""] * 6]))
-        return at_row(holder, cause, "value"), after.rows + [withdrawn]
+        return at_row(holder, cause, "value"), after.rows + [added(holder, "withdraw", "bind", line, parameter)]
     unbound = [name for name in parameters if name not in after.book.bindings[line]]
     free = [name for name in unbound if may_take(bound, parameters[name], after)]
     near = free if len(free) == 1 else nearest(bound.field("name"), free, 1, 0.4)
@@ -209,11 +213,10 @@ def without_binding(holder, wanted, after):
     if not after.is_own(holder):
         return None, None
     refused = after.refused.that_sets(("bind", line, name))
-    added = Row(holder.sheet, holder.line, joined(["enter", "bind", line, name, "", "key", "NE", "", "", ""]))
-    added.has_other_figure = True
+    with_blank = after.rows + [added(holder, "enter", "bind", line, name, "", "key", "NE")]
     if refused:
         cause = f"{needs}, and the row that binds it was refused"
-        return at_row(holder, cause, "name", follows=refused.place), after.rows + [added]
+        return at_row(holder, cause, "name", follows=refused.place), with_blank
     parameters = vocabulary.parameters_of(code)
     bound = after.book.bindings.get(line, {})
     misspelt = [row for other, row in bound.items() if other not in parameters and after.is_own(row)]
@@ -224,7 +227,7 @@ def without_binding(holder, wanted, after):
         return misspelt_line(astray[0], line, after)
     form = "decay" if vocabulary.is_decay(wanted) else "FORM"
     write = f"a row enter,bind,{line},{name},,{form},TARGET,,,"
-    return at_row(holder, f"{needs}, and no row binds it", "name", write), after.rows + [added]
+    return at_row(holder, f"{needs}, and no row binds it", "name", write), with_blank
 
 
 def is_astray(bound, line, after):

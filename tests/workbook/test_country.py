@@ -39,7 +39,8 @@ class Country(unittest.TestCase):
 
     def test_tables_are_those_of_the_program(self):
         names = vocabulary.words()["tables"]
-        due = session(script(*(f"{name} 2020" for name in names))).decode().split(f"accepted {len(files())}\n")[1]
+        printed = session(script(*(f"{name} 2020" for name in names))).decode()
+        due = printed.split(f"accepted {len(files())}\n")[1]
         with tempfile.TemporaryDirectory() as out:
             ran = workbook("tables", *COUNTRY, "2020", "-o", out)
             written = {path.name: path.read_text() for path in pathlib.Path(out).iterdir()}
