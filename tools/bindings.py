@@ -183,7 +183,8 @@ def without_parameter(holder, bound, parameters, after):
             return None, None
         parameter = bound.field("name")
         cause = f"{has}; the binding of {parameter} at {bound.place} has to be withdrawn in this file"
-        return at_row(holder, cause, "value"), after.rows + [added(holder, "withdraw", "bind", line, parameter)]
+        withdrawn = added(holder, "withdraw", "bind", line, parameter)
+        return at_row(holder, cause, "value"), after.rows + [withdrawn]
     unbound = [name for name in parameters if name not in after.book.bindings[line]]
     free = [name for name in unbound if may_take(bound, parameters[name], after)]
     near = free if len(free) == 1 else nearest(bound.field("name"), free, 1, 0.4)
