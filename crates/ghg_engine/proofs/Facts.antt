@@ -36,7 +36,7 @@ binding_is m line parameter b workbook e = by (get m (key.Bind line parameter)) 
   where
     by : (r : Option Record) → get m (key.Bind line parameter) ≡ r → as_binding r ≡ Some b → IsBinding b
     by None is e = absurd (cc)
-    by (Some (entry.Bind c)) is e = let same : c ≡ b = cc in subst IsBinding same (workbook.records (key.Bind line parameter) (entry.Bind c) is).1
+    by (Some (entry.Bind c)) is e = let same : c ≡ b = cc in subst IsBinding same (workbook.records (key.Bind line parameter) (entry.Bind c) is).2
     by (Some _) is e = absurd (cc)
 
 pub bound_is : (m : Data) (line parameter : Name) → IsWorkbook m → IfSome (binding m line parameter) IsBinding
