@@ -12,7 +12,7 @@ pub difference_within : (x y : ℤ) → unsigned_abs (x -ℤ y) ≤ unsigned_abs
 difference_within x y = omega (arith, ints)
 
 -- each size is at most three times the greatest sum, times the pair's magnitudes
-size_within : (base current : ℤ) (p : Pair) → unsigned_abs base ≤ gross_limit → unsigned_abs current ≤ gross_limit → trend_size base current p ≤ 3 * gross_limit * gross p
+pub size_within : (base current : ℤ) (p : Pair) → unsigned_abs base ≤ gross_limit → unsigned_abs current ≤ gross_limit → trend_size base current p ≤ 3 * gross_limit * gross p
 size_within base current p h k =
     let own : unsigned_abs ((p.now -ℤ p.base) *ℤ pos (unsigned_abs base)) ≡ unsigned_abs (p.now -ℤ p.base) * unsigned_abs base = unsigned_abs-mul (p.now -ℤ p.base) (pos (unsigned_abs base)) in
     let share : unsigned_abs ((current -ℤ base) *ℤ pos (unsigned_abs p.base)) ≡ unsigned_abs (current -ℤ base) * unsigned_abs p.base = unsigned_abs-mul (current -ℤ base) (pos (unsigned_abs p.base)) in

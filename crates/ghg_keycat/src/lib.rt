@@ -16,7 +16,7 @@ ghost use Rattle.ghg_keycat.specs.Sizes.{IsTrend, gross, gross_limit, level_size
 
 use ghg_categories::Category;
 use ghg_equations::Gas;
-pub use laws::ascending_pairs_are_distinct;
+pub use laws::{ascending_pairs_are_distinct, assessments_are_small, rankings_are_in_order};
 use std::alloc::{AllocError, Global};
 
 /// What a category emits of a gas, less what it removes, in tonnes of CO2 equivalent.
