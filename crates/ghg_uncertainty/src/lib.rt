@@ -4,11 +4,14 @@
 //! percent. A root is given by the whole numbers next to it.
 #![tactic(auto)]
 
+mod laws;
+
 ghost use Rattle.std.specs.Prelude.{◌≡◌, ◌≤◌, All, length};
 ghost use Rattle.ghg_roots.specs.Roots.{IsRootBracket};
 ghost use Rattle.ghg_uncertainty.specs.Totals.{HoldsTotal, IsShare, IsTotal, largest_square_sum, largest_variance, most_rows, percentage_limit, square_sum, variance};
 
 use ghg_roots::sqrt_bracket;
+pub use laws::{brackets_are_roots, totals_are_small};
 
 /// An amount of a sum, with the uncertainties of the two factors that it is the product of.
 #[derive(Clone, Copy, Debug, PartialEq, Eq, Drop)]
