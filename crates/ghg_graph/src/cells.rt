@@ -18,6 +18,7 @@ pub trait Cells {
     /// The workbook that is compiled.
     fn book(&self) -> &Book
         ensures content { result.now.content ≡ content self.now }
+        ensures compiled { IsCompilation (sheet_of (content self.now)) (compilation (content self.now)) }
         ensures acyclic { IsAcyclic (content self.now) };
 
     /// The value of a node, in the base unit of what it measures; `None` exactly where it is no node of the

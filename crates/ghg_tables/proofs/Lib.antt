@@ -1,5 +1,10 @@
+pub mod Amounts
 pub mod Bounds
+pub mod ByPair
 pub mod Few
 pub mod Nearest
+pub mod PairRows
 pub mod Sound
 pub mod Years
+pub mod Assessing
+pub mod Propagated

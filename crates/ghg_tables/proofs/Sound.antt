@@ -16,11 +16,12 @@ use Rattle.ghg_definitions.specs.Sound.{IsWorkbook}
 use Rattle.ghg_definitions.specs.Trials.{value_of}
 use Rattle.ghg_definitions.proofs.Exactness.{compilations_contain}
 use Rattle.ghg_tables.specs.declared.table.Table.{Table}
-use Rattle.ghg_tables.specs.declared.table.Table.TheVariants.{Cells, Summary, Series}
+use Rattle.ghg_tables.specs.declared.table.Table.TheVariants.{Cells, Summary, Series, Reference, Uncertainty, Level, Trend, Checks}
 use Rattle.ghg_tables.specs.Laws.{line_precision, node_precision}
 use Rattle.ghg_tables.specs.Rounding.{high_of, low_of, reported}
 use Rattle.ghg_tables.specs.SoundTexts.{AreFigures, AreFiguresOf, AreRowsOf, IsRowOf, IsSoundText, Subject, gross_subject, line_subject, total_subject, year_subject}
-use Rattle.ghg_tables.specs.Tables.{category_row, cells_text, gross_row, header, line_row, or_blank, present_text, series_text, shown, summary_text, table_text, year_row}
+use Rattle.ghg_tables.specs.Sums.{or_blank, shown}
+use Rattle.ghg_tables.specs.Tables.{category_row, cells_text, gross_row, header, line_row, present_text, series_text, summary_text, table_text, year_row}
 use Rattle.ghg_tables.specs.Texts.{cell_text, cell_words, field, figures_text, known_text, total_text, year_text}
 use Rattle.ghg_tables.proofs.Bounds.{held}
 
@@ -96,15 +97,20 @@ module _ (m : Data) (workbook : IsWorkbook m) (acyclic : IsAcyclic m) where
 
   pub texts_sound : (table : Table) (year : ℕ) → IsSoundText table m year (table_text table m (compilation m) year)
   unfolding IsSoundText cells_text summary_text series_text
-  texts_sound Cells year = (_, refl, rows_of_lists (λ name. line_subject year name (category m name) (line m name)) (line_row m (compilation m) year) (line_sound year) (line_names m))
-  texts_sound Summary year = (
+  texts_sound Cells year e = (_, refl, rows_of_lists (λ name. line_subject year name (category m name) (line m name)) (line_row m (compilation m) year) (line_sound year) (line_names m))
+  texts_sound Summary year e = (
     flat_map (category_row (compilation m) year) tree ++ gross_row (compilation m) year,
     append_assoc (header Summary) (flat_map (category_row (compilation m) year) tree) (gross_row (compilation m) year),
     rows_joined (map (total_subject year) tree) (gross_subject year ∷ []) (flat_map (category_row (compilation m) year) tree) (gross_row (compilation m) year)
         (rows_of_each (total_subject year) (category_row (compilation m) year) (total_sound year) tree)
         (one_row (gross_subject year) (gross_row (compilation m) year) (gross_sound year)),
   )
-  texts_sound Series year = (_, refl, rows_of_each year_subject (year_row (compilation m)) year_sound (years_from (first_year (span m)) (year + 1 - first_year (span m))))
+  texts_sound Series year e = (_, refl, rows_of_each year_subject (year_row (compilation m)) year_sound (years_from (first_year (span m)) (year + 1 - first_year (span m))))
+  texts_sound Reference year e = absurd (cc)
+  texts_sound Uncertainty year e = absurd (cc)
+  texts_sound Level year e = absurd (cc)
+  texts_sound Trend year e = absurd (cc)
+  texts_sound Checks year e = absurd (cc)
 
   pub result_sound : {E : Type 0} (table : Table) (year : ℕ) (r : Result (List ℕ) E) → IfOk r (λ text. text ≡ table_text table m (compilation m) year) → IfOk r (IsSoundText table m year)
   result_sound table year (Ok text) is = subst (IsSoundText table m year) (sym is) (texts_sound table year)

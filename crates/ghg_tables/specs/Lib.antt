@@ -1,5 +1,9 @@
 pub mod Rounding
 pub mod Texts
+pub mod Sums
+pub mod Gathering
+pub mod Analyses
+pub mod Assessed
 pub mod Tables
 pub mod Names
 pub mod Laws

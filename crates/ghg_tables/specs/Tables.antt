@@ -1,34 +1,40 @@
 -- The texts of the tables, as functions of the data, the outcomes of their nodes, and the year.
-use Rattle.std.specs.Prelude.{ℕ, ◌+◌, ◌-◌, List, [], ◌++◌, codes, Option, Some, None}
-use Rattle.std.specs.List.{flat_map}
+use Rattle.std.specs.Prelude.{ℕ, ◌+◌, ◌-◌, Bool, not, ◌&&◌, ◌==◌, nat_le, is_none, if◌then◌else◌, List, [], ◌∷◌, ◌++◌, map, codes, Option, Some, None, ℤ, unsigned_abs}
+use Rattle.std.specs.List.{flat_map, list_any}
 use Rattle.ghg_categories.specs.declared.category.Category.{Category}
-use Rattle.ghg_categories.specs.declared.category.Category.TheVariants.{National}
-use Rattle.ghg_categories.specs.Tree.{code_of, tree}
+use Rattle.ghg_categories.specs.declared.category.Category.TheVariants.{C1A, National, RA}
+use Rattle.ghg_categories.specs.Tree.{code_of, stands_under, tree}
 use Rattle.ghg_equations.specs.declared.eq_id.EqId.{EqId}
+use Rattle.ghg_equations.specs.declared.quantity.Gas.{Gas}
+use Rattle.ghg_equations.specs.declared.quantity.Gas.TheVariants.{Co2}
 use Rattle.ghg_cell.specs.declared.input.Input.{Input}
-use Rattle.ghg_cell.specs.declared.input.Input.TheVariants.{Blank}
 use Rattle.ghg_units.specs.declared.node.Node.{Node}
 use Rattle.ghg_units.specs.declared.node.Node.TheVariants as node
+use Rattle.ghg_units.specs.declared.row.Span.{Span}
 use Rattle.ghg_definitions.specs.Compilation.{first_year, years_from}
-use Rattle.ghg_definitions.specs.Data.{Data, Name, category, line, line_names, span}
-use Rattle.ghg_definitions.specs.Trials.{Outcomes, value_of}
+use Rattle.ghg_definitions.specs.Data.{Data, Name, category, line, line_names, span, uncertainty}
+use Rattle.ghg_definitions.specs.Trials.{Outcomes}
+use Rattle.ghg_keycat.specs.declared.Pair.{Pair}
+use Rattle.ghg_uncertainty.specs.declared.Share.{Share}
+use Rattle.ghg_tables.specs.declared.precision.Precision.TheVariants.{Thousandths}
 use Rattle.ghg_tables.specs.declared.table.Table.{Table}
-use Rattle.ghg_tables.specs.declared.table.Table.TheVariants.{Cells, Summary, Series}
+use Rattle.ghg_tables.specs.declared.table.Table.TheVariants.{Cells, Summary, Series, Reference, Uncertainty, Level, Trend, Checks}
+use Rattle.ghg_tables.specs.Analyses.{approaches_text, check_row, first_check_row, level_rows, total_row, trend_rows, uncertainty_row}
+use Rattle.ghg_tables.specs.Rounding.{reported}
+use Rattle.ghg_tables.specs.declared.pairs.Years.{Years}
+use Rattle.ghg_tables.specs.Sums.{emission, lines_where, pairs, point_of, same_gas, shown, tonnes_of}
 use Rattle.ghg_tables.specs.Texts.{cell_text, total_text, year_text}
-
--- what is printed of a node: what it is known to be, and else a blank
-abbrev pub or_blank : Option Input → Input
-or_blank None = Blank
-or_blank (Some value) = value
-
-abbrev pub shown : Outcomes → Node → Input
-shown outcomes n = or_blank (value_of (outcomes n))
 
 -- the line that says what stands in the columns
 abbrev pub header : Table → List ℕ
 header Cells = codes "code,category,equation,gas,unit,value,low,high\n"
 header Summary = codes "category,value,low,high\n"
 header Series = codes "year,total,total_low,total_high,gross,gross_low,gross_high\n"
+header Reference = codes "item,value\n"
+header Uncertainty = codes "code,category,gas,value,activity,factor,combined_low,combined_high\n"
+header Level = codes "category,gas,value,share,cumulative,key\n"
+header Trend = codes "category,gas,base,value,trend,share,cumulative,key\n"
+header Checks = codes "category,gas,previous,value,change,flag\n"
 
 -- ---- cells: each line by name
 
@@ -66,9 +72,89 @@ unfoldable pub series_text : ℕ → Outcomes → ℕ → List ℕ
 series_text first outcomes year =
     header Series ++ flat_map (year_row outcomes) (years_from first (year + 1 - first))
 
+-- ---- reference: CO2 at the reference approach, and of fuel combustion
+
+-- the CO2 that the lines under a category emit in a year, in tonnes
+unfoldable pub co2_under : Category → Data → Outcomes → ℕ → ℤ
+co2_under top m outcomes year = tonnes_of outcomes
+    (map (λ name. node.Line name year) (lines_where (λ k. same_gas k.1 Co2 && stands_under k.0 top) m))
+
+unfoldable pub reference_text : Data → Outcomes → ℕ → List ℕ
+reference_text m outcomes year =
+    header Reference ++ approaches_text (co2_under RA m outcomes year) (co2_under C1A m outcomes year)
+
+-- ---- uncertainty: each line in the tree that emits a gas, by name, and the total
+
+-- the lines in the tree that emit a gas
+abbrev pub emitters : Data → List Name
+emitters m = lines_where (λ k. stands_under k.0 National) m
+
+-- the tonnes of a line's equivalent
+unfoldable pub line_tonnes : Outcomes → ℕ → Name → ℤ
+line_tonnes outcomes year name = reported Thousandths (point_of (shown outcomes (node.Equiv name year)))
+
+abbrev pub emitter_text : Name → Option (Category × Gas) → Input → Option (ℕ × ℕ) → List ℕ
+emitter_text name None value percentages = []
+emitter_text name (Some pair) value percentages = uncertainty_row name pair value percentages
+
+unfoldable pub emitter_row : Data → Outcomes → ℕ → Name → List ℕ
+emitter_row m outcomes year name =
+    emitter_text name (emission m name) (shown outcomes (node.Equiv name year)) (uncertainty m name)
+
+-- a line's part in the total
+abbrev pub share_with : ℤ → Option (ℕ × ℕ) → Share
+share_with tonnes None = record { tonnes = tonnes; activity = 0; factor = 0 }
+share_with tonnes (Some percentages) =
+    record { tonnes = tonnes; activity = percentages.0; factor = percentages.1 }
+
+unfoldable pub share_of : Data → Outcomes → ℕ → Name → Share
+share_of m outcomes year name = share_with (line_tonnes outcomes year name) (uncertainty m name)
+
+-- a line that emits something has no record
+unfoldable pub lacks_record : Data → Outcomes → ℕ → Name → Bool
+lacks_record m outcomes year name =
+    is_none (uncertainty m name) && not (unsigned_abs (line_tonnes outcomes year name) == 0)
+
+unfoldable pub uncertainty_text : Data → Outcomes → ℕ → List ℕ
+uncertainty_text m outcomes year =
+    header Uncertainty ++ flat_map (emitter_row m outcomes year) (emitters m) ++
+    total_row (list_any (lacks_record m outcomes year) (emitters m))
+    (map (share_of m outcomes year) (emitters m))
+
+-- ---- level and trend: each pair of a category and a gas, by size
+
+abbrev pub base_year : Option Span → ℕ
+base_year None = 0
+base_year (Some s) = s.base
+
+-- a year beside the base year
+abbrev pub since_base : Data → ℕ → Years
+since_base m year = record { base = base_year (span m); current = year }
+
+unfoldable pub level_text : Data → Outcomes → ℕ → List ℕ
+level_text m outcomes year = header Level ++ level_rows (pairs m outcomes (since_base m year))
+
+unfoldable pub trend_text : Data → Outcomes → ℕ → List ℕ
+trend_text m outcomes year = header Trend ++ trend_rows (pairs m outcomes (since_base m year))
+
+-- ---- checks: each pair beside the year before
+
+abbrev pub since_last : ℕ → Years
+since_last year = record { base = year - 1; current = year }
+
+unfoldable pub checks_text : Data → Outcomes → ℕ → List ℕ
+checks_text m outcomes year =
+    header Checks ++ flat_map (if nat_le year (first_year (span m)) then first_check_row else check_row)
+    (pairs m outcomes (since_last year))
+
 -- ---- each table
 
 abbrev pub table_text : Table → Data → Outcomes → ℕ → List ℕ
 table_text Cells m outcomes year = cells_text m outcomes year
 table_text Summary m outcomes year = summary_text outcomes year
 table_text Series m outcomes year = series_text (first_year (span m)) outcomes year
+table_text Reference m outcomes year = reference_text m outcomes year
+table_text Uncertainty m outcomes year = uncertainty_text m outcomes year
+table_text Level m outcomes year = level_text m outcomes year
+table_text Trend m outcomes year = trend_text m outcomes year
+table_text Checks m outcomes year = checks_text m outcomes year

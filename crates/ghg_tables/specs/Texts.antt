@@ -1,5 +1,5 @@
 -- The rows of the tables, as functions of what stands in them.
-use Rattle.std.specs.Prelude.{ℕ, List, [], ◌∷◌, ◌++◌, codes, decimal, ℤ}
+use Rattle.std.specs.Prelude.{ℕ, ◌*◌, Bool, true, false, List, [], ◌∷◌, ◌++◌, codes, decimal, ℤ, pos, ◌*ℤ◌}
 use Rattle.ghg_categories.specs.declared.category.Category.{Category}
 use Rattle.ghg_categories.specs.Tree.{code_of}
 use Rattle.ghg_equations.specs.declared.eq_id.EqId.{EqId}
@@ -15,7 +15,7 @@ use Rattle.ghg_interval.specs.Bounds.{Bounds}
 use Rattle.ghg_definitions.specs.Data.{Name}
 use Rattle.ghg_tables.specs.declared.precision.Precision.{Precision}
 use Rattle.ghg_tables.specs.declared.precision.Precision.TheVariants.{Thousandths}
-use Rattle.ghg_tables.specs.Rounding.{reported, low_of, high_of, places_of, precision_of}
+use Rattle.ghg_tables.specs.Rounding.{reported, low_of, high_of, nearest, places_of, precision_of}
 
 -- ---- pieces of a row
 
@@ -73,3 +73,21 @@ unfoldable pub year_text : ℕ → Input → Input → List ℕ
 year_text year total gross =
     field (decimal year) ++ field (figures_text Thousandths total) ++
     figures_text Thousandths gross ++ 10 ∷ []
+
+-- ---- pieces of a row of an analysis
+
+-- a number of hundredths, with two decimals
+unfoldable pub hundredths_text : ℤ → List ℕ
+hundredths_text n = fixed_text n 2
+
+-- n over d as a percentage, to the nearest hundredth
+unfoldable pub percent_text : ℕ → ℤ → List ℕ
+percent_text d n = hundredths_text (nearest d (pos 10000 *ℤ n))
+
+-- a reported value, in tonnes
+unfoldable pub tonnes_text : ℤ → List ℕ
+tonnes_text n = number_text Thousandths n
+
+abbrev pub answer_text : Bool → List ℕ
+answer_text true = codes "yes"
+answer_text false = codes "no"

@@ -1,12 +1,18 @@
 //! The texts of tables: printed figures, their rows, and the tables of a year.
 #![tactic(auto)]
 
+mod analyses;
+mod assessments;
 mod figures;
+mod groups;
 mod laws;
+mod pairs;
 mod precision;
 mod printing;
+mod propagation;
 mod rounding;
 mod rows;
+mod sums;
 mod table;
 
 pub use figures::reported;

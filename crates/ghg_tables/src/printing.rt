@@ -1,15 +1,19 @@
 //! The tables of a year.
 
 ghost use Rattle.std.specs.Prelude.{◌≡◌, ◌≤◌, ◌++◌, IfOk, OnOk, true};
-ghost use Rattle.ghg_definitions.specs.Compilation.{compilation, is_year_of};
+ghost use Rattle.ghg_definitions.specs.Compilation.{compilation, first_year, is_year_of};
 ghost use Rattle.ghg_definitions.specs.Data.{span};
 ghost use Rattle.ghg_tables.specs.SoundTexts.{IsSoundText};
-ghost use Rattle.ghg_tables.specs.Tables.{category_row, cells_text, gross_row, line_row, series_text, shown, summary_text, table_text, year_row};
+ghost use Rattle.ghg_tables.specs.Tables.{category_row, cells_text, checks_text, gross_row, line_row, reference_text, series_text, summary_text, table_text, year_row};
 
+use crate::analyses::append_approaches;
+use crate::assessments::{print_checks, print_first_checks, print_level, print_trend};
+use crate::pairs::Years;
+use crate::propagation::print_uncertainty;
 use crate::rows::{append_cell, append_total, append_year};
+use crate::sums::{co2_under, shown};
 use crate::table::Table;
 use ghg_categories::{Category, all, code};
-use ghg_cell::Input;
 use ghg_data::Records;
 use ghg_graph::Cells;
 use ghg_units::{Name, Node, Text};
@@ -30,7 +34,7 @@ const LONGEST_YEAR: usize = 160;
 /// The text of a table for a year of the span.
 ///
 /// Wherever the inputs are within their supplied bounds, the exact value of each node is within the bounds
-/// that are printed of it. The only error is that memory ran out.
+/// that the tables `cells`, `summary` and `series` have of it. The only error is that memory ran out.
 pub fn print<C: Cells>(
     alloc: Global,
     table: Table,
@@ -42,11 +46,20 @@ pub fn print<C: Cells>(
         text ≡ table_text table (C.content cells.now) (compilation (C.content cells.now)) year) }
     ensures bounds { IfOk result (IsSoundText table (C.content cells.now) year) }
 {
-    let first = cells.book().span().unwrap().first;
+    let span = cells.book().span().unwrap();
+    let since_base = Years {
+        base: span.base,
+        current: year,
+    };
     match table {
         Table::Cells => print_cells(alloc, year, cells),
         Table::Summary => print_summary(alloc, year, cells),
-        Table::Series => print_series(alloc, first, year, cells),
+        Table::Series => print_series(alloc, span.first, year, cells),
+        Table::Reference => print_reference(alloc, year, cells),
+        Table::Uncertainty => print_uncertainty(alloc, year, cells),
+        Table::Level => print_level(alloc, since_base, cells),
+        Table::Trend => print_trend(alloc, since_base, cells),
+        Table::Checks => checks(alloc, span.first, year, cells),
     }
 }
 
@@ -154,12 +167,34 @@ fn append_totals<C: Cells>(out: &mut Vec<u8>, cells: &C, year: u32) -> Result<()
     append_year(out, year, &total, &gross)
 }
 
-// What is known of a node; nothing where it is no node.
-fn shown<C: Cells>(cells: &C, node: &Node) -> Input
-    ensures { result ≡ shown (compilation (C.content cells.now)) node.now }
+// CO2 of fuel combustion by the reference approach, beside the sectoral one.
+#[tactic(auto, unfolding(crate::specs::Tables::reference_text))]
+fn print_reference<C: Cells>(alloc: Global, year: u32, cells: &C) -> Result<Text, AllocError>
+    ensures { IfOk result (λ text.
+        text ≡ reference_text (C.content cells.now) (compilation (C.content cells.now)) year) }
 {
-    match cells.value(node) {
-        Some(value) => *value.input(),
-        None => Input::Blank,
+    let lines = cells.book().lines(alloc)?;
+    let reference = co2_under(cells, &lines, Category::RA, year);
+    let sectoral = co2_under(cells, &lines, Category::C1A, year);
+    let mut out = Vec::from_slice(alloc, b"item,value\n")?;
+    append_approaches(&mut out, reference, sectoral)?;
+    Ok(Text::new(out))
+}
+
+// Each pair beside the year before, if there is one.
+#[tactic(auto, unfolding(crate::specs::Tables::checks_text))]
+fn checks<C: Cells>(alloc: Global, first: u32, year: u32, cells: &C) -> Result<Text, AllocError>
+    requires { first ≡ first_year (span (C.content cells.now)) }
+    ensures { IfOk result (λ text.
+        text ≡ checks_text (C.content cells.now) (compilation (C.content cells.now)) year) }
+{
+    let since_last = Years {
+        base: year.saturating_sub(1),
+        current: year,
+    };
+    if year <= first {
+        print_first_checks(alloc, since_last, cells)
+    } else {
+        print_checks(alloc, since_last, cells)
     }
 }

@@ -13,11 +13,30 @@ pub enum Table {
     Summary,
     /// The national total, with and without land, of each year from the first.
     Series,
+    /// CO2 of fuel combustion by the reference approach, beside the sectoral one.
+    Reference,
+    /// The uncertainty of each line and of the total, by propagation of errors.
+    Uncertainty,
+    /// Each category and gas by its part in the year's emissions and removals.
+    Level,
+    /// Each category and gas by its part in the trend since the base year.
+    Trend,
+    /// Each category and gas beside the year before.
+    Checks,
 }
 
 impl Table {
     /// Each table.
-    pub const ALL: [Table; 3] = [Table::Cells, Table::Summary, Table::Series];
+    pub const ALL: [Table; 8] = [
+        Table::Cells,
+        Table::Summary,
+        Table::Series,
+        Table::Reference,
+        Table::Uncertainty,
+        Table::Level,
+        Table::Trend,
+        Table::Checks,
+    ];
 
     /// The word that names the table.
     pub fn name(self) -> &'static str
@@ -27,6 +46,11 @@ impl Table {
             Table::Cells => "cells",
             Table::Summary => "summary",
             Table::Series => "series",
+            Table::Reference => "reference",
+            Table::Uncertainty => "uncertainty",
+            Table::Level => "level",
+            Table::Trend => "trend",
+            Table::Checks => "checks",
         }
     }
 }

@@ -18,6 +18,8 @@ mod intervals;
 #[cfg(test)]
 mod streams;
 #[cfg(test)]
+mod tables;
+#[cfg(test)]
 mod values;
 #[cfg(test)]
 mod words;

@@ -42,7 +42,7 @@ fn body_of(alloc: Global, rows: &str) -> Result<Vec<u8>, AllocError> {
 }
 
 // What the rows say.
-fn read(rt: &impl Abort, alloc: Global, rows: &str) -> Rows
+pub(crate) fn read(rt: &impl Abort, alloc: Global, rows: &str) -> Rows
     ensures { AllByRecursion IsWellFormed result.rows.items }
 {
     let body = body_of(alloc, rows).ok().expect(rt, "memory");
@@ -396,7 +396,7 @@ fn accept_with<L: Ledger>(
     }
 }
 
-fn accept(alloc: Global, engine: &mut Engine, rows: &[Row]) -> Result<(), Option<Node>>
+pub(crate) fn accept(alloc: Global, engine: &mut Engine, rows: &[Row]) -> Result<(), Option<Node>>
     requires { AllByRecursion IsWellFormed rows.now }
 {
     accept_with::<Brand>(Blank::new(1), alloc, engine, rows)

@@ -1,0 +1,6 @@
+use Rattle.std.proofs.Common.{take}
+use Rattle.ghg_tables.proofs.ByPair.{IsGroupedSoFar}
+use Rattle.ghg_tables.proofs.groups.Groups.of.Given as goal
+
+abbrev pub invariant-loop-name : goal.invariant-loop-name
+invariant-loop-name g l = IsGroupedSoFar (g.R.Records.content l.records) (take l.name-index l.lines) l.groups
