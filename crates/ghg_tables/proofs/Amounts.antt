@@ -1,22 +1,22 @@
 -- Sums of points, and how large they are.
-use Rattle.std.proofs.Common.{◌≡◌, ℕ, zero, suc, ◌+◌, ◌*◌, ◌/◌, ◌<◌, ◌≤◌, Bool, true, false, nat_le, cond, if◌then◌else◌, ◌&&◌, List, [], ◌∷◌, ◌++◌, length, map, Option, Some, None, Result, Ok, Err, refl, sym, ap, ap₂, subst, ◌∙◌, arith, ℤ, pos, negsuc, neg_ℤ, ◌+ℤ◌, unsigned_abs}
+use Rattle.std.proofs.Common.{◌≡◌, ℕ, zero, suc, ◌+◌, ◌*◌, ◌≤◌, Bool, true, false, nat_le, cond, List, [], ◌∷◌, length, map, Option, Some, None, Result, Ok, Err, refl, sym, ap, subst, ◌∙◌, arith, ℤ, pos, negsuc, ◌+ℤ◌, unsigned_abs}
 use Rattle.std.proofs.lemmas.Bool.{leb-true}
 use Rattle.std.proofs.lemmas.Int.{ints}
-use Rattle.std.specs.List.{All, fold}
+use Rattle.std.specs.List.{fold}
 use Rattle.ghg_interval.specs.Bounds.{Bounds, exactly, sum}
 use Rattle.ghg_interval.specs.Operations.{is_bounded_by}
 use Rattle.ghg_interval.specs.declared.Over.{Over}
 use Rattle.ghg_cell.specs.declared.figures.Figures.{Figures}
 use Rattle.ghg_cell.specs.declared.input.Input.{Input}
-use Rattle.ghg_cell.specs.declared.input.Input.TheVariants.{Blank, Known}
-use Rattle.ghg_cell.specs.Totals.{are_bounded_by, equivalent, on_both, reported as limited, reported_limit, weighted}
+use Rattle.ghg_cell.specs.declared.input.Input.TheVariants.{Blank}
+use Rattle.ghg_cell.specs.Totals.{are_bounded_by, equivalent, on_both, reported_limit, weighted}
 use Rattle.ghg_cell.specs.Values.{input_of, known, then}
 use Rattle.ghg_interval.specs.Bounds.{product}
 use Rattle.ghg_units.specs.declared.node.Node.{Node}
 use Rattle.ghg_units.specs.declared.node.Node.TheVariants as node
-use Rattle.ghg_definitions.specs.Compilation.{compilation, first_year, formula, is_node, line_gas, potential, sheet_of}
-use Rattle.ghg_definitions.specs.Data.{Data, Name, span}
-use Rattle.ghg_definitions.specs.Formulas.{Outcome, outcome_of}
+use Rattle.ghg_definitions.specs.Compilation.{compilation, is_node, line_gas, potential, sheet_of}
+use Rattle.ghg_definitions.specs.Data.{Data, Name}
+use Rattle.ghg_definitions.specs.Formulas.{Outcome}
 use Rattle.ghg_definitions.specs.Lookups.{given}
 use Rattle.ghg_definitions.specs.Trials.{IsCompilation, Outcomes, or_blank as outcome_or_blank, value_of}
 use Rattle.ghg_definitions.proofs.Alike.{first_so, second_so}
@@ -24,7 +24,7 @@ use Rattle.ghg_uncertainty.specs.Totals.{amount_limit}
 use Rattle.ghg_tables.specs.declared.precision.Precision.TheVariants.{Thousandths}
 use Rattle.ghg_tables.specs.Gathering.{doubled, doubled_sum}
 use Rattle.ghg_tables.specs.Rounding.{nearest, nearest_magnitude, reported, with_sign}
-use Rattle.ghg_tables.specs.Sums.{or_blank, point_of, shown, sum_of_points, tonnes_of}
+use Rattle.ghg_tables.specs.Sums.{or_blank, point_of, shown, tonnes_of}
 
 -- ---- the middle of a sum is the sum of the middles
 

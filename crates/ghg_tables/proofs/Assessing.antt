@@ -1,10 +1,8 @@
 -- What an assessment gives are the rows of its pairs, and their numbers are within limits.
-use Rattle.std.proofs.Common.{◌≡◌, ◌≢◌, inl, inr, ℕ, zero, suc, ◌+◌, ◌*◌, ◌<◌, ◌≤◌, Bool, true, false, cond, if◌then◌else◌, ◌==◌, List, [], ◌∷◌, ◌++◌, length, get_or, map, flat_map, Contains, Result, Ok, Err, IfOk, refl, sym, ap, ap₂, subst, ◌∙◌, arith, ℤ, pos, negsuc, unsigned_abs}
+use Rattle.std.proofs.Common.{◌≡◌, ◌≢◌, inl, inr, ℕ, zero, suc, ◌+◌, ◌*◌, ◌<◌, ◌≤◌, Bool, true, false, cond, if◌then◌else◌, List, [], ◌∷◌, ◌++◌, length, get_or, map, flat_map, Contains, refl, sym, ap, ap₂, subst, ◌∙◌, arith, ℤ, pos, negsuc, unsigned_abs}
 use Rattle.std.proofs.lemmas.Bool.{eq-eqb, ne_eqb}
 use Rattle.std.specs.List.{All, sum_by}
-use Rattle.std.specs.Cmp.{IsTotalOrder}
 use Rattle.std.specs.Ordering.{is_lt}
-use Rattle.std.specs.declared.cmp.Ordering.TheVariants.{Equal}
 use Rattle.std.proofs.lemmas.Cmp.{tied_itself}
 use Rattle.std.proofs.lemmas.List.{length-map}
 use Rattle.std.proofs.Math.ListN.{get_or-map}
@@ -16,10 +14,8 @@ use Rattle.ghg_definitions.specs.Listed.{IsListed}
 use Rattle.ghg_definitions.proofs.Listed.{listed}
 use Rattle.ghg_keycat.specs.declared.KeyRow.{KeyRow}
 use Rattle.ghg_keycat.specs.declared.Pair.{Pair}
-use Rattle.ghg_keycat.specs.declared.TrendRows.{TrendRows}
-use Rattle.ghg_keycat.specs.declared.TrendRows.TheVariants.{Rows, Undefined}
-use Rattle.ghg_keycat.specs.Ranking.{AreDistinct, IsKeyRow, IsRanking, before, by_rank, in_order, is_before}
-use Rattle.ghg_keycat.specs.Sizes.{IsTrend, base_size, base_sum, gross, gross_limit, level_size, now_sum, trend_size}
+use Rattle.ghg_keycat.specs.Ranking.{AreDistinct, IsKeyRow, IsRanking, before, in_order, is_before}
+use Rattle.ghg_keycat.specs.Sizes.{base_size, base_sum, gross, gross_limit, level_size}
 use Rattle.ghg_keycat.proofs.InOrder.{by_rank_total, ranked_in_order}
 use Rattle.ghg_keycat.proofs.Small.{small}
 use Rattle.ghg_tables.specs.Analyses.{level_row, level_rows, ranked_text, shares_text, trend_denominator, trend_of, trend_row, trend_rows, untrended_row}

@@ -1,6 +1,6 @@
 -- Lines in the groups of their pairs.
 use denote.Enum.Bare.{same_true}
-use Rattle.std.proofs.Common.{◌≡◌, Bool, true, false, cond, ◌&&◌, List, [], ◌∷◌, ◌++◌, filter, if◌then◌else◌, Option, Some, None, Result, Ok, Err, OnOk, Vec, Global, vec_len, refl, sym, ap, ap₂, ◌∙◌, subst}
+use Rattle.std.proofs.Common.{◌≡◌, Bool, true, false, cond, List, [], ◌∷◌, ◌++◌, filter, if◌then◌else◌, Option, Some, None, Vec, Global, vec_len, refl, sym, ap, ap₂, ◌∙◌}
 use Rattle.std.specs.Option.{UnwrapsOrElse, option_map_or}
 use Rattle.std.specs.BTreeMap.{is_at}
 use Rattle.std.specs.Map.{lookup}
@@ -22,7 +22,7 @@ use Rattle.ghg_definitions.proofs.NodeLists.{category_same}
 use Rattle.ghg_keycat.specs.Ranking.{key_order}
 use Rattle.ghg_tables.specs.declared.groups.Groups.{Groups}
 use Rattle.ghg_tables.specs.Gathering.{IsGrouping, group_of}
-use Rattle.ghg_tables.specs.Sums.{emission, same_gas, same_pair}
+use Rattle.ghg_tables.specs.Sums.{emission, same_pair}
 
 -- ---- pairs that are the same are equal
 

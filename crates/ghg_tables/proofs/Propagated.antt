@@ -1,9 +1,8 @@
 -- The bracket of a total as it is printed.
-use Rattle.std.proofs.Common.{◌≡◌, ◌≢◌, ℕ, zero, suc, Bool, true, false, ◌||◌, ◌==◌, if◌then◌else◌, List, codes, refl, sym, ap, ap₂, ◌∙◌, arith, ℤ, pos, negsuc, unsigned_abs}
+use Rattle.std.proofs.Common.{◌≡◌, ◌≢◌, ℕ, Bool, true, false, if◌then◌else◌, List, codes, refl, sym, ap, ap₂, ◌∙◌, arith, ℤ, pos, negsuc, unsigned_abs}
 use Rattle.std.proofs.lemmas.Bool.{eq-eqb, ne_eqb}
 use Rattle.ghg_interval.specs.Rounding.{ceil_by, floor_by}
 use Rattle.ghg_uncertainty.specs.declared.Share.{Share}
-use Rattle.ghg_uncertainty.specs.declared.TotalUncertainty.{TotalUncertainty}
 use Rattle.ghg_uncertainty.specs.declared.TotalUncertainty.TheVariants.{Bracket, Undefined}
 use Rattle.ghg_uncertainty.specs.Totals.{IsTotal, net, spread}
 use Rattle.ghg_uncertainty.proofs.RootBounds.{roots_are}

@@ -1,5 +1,5 @@
 -- The steps of a sum of points: lines in groups by their pairs, and the middles of points added up.
-use Rattle.std.specs.Prelude.{ℕ, ◌≡◌, List, [], Option, ℤ, pos, ◌+ℤ◌}
+use Rattle.std.specs.Prelude.{ℕ, ◌≡◌, List, [], ℤ, pos, ◌+ℤ◌}
 use Rattle.std.specs.List.{fold}
 use Rattle.std.specs.Option.{option_map_or}
 use Rattle.std.specs.BTreeMap.{get}

@@ -1,6 +1,6 @@
 -- Sums of what lines emit, and the pairs of a category and a gas.
-use Rattle.std.specs.Prelude.{ℕ, Bool, true, false, ◌&&◌, if◌then◌else◌, List, [], ◌∷◌, map, filter, Option, Some, None, option_and_then, ℤ, pos}
-use Rattle.std.specs.List.{flat_map, fold, list_any}
+use Rattle.std.specs.Prelude.{ℕ, Bool, true, false, if◌then◌else◌, List, [], ◌∷◌, map, filter, Option, Some, None, option_and_then, ℤ, pos}
+use Rattle.std.specs.List.{flat_map, fold}
 use Rattle.std.specs.Option.{option_map, option_map_or}
 use Rattle.std.specs.Ordering.{eq_by_cmp}
 use Rattle.ghg_categories.specs.declared.category.Category.{Category}

@@ -1,5 +1,5 @@
 -- The texts of the tables, as functions of the data, the outcomes of their nodes, and the year.
-use Rattle.std.specs.Prelude.{ℕ, ◌+◌, ◌-◌, Bool, not, ◌&&◌, ◌==◌, nat_le, is_none, if◌then◌else◌, List, [], ◌∷◌, ◌++◌, map, codes, Option, Some, None, ℤ, unsigned_abs}
+use Rattle.std.specs.Prelude.{ℕ, ◌+◌, ◌-◌, Bool, not, ◌&&◌, ◌==◌, nat_le, is_none, if◌then◌else◌, List, [], ◌++◌, map, codes, Option, Some, None, ℤ, unsigned_abs}
 use Rattle.std.specs.List.{flat_map, list_any}
 use Rattle.ghg_categories.specs.declared.category.Category.{Category}
 use Rattle.ghg_categories.specs.declared.category.Category.TheVariants.{C1A, National, RA}
@@ -8,13 +8,11 @@ use Rattle.ghg_equations.specs.declared.eq_id.EqId.{EqId}
 use Rattle.ghg_equations.specs.declared.quantity.Gas.{Gas}
 use Rattle.ghg_equations.specs.declared.quantity.Gas.TheVariants.{Co2}
 use Rattle.ghg_cell.specs.declared.input.Input.{Input}
-use Rattle.ghg_units.specs.declared.node.Node.{Node}
 use Rattle.ghg_units.specs.declared.node.Node.TheVariants as node
 use Rattle.ghg_units.specs.declared.row.Span.{Span}
 use Rattle.ghg_definitions.specs.Compilation.{first_year, years_from}
 use Rattle.ghg_definitions.specs.Data.{Data, Name, category, line, line_names, span, uncertainty}
 use Rattle.ghg_definitions.specs.Trials.{Outcomes}
-use Rattle.ghg_keycat.specs.declared.Pair.{Pair}
 use Rattle.ghg_uncertainty.specs.declared.Share.{Share}
 use Rattle.ghg_tables.specs.declared.precision.Precision.TheVariants.{Thousandths}
 use Rattle.ghg_tables.specs.declared.table.Table.{Table}

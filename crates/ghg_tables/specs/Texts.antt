@@ -1,5 +1,5 @@
 -- The rows of the tables, as functions of what stands in them.
-use Rattle.std.specs.Prelude.{ℕ, ◌*◌, Bool, true, false, List, [], ◌∷◌, ◌++◌, codes, decimal, ℤ, pos, ◌*ℤ◌}
+use Rattle.std.specs.Prelude.{ℕ, Bool, true, false, List, [], ◌∷◌, ◌++◌, codes, decimal, ℤ, pos, ◌*ℤ◌}
 use Rattle.ghg_categories.specs.declared.category.Category.{Category}
 use Rattle.ghg_categories.specs.Tree.{code_of}
 use Rattle.ghg_equations.specs.declared.eq_id.EqId.{EqId}

@@ -61,8 +61,8 @@ fn append_gases<C: Cells>(
 ) -> Result<(), AllocError>
     requires grouped { IsGrouping (C.content cells.now) groups.now }
     requires few { length (line_names (C.content cells.now)) ≤ most_lines }
-    ensures { OnOk result (rows.new.items ≡ rows.old.items ++
-        flat_map (λ g. pair_at (C.content cells.now) (compilation (C.content cells.now)) years (category, g)) gases) }
+    ensures { OnOk result (rows.new.items ≡ rows.old.items ++ flat_map
+        (λ g. pair_at (C.content cells.now) (compilation (C.content cells.now)) years (category, g)) gases) }
 {
     for gas in GASES {
         append_pair(rows, cells, groups, (category, gas), years)?;

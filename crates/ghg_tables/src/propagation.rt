@@ -74,7 +74,8 @@ fn in_tree<C: Cells>(alloc: Global, cells: &C, names: &[Name]) -> Result<Vec<Nam
 }
 
 fn is_emitter<C: Cells>(cells: &C, name: &Name) -> bool
-    ensures { result ≡ option_map_or (λ k. stands_under k.0 National) (emission (C.content cells.now) name.now) false }
+    ensures { result ≡ option_map_or (λ k. stands_under k.0 National)
+        (emission (C.content cells.now) name.now) false }
 {
     match emission(cells.book(), name) {
         Some((category, _)) => is_under(category, Category::National),

@@ -1,4 +1,4 @@
-use Rattle.std.proofs.Common.{arith, subst, sym}
+use Rattle.std.proofs.Common.{arith, subst}
 use Rattle.std.proofs.lemmas.Grind.{common_steps}
 use Rattle.ghg_keycat.specs.Sizes.{IsTrend}
 use Rattle.ghg_tables.proofs.Assessing.{some_denominator, trends_are, trends_bounded, untrended_are}
