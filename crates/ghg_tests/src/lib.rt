@@ -12,6 +12,10 @@ mod cases;
 #[cfg(test)]
 mod categories;
 #[cfg(test)]
+mod commands;
+#[cfg(test)]
+mod doors;
+#[cfg(test)]
 mod equations;
 #[cfg(test)]
 mod intervals;

@@ -1,0 +1,125 @@
+//! What the head of a request decides, without its body.
+
+ghost use Rattle.std.specs.Prelude.{◌≡◌, option_map};
+ghost use Rattle.ghg_http.specs.Decision.{decision, refusal_status, refusal_text, seen, show_framed, sized, submit_framed};
+ghost use Rattle.ghg_http.specs.Route.{seen as seen_target};
+
+use crate::fields::{Framing, Length};
+use crate::route::Target;
+use http::StatusCode;
+
+// The longest body that is read, in bytes.
+const MAX_BODY: u64 = 4_194_304;
+
+/// Why a request is refused before its body is read.
+#[derive(Clone, Copy, Debug, PartialEq, Eq, Drop)]
+pub enum Refusal {
+    /// It is no HTTP, or its length is no number.
+    BadRequest,
+    /// Its head is longer than 16,384 bytes, or has more than 64 fields.
+    HeadTooLarge,
+    /// Its path has no route.
+    NotFound,
+    /// Its route has another method.
+    WrongMethod,
+    /// It is a submission without a length, or in chunks.
+    LengthRequired,
+    /// Its body is coded.
+    CodedBody,
+    /// Its body is longer than a submission may be.
+    BodyTooLong,
+}
+
+impl Refusal {
+    /// The status of the reply.
+    pub fn status(self) -> StatusCode
+        ensures { result ≡ refusal_status self }
+    {
+        match self {
+            Refusal::BadRequest => StatusCode::BAD_REQUEST,
+            Refusal::HeadTooLarge => StatusCode::REQUEST_HEADER_FIELDS_TOO_LARGE,
+            Refusal::NotFound => StatusCode::NOT_FOUND,
+            Refusal::WrongMethod => StatusCode::METHOD_NOT_ALLOWED,
+            Refusal::LengthRequired => StatusCode::LENGTH_REQUIRED,
+            Refusal::CodedBody => StatusCode::UNSUPPORTED_MEDIA_TYPE,
+            Refusal::BodyTooLong => StatusCode::PAYLOAD_TOO_LARGE,
+        }
+    }
+
+    /// The text of the reply.
+    pub fn text(self) -> &'static str
+        ensures { result.now ≡ refusal_text self }
+    {
+        match self {
+            Refusal::BadRequest => "bad request",
+            Refusal::HeadTooLarge => "head too large",
+            Refusal::NotFound => "not found",
+            Refusal::WrongMethod => "method",
+            Refusal::LengthRequired => "length required",
+            Refusal::CodedBody => "coded body",
+            Refusal::BodyTooLong => "refused 3 BodyTooLong",
+        }
+    }
+}
+
+/// What a head decides.
+#[derive(Clone, Copy, Debug)]
+pub enum Decision<'b> {
+    /// That the request is refused.
+    Refuse(Refusal),
+    /// That a submission follows, of so many bytes.
+    Submit { id: &'b str, size: u64 },
+    /// That a table is shown.
+    Show { table: &'b str, year: &'b str },
+}
+
+/// The first case that holds, by the method, what the path asks for and how the body is sent.
+pub fn decide<'b>(method: &[u8], target: Option<Target<'b>>, framing: Framing) -> Decision<'b>
+    ensures { seen result ≡ decision method.now (option_map seen_target target.entry) framing }
+{
+    match target {
+        None => Decision::Refuse(Refusal::NotFound),
+        Some(Target::Submission { id }) if method == b"POST".as_slice() => submit_framed(
+            id, framing,
+        ),
+        Some(Target::Table { table, year }) if method == b"GET".as_slice() => show_framed(
+            table,
+            year,
+            framing.body_length,
+        ),
+        Some(_) => Decision::Refuse(Refusal::WrongMethod),
+    }
+}
+
+fn submit_framed(id: &str, framing: Framing) -> Decision<'_>
+    ensures { seen result ≡ submit_framed id.now framing }
+{
+    if framing.is_chunked {
+        return Decision::Refuse(Refusal::LengthRequired);
+    }
+    match framing.body_length {
+        Length::Missing => Decision::Refuse(Refusal::LengthRequired),
+        Length::Malformed => Decision::Refuse(Refusal::BadRequest),
+        Length::Given(_) if framing.is_coded => Decision::Refuse(Refusal::CodedBody),
+        Length::Given(size) => sized(id, size),
+    }
+}
+
+fn sized(id: &str, size: u64) -> Decision<'_>
+    ensures { seen result ≡ sized id.now size }
+{
+    if size > MAX_BODY {
+        Decision::Refuse(Refusal::BodyTooLong)
+    } else {
+        Decision::Submit { id, size }
+    }
+}
+
+fn show_framed<'b>(table: &'b str, year: &'b str, length: Length) -> Decision<'b>
+    ensures { seen result ≡ show_framed table.now year.now length }
+{
+    match length {
+        Length::Malformed => Decision::Refuse(Refusal::BadRequest),
+        Length::Missing | Length::Given(_) => Decision::Show { table, year },
+    }
+}

@@ -1,0 +1,77 @@
+//! The bytes of a reply.
+
+ghost use Rattle.std.specs.Prelude.{◌≡◌, string_bytes, IfOk};
+ghost use Rattle.ghg_http.specs.Reply.{json_body, json_reply, reply_bytes, reply_head};
+
+use http::StatusCode;
+use serde_json::json;
+use std::alloc::{AllocError, Global};
+use std::fmt;
+
+/// What a body holds.
+#[derive(Clone, Copy, Debug, PartialEq, Eq)]
+pub enum MediaType {
+    /// The lines of a table.
+    Csv,
+    /// An object with the text of a reply.
+    Json,
+}
+
+impl fmt::Display for MediaType {
+    ghost use Rattle.std.specs.Prelude.{Some};
+    ghost use Rattle.ghg_http.specs.Reply.{media_text};
+
+    ghost output = { λ media. Some (media_text media) };
+
+    fn fmt<W: fmt::Write>(&self, f: &mut fmt::Formatter<W>) -> fmt::Result {
+        match self {
+            MediaType::Csv => f.write_str("text/csv"),
+            MediaType::Json => f.write_str("application/json"),
+        }
+    }
+}
+
+// The status line, the fields and the empty line.
+fn reply_head(
+    alloc: Global,
+    status: StatusCode,
+    media: MediaType,
+    size: usize,
+) -> Result<String, AllocError>
+    ensures { IfOk result (λ s. string_bytes s ≡ reply_head status media size) }
+{
+    format!(in alloc;
+        "HTTP/1.1 {status}\r\ncontent-type: {media}\r\ncontent-length: {size}\r\nconnection: close\r\n\r\n"
+    )
+}
+
+/// A reply with a body.
+#[tactic(auto, unfolding(crate::specs::Reply::reply_bytes))]
+pub fn reply_bytes(
+    alloc: Global,
+    status: StatusCode,
+    media: MediaType,
+    body: &[u8],
+) -> Result<Vec<u8>, AllocError>
+    ensures { IfOk result (λ v. v.items ≡ reply_bytes status media body.now) }
+{
+    let head = reply_head(alloc, status, media, body.len())?;
+    let mut bytes = Vec::from_slice(alloc, head.as_bytes())?;
+    bytes.extend_from_slice(body)?;
+    Ok(bytes)
+}
+
+// A text as a body in JSON.
+fn json_body(alloc: Global, text: &str) -> Result<String, AllocError>
+    ensures { IfOk result (λ s. string_bytes s ≡ json_body text.now) }
+{
+    json!(in alloc; {"reply": text})?.to_string(alloc)
+}
+
+/// A reply whose body is a text in JSON.
+pub fn json_reply(alloc: Global, status: StatusCode, text: &str) -> Result<Vec<u8>, AllocError>
+    ensures { IfOk result (λ v. v.items ≡ json_reply status text.now) }
+{
+    let body = json_body(alloc, text)?;
+    reply_bytes(alloc, status, MediaType::Json, body.as_bytes())
+}

@@ -1,0 +1,179 @@
+//! Requests, as they are received from a link.
+
+ghost use Rattle.std.specs.Prelude.{◌≡◌, ◌+◌, ◌<◌, ◌≤◌, IfErr, IfOk, IfSome, MatchOption, false, length, true};
+ghost use Rattle.ghg_http.specs.Head.{IsWhole};
+ghost use Rattle.ghg_http.specs.Receive.{CompletesBody, CutsBody, FollowsHead, Grows, Stopped, TakesRequest};
+ghost use Rattle.ghg_http.specs.Route.{routes};
+ghost use Rattle.ghg_outer.specs.Tape.{IsAtEnd};
+
+use crate::decision::{Decision, Refusal};
+use crate::head::{Head, MAX_HEAD, read_head};
+use crate::route::Route;
+use ghg_outer::{Failed, Source};
+use matchit::Router;
+use std::alloc::{AllocError, AllocFailed, Global};
+
+/// Why no request was received.
+#[derive(Clone, Copy, Debug, PartialEq, Eq, Drop)]
+pub enum ReceiveError {
+    /// The link failed.
+    Failed,
+    /// Memory ran out.
+    Memory,
+}
+
+impl From<Failed> for ReceiveError {
+    ghost use Rattle.ghg_http.specs.declared.request.ReceiveError.TheVariants.{Failed as FailedVariant};
+
+    ghost from_gives = { λ _ e. e ≡ FailedVariant };
+
+    fn from(_: Failed) -> ReceiveError {
+        ReceiveError::Failed
+    }
+}
+
+impl From<AllocError> for ReceiveError {
+    ghost use Rattle.ghg_http.specs.declared.request.ReceiveError.TheVariants.{Memory};
+
+    ghost from_gives = { λ _ e. e ≡ Memory };
+
+    fn from(_: AllocError) -> ReceiveError {
+        ReceiveError::Memory
+    }
+}
+
+/// A request, or what stands in its place.
+#[derive(Debug, Drop)]
+pub enum Request {
+    /// It is refused before its body is read.
+    Refused(Refusal),
+    /// A submission.
+    Submit { id: String, body: Vec<u8> },
+    /// A request for a table.
+    Show { table: String, year: String },
+    /// The input ended before a whole request.
+    Cut,
+}
+
+/// Receives the next request from a link.
+///
+/// Of a head no more than 16,384 bytes are read before it is whole. A read may take bytes that stand behind
+/// the request too.
+pub fn receive_request<T: Source>(
+    alloc: Global,
+    router: &Router<Route>,
+    link: &mut T,
+) -> Result<Request, ReceiveError>
+    requires { router.now ≡ routes }
+    ensures request { IfOk result (TakesRequest (T.tape link.old) (T.tape link.new)) }
+    ensures stopped { IfErr result (Stopped (T.tape link.old) (T.tape link.new)) }
+{
+    let mut buffer = Vec::new(alloc);
+    'head: loop {
+        match read_head(alloc, router, &buffer)? {
+            Head::Unfinished => {
+                let room = MAX_HEAD - buffer.len();
+                if receive(link, &mut buffer, room)? == 0 {
+                    return Ok(Request::Cut);
+                }
+            }
+            Head::Malformed => return Ok(Request::Refused(Refusal::BadRequest)),
+            Head::TooLarge => return Ok(Request::Refused(Refusal::HeadTooLarge)),
+            Head::Whole { decision, size } => {
+                return receive_rest(alloc, link, &buffer, decision, size);
+            }
+        }
+    }
+}
+
+// Receives what a head asks for. The bytes begin with the head, which has this size.
+fn receive_rest<T: Source>(
+    alloc: Global,
+    link: &mut T,
+    bytes: &[u8],
+    decision: Decision<'_>,
+    size: usize,
+) -> Result<Request, ReceiveError>
+    requires whole { IsWhole bytes.now decision size }
+    requires short { length bytes.now ≤ MAX_HEAD }
+    ensures request { IfOk result (FollowsHead (T.tape link.old) (T.tape link.new) bytes.now) }
+    ensures stopped { IfErr result (Stopped (T.tape link.old) (T.tape link.new)) }
+{
+    match decision {
+        Decision::Refuse(reason) => Ok(Request::Refused(reason)),
+        Decision::Show { table, year } => {
+            let table = String::from_str(alloc, table)?;
+            let year = String::from_str(alloc, year)?;
+            Ok(Request::Show { table, year })
+        }
+        Decision::Submit {
+            id,
+            size: body_size,
+        } => {
+            let id = String::from_str(alloc, id)?;
+            let rest = bytes.split_at(size).1;
+            match receive_body(alloc, link, rest, body_size as usize)? {
+                Some(body) => Ok(Request::Submit { id, body }),
+                None => Ok(Request::Cut),
+            }
+        }
+    }
+}
+
+// Receives the rest of a body of this size, or finds that the input ends before.
+fn receive_body<T: Source>(
+    alloc: Global,
+    link: &mut T,
+    rest: &[u8],
+    size: usize,
+) -> Result<Option<Vec<u8>>, ReceiveError>
+    ensures body { IfOk result (λ body. MatchOption body
+        (CutsBody (T.tape link.old) (T.tape link.new) rest.now size)
+        (λ bytes. CompletesBody (T.tape link.old) (T.tape link.new) rest.now bytes.items)) }
+    ensures size { IfOk result (λ body. IfSome body (λ bytes. length bytes.items ≡ size)) }
+    ensures stopped { IfErr result (Stopped (T.tape link.old) (T.tape link.new)) }
+{
+    let mut body = Vec::from_slice(alloc, rest)?;
+    if !fill(link, &mut body, size)? {
+        return Ok(None);
+    }
+    body.truncate(size);
+    Ok(Some(body))
+}
+
+// Receives bytes until there are so many, and says whether that came before the end of the input.
+fn fill<T: Source>(link: &mut T, body: &mut Vec<u8>, size: usize) -> Result<bool, ReceiveError>
+    ensures got { IfOk result (λ _. Grows (T.tape link.old) (T.tape link.new) body.old.items body.new.items) }
+    ensures whole { IfOk result (λ whole. whole ≡ true → size ≤ length body.new.items) }
+    ensures cut { IfOk result (λ whole. whole ≡ false → length body.new.items < size) }
+    ensures end { IfOk result (λ whole. whole ≡ false → IsAtEnd (T.tape link.new)) }
+    ensures stopped { IfErr result (Stopped (T.tape link.old) (T.tape link.new)) }
+{
+    while body.len() < size {
+        if receive(link, body, size - body.len())? == 0 {
+            return Ok(false);
+        }
+    }
+    Ok(true)
+}
+
+// Receives some bytes, at most so many, to the end of a buffer. None come at the end of the input.
+fn receive<T: Source>(
+    link: &mut T,
+    buffer: &mut Vec<u8>,
+    most: usize,
+) -> Result<usize, ReceiveError>
+    requires { 0 < most }
+    ensures got { IfOk result (λ _.
+        Grows (T.tape link.old) (T.tape link.new) buffer.old.items buffer.new.items) }
+    ensures count { IfOk result (λ n. length buffer.new.items ≡ length buffer.old.items + n) }
+    ensures bound { IfOk result (λ n. n ≤ most) }
+    ensures end { IfOk result (λ n. n ≡ 0 → IsAtEnd (T.tape link.new)) }
+    ensures stopped { IfErr result (Stopped (T.tape link.old) (T.tape link.new)) }
+{
+    let mut chunk = [0; 4096];
+    let room = most.min(chunk.len());
+    let count = link.read(&mut chunk[..room])?;
+    buffer.extend_from_slice(&chunk[..count])?;
+    Ok(count)
+}

@@ -1,0 +1,161 @@
+//! Command lines, and the same ones as `clap` reads them.
+
+use crate::cases::check;
+use clap::{Arg, ArgAction, ArgMatches, Error};
+use ghg_words::{Command, Settings, read_command};
+use std::alloc::{AllocError, Global};
+use std::test::Fail;
+
+// The words of a line, as the program gets them.
+fn words_of(alloc: Global, line: &str) -> Result<Vec<String>, AllocError> {
+    let mut words = Vec::new(alloc);
+    for word in line.split_whitespace() {
+        words.push(String::from_str(alloc, word)?)?;
+    }
+    Ok(words)
+}
+
+// The store, and the port and the number of connections.
+fn parts<'c>(command: &'c Command) -> (Option<&'c str>, Option<(u16, u32)>) {
+    match command {
+        Command::Compile(settings) => (store_of(settings), None),
+        Command::Serve(service) => (
+            store_of(&service.settings),
+            Some((service.port, service.connections)),
+        ),
+    }
+}
+
+fn store_of<'c>(settings: &'c Settings) -> Option<&'c str> {
+    settings.store.as_ref().map(|name| name.as_str())
+}
+
+// Command lines, with what they name.
+const COMMANDS: &[(&str, Option<&str>, Option<(u16, u32)>)] = &[
+    ("compile", None, None),
+    ("compile --store s", Some("s"), None),
+    ("compile --workers=1", None, None),
+    ("compile --store=help", Some("help"), None),
+    ("serve --port 8000 --connections 2", None, Some((8000, 2))),
+    (
+        "serve --connections=2 --store s --port=8000",
+        Some("s"),
+        Some((8000, 2)),
+    ),
+    (
+        "serve --port 65535 --workers 0000000001 --connections 1000000",
+        None,
+        Some((65_535, 1_000_000)),
+    ),
+];
+
+#[test]
+fn options_may_stand_in_any_order(rt: HostRuntime) -> Result<(), Fail> {
+    for (line, store, service) in COMMANDS {
+        let words = words_of(rt.alloc(), line)?;
+        match read_command(&words) {
+            Some(command) => check(&rt, parts(&command) == (*store, *service), line),
+            None => check(&rt, false, line),
+        }
+    }
+    Ok(())
+}
+
+// Lines that are no command.
+const NO_COMMANDS: &[&str] = &[
+    "",
+    "help",
+    "-h",
+    "compile --help",
+    "compile --workers 65",
+    "compile --workers 0",
+    "compile --store",
+    "compile --store s --store s",
+    "compile --store .x",
+    "compile --store -x",
+    "compile --",
+    "compile --port 8000",
+    "serve --port 8000",
+    "serve --port 65536 --connections 1",
+    "serve --port 8000 --connections 1000001",
+    "serve --port 00000008000 --connections 1",
+];
+
+#[test]
+fn all_else_is_no_command(rt: HostRuntime) -> Result<(), Fail> {
+    for line in NO_COMMANDS {
+        let words = words_of(rt.alloc(), line)?;
+        check(&rt, read_command(&words).is_none(), line);
+    }
+    Ok(())
+}
+
+// ---- the same by `clap`
+
+// An option that takes one value.
+fn option(alloc: Global, name: &str) -> Arg<'_> {
+    Arg::new(alloc, name).long(name).action(ArgAction::Set)
+}
+
+fn read_by_clap<'a>(alloc: Global, words: &'a [&'a str]) -> Result<ArgMatches<'a>, Error> {
+    let compile = clap::Command::new(alloc, "compile")
+        .arg(option(alloc, "workers"))?
+        .arg(option(alloc, "store"))?;
+    let serve = clap::Command::new(alloc, "serve")
+        .arg(option(alloc, "workers"))?
+        .arg(option(alloc, "store"))?
+        .arg(option(alloc, "port"))?
+        .arg(option(alloc, "connections"))?;
+    clap::Command::new(alloc, "ghg")
+        .subcommand(compile)?
+        .subcommand(serve)?
+        .try_get_matches_from(words)
+}
+
+// What `clap` reads is what the reader reads.
+fn agrees(matches: &ArgMatches, command: &Command) -> bool {
+    match (matches.subcommand(), command) {
+        (Some(("compile", options)), Command::Compile(settings)) => {
+            agrees_on_settings(options, settings)
+        }
+        (Some(("serve", options)), Command::Serve(service)) => {
+            agrees_on_settings(options, &service.settings)
+                && options.get_one::<u16>("port") == Some(service.port)
+                && options.get_one::<u32>("connections") == Some(service.connections)
+        }
+        _ => false,
+    }
+}
+
+fn agrees_on_settings(options: &ArgMatches, settings: &Settings) -> bool {
+    options.get_str("store") == store_of(settings)
+        && options.get_one::<u32>("workers").unwrap_or(1) == settings.workers
+}
+
+// The lines that both read.
+const COMPARED: &[&str] = &[
+    "compile",
+    "compile --store s",
+    "compile --workers=1",
+    "serve --port 8000 --connections 2",
+    "serve --connections=2 --store s --port=8000",
+];
+
+#[test]
+fn clap_reads_commands_in_the_same_way(rt: HostRuntime) -> Result<(), Fail> {
+    let alloc = rt.alloc();
+    for line in COMPARED {
+        let mut named = Vec::new(alloc);
+        named.push("ghg")?;
+        for word in line.split_whitespace() {
+            named.push(word)?;
+        }
+        let matches = read_by_clap(alloc, &named)?;
+        let words = words_of(alloc, line)?;
+        match read_command(&words) {
+            Some(command) => check(&rt, agrees(&matches, &command), line),
+            None => check(&rt, false, line),
+        }
+    }
+    Ok(())
+}
