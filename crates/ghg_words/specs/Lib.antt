@@ -1,3 +1,4 @@
 pub mod Command
+pub mod Laws
 pub mod Options
 pub mod Values

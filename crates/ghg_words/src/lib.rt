@@ -7,8 +7,10 @@
 #![tactic(auto)]
 
 mod command;
+mod laws;
 mod options;
 mod values;
 
 pub use command::{Command, Service, Settings, read_command};
+pub use laws::options_stand_in_any_order;
 pub use values::StoreName;
