@@ -1,5 +1,5 @@
 -- The framing of fields depends on their names and values alone.
-use Rattle.std.proofs.Common.{◌≡◌, ℕ, Bool, true, false, cond, ◌||◌, List, [], ◌∷◌, map, Option, Some, None, option_map, refl, ap, sym, ◌∙◌, codes, if◌then◌else◌}
+use Rattle.std.proofs.Common.{◌≡◌, ℕ, Bool, true, false, cond, ◌||◌, List, [], ◌∷◌, map, Option, Some, None, option_map, refl, ap, sym, ◌∙◌, codes}
 use Rattle.std.specs.List.{list_any, find}
 use Rattle.ghg_http.specs.Fields.{Parts, first_value, framing, is_named, is_other_length, is_coding, length_in, length_with}
 

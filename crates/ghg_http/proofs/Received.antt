@@ -1,8 +1,8 @@
 -- What was read from a link by several reads holds a request.
-use Rattle.std.proofs.Common.{◌≡◌, ℕ, ◌+◌, ◌<◌, ◌≤◌, List, [], ◌++◌, length, take, drop, sym, ap, ◌∙◌, append_assoc, append-nil, length-append, refl, subst, arith, inl, inr, Result, Ok, Err, Bor, Vec, string_bytes}
+use Rattle.std.proofs.Common.{◌≡◌, ℕ, ◌+◌, ◌<◌, ◌≤◌, List, [], ◌++◌, length, take, drop, sym, ap, ◌∙◌, append_assoc, append-nil, length-append, refl, subst, arith, inr, Result, Ok, Err, Bor, Vec, string_bytes}
 use Rattle.std.specs.Global.{Global}
 use Rattle.std.specs.Prelude.{IfErr, IfOk, String}
-use Rattle.std.proofs.lemmas.List.{take-append-drop, length-take-le, nil_from_length}
+use Rattle.std.proofs.lemmas.List.{take-append-drop, nil_from_length}
 use Rattle.httparse.specs.Grammar.{ReadsRequest}
 use Rattle.httparse.proofs.GrammarLemmas.{ReadsRequest-append}
 use Rattle.ghg_outer.specs.Tape.{Consumes, IsAtEnd, Tape}

@@ -2,7 +2,7 @@
 use Rattle.std.specs.Prelude.{ℕ, List, codes, bytes_eq, if◌then◌else◌, nat_lt, Option, Some, None}
 use Rattle.httparse.specs.Grammar.{RequestHead}
 use Rattle.httparse.specs.Spans.{name_and_value}
-use Rattle.ghg_http.specs.declared.decision.TheConstants.{MAX_BODY}
+use Rattle.ghg_import.specs.Body.{max_body}
 use Rattle.ghg_http.specs.Fields.{framing}
 use Rattle.ghg_http.specs.Route.{Target, submission, table, target_of, path_of}
 use Rattle.ghg_http.specs.declared.decision.Decision as declared
@@ -45,9 +45,6 @@ abbrev pub seen : declared.Decision → Decision
 seen (decided.Refuse reason) = refuse reason
 seen (decided.Submit id n) = submit id.now n
 seen (decided.Show name year) = show name.now year.now
-
-abbrev pub max_body : ℕ
-max_body = MAX_BODY
 
 -- a submission whose body has so many bytes
 abbrev pub sized : List ℕ → ℕ → Decision

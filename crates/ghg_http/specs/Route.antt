@@ -1,5 +1,5 @@
 -- The routes, and what a path asks for.
-use Rattle.std.specs.Prelude.{ℕ, Bool, List, [], ◌∷◌, length, drop, nat_eq, nat_lt, ◌==◌, if◌then◌else◌, Option, Some, None, option_map, option_and_then, Result, Ok, Err, codes}
+use Rattle.std.specs.Prelude.{ℕ, Bool, List, [], length, drop, nat_eq, nat_lt, ◌==◌, if◌then◌else◌, Option, Some, None, option_map, option_and_then, Result, Ok, Err, codes}
 use Rattle.std.specs.List.{starts_with, position_or_len, before_first, after_first}
 use Rattle.matchit.specs.Rows.{RowsOf}
 use Rattle.matchit.specs.Order.{placed}

@@ -6,10 +6,8 @@ ghost use Rattle.ghg_http.specs.Route.{seen as seen_target};
 
 use crate::fields::{Framing, Length};
 use crate::route::Target;
+use ghg_import::MAX_BODY;
 use http::StatusCode;
-
-// The longest body that is read, in bytes.
-const MAX_BODY: u64 = 4_194_304;
 
 /// Why a request is refused before its body is read.
 #[derive(Clone, Copy, Debug, PartialEq, Eq, Drop)]
@@ -108,7 +106,7 @@ fn submit_framed(id: &str, framing: Framing) -> Decision<'_>
 fn sized(id: &str, size: u64) -> Decision<'_>
     ensures { seen result ≡ sized id.now size }
 {
-    if size > MAX_BODY {
+    if size > MAX_BODY as u64 {
         Decision::Refuse(Refusal::BodyTooLong)
     } else {
         Decision::Submit { id, size }

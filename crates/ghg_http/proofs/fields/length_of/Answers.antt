@@ -1,5 +1,4 @@
-use Rattle.std.proofs.Common.{◌≡◌, ◌∙◌, sym, true}
-use Rattle.ghg_http.specs.Fields.{is_length}
+use Rattle.std.proofs.Common.{◌∙◌, sym}
 use Rattle.ghg_http.proofs.Lengths.{not_length, length_utf8, length_parsed, utf8_read, utf8_same}
 use Rattle.ghg_http.proofs.fields.length_of.Goals as goal
 

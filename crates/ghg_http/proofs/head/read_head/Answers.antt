@@ -1,4 +1,4 @@
-use Rattle.std.proofs.Common.{◌≡◌, ◌∙◌, sym, ap, arith, map, take}
+use Rattle.std.proofs.Common.{◌≡◌, arith, map, take}
 use Rattle.httparse.specs.Spans.{header_bytes}
 use Rattle.ghg_http.specs.Fields.{field_parts}
 use Rattle.ghg_http.proofs.Heads.{whole_head}

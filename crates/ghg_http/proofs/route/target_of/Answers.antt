@@ -1,4 +1,4 @@
-use Rattle.std.proofs.Common.{◌≡◌, ◌∙◌, sym, ap}
+use Rattle.std.proofs.Common.{◌∙◌, sym, ap}
 use Rattle.ghg_http.specs.Route.{target_of, parts_of}
 use Rattle.std.specs.Prelude.{option_and_then}
 use Rattle.ghg_http.proofs.route.target_of.Goals as goal
