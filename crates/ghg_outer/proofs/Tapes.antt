@@ -1,5 +1,5 @@
 -- What is read and written piece by piece, and prefixes of what is written.
-use Rattle.std.proofs.Common.{◌≡◌, ℕ, ◌+◌, ◌≤◌, ◌<◌, List, [], ◌++◌, length, take, min, append-nil, length-append, subst, sym, ◌∙◌, arith}
+use Rattle.std.proofs.Common.{◌≡◌, ℕ, ◌+◌, ◌≤◌, List, [], ◌++◌, length, take, min, append-nil, length-append, refl, subst, sym, ◌∙◌, arith}
 use Rattle.std.proofs.KnownBytes.{Appends-nil, Appends-trans, Consumes-nil, Consumes-trans, Keeps-refl, Keeps-trans}
 use Rattle.std.proofs.Math.Seq.{take-append-add, take-length}
 use Rattle.std.proofs.lemmas.List.{take-append-le, take_min}
@@ -13,6 +13,7 @@ consumes_nothing a = record {
   taken = Appends-nil a.taken;
   written = Keeps-refl a.written;
   counts = omega arith;
+  grows = refl;
 }
 
 pub consumes_more : (a b c : Tape) (xs ys : List ℕ) → Consumes a b xs → Consumes b c ys → Consumes a c (xs ++ ys)
@@ -21,6 +22,7 @@ consumes_more a b c xs ys p q = record {
   taken = Appends-trans a.taken b.taken c.taken xs ys p.taken q.taken;
   written = Keeps-trans a.written b.written c.written p.written q.written;
   counts = omega (arith, p.counts, q.counts);
+  grows = q.grows ∙ p.grows;
 }
 
 pub consumes_no_more : (a b c : Tape) (xs : List ℕ) → Consumes a b xs → Consumes b c [] → Consumes a c xs
@@ -34,6 +36,7 @@ appends_nothing a = record {
   taken = Keeps-refl a.taken;
   written = Appends-nil a.written;
   counts = omega arith;
+  grows = refl;
 }
 
 pub appends_more : (a b c : Tape) (xs ys : List ℕ) → Appends a b xs → Appends b c ys → Appends a c (xs ++ ys)
@@ -42,6 +45,7 @@ appends_more a b c xs ys p q = record {
   taken = Keeps-trans a.taken b.taken c.taken p.taken q.taken;
   written = Appends-trans a.written b.written c.written xs ys p.written q.written;
   counts = omega (arith, p.counts, q.counts);
+  grows = q.grows ∙ p.grows;
 }
 
 pub appends_no_more : (a b c : Tape) (xs : List ℕ) → Appends a b xs → Appends b c [] → Appends a c xs
@@ -81,10 +85,6 @@ proper_behind a b c xs ys p q = record {
   short = omega (arith, q.short, length-append xs ys);
   wrote = rw take-append-add (appends_more a b c xs (take q.count ys) p q.wrote);
 }
-
--- nothing was written of something
-pub none_written : (a : Tape) (xs : List ℕ) → 0 < length xs → AppendsProperPrefix a a xs
-none_written a xs h = record { count = 0; short = h; wrote = appends_nothing a }
 
 -- ---- counts
 

@@ -1,5 +1,5 @@
 -- Links in memory, which are read and written.
-use Rattle.std.specs.Prelude.{◌≡◌, ℕ, List, [], Some, IfSome}
+use Rattle.std.specs.Prelude.{◌≡◌, ℕ, true, List, [], Some, IfSome}
 use Rattle.ghg_outer.specs.Bytes.{SourceBytes}
 use Rattle.ghg_outer.specs.Plans.{Plan}
 use Rattle.ghg_outer.specs.Tape.{Tape}
@@ -16,6 +16,7 @@ link_tape bytes faults = record {
   taken = Some bytes.input.taken;
   written = Some bytes.written;
   faults = faults;
+  grows = true;
 }
 
 -- a link in memory whose calls fail by a list

@@ -1,15 +1,17 @@
 -- What an object of the outside tells: a tape, of which bytes are read and on which bytes are written.
-use Rattle.std.specs.Prelude.{ℕ, ◌≤◌, ◌<◌, List, [], length, take, Option, Some, None, Result, MatchResult}
+use Rattle.std.specs.Prelude.{◌≡◌, ℕ, ◌≤◌, ◌<◌, Bool, true, false, List, [], length, take, Option, Some, None, Result, MatchResult}
 use Rattle.std.specs.Io.KnownBytes as known
 use Rattle.ghg_outer.specs.Counts.{raised}
 
 -- The bytes that are left to be read, those that were taken, and those that were written, where they are
--- known; and how many calls failed. An object that tells nothing of some bytes has `None` for them.
+-- known; how many calls failed; and whether a write takes memory, as one to a list that grows. An object
+-- that tells nothing of some bytes has `None` for them.
 pub record Tape : Type 0 where
   pub left : Option (List ℕ)
   pub taken : Option (List ℕ)
   pub written : Option (List ℕ)
   pub faults : ℕ
+  pub grows : Bool
 
 -- The text was taken from the front of what was left, and stands behind what was taken before. Nothing
 -- was written, and the count of faults did not fall.
@@ -18,6 +20,7 @@ pub record Consumes (before after : Tape) (text : List ℕ) : Type 0 where
   pub taken : known.Appends before.taken after.taken text
   pub written : known.Keeps before.written after.written
   pub counts : before.faults ≤ after.faults
+  pub grows : after.grows ≡ before.grows
 
 -- The text was written behind what was written before. Nothing was taken, and the count of faults did not
 -- fall.
@@ -26,6 +29,7 @@ pub record Appends (before after : Tape) (text : List ℕ) : Type 0 where
   pub taken : known.Keeps before.taken after.taken
   pub written : known.Appends before.written after.written text
   pub counts : before.faults ≤ after.faults
+  pub grows : after.grows ≡ before.grows
 
 -- A prefix of the text was written, perhaps all of it, and nothing else.
 pub record AppendsPrefix (before after : Tape) (text : List ℕ) : Type 0 where
@@ -61,8 +65,9 @@ Writes before after result piece =
 -- the tape of a source that tells its bytes
 abbrev pub source_tape : List ℕ → List ℕ → ℕ → Tape
 source_tape left taken faults =
-    record { left = Some left; taken = Some taken; written = None; faults = faults }
+    record { left = Some left; taken = Some taken; written = None; faults = faults; grows = false }
 
 -- the tape of a sink that tells its bytes
 abbrev pub sink_tape : List ℕ → ℕ → Tape
-sink_tape written faults = record { left = None; taken = None; written = Some written; faults = faults }
+sink_tape written faults =
+    record { left = None; taken = None; written = Some written; faults = faults; grows = true }

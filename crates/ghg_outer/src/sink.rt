@@ -1,4 +1,4 @@
-ghost use Rattle.std.specs.Prelude.{◌<◌, ◌≤◌, length, IfOk, IsErrOf};
+ghost use Rattle.std.specs.Prelude.{◌≡◌, ◌<◌, ◌≤◌, true, length, IfOk, IsErrOf};
 ghost use Rattle.ghg_outer.specs.Tape.{Rose, Writes};
 
 use crate::Told;
@@ -23,5 +23,6 @@ pub trait Sink: Told {
         ensures some { IfOk result (λ n. 0 < n) }
         ensures bound { IfOk result (λ n. n ≤ length piece.now) }
         ensures wrote { Writes (Self.tape self.old) (Self.tape self.new) result piece.now }
-        ensures failed { IsErrOf result WriteError.Failed → Rose (Self.tape self.old) (Self.tape self.new) };
+        ensures failed { IsErrOf result WriteError.Failed → Rose (Self.tape self.old) (Self.tape self.new) }
+        ensures memory { IsErrOf result WriteError.Memory → (Self.tape self.old).grows ≡ true };
 }

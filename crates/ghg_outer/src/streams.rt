@@ -1,5 +1,5 @@
 // The process's own input and output, which are the trusted edge.
-ghost use Rattle.std.specs.Prelude.{◌≡◌, ◌≢◌, ◌<◌, ◌≤◌, length, IfOk, IfErr, IsErr, None};
+ghost use Rattle.std.specs.Prelude.{◌≡◌, ◌≢◌, ◌<◌, ◌≤◌, false, length, IfOk, IfErr, IsErr, None};
 ghost use Rattle.std.specs.Io.{ReadsAtMost, WritesAtMost};
 ghost use Rattle.std.specs.Io.KnownBytes.{ReadConsumes, WriteAppends};
 ghost use Rattle.std.specs.IoError.{error_kind};
@@ -25,7 +25,7 @@ impl<R: Read + Drop> InputSource<R> {
     /// A source over the reader, with no fault yet.
     pub fn new(reader: R) -> InputSource<R>
         ensures { ⟦<InputSource<R> as Told>⟧.tape result
-            ≡ record { left = R.remaining reader; taken = None; written = None; faults = 0 } }
+            ≡ record { left = R.remaining reader; taken = None; written = None; faults = 0; grows = false } }
     {
         InputSource { reader, faults: 0 }
     }
@@ -37,6 +37,7 @@ impl<R: Read + Drop> Told for InputSource<R> {
       taken = None;
       written = None;
       faults = s.faults;
+      grows = false;
     } };
 }
 
@@ -84,7 +85,7 @@ impl<W: Write + Drop> OutputSink<W> {
     /// A sink over the writer, with no fault yet.
     pub fn new(writer: W) -> OutputSink<W>
         ensures { ⟦<OutputSink<W> as Told>⟧.tape result
-            ≡ record { left = None; taken = None; written = W.contents writer; faults = 0 } }
+            ≡ record { left = None; taken = None; written = W.contents writer; faults = 0; grows = false } }
     {
         OutputSink { writer, faults: 0 }
     }
@@ -96,6 +97,7 @@ impl<W: Write + Drop> Told for OutputSink<W> {
       taken = None;
       written = W.contents s.writer;
       faults = s.faults;
+      grows = false;
     } };
 }
 

@@ -1,5 +1,5 @@
 // Connections over TCP, which are the trusted edge.
-ghost use Rattle.std.specs.Prelude.{◌≡◌, ⊤, None};
+ghost use Rattle.std.specs.Prelude.{◌≡◌, ⊤, false, None};
 ghost use Rattle.ghg_outer.specs.Counts.{IsCounted};
 
 use crate::streams::{read_again, write_again};
@@ -38,7 +38,13 @@ impl<S: Drop> TcpLink<S> {
 }
 
 impl<S: Drop> Told for TcpLink<S> {
-    ghost tape = { λ l. record { left = None; taken = None; written = None; faults = l.faults } };
+    ghost tape = { λ l. record {
+      left = None;
+      taken = None;
+      written = None;
+      faults = l.faults;
+      grows = false;
+    } };
 }
 
 impl<S: Read + Drop> Source for TcpLink<S> {
