@@ -12,7 +12,7 @@ use Rattle.ghg_session.specs.Replies.{protocol}
 use Rattle.ghg_session.specs.Session.{Ends, Snapshot, beginning, end_status}
 use Rattle.ghg_session.specs.Writing.{StoppedWriting, stop_status}
 use Rattle.ghg_session.proofs.Stops.{input_is_not_written}
-use Rattle.ghg_session.proofs.Whole.{ends_behind, ends_done, ends_spends, interrupted_begun, interrupted_short, interrupted_spends, interrupted_unfinished}
+use Rattle.ghg_session.proofs.Whole.{ends_behind, ends_done, ends_spends, interrupted_begun, interrupted_runs_out, interrupted_short, interrupted_spends, interrupted_unfinished}
 use Rattle.ghg.specs.Run.{CompileRun, NoCommandRun, bad_command_line, is_end}
 use Rattle.ghg.proofs.Held.{done_begun, sound_when_due}
 
@@ -98,6 +98,7 @@ compile_ended before after end h e =
       unfinished = λ four. absurd (end_is_no_stop end Input four);
       short = λ five. absurd (end_is_no_stop end Output five);
       begun = done_begun before after (end_status end) done;
+      memory = λ eight. absurd (end_is_no_stop end Memory eight);
       steps = ends_spends protocol (beginning before) after end e;
       bounds = sound_when_due before h;
     }
@@ -134,6 +135,9 @@ compile_interrupted before after stop h i =
           interrupted_short protocol (beginning before) after
           (subst (Interrupted protocol (beginning before) after) (one_stop stop Output five) i);
       begun = interrupted_begun protocol (beginning before) after stop i;
+      memory = λ eight.
+          interrupted_runs_out protocol (beginning before) after
+          (subst (Interrupted protocol (beginning before) after) (one_stop stop Memory eight) i);
       steps = interrupted_spends protocol (beginning before) after stop i;
       bounds = sound_when_due before h;
     }

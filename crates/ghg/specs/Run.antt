@@ -1,10 +1,10 @@
 -- What the program owes for its words and its input.
-use Rattle.std.specs.Prelude.{◌≡◌, ◌≢◌, ℕ, ◌⊎◌, true, Bool, ◌||◌, ◌==◌, List, Result, codes}
+use Rattle.std.specs.Prelude.{◌≡◌, ◌≢◌, ℕ, ◌⊎◌, true, false, Bool, ◌||◌, ◌==◌, List, Result, codes}
 use Rattle.ghg_office.specs.Office.{State}
 use Rattle.ghg_outer.specs.Tape.{Appends, AppendsPrefix, AppendsProperPrefix, Consumes, Rose, Tape}
 use Rattle.ghg_session.specs.declared.session.End.{End}
 use Rattle.ghg_session.specs.declared.stop.Stop.{Stop}
-use Rattle.ghg_session.specs.Interruptions.{AnswersScript, IsDue, IsLeftBehind, IsUnfinished, SpendsWithin}
+use Rattle.ghg_session.specs.Interruptions.{AnswersScript, IsDue, IsLeftBehind, IsUnfinished, RunsOut, SpendsWithin}
 use Rattle.ghg_session.specs.Replies.{protocol}
 use Rattle.ghg_session.specs.Session.{Snapshot, beginning, line_of, result_status}
 use Rattle.ghg_session.specs.Writing.{StoppedWriting, stop_status}
@@ -61,6 +61,8 @@ pub record CompileRun (before after : Snapshot State) (status : ℕ) : Type 0 wh
   pub short : status ≡ 5 → IsDue protocol (beginning before)
       (λ due. AppendsProperPrefix before.output after.output due.output)
   pub begun : IsDue protocol (beginning before) (λ due. AppendsPrefix before.output after.output due.output)
+  -- With status 8, where no write takes memory, nothing of the next reply was written.
+  pub memory : status ≡ 8 → before.output.grows ≡ false → RunsOut protocol (beginning before) after
   -- No more steps were taken than the requests ask for that were read.
   pub steps : SpendsWithin protocol (beginning before) after
   -- In each table that is due the bounds hold the exact values of the nodes of the data then in force,

@@ -1,12 +1,10 @@
 -- What the office answers a request with, and its state then.
-use Rattle.std.proofs.Common.{◌≡◌, ◌≢◌, ◌+◌, ◌∙◌, ℕ, ◌<◌, Bool, true, false, inl, inr, List, ◌++◌, length, length-append, refl, sym, ap, Ok, Err, Result, OnErr, Option, Some, None, nat_lt, if◌then◌else◌, arith}
-use Rattle.std.specs.Fmt.{decimal}
-use Rattle.std.specs.Prelude.{codes}
+use Rattle.std.proofs.Common.{◌≡◌, ◌≢◌, ◌+◌, ◌∙◌, ℕ, Bool, true, false, inl, inr, List, length, refl, sym, ap, Ok, Err, Result, OnErr, Option, Some, None, nat_lt, if◌then◌else◌}
 use Rattle.ghg_definitions.specs.Compilation.{is_year_of}
 use Rattle.ghg_definitions.specs.Data.{Data, span}
 use Rattle.ghg_import.specs.Body.{max_body}
 use Rattle.ghg_office.specs.Office.{Answer, IsRead, State, asked, decided, entered_by, refused, requested, submitted}
-use Rattle.ghg_office.specs.Replies.{Answers, Shows, is_short, reply_text}
+use Rattle.ghg_office.specs.Replies.{Answers, Shows, is_short}
 use Rattle.ghg_office.specs.declared.reply.Reply.{Reply}
 use Rattle.ghg_office.specs.declared.reply.Reply.TheVariants.{Accepted, Repeated, Refused, Table, NoTable, Memory}
 use Rattle.ghg_office.proofs.Cases.{submitted_cases}
@@ -14,35 +12,8 @@ use Rattle.ghg_tables.specs.declared.table.Table.{Table as NamedTable}
 use Rattle.ghg_tables.specs.Names.{table_in}
 use Rattle.ghg_units.specs.declared.rule.Rule.{Rule}
 use Rattle.ghg_units.specs.declared.rule.Rule.TheVariants.{BodyTooLong}
-use Rattle.ghg_session.specs.declared.command.Request.{Request}
 use Rattle.ghg_session.specs.declared.command.Request.TheVariants.{Submit, Show}
-use Rattle.ghg_session.specs.Replies.{heading, line_count, needs_memory, reply_of, table_lines, takes_memory}
-use Rattle.ghg_session.proofs.Writings.{line_is_some}
-
--- ---- a reply has a line at least
-
-heading_is_some : (table : List ℕ) (year : ℕ) (text : List ℕ) → 0 < length (heading table year text ++ text)
-unfolding heading
-heading_is_some table year text =
-    omega (
-      arith,
-      length-append (heading table year text) text,
-      line_is_some
-          (codes "table " ++ table ++ codes " " ++ decimal year ++ codes " rows " ++ decimal (line_count text)),
-    )
-
-table_is_some : (table : List ℕ) (year : ℕ) (reply : Reply) → 0 < length (table_lines table year reply)
-table_is_some table year (Table text) = heading_is_some table year text
-table_is_some table year (Accepted seq) = line_is_some (reply_text (Accepted seq))
-table_is_some table year (Repeated seq) = line_is_some (reply_text (Repeated seq))
-table_is_some table year (Refused rule) = line_is_some (reply_text (Refused rule))
-table_is_some table year NoTable = line_is_some (reply_text NoTable)
-table_is_some table year Memory = line_is_some (reply_text Memory)
-
-pub reply_is_some : (s : State) (asked : Request) → 0 < length (reply_of s asked)
-unfolding reply_of
-reply_is_some s (Submit id body) = line_is_some (reply_text (submitted s id body).reply)
-reply_is_some s (Show table year) = table_is_some table year _
+use Rattle.ghg_session.specs.Replies.{needs_memory, takes_memory}
 
 -- ---- a request that is left undone takes memory
 

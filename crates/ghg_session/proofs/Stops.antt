@@ -2,6 +2,11 @@
 use Rattle.std.proofs.Common.{◌≡◌, ◌⊎◌, inl, inr}
 use Rattle.ghg_session.specs.declared.stop.Stop.TheVariants.{Input, Output, Memory}
 
+-- by cases
+pub either : {A B C : Type 0} → A ⊎ B → (A → C) → (B → C) → C
+either (inl a) f g = f a
+either (inr b) f g = g b
+
 -- a call that reads does not stop at the output
 pub output_is_not_read : (Output ≡ Input) ⊎ (Output ≡ Memory) → ⊥
 output_is_not_read (inl e) = cc

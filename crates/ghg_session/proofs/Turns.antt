@@ -1,5 +1,5 @@
 -- One turn of a session, many, and what they leave of the whole.
-use Rattle.std.proofs.Common.{◌≡◌, ℕ, ◌+◌, ◌≤◌, ◌<◌, ◌⊎◌, inl, inr, List, [], ◌∷◌, ◌++◌, length, append_assoc, append-nil, length-append, refl, sym, ap, subst, ◌∙◌, arith, None, Some}
+use Rattle.std.proofs.Common.{◌≡◌, ℕ, ◌+◌, ◌≤◌, ◌<◌, ◌⊎◌, inl, inr, List, [], ◌∷◌, ◌++◌, append_assoc, append-nil, length-append, refl, sym, ap, subst, ◌∙◌, arith, None, Some}
 use Rattle.ghg_outer.specs.Tape.{Appends, IsAtEnd, Tape}
 use Rattle.ghg_outer.proofs.Tapes.{appends_more, appends_nothing, consumes_more, consumes_nothing, rose_later}
 use Rattle.ghg_session.specs.declared.command.Command.TheVariants as command
@@ -14,7 +14,6 @@ use Rattle.ghg_session.specs.Script.{Reading, after_requests, ended, most_comman
 use Rattle.ghg_session.specs.Session.{Continues, Ends, SessionPosition, Snapshot, position, reading_from, replies, session_from, state_after, status_of, steps_of, wrong_line}
 use Rattle.ghg_session.specs.Writing.{StoppedWriting}
 use Rattle.ghg_session.proofs.Stops.{input_is_not_written, output_is_not_read}
-use Rattle.ghg_session.proofs.Writings.{stopped_before}
 use Rattle.ghg_session.proofs.Readings.{after_requests_twice, from_end, from_none, from_request, from_spent, output_after, replies-append, state_after-append, steps_of-append}
 
 -- ---- the next command is none
@@ -223,23 +222,20 @@ pub stops_in_reply : {S R : Type 0} (p : Protocol S R) (from : SessionPosition S
 stops_in_reply p from after stop asked h m s state spent = record {
   last = from;
   answered = begins p from;
-  stops = inr (inl (record { allowed = h; request = asked; found = m; stopped = s; state = inl state; spent = spent }));
+  stops = inr (inl (record { allowed = h; request = asked; found = m; stopped = inl (s, state); spent = spent }));
   cause = caused_by_writing from.at after (p.reply from.at.state asked) stop s;
 }
 
 pub stops_undone : {S R : Type 0} (p : Protocol S R) (from : SessionPosition S) (after : Snapshot S) (asked : R)
     → from.answered < most_commands → Found p.commands from.at.input after.input (command.Request asked)
-    → 0 < length (p.reply from.at.state asked) → IsUndone p from.at asked after
-    → after.steps ≤ from.at.steps + p.steps from.at.state asked → Interrupted p from after Memory
-stops_undone p from after asked h m some undone spent =
-    let due = p.reply from.at.state asked in
-    let stopped = subst (λ (o : Tape). StoppedWriting from.at.output o due Memory) (sym undone.output) (stopped_before from.at.output due some) in
-    record {
-      last = from;
-      answered = begins p from;
-      stops = inr (inl (record { allowed = h; request = asked; found = m; stopped = stopped; state = inr (refl, undone); spent = spent }));
-      cause = tt;
-    }
+    → IsUndone p from.at asked after → after.steps ≤ from.at.steps + p.steps from.at.state asked
+    → Interrupted p from after Memory
+stops_undone p from after asked h m undone spent = record {
+  last = from;
+  answered = begins p from;
+  stops = inr (inl (record { allowed = h; request = asked; found = m; stopped = inr (refl, undone); spent = spent }));
+  cause = tt;
+}
 
 pub stops_in_refusal : {S R : Type 0} (p : Protocol S R) (from : SessionPosition S) (input output : Tape) (stop : Stop)
     → NextIsNone p from input → StoppedWriting from.at.output output (wrong_line (from.answered + 1)) stop

@@ -1,5 +1,5 @@
 -- What a session leaves of the whole that was due.
-use Rattle.std.proofs.Common.{◌≡◌, ℕ, ◌+◌, ◌<◌, ◌⊎◌, inl, inr, List, [], ◌++◌, append_assoc, append-nil, refl, sym, ap, subst, ◌∙◌, arith, None, Some, Option, IfSome}
+use Rattle.std.proofs.Common.{◌≡◌, ℕ, ◌+◌, ◌<◌, true, false, ◌⊎◌, inl, inr, List, [], ◌++◌, append_assoc, append-nil, refl, sym, ap, subst, ◌∙◌, arith, None, Some, Option, IfSome}
 use Rattle.std.specs.Io.KnownBytes as known
 use Rattle.ghg_outer.specs.Tape.{Appends, AppendsPrefix, AppendsProperPrefix, Consumes, IsAtEnd, Tape}
 use Rattle.ghg_outer.proofs.Tapes.{appends_more, appends_no_more, appends_nothing, consumes_more, longer_prefix, longer_proper, prefix_behind, proper_behind, proper_prefix, whole_prefix}
@@ -7,12 +7,14 @@ use Rattle.ghg_session.specs.declared.command.Command.TheVariants as command
 use Rattle.ghg_session.specs.declared.session.End.{End}
 use Rattle.ghg_session.specs.declared.session.End.TheVariants.{Script}
 use Rattle.ghg_session.specs.declared.stop.Stop.{Stop}
-use Rattle.ghg_session.specs.declared.stop.Stop.TheVariants.{Input, Output}
-use Rattle.ghg_session.specs.Interruptions.{Interrupted, IsDue, IsLeftBehind, IsUnfinished, NextIsNone, SpendsWithin, StopsInCommand, StopsInRefusal, StopsInReply}
+use Rattle.ghg_session.specs.declared.stop.Stop.TheVariants.{Input, Output, Memory}
+use Rattle.ghg_session.specs.Interruptions.{Interrupted, IsDue, IsLeftBehind, IsUndone, IsUnfinished, NextIsNone, RunsOut, SpendsWithin, StopsInCommand, StopsInRefusal, StopsInReply}
 use Rattle.ghg_session.specs.Protocol.{Protocol}
+use Rattle.ghg_session.specs.Reader.{Found}
 use Rattle.ghg_session.specs.Script.{Reading, after_requests, most_commands, no_command, with_more}
 use Rattle.ghg_session.specs.Session.{Continues, Ends, SessionPosition, Snapshot, end_status, outcome, position, reading_from, replies, session_from, status_of, steps_of, wrong_line}
-use Rattle.ghg_session.proofs.Stops.{input_is_not_written, output_is_not_read}
+use Rattle.ghg_session.specs.Writing.{StoppedWriting}
+use Rattle.ghg_session.proofs.Stops.{either, input_is_not_written, output_is_not_read}
 use Rattle.ghg_session.proofs.Readings.{from_none, from_request, output_after, steps_of-append}
 
 -- all that is due was written, and this is its status
@@ -164,15 +166,33 @@ cut_in_command p from after stop s = record {
 }
 
 short_in_reply : {S R : Type 0} (p : Protocol S R) (from : SessionPosition S) (after : Snapshot S) (stop : Stop)
-    → StopsInReply p from after stop → IsShortAt p from after
-short_in_reply p from after stop s = record {
+    (s : StopsInReply p from after stop)
+    → AppendsProperPrefix from.at.output after.output (p.reply from.at.state s.request) → IsShortAt p from after
+short_in_reply p from after stop s wrote = record {
   text = s.found.text;
   read = s.found.read;
   due = λ rest left.
       let due = due_reply p from s.request (s.found.text ++ rest) rest after s.allowed (s.found.each rest) in
       subst (AppendsProperPrefix from.at.output after.output) (sym due.1)
-      (longer_proper from.at.output after.output (p.reply from.at.state s.request) due.0 s.stopped.wrote);
+      (longer_proper from.at.output after.output (p.reply from.at.state s.request) due.0 wrote);
 }
+
+-- nothing is written of the reply to a request that is left undone
+none_undone : {S R : Type 0} (p : Protocol S R) (before after : Snapshot S) (asked : R) → IsUndone p before asked after
+    → Appends before.output after.output []
+none_undone p before after asked u =
+    subst (λ (o : Tape). Appends before.output o []) (sym u.output) (appends_nothing before.output)
+
+cut_in_reply : {S R : Type 0} (p : Protocol S R) (from : SessionPosition S) (after : Snapshot S) (stop : Stop)
+    → StopsInReply p from after stop → IsCutAt p from after
+cut_in_reply p from after stop s =
+    either s.stopped (λ w. short_is_cut p from after (short_in_reply p from after stop s w.0.wrote))
+    (λ u. record {
+      text = s.found.text;
+      read = s.found.read;
+      due = λ rest left. longer_prefix from.at.output after.output [] _
+          (whole_prefix from.at.output after.output [] (none_undone p from.at after s.request u.1));
+    })
 
 short_in_refusal : {S R : Type 0} (p : Protocol S R) (from : SessionPosition S) (after : Snapshot S) (stop : Stop)
     → StopsInRefusal p from after stop → IsShortAt p from after
@@ -204,7 +224,7 @@ cut_at : {S R : Type 0} (p : Protocol S R) (from : SessionPosition S) (after : S
     → StopsInCommand p from after stop ⊎ (StopsInReply p from after stop ⊎ StopsInRefusal p from after stop)
     → IsCutAt p from after
 cut_at p from after stop (inl s) = cut_in_command p from after stop s
-cut_at p from after stop (inr (inl s)) = short_is_cut p from after (short_in_reply p from after stop s)
+cut_at p from after stop (inr (inl s)) = cut_in_reply p from after stop s
 cut_at p from after stop (inr (inr s)) = short_is_cut p from after (short_in_refusal p from after stop s)
 
 pub interrupted_begun : {S R : Type 0} (p : Protocol S R) (from : SessionPosition S) (after : Snapshot S) (stop : Stop)
@@ -216,7 +236,8 @@ short_at : {S R : Type 0} (p : Protocol S R) (from : SessionPosition S) (after :
     → StopsInCommand p from after Output ⊎ (StopsInReply p from after Output ⊎ StopsInRefusal p from after Output)
     → IsShortAt p from after
 short_at p from after (inl s) = absurd (output_is_not_read s.stopped.only)
-short_at p from after (inr (inl s)) = short_in_reply p from after Output s
+short_at p from after (inr (inl s)) =
+    either s.stopped (λ w. short_in_reply p from after Output s w.0.wrote) (λ u. let e = u.0 in absurd cc)
 short_at p from after (inr (inr s)) = short_in_refusal p from after Output s
 
 pub interrupted_short : {S R : Type 0} (p : Protocol S R) (from : SessionPosition S) (after : Snapshot S)
@@ -249,8 +270,23 @@ interrupted_unfinished p from after i = by i.stops
     by : StopsInCommand p i.last after Input ⊎ (StopsInReply p i.last after Input ⊎ StopsInRefusal p i.last after Input)
         → IsUnfinished p from after
     by (inl s) = unfinished_in_command p from i.last after i.answered s
-    by (inr (inl s)) = absurd (input_is_not_written s.stopped.only)
+    by (inr (inl s)) = either s.stopped (λ w. absurd (input_is_not_written w.0.only)) (λ u. let e = u.0 in absurd cc)
     by (inr (inr s)) = absurd (input_is_not_written s.stopped.only)
+
+-- where memory ran out and no write takes any, nothing was written of the next reply
+pub interrupted_runs_out : {S R : Type 0} (p : Protocol S R) (from : SessionPosition S) (after : Snapshot S)
+    → Interrupted p from after Memory → from.at.output.grows ≡ false → RunsOut p from after
+interrupted_runs_out {S} {R} p from after i still = record { last = i.last; answered = i.answered; next = by i.stops }
+  where
+    no_writing : (text : List ℕ) → StoppedWriting i.last.at.output after.output text Memory → ⊥
+    no_writing text s = let e : true ≡ false = sym (s.memory refl) ∙ i.answered.wrote.grows ∙ still in cc
+
+    by : StopsInCommand p i.last after Memory ⊎ (StopsInReply p i.last after Memory ⊎ StopsInRefusal p i.last after Memory)
+        → StopsInCommand p i.last after Memory
+        ⊎ ((request : R) × Found p.commands i.last.at.input after.input (command.Request request) × IsUndone p i.last.at request after)
+    by (inl s) = inl s
+    by (inr (inl s)) = either s.stopped (λ w. absurd (no_writing _ w.0)) (λ u. inr (s.request, s.found, u.1))
+    by (inr (inr s)) = absurd (no_writing _ s.stopped)
 
 -- ---- steps
 
@@ -291,7 +327,8 @@ writes_at : {S R : Type 0} (p : Protocol S R) (from : SessionPosition S) (after 
     → StopsInCommand p from after stop ⊎ (StopsInReply p from after stop ⊎ StopsInRefusal p from after stop)
     → (text : List ℕ) × Appends from.at.output after.output text
 writes_at p from after stop (inl s) = ([], nothing_written p from after stop s)
-writes_at p from after stop (inr (inl s)) = (_, s.stopped.wrote.wrote)
+writes_at p from after stop (inr (inl s)) =
+    either s.stopped (λ w. (_, w.0.wrote.wrote)) (λ u. ([], none_undone p from.at after s.request u.1))
 writes_at p from after stop (inr (inr s)) = (_, s.stopped.wrote.wrote)
 
 pub interrupted_writes : {S R : Type 0} (p : Protocol S R) (from : SessionPosition S) (after : Snapshot S) (stop : Stop)

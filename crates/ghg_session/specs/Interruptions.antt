@@ -27,16 +27,15 @@ pub record IsUndone {State Request : Type 0} (p : Protocol State Request) (befor
   pub state : after.state ≡ before.state
   pub output : after.output ≡ before.output
 
--- In the reply to a request, of which a proper prefix was written: the output failed in it, or memory ran
--- out there, once the state was changed as the request asks; or it was left undone. Nothing was read behind
--- the request.
+-- In the reply to a request, of which a proper prefix was written, once the state was changed as the request
+-- asks. Or the request was left undone. Nothing was read behind it.
 pub record StopsInReply {State Request : Type 0} (p : Protocol State Request) (from : SessionPosition State)
     (after : Snapshot State) (stop : Stop) : Type 0 where
   pub allowed : from.answered < most_commands
   pub request : Request
   pub found : Found p.commands from.at.input after.input (command.Request request)
-  pub stopped : StoppedWriting from.at.output after.output (p.reply from.at.state request) stop
-  pub state : (after.state ≡ p.next_state from.at.state request)
+  pub stopped : (StoppedWriting from.at.output after.output (p.reply from.at.state request) stop
+      × (after.state ≡ p.next_state from.at.state request))
       ⊎ ((stop ≡ Memory) × IsUndone p from.at request after)
   pub spent : after.steps ≤ from.at.steps + p.steps from.at.state request
 
@@ -96,6 +95,16 @@ pub record IsUnfinished {State Request : Type 0} (p : Protocol State Request) (f
   pub wrote : Appends from.at.output after.output
       (replies p from.at.state (reading_from p from text).requests)
   pub state : after.state ≡ state_after p from.at.state (reading_from p from text).requests
+
+-- Requests were read and answered, and then memory ran out before anything more was written: in a command, or
+-- at a request that takes memory.
+pub record RunsOut {State Request : Type 0} (p : Protocol State Request) (from : SessionPosition State)
+    (after : Snapshot State) : Type 0 where
+  pub last : SessionPosition State
+  pub answered : Continues p from last
+  pub next : StopsInCommand p last after Memory
+      ⊎ ((request : Request) × Found p.commands last.at.input after.input (command.Request request)
+      × IsUndone p last.at request after)
 
 -- Some text was read, and no more steps were taken than the requests that it reads as ask for.
 pub record SpendsWithin {State Request : Type 0} (p : Protocol State Request) (from : SessionPosition State)

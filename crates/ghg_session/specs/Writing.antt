@@ -1,13 +1,14 @@
 -- What calls that write to a sink leave of what was due.
-use Rattle.std.specs.Prelude.{◌≡◌, ◌⊎◌, ℕ, List, Result, MatchResult}
+use Rattle.std.specs.Prelude.{◌≡◌, ◌⊎◌, ℕ, true, List, Result, MatchResult}
 use Rattle.ghg_outer.specs.Tape.{Appends, AppendsProperPrefix, Rose, Tape}
 use Rattle.ghg_session.specs.declared.stop.Stop.{Stop}
 use Rattle.ghg_session.specs.declared.stop.Stop.TheVariants.{Input, Output, Memory}
 
--- The sink failed, where its count rose, or memory ran out, before all of the text was written.
+-- The sink failed, where its count rose, or it grows and memory ran out, before all of the text was written.
 pub record StoppedWriting (before after : Tape) (text : List ℕ) (stop : Stop) : Type 0 where
   pub wrote : AppendsProperPrefix before after text
   pub cause : stop ≡ Output → Rose before after
+  pub memory : stop ≡ Memory → before.grows ≡ true
   pub only : (stop ≡ Output) ⊎ (stop ≡ Memory)
 
 -- all of the text was written, or the call stopped before that

@@ -1,7 +1,6 @@
 use Rattle.std.proofs.Common.{refl}
 use Rattle.std.proofs.lemmas.Result.{err_from_is_err_and}
 use Rattle.ghg_session.specs.Replies.{protocol}
-use Rattle.ghg_session.proofs.Answering.{reply_is_some}
 use Rattle.ghg_session.proofs.Turns.{answers_one, ends_at_end, ends_refused, next_is_none, stops_in_command, stops_in_refusal, stops_in_reply, stops_undone}
 use Rattle.ghg_session.proofs.session.turn.Goals as goal
 
@@ -46,5 +45,5 @@ returns-in_err-lines-in-Some-Request g c =
     let found = rw c.in-Some-Request.field-0-is at asked in
     let left = c.in_err-lines-in-Some-Request.ensures in
     let p = err_from_is_err_and c.from_residual-in_err-lines-in-Some-Request.result c.from_residual-in_err-lines-in-Some-Request.ensures.1 in
-    rw (p.1, p.2) (stops_undone protocol _ _ _ c.requires found (reply_is_some _ _)
+    rw (p.1, p.2) (stops_undone protocol _ _ _ c.requires found
     (record { memory = left.memory; state = left.undone; output = refl }) c.answer.ensures.steps)
