@@ -93,8 +93,8 @@ has_bounds Level = false
 has_bounds Trend = false
 has_bounds Checks = false
 
--- what the rows of a table with bounds are of: each line, each category and the gross total, or each year from
--- the first
+-- what the rows of a table with bounds are of: each line, each category and the gross total, or each year
+-- from the first
 abbrev pub subjects : Table → Data → ℕ → List Subject
 subjects Cells m year =
     flat_map (λ name. line_subject year name (category m name) (line m name)) (line_names m)

@@ -233,7 +233,8 @@ fn shares<C: Cells>(
 
 #[tactic(auto, unfolding(crate::specs::Tables::share_of))]
 fn share<C: Cells>(cells: &C, name: &Name, year: u32) -> Share
-    ensures value { result ≡ share_of (C.content cells.now) (compilation (C.content cells.now)) year name.now }
+    ensures value { result ≡
+        share_of (C.content cells.now) (compilation (C.content cells.now)) year name.now }
     ensures share { IsShare result }
 {
     let tonnes = line_tonnes(cells, name, year);
