@@ -1,9 +1,10 @@
 -- The bracket that the definition finds is the one bracket.
-use Rattle.std.proofs.Common.{◌≡◌, ℕ, zero, suc, ◌+◌, ◌<◌, ◌≤◌, Bool, true, false, if◌then◌else◌, inl, inr, eq-or-lt_of_le, refl, subst, arith, ℤ, pos, ◌-ℤ◌, ◌≤ℤ◌, ◌<ℤ◌, int_le, int_lt}
+use Rattle.std.proofs.Common.{◌≡◌, ℕ, zero, suc, ◌+◌, ◌<◌, ◌≤◌, Bool, true, false, if◌then◌else◌, inl, inr, eq-or-lt_of_le, refl, subst, arith, ℤ, pos, ◌+ℤ◌, ◌-ℤ◌, ◌≤ℤ◌, ◌<ℤ◌, int_le, int_lt}
 use Rattle.std.proofs.lemmas.Int.{ints}
 use Rattle.ghg_interval.specs.Bounds.{Bounds, unit_scale}
 use Rattle.ghg_roots.specs.Decay.{IsDecayBracket, bracket_of, decay_bounds, is_below, is_within, last_passing, parts_down}
-use Rattle.ghg_roots.proofs.Ends.{bracket_ordered, down_at_unit, down_at_zero, one_bracket, up_at_unit, up_at_zero}
+use Rattle.ghg_roots.specs.Laws.{IsExactDecay}
+use Rattle.ghg_roots.proofs.Ends.{bracket_holds, bracket_ordered, bracket_width, down_at_unit, down_at_zero, one_bracket, up_at_unit, up_at_zero}
 
 -- a number up to n passes a test, and the next does not
 record IsLast (passes : ℕ → Bool) (n last : ℕ) : Type 0 where
@@ -106,9 +107,29 @@ module _ (parts exponent : ℕ) (some_parts : 2 ≤ parts) (positive : 1 ≤ exp
   pub found_ordered : (bracket_of parts exponent).lo ≤ℤ (bracket_of parts exponent).hi
   found_ordered = bracket_ordered parts exponent positive (bracket_of parts exponent) bracket_found
 
+  pub found_small : ((bracket_of parts exponent).lo +ℤ pos 1) ≤ℤ pos unit_scale
+  unfolding bracket_of within low
+  found_small =
+      let less = below (is_within parts exponent) unit_scale low low_last (fails_le _ _ (up_at_unit parts exponent some_parts)) in
+      omega (arith, ints, less)
+
   -- and no other is
   pub bracket_is : (b : Bounds) → IsDecayBracket parts exponent b → b ≡ bracket_of parts exponent
   bracket_is b is = one_bracket parts exponent (bracket_of parts exponent) b positive bracket_found is
 
 pub decay_ordered : (half_life : ℕ) → 1 ≤ half_life → (decay_bounds half_life).lo ≤ℤ (decay_bounds half_life).hi
 decay_ordered half_life positive = found_ordered 2 half_life (omega arith) positive
+
+pub decay_exact : (half_life : ℕ) → 1 ≤ half_life → IsExactDecay half_life
+decay_exact half_life positive = record {
+  bracket = found;
+  only = bracket_is 2 half_life two positive;
+  holds = bracket_holds 2 half_life positive _ found;
+  width = bracket_width 2 half_life positive _ found (found_small 2 half_life two positive);
+}
+  where
+    two : 2 ≤ 2
+    two = omega arith
+
+    found : IsDecayBracket 2 half_life (decay_bounds half_life)
+    found = bracket_found 2 half_life two positive

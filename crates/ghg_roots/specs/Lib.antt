@@ -1,2 +1,3 @@
 pub mod Decay
 pub mod Roots
+pub mod Laws

@@ -8,7 +8,10 @@ ghost use Rattle.ghg_interval.specs.Bounds.{Bounds, between, unit_scale};
 ghost use Rattle.ghg_roots.specs.Decay.{HoldsDecay, IsDecayBracket, bracket_of, decay_bounds, most_parts, parts_down, parts_up};
 ghost use Rattle.ghg_roots.specs.Roots.{IsRootBracket};
 
+mod laws;
+
 use ghg_interval::{Interval, SCALE};
+pub use laws::decay_brackets_are_exact;
 
 // How many parts make one unit.
 const UNIT: u128 = SCALE as u128;
