@@ -1,8 +1,14 @@
 -- What is said of the definitions alone.
-use Rattle.std.specs.Prelude.{◌≡◌, ◌≤◌, ◌<◌, ℕ, ◌*◌, ◌^◌, ℤ, pos, negsuc, ◌-ℤ◌, ◌*ℤ◌, ◌≤ℤ◌, unsigned_abs, [], ◌∷◌, codes, List, Option, Some, None, Result, Ok, Err}
+use Rattle.std.specs.Prelude.{◌≡◌, ◌≤◌, ◌<◌, ℕ, ◌*◌, ◌^◌, ℤ, pos, negsuc, ◌-ℤ◌, ◌*ℤ◌, ◌≤ℤ◌, unsigned_abs, [], ◌∷◌, codes, map, List, Option, Some, None, Result, Ok, Err}
+use Rattle.std.specs.List.{flat_map}
+use Rattle.std.specs.List.Sorted.{IsStrictlySortedBy}
+use Rattle.ghg_categories.specs.declared.category.Category.{Category}
 use Rattle.ghg_categories.specs.declared.category.Category.TheVariants.{C1A1a}
+use Rattle.ghg_categories.specs.Tree.{tree}
 use Rattle.ghg_equations.specs.declared.eq_id.EqId.{EqId}
 use Rattle.ghg_equations.specs.declared.eq_id.EqId.TheVariants.{Q10, Q13}
+use Rattle.ghg_equations.specs.declared.quantity.Gas.{Gas}
+use Rattle.ghg_equations.specs.Quantity.{gases}
 use Rattle.ghg_equations.specs.Table.{output}
 use Rattle.ghg_interval.specs.declared.Over.{Over}
 use Rattle.ghg_interval.specs.Bounds.{Bounds, Inside, exactly}
@@ -13,6 +19,7 @@ use Rattle.ghg_cell.specs.Values.{equation_value, then}
 use Rattle.ghg_units.specs.declared.node.Node.{Node}
 use Rattle.ghg_units.specs.declared.node.Node.TheVariants as node
 use Rattle.ghg_definitions.specs.Data.{Data, line}
+use Rattle.ghg_keycat.specs.Ranking.{key_order}
 use Rattle.ghg_tables.specs.declared.precision.Precision.{Precision}
 use Rattle.ghg_tables.specs.declared.precision.Precision.TheVariants.{Thousandths}
 use Rattle.ghg_tables.specs.Rounding.{places_of, precision_of, nearest, reported}
@@ -99,3 +106,11 @@ abbrev pub SmallestPrints : Type 0
 SmallestPrints =
     (exact_text (pos 500000000) ≡ codes "0.001,0.000,0.001") ×
     (exact_text (negsuc 499999999) ≡ codes "-0.001,-0.001,0.000")
+
+-- each category of the tree with each gas, as tables list them
+abbrev pub listed_pairs : List (Category × Gas)
+listed_pairs = flat_map (λ c. map (λ g. (c, g)) gases) tree
+
+-- They stand in the order that decides among pairs of one size.
+abbrev pub PairsStandInOrder : Type 0
+PairsStandInOrder = IsStrictlySortedBy key_order listed_pairs

@@ -1,6 +1,6 @@
 //! What follows of the definitions alone.
 
-ghost use Rattle.ghg_tables.specs.Laws.{BoundsHold, BurntFuelPrints, NearIsNearest, PowerPlantPrints, SmallestPrints};
+ghost use Rattle.ghg_tables.specs.Laws.{BoundsHold, BurntFuelPrints, NearIsNearest, PairsStandInOrder, PowerPlantPrints, SmallestPrints};
 
 /// The printed bounds, as decimals, hold each fraction inside the range.
 pub fn bounds_hold()
@@ -26,4 +26,10 @@ pub fn burnt_fuel_prints()
 /// Half of the last decimal rounds away from zero, and the bounds hold it.
 pub fn smallest_prints()
     ensures { SmallestPrints }
+{}
+
+/// The categories of the tree, each with the gases, stand in tables in the order that decides among key
+/// categories of one size.
+pub fn pairs_stand_in_order()
+    ensures { PairsStandInOrder }
 {}

@@ -17,7 +17,8 @@ mod table;
 
 pub use figures::reported;
 pub use laws::{
-    bounds_hold, burnt_fuel_prints, near_is_nearest, power_plant_prints, smallest_prints,
+    bounds_hold, burnt_fuel_prints, near_is_nearest, pairs_stand_in_order, power_plant_prints,
+    smallest_prints,
 };
 pub use precision::{Precision, precision_for};
 pub use printing::print;
