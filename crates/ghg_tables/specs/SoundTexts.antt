@@ -1,5 +1,5 @@
--- What the bytes of a table say of the nodes of the data: each row stands for one or two, and the bounds in
--- it hold their exact values.
+-- What the bytes of the tables cells, summary and series say of the nodes of the data: each row stands for
+-- one or two, and the bounds in it hold their exact values. It says nothing of the analyses.
 use Rattle.std.specs.Prelude.{◌≡◌, ℕ, ◌+◌, ◌-◌, Bool, true, false, ℤ, List, [], ◌∷◌, ◌++◌, map, codes, decimal, Option, Some}
 use Rattle.std.specs.List.{flat_map}
 use Rattle.ghg_categories.specs.declared.category.Category.{Category}
@@ -82,7 +82,7 @@ abbrev pub year_subject : ℕ → Subject
 year_subject year =
     record { words = field (decimal year); nodes = node.Total National year ∷ node.Gross year ∷ [] }
 
--- the rows have bounds, and not single values alone
+-- the rows have bounds of nodes
 abbrev pub has_bounds : Table → Bool
 has_bounds Cells = true
 has_bounds Summary = true
