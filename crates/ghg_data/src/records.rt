@@ -50,8 +50,8 @@ pub trait Records {
             (content self.now) name.now year }
         ensures workbook { IsWorkbook (content self.now) };
 
-    /// The bracket of the yearly decay factor of a half-life in whole years. It costs a look-up: the bracket
-    /// of a half-life that some record has was computed when a row first brought it.
+    /// The bracket of the yearly decay factor of a half-life in whole years. It costs a look-up: the brackets
+    /// were computed when the book was made.
     fn decay_bracket(&self, half_life: u32) -> Interval
         requires { IsHalfLife half_life }
         ensures { result ≡ decay_bounds half_life };

@@ -26,7 +26,7 @@ use std::alloc::{AllocError, Global};
 pub struct Pair {
     pub category: Category,
     pub gas: Gas,
-    /// In the base year.
+    /// In the base year, or in another year that it is compared with.
     pub base: i128,
     /// In the year that is assessed.
     pub now: i128,

@@ -7,8 +7,8 @@
 //! A link is both a source and a sink, and a door gives links and takes them back.
 //!
 //! The forms in memory are proved to meet this. [`InputSource`], [`OutputSink`], [`TcpDoor`] and [`TcpLink`]
-//! are the trusted edge: what the process's own input, output and connections hold is known to no contract. It
-//! is proved that their count rose where they answer an error. They make a call again that a signal
+//! are the trusted edge: what the process's own input, output and connections hold is known to no contract.
+//! It is proved that their count rose where they answer an error. They make a call again that a signal
 //! interrupted, which tests show for input and output.
 #![tactic(auto)]
 

@@ -21,7 +21,8 @@ const YEARS: &str = "enter,span,,,1990,1991,1990,,,\nenter,factor,,GWP.CO2,1990,
 const PLANT: &str = "enter,line,1A1a,PLANT,,Q10,,,,\nenter,bind,PLANT,FC,,activity,PLANT,,,\n\
     enter,bind,PLANT,EF,,factor,ONE,,,\n";
 
-const FACTORY: &str = "enter,line,1A2,FACTORY,,Q10,,,,\nenter,bind,FACTORY,FC,,activity,FACTORY,,,\n\
+const FACTORY: &str =
+    "enter,line,1A2,FACTORY,,Q10,,,,\nenter,bind,FACTORY,FC,,activity,FACTORY,,,\n\
     enter,bind,FACTORY,EF,,factor,ONE,,,\n";
 
 const OTHER: &str = "enter,line,1A5,OTHER,,Q10,,,,\nenter,bind,OTHER,FC,,activity,OTHER,,,\n\
