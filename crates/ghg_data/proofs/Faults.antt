@@ -22,7 +22,7 @@ use Rattle.ghg_definitions.specs.Sound.{IsConsistent, IsRecord}
 use Rattle.ghg_definitions.proofs.Alike.{both, first_so, met, second_so}
 use Rattle.ghg_definitions.proofs.Keys.{both_equal, equal_by, keys_same, keys_total, names_same}
 use Rattle.ghg_definitions.proofs.Members.{any_entry, entry_any}
-use Rattle.ghg_units.specs.Parameter.{is_parameter, parameter_in, uncertainty_word}
+use Rattle.ghg_units.specs.Parameter.{is_parameter, uncertainty_word}
 use Rattle.ghg_data.specs.Faults.{considered, is_fault, is_parameter_place, is_place, takes, uncertainty_place}
 use Rattle.ghg_data.proofs.EquationParameters.{parameter_apart, takes_apart}
 

@@ -95,8 +95,7 @@ impl Book {
     /// bodies have with this one. The first rule that is broken is answered: that of the first row that
     /// breaks one on units or presence, `rest`, the least unsound binding, and the first limit. Each key of
     /// the edits is that of some row, and there are no more edits than rows. The records stay with every
-    /// answer. With edits, the decay bracket of each half-life that the rows bring is computed, unless the
-    /// book has it already.
+    /// answer.
     pub fn plan(
         &mut self,
         alloc: Global,
@@ -115,7 +114,6 @@ impl Book {
     {
         let edits = planned_edits(alloc, &self.holdings, rows, rest, kept_bytes)?;
         self.holdings.reserve(edits.len())?;
-        self.holdings.note_half_lives(rows);
         Ok(edits)
     }
 

@@ -1,73 +1,46 @@
 //! Brackets of decay factors, each computed once.
 
-ghost use Rattle.std.specs.Prelude.{◌≡◌, None, IfSome};
-ghost use Rattle.std.specs.List.{AllByRecursion};
+ghost use Rattle.std.specs.Prelude.{◌≡◌, ◌≤◌};
 ghost use Rattle.ghg_roots.specs.Decay.{decay_bounds};
-ghost use Rattle.ghg_units.specs.WellFormed.{IsHalfLife, IsWellFormed};
-ghost use Rattle.ghg_data.specs.Brackets.{AreBrackets};
+ghost use Rattle.ghg_units.specs.WellFormed.{IsHalfLife};
+ghost use Rattle.ghg_data.specs.Brackets.{AreBrackets, AreBracketsUpTo};
 
 use ghg_interval::Interval;
 use ghg_roots::decay_bracket;
-use ghg_units::{Amount, LONGEST_HALF_LIFE, Row, RowForm};
+use ghg_units::LONGEST_HALF_LIFE;
 
-// One for each half-life in whole years, and one for zero, which stays empty.
-const SLOTS: usize = LONGEST_HALF_LIFE as usize + 1;
+const HALF_LIVES: usize = LONGEST_HALF_LIFE as usize;
 
-/// The brackets of yearly decay factors that were computed, by half-life.
+/// The brackets of the yearly decay factors of all half-lives in whole years, that of one year first.
 #[derive(Drop)]
 pub(crate) struct Brackets {
-    kept: [Option<Interval>; SLOTS],
+    kept: [Interval; HALF_LIVES],
     ghost right: { AreBrackets kept },
 }
 
 impl Brackets {
-    /// No brackets.
+    /// All brackets, which are computed here and nowhere else.
     pub(crate) fn new() -> Brackets {
         Brackets {
-            kept: [None; SLOTS],
+            kept: all_brackets(),
         }
     }
 
-    /// The bracket of a half-life: the one that is kept, or computed where none is.
+    /// The bracket of a half-life.
     pub(crate) fn get(&self, half_life: u32) -> Interval
         requires { IsHalfLife half_life }
         ensures { result ≡ decay_bounds half_life }
     {
-        match self.kept[half_life as usize] {
-            Some(bracket) => bracket,
-            None => decay_bracket(half_life),
-        }
-    }
-
-    /// Keeps the bracket of each half-life that the rows bring.
-    pub(crate) fn note(&mut self, rows: &[Row])
-        requires { AllByRecursion IsWellFormed rows.now }
-    {
-        for row in rows {
-            if let Some(half_life) = half_life_in(row) {
-                self.keep(half_life);
-            }
-        }
-    }
-
-    // Keeps the bracket of a half-life. It is computed where none is kept.
-    fn keep(&mut self, half_life: u32)
-        requires { IsHalfLife half_life }
-    {
-        self.kept[half_life as usize] = Some(self.get(half_life));
+        self.kept[half_life as usize - 1]
     }
 }
 
-// The half-life of a factor that a row sets.
-fn half_life_in(row: &Row) -> Option<u32>
-    requires { IsWellFormed row.now }
-    ensures { IfSome result IsHalfLife }
+fn all_brackets() -> [Interval; HALF_LIVES]
+    ensures { AreBrackets result }
 {
-    match &row.form {
-        RowForm::Factor(_, _, Some(figure)) => match figure.amount {
-            Amount::HalfLife(years) => Some(years),
-            _ => None,
-        },
-        _ => None,
+    let mut kept = [decay_bracket(1); HALF_LIVES];
+    for place in 1..HALF_LIVES {
+        kept[place] = decay_bracket(place as u32 + 1);
     }
+    kept
 }

@@ -3,7 +3,6 @@
 ghost use Rattle.std.specs.Prelude.{◌≡◌, ℕ, ◌+◌, ◌^◌, ◌≤◌, ◌<◌, ◌&&◌, OnOk, is_some, option_copied, length};
 ghost use Rattle.std.specs.FinMap as finite;
 ghost use Rattle.std.specs.FinMap.{from_entries};
-ghost use Rattle.std.specs.List.{AllByRecursion};
 ghost use Rattle.indexmap.specs.IndexMap.{spare};
 ghost use Rattle.ghg_definitions.specs.Data.{key_cmp, line_names};
 ghost use Rattle.ghg_definitions.specs.Rows.{with_record};
@@ -11,7 +10,7 @@ ghost use Rattle.ghg_data.specs.Calendar.{IsCalendarOf};
 ghost use Rattle.ghg_data.specs.Series.{dated};
 ghost use Rattle.ghg_data.specs.Changes.{applied};
 ghost use Rattle.ghg_roots.specs.Decay.{decay_bounds};
-ghost use Rattle.ghg_units.specs.WellFormed.{IsHalfLife, IsWellFormed};
+ghost use Rattle.ghg_units.specs.WellFormed.{IsHalfLife};
 ghost use Rattle.ghg_units.specs.Year.{is_year};
 ghost use Rattle.ghg_data.specs.YearSet.{has_year};
 
@@ -23,7 +22,7 @@ use crate::series::Series;
 use crate::year_set::YearSet;
 use ghg_definitions::{Record, RecordKey};
 use ghg_interval::Interval;
-use ghg_units::{Name, Row};
+use ghg_units::Name;
 use indexmap::IndexMap;
 use std::alloc::{AllocError, Global};
 use std::marker::Model;
@@ -110,14 +109,6 @@ impl Holdings {
         ensures { result ≡ decay_bounds half_life }
     {
         self.brackets.get(half_life)
-    }
-
-    /// Keeps the bracket of each half-life that the rows bring. It takes no memory.
-    pub(crate) fn note_half_lives(&mut self, rows: &[Row])
-        requires { AllByRecursion IsWellFormed rows.now }
-        ensures { self.new ≡ self.old }
-    {
-        self.brackets.note(rows);
     }
 
     /// Makes room for so many more changes.
