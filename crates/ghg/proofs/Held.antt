@@ -7,11 +7,9 @@ use Rattle.ghg_outer.proofs.Tapes.{whole_prefix}
 use Rattle.ghg_session.specs.declared.command.Request.{Request}
 use Rattle.ghg_session.specs.declared.command.Request.TheVariants.{Submit, Show}
 use Rattle.ghg_session.specs.Replies.{protocol, reply_of, state_after}
-use Rattle.ghg_session.specs.Commands.{commands}
-use Rattle.ghg_session.specs.Script.{reading_of}
 use Rattle.ghg_session.specs.Session.{Snapshot, beginning, replies}
 use Rattle.ghg_session.proofs.Whole.{IsBegun, IsDone}
-use Rattle.ghg.specs.Bounds.{AreSoundLines, AreSoundReplies, AreSoundWhenDue}
+use Rattle.ghg.specs.Bounds.{AreSoundLines}
 use Rattle.ghg.specs.Laws.{RepliesAreSound}
 
 stays : (s : State) (asked : Request) → IsInForce s → IsInForce (state_after s asked)
@@ -33,15 +31,6 @@ sound_replies s h [] = refl
 sound_replies s h (first ∷ rest) =
     let next = state_after s first in
     (reply_of s first, replies protocol next rest, refl, sound_lines s first h, sound_replies next (stays s first h) rest)
-
--- the replies that are due are sound
-pub sound_when_due : (before : Snapshot State) → IsInForce before.state → AreSoundWhenDue before
-sound_when_due before h = by before.input.left
-  where
-    by : (left : Option (List ℕ)) → IfSome left (λ bytes. let asked = (reading_of commands bytes).requests in
-        AreSoundReplies before.state asked (replies protocol before.state asked))
-    by None = tt
-    by (Some bytes) = sound_replies before.state h (reading_of commands bytes).requests
 
 -- what was written whole is a prefix
 pub done_begun : (before after : Snapshot State) (status : ℕ) → IsDone protocol (beginning before) after status

@@ -14,7 +14,7 @@ use Rattle.ghg_session.specs.Writing.{StoppedWriting, stop_status}
 use Rattle.ghg_session.proofs.Stops.{input_is_not_written}
 use Rattle.ghg_session.proofs.Whole.{ends_behind, ends_done, ends_spends, interrupted_begun, interrupted_runs_out, interrupted_short, interrupted_spends, interrupted_unfinished}
 use Rattle.ghg.specs.Run.{CompileRun, NoCommandRun, bad_command_line, is_end}
-use Rattle.ghg.proofs.Held.{done_begun, sound_when_due}
+use Rattle.ghg.proofs.Held.{done_begun, sound_replies}
 
 -- ---- words that are no command
 
@@ -100,7 +100,7 @@ compile_ended before after end h e =
       begun = done_begun before after (end_status end) done;
       memory = λ eight. absurd (end_is_no_stop end Memory eight);
       steps = ends_spends protocol (beginning before) after end e;
-      bounds = sound_when_due before h;
+      bounds = sound_replies before.state h;
     }
 
 stop_is_no_end : (stop : Stop) → is_end (stop_status stop) ≡ true → ⊥
@@ -139,7 +139,7 @@ compile_interrupted before after stop h i =
           interrupted_runs_out protocol (beginning before) after
           (subst (Interrupted protocol (beginning before) after) (one_stop stop Memory eight) i);
       steps = interrupted_spends protocol (beginning before) after stop i;
-      bounds = sound_when_due before h;
+      bounds = sound_replies before.state h;
     }
 
 -- ---- causes

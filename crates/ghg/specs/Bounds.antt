@@ -1,14 +1,11 @@
 -- What the bytes of a session say of the data: the bounds in each table hold the exact values of its nodes.
-use Rattle.std.specs.Prelude.{◌≡◌, ℕ, List, [], ◌∷◌, ◌++◌, IfSome}
+use Rattle.std.specs.Prelude.{◌≡◌, ℕ, List, [], ◌∷◌, ◌++◌}
 use Rattle.ghg_office.specs.declared.reply.Reply.{Reply}
 use Rattle.ghg_office.specs.Office.{State}
 use Rattle.ghg_office.specs.Sound.{IsSoundReply}
 use Rattle.ghg_session.specs.declared.command.Request.{Request}
 use Rattle.ghg_session.specs.declared.command.Request.TheVariants.{Submit, Show}
-use Rattle.ghg_session.specs.Commands.{commands}
-use Rattle.ghg_session.specs.Replies.{protocol, reply_of, state_after, table_lines}
-use Rattle.ghg_session.specs.Script.{reading_of}
-use Rattle.ghg_session.specs.Session.{Snapshot, replies}
+use Rattle.ghg_session.specs.Replies.{reply_of, state_after, table_lines}
 
 -- The lines reply to a request. To a request for a table they are the office's reply, a table under its
 -- heading or that there is none, and in a table the bounds hold.
@@ -22,9 +19,3 @@ abbrev pub AreSoundReplies : State → List Request → List ℕ → Type 0
 AreSoundReplies s [] output = output ≡ []
 AreSoundReplies s (asked ∷ rest) output = (lines more : List ℕ) × (output ≡ lines ++ more)
     × AreSoundLines s asked lines × AreSoundReplies (state_after s asked) rest more
-
--- Where the input tells what is left, the replies to what that asks for are such.
-abbrev pub AreSoundWhenDue : Snapshot State → Type 0
-AreSoundWhenDue before = IfSome before.input.left (λ bytes.
-    let asked = (reading_of commands bytes).requests in
-    AreSoundReplies before.state asked (replies protocol before.state asked))

@@ -2,13 +2,14 @@
 use Rattle.std.specs.Prelude.{◌≡◌, ◌≢◌, ℕ, ◌⊎◌, true, false, Bool, ◌||◌, ◌==◌, List, Result, codes}
 use Rattle.ghg_office.specs.Office.{State}
 use Rattle.ghg_outer.specs.Tape.{Appends, AppendsPrefix, AppendsProperPrefix, Consumes, Rose, Tape}
+use Rattle.ghg_session.specs.declared.command.Request.{Request}
 use Rattle.ghg_session.specs.declared.session.End.{End}
 use Rattle.ghg_session.specs.declared.stop.Stop.{Stop}
 use Rattle.ghg_session.specs.Interruptions.{AnswersScript, IsDue, IsLeftBehind, IsUnfinished, RunsOut, SpendsWithin}
 use Rattle.ghg_session.specs.Replies.{protocol}
-use Rattle.ghg_session.specs.Session.{Snapshot, beginning, line_of, result_status}
+use Rattle.ghg_session.specs.Session.{Snapshot, beginning, line_of, replies, result_status}
 use Rattle.ghg_session.specs.Writing.{StoppedWriting, stop_status}
-use Rattle.ghg.specs.Bounds.{AreSoundWhenDue}
+use Rattle.ghg.specs.Bounds.{AreSoundReplies}
 
 -- ---- whatever the words
 
@@ -65,9 +66,10 @@ pub record CompileRun (before after : Snapshot State) (status : ℕ) : Type 0 wh
   pub memory : status ≡ 8 → before.output.grows ≡ false → RunsOut protocol (beginning before) after
   -- No more steps were taken than the requests ask for that were read.
   pub steps : SpendsWithin protocol (beginning before) after
-  -- In each table that is due the bounds hold the exact values of the nodes of the data then in force,
-  -- wherever the inputs are within their supplied bounds.
-  pub bounds : AreSoundWhenDue before
+  -- In each table among the replies to any requests, so to those that were read and to those that are due,
+  -- the bounds hold the exact values of the nodes of the data then in force, wherever the inputs are within
+  -- their supplied bounds.
+  pub bounds : (asked : List Request) → AreSoundReplies before.state asked (replies protocol before.state asked)
 
 -- every status of the program
 abbrev pub is_status : ℕ → Bool

@@ -45,7 +45,8 @@ pub fn run<S: Source, W: Sink, L: Ledger>(
         (snapshot start (S.tape input.old) (W.tape out.old) steps.old)
         (snapshot state (S.tape input.new) (W.tape out.new) steps.new) result }
 
-    // Whatever the words, each status has its cause. That memory ran out has none that is told.
+    // Whatever the words, each status has its cause. For status 8 the clause `compile` says where memory ran
+    // out.
     ensures words { result ≡ 2 → task_in (map string_bytes words.now) ≡ None }
     ensures input { result ≡ 4 → Rose (S.tape input.old) (S.tape input.new) }
     ensures output { result ≡ 5 → Rose (W.tape out.old) (W.tape out.new) }
