@@ -42,20 +42,17 @@ pub body_fails : (a b c : Tape) (at count : ℕ) (kept : List ℕ) → TookBody 
 body_fails a b c at count kept p q rose h = record {
   text = p.text;
   read = consumes_no_more a b c p.text p.read q;
-  few = λ _. omega (arith, h, p.whole);
-  within = omega (arith, h, p.whole);
+  few = omega (arith, h, p.whole);
   cause = λ _. rose_later a b c p.read.counts rose;
   only = inl refl;
 }
 
--- memory ran out behind a piece of the body
-pub body_stops : (a b c : Tape) (at given count : ℕ) (kept piece : List ℕ) → TookBody a b at kept → Consumes b c piece
-    → length piece ≡ given → at + given ≤ count → StoppedInBody a c count Memory
-body_stops a b c at given count kept piece p q e h = record {
-  text = p.text ++ piece;
-  read = consumes_more a b c p.text piece p.read q;
-  few = λ e. absurd cc;
-  within = omega (arith, h, e, p.whole, length-append p.text piece);
+-- memory ran out within the body
+pub body_stops : (a b : Tape) (at count : ℕ) (kept : List ℕ) → TookBody a b at kept → at < count → StoppedInBody a b count Memory
+body_stops a b at count kept p h = record {
+  text = p.text;
+  read = p.read;
+  few = omega (arith, h, p.whole);
   cause = λ e. absurd cc;
   only = inr refl;
 }

@@ -10,7 +10,6 @@ use Rattle.ghg_session.specs.declared.command.Line.TheVariants as line
 use Rattle.ghg_session.specs.declared.command.Request.{Request}
 use Rattle.ghg_session.specs.declared.command.Request.TheVariants as request
 use Rattle.ghg_session.specs.declared.stop.Stop.{Stop}
-use Rattle.ghg_session.specs.declared.stop.Stop.TheVariants.{Memory}
 use Rattle.ghg_session.specs.Commands.{body_length, command_at, command_of, command_reach, commands, form_of, line_at, lines, longest_line, most_kept}
 use Rattle.ghg_session.specs.Reader.{Found, Missing, Stopped, StoppedInBody, StoppedInLine, TookBody, TookFewer}
 use Rattle.ghg_session.proofs.Lines.{line_length}
@@ -125,21 +124,10 @@ pub stopped_line : (a b : Tape) (stop : Stop) → StoppedInLine a b stop → Sto
 stopped_line a b stop s = record {
   text = s.text;
   read = s.read;
-  none = λ _. no_line s.text s.none;
+  none = no_line s.text s.none;
   near = near_no_line s.text s.none s.near;
   cause = s.cause;
   only = s.only;
-}
-
--- memory ran out behind the line
-pub stopped_form : (a b : Tape) (words : List ℕ) → Found lines a b words → Stopped commands a b Memory
-stopped_form a b words m = record {
-  text = m.text;
-  read = m.read;
-  none = λ e. absurd cc;
-  near = near_whole_line m.text words (m.each []);
-  cause = λ e. absurd cc;
-  only = inr refl;
 }
 
 pub stopped_body : (a b c : Tape) (words id : List ℕ) (n : ℕ) (stop : Stop) → Found lines a b words
@@ -147,8 +135,8 @@ pub stopped_body : (a b c : Tape) (words id : List ℕ) (n : ℕ) (stop : Stop) 
 stopped_body a b c words id n stop m f s = record {
   text = m.text ++ s.text;
   read = consumes_more a b c m.text s.text m.read s.read;
-  none = λ h. cut_short words id m.text s.text n m.each f (s.few h);
-  near = near_body (m.text ++ s.text) words id s.text n (m.each s.text) f s.within;
+  none = cut_short words id m.text s.text n m.each f s.few;
+  near = near_body (m.text ++ s.text) words id s.text n (m.each s.text) f (omega (arith, s.few));
   cause = λ h. rose_later a b c m.read.counts (s.cause h);
   only = s.only;
 }

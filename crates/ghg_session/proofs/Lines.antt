@@ -6,7 +6,6 @@ use Rattle.std.specs.List.{position, position_or_len}
 use Rattle.std.specs.Option.{option_and_then, option_map_or}
 use Rattle.std.proofs.lemmas.List.{take_at, drop_at}
 use Rattle.ghg_session.specs.declared.stop.Stop.{Stop}
-use Rattle.ghg_session.specs.declared.stop.Stop.TheVariants.{Memory}
 use Rattle.ghg_session.specs.Commands.{is_line_feed, line_at, line_to, lines, longest_line}
 use Rattle.ghg_session.specs.Reader.{Found, Missing, StoppedAtOnce, StoppedInLine}
 
@@ -118,9 +117,3 @@ stopped_in_line a b c line stop p h near s = record {
   cause = λ _. rose_later a b c p.counts s.cause;
   only = inl s.fault;
 }
-
--- memory ran out within the line
-pub stopped_for_memory : (a b : Tape) (line : List ℕ) → Consumes a b line → HasNoFeed line → length line ≤ longest_line + 1
-    → StoppedInLine a b Memory
-stopped_for_memory a b line p h near =
-    record { text = line; read = p; none = line_cut line h; near = near; cause = λ e. absurd cc; only = inr refl }

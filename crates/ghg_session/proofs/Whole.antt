@@ -249,7 +249,7 @@ unfinished_in_command : {S R : Type 0} (p : Protocol S R) (from last : SessionPo
     → Continues p from last → StopsInCommand p last after Input → IsUnfinished p from after
 unfinished_in_command {S} {R} p from last after c s =
     let none : reading_from p last s.stopped.text ≡ no_command (last.answered + 1) s.stopped.text =
-    from_none p last s.stopped.text s.allowed (s.stopped.none refl) in
+    from_none p last s.stopped.text s.allowed s.stopped.none in
     let same : reading_from p from (c.text ++ s.stopped.text)
     ≡ after_requests c.requests (no_command (last.answered + 1) s.stopped.text) =
     c.each s.stopped.text ∙ ap (after_requests c.requests) none in

@@ -12,8 +12,7 @@ use Rattle.ghg_session.specs.Script.{most_commands, no_command}
 use Rattle.ghg_session.specs.Writing.{StoppedWriting}
 use Rattle.ghg_session.specs.Session.{Continues, Ends, Outcome, SessionPosition, Snapshot, position, reading_from, replies, session_from, state_after, steps_of, wrong_line}
 
--- In the middle of a command, of which nothing was answered. What was read of it before a fault is no
--- command.
+-- In the middle of a command, of which nothing was answered. What was read of it is no command.
 pub record StopsInCommand {State Request : Type 0} (p : Protocol State Request) (from : SessionPosition State)
     (after : Snapshot State) (stop : Stop) : Type 0 where
   pub allowed : from.answered < most_commands

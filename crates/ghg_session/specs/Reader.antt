@@ -20,12 +20,11 @@ pub record Missing {T : Type 0} (g : Grammar T) (before after : Tape) : Type 0 w
   pub none : (IsAtEnd after × (g.parse text ≡ None)) ⊎ ((rest : List ℕ) → g.parse (text ++ rest) ≡ None)
   pub near : length text ≤ g.reach text
 
--- The source failed, where its count rose, or memory ran out. What was read before a fault is no text of
--- a value.
+-- The source failed, where its count rose, or memory ran out. What was read before is no text of a value.
 pub record Stopped {T : Type 0} (g : Grammar T) (before after : Tape) (stop : Stop) : Type 0 where
   pub text : List ℕ
   pub read : Consumes before after text
-  pub none : stop ≡ Input → g.parse text ≡ None
+  pub none : g.parse text ≡ None
   pub near : length text ≤ g.reach text
   pub cause : stop ≡ Input → Rose before after
   pub only : (stop ≡ Input) ⊎ (stop ≡ Memory)
@@ -64,11 +63,10 @@ pub record TookFewer (before after : Tape) (count : ℕ) : Type 0 where
   pub read : Consumes before after text
   pub few : length text < count
 
--- The source failed, where its count rose, or memory ran out: at a fault fewer bytes were read.
+-- The source failed, where its count rose, or memory ran out, before so many bytes were read.
 pub record StoppedInBody (before after : Tape) (count : ℕ) (stop : Stop) : Type 0 where
   pub text : List ℕ
   pub read : Consumes before after text
-  pub few : stop ≡ Input → length text < count
-  pub within : length text ≤ count
+  pub few : length text < count
   pub cause : stop ≡ Input → Rose before after
   pub only : (stop ≡ Input) ⊎ (stop ≡ Memory)

@@ -1,5 +1,6 @@
 //! The commands of a script.
 
+use crate::word::Word;
 use ghg_units::Text;
 
 /// A command of a script of such requests.
@@ -15,16 +16,16 @@ pub enum Command<R> {
 #[derive(Drop)]
 pub enum Request {
     /// To take a submission: its id, and its body up to the first byte that is too many.
-    Submit { id: Text, body: Text },
+    Submit { id: Word, body: Text },
     /// To show a table of a year.
-    Show { table: Text, year: u32 },
+    Show { table: Word, year: u32 },
 }
 
 /// The line that a command begins with.
 #[derive(Drop)]
 pub enum Line {
     /// An id, and how many bytes of body follow the line.
-    Submit { id: Text, length: u32 },
-    Show { table: Text, year: u32 },
+    Submit { id: Word, length: u32 },
+    Show { table: Word, year: u32 },
     End,
 }

@@ -21,6 +21,7 @@ mod reading;
 mod reply;
 mod session;
 mod stop;
+mod word;
 mod writing;
 
 pub use laws::{parses_texts, reads_locally, reads_once};

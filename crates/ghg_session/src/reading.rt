@@ -1,6 +1,7 @@
 //! Reads the commands of a script from a source, and takes no byte behind them.
 
-ghost use Rattle.std.specs.Prelude.{◌≡◌, ◌-◌, ◌≤◌, [], ◌∷◌, ◌++◌, length, take, MatchOption, MatchResult, OnOk};
+ghost use Rattle.std.specs.Prelude.{◌≡◌, ◌+◌, ◌-◌, ◌≤◌, [], ◌∷◌, ◌++◌, length, take, MatchOption, MatchResult};
+ghost use Rattle.std.specs.Vec.{vec_capacity};
 ghost use Rattle.ghg_outer.specs.Tape.{Consumes, IsAtEnd};
 ghost use Rattle.ghg_session.specs.Commands.{commands, lines, most_kept};
 ghost use Rattle.ghg_session.specs.Reader.{Found, Missing, Parses, StoppedAtOnce, StoppedInBody, StoppedInLine, TookBody, TookFewer};
@@ -8,22 +9,24 @@ ghost use Rattle.ghg_session.specs.Reader.{Found, Missing, Parses, StoppedAtOnce
 use crate::command::{Command, Line, Request};
 use crate::line::read_form;
 use crate::stop::Stop;
+use arrayvec::ArrayVec;
 use ghg_import::MAX_BODY;
 use ghg_outer::Source;
 use ghg_units::Text;
-use std::alloc::{AllocError, Global};
+use std::alloc::Global;
 
-/// The next command, or nothing where what is left begins with none.
+/// The next command, or nothing where what is left begins with none. Memory is taken for a body alone, and
+/// before its last byte is read.
 pub fn next_command<S: Source>(
     alloc: Global,
     source: &mut S,
 ) -> Result<Option<Command<Request>>, Stop>
     ensures { Parses commands (S.tape source.old) (S.tape source.new) result }
 {
-    let Some(text) = read_line(alloc, source)? else {
+    let Some(text) = read_line(source)? else {
         return Ok(None);
     };
-    match read_form(alloc, &text)? {
+    match read_form(text.as_slice()) {
         None => Ok(None),
         Some(Line::End) => Ok(Some(Command::End)),
         Some(Line::Show { table, year }) => {
@@ -42,19 +45,22 @@ pub fn next_command<S: Source>(
 /// The most bytes that a line has before its line feed.
 const LONGEST_LINE: usize = 120;
 
+// One byte more shows that a line is too long.
+const LINE_ROOM: usize = LONGEST_LINE + 1;
+
 // The next line without its line feed, or nothing where no line ends within its limit.
-fn read_line<S: Source>(alloc: Global, source: &mut S) -> Result<Option<Vec<u8>>, Stop>
+fn read_line<S: Source>(source: &mut S) -> Result<Option<ArrayVec<u8, LINE_ROOM>>, Stop>
     ensures { MatchResult result
         (λ found. MatchOption found (Missing lines (S.tape source.old) (S.tape source.new))
         (λ line. Found lines (S.tape source.old) (S.tape source.new) line.items))
         (StoppedInLine (S.tape source.old) (S.tape source.new)) }
 {
-    let mut line = Vec::new(alloc);
-    'bytes: while line.len() <= LONGEST_LINE {
+    let mut line = ArrayVec::new();
+    'bytes: while line.len() < LINE_ROOM {
         match next_byte(source)? {
             None => return Ok(None),
             Some(b'\n') => return Ok(Some(line)),
-            Some(byte) => line.push(byte)?,
+            Some(byte) => line.push(byte),
         }
     }
     Ok(None)
@@ -79,7 +85,8 @@ fn next_byte<S: Source>(source: &mut S) -> Result<Option<u8>, Stop>
 /// How many bytes of a body are read at once.
 const BLOCK: usize = 4096;
 
-// A body of so many bytes, of which a prefix is kept, or nothing where the input ends before.
+// A body of so many bytes, of which a prefix is kept, or nothing where the input ends before. Room for a
+// block is made before the block is read.
 fn read_body<S: Source>(
     alloc: Global,
     source: &mut S,
@@ -96,10 +103,11 @@ fn read_body<S: Source>(
     let mut at = 0;
     'pieces: while at < count {
         let wanted = BLOCK.min(count - at);
+        body.reserve(wanted)?;
         match source.read(&mut block[..wanted]) {
             Ok(0) => return Ok(None),
             Ok(given) => {
-                keep_prefix(&mut body, &block[..given])?;
+                keep_prefix(&mut body, &block[..given]);
                 at += given;
             }
             Err(_) => return Err(Stop::Input),
@@ -111,12 +119,13 @@ fn read_body<S: Source>(
 /// Of a body one byte more is kept than the longest that is taken, so that it is seen to be too long.
 const MOST_KEPT: usize = MAX_BODY + 1;
 
-// Appends as much of the piece as is kept of a body.
-fn keep_prefix(body: &mut Vec<u8>, piece: &[u8]) -> Result<(), AllocError>
-    requires { length body.old.items ≤ most_kept }
-    ensures { OnOk result (body.new.items
-        ≡ body.old.items ++ take (most_kept - length body.old.items) piece.now) }
+// Appends as much of the piece as is kept of a body. There is room for all of it.
+fn keep_prefix(body: &mut Vec<u8>, piece: &[u8])
+    requires short { length body.old.items ≤ most_kept }
+    requires room { length body.old.items + length piece.now ≤ vec_capacity body.old }
+    ensures { body.new.items ≡ body.old.items ++ take (most_kept - length body.old.items) piece.now }
 {
-    let room = MOST_KEPT - body.len();
-    body.extend_from_slice(&piece[..room.min(piece.len())])
+    let left = MOST_KEPT - body.len();
+    body.extend_from_slice(&piece[..left.min(piece.len())])
+        .unwrap();
 }

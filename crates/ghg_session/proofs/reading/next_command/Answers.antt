@@ -2,7 +2,7 @@ use Rattle.std.proofs.Common.{rules, ◌≡◌, refl, Some, None}
 use Rattle.std.proofs.lemmas.Result.{err_from_is_err_and}
 use Rattle.ghg_session.specs.Commands.{form_of}
 use Rattle.ghg_session.specs.declared.command.Line.TheVariants.{Submit, Show, End}
-use Rattle.ghg_session.proofs.Commands.{missing_line, missing_form, found_line, found_body, missing_body, stopped_line, stopped_form, stopped_body}
+use Rattle.ghg_session.proofs.Commands.{missing_line, missing_form, found_line, found_body, missing_body, stopped_line, stopped_body}
 use Rattle.ghg_session.proofs.reading.next_command.Goals as goal
 
 pub returns-in_default : goal.returns-in_default
@@ -32,8 +32,8 @@ returns-in-None-2 g c =
     let form : form_of c.in-Some.text.items ≡ Some (Submit c.in-Some-Submit.id c.in-Some-Submit.length) = search rules in
     missing_body _ _ _ _ _ _ read form (rw c.in-None-2.is at c.in_ok-read_body-in-Some-Submit.ensures)
 
-pub returns : goal.returns
-returns g c =
+pub returns-in-Some-2 : goal.returns-in-Some-2
+returns-in-Some-2 g c =
     let read = rw c.in-Some.is at c.in_ok-text.ensures in
     let form : form_of c.in-Some.text.items ≡ Some (Submit c.in-Some-Submit.id c.in-Some-Submit.length) = search rules in
     let body = rw c.in-Some-2.is at c.in_ok-read_body-in-Some-Submit.ensures in
@@ -43,12 +43,6 @@ pub returns-in_err-text : goal.returns-in_err-text
 returns-in_err-text g c =
     let p = err_from_is_err_and c.from_residual.result c.from_residual.ensures.1 in
     rw (p.1, p.2) (stopped_line _ _ _ c.in_err-text.ensures)
-
-pub returns-in_err-read_form : goal.returns-in_err-read_form
-returns-in_err-read_form g c =
-    let read = rw c.in-Some.is at c.in_ok-text.ensures in
-    let p = err_from_is_err_and c.from_residual-in_err-read_form.result c.from_residual-in_err-read_form.ensures.1 in
-    rw (p.1, p.2) (stopped_form _ _ _ read)
 
 pub returns-in_err-read_body-in-Some-Submit : goal.returns-in_err-read_body-in-Some-Submit
 returns-in_err-read_body-in-Some-Submit g c =

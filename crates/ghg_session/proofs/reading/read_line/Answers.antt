@@ -3,11 +3,11 @@ use Rattle.std.proofs.lemmas.Grind.{common_steps}
 use Rattle.std.proofs.lemmas.Result.{err_from_is_err_and}
 use Rattle.ghg_outer.proofs.Tapes.{consumes_more, consumes_nothing}
 use Rattle.ghg_session.specs.Commands.{longest_line}
-use Rattle.ghg_session.proofs.Lines.{found_line, line_begins, line_grows, missing_feed, missing_short_line, stopped_for_memory, stopped_in_line}
+use Rattle.ghg_session.proofs.Lines.{found_line, line_begins, line_grows, missing_feed, missing_short_line, stopped_in_line}
 use Rattle.ghg_session.proofs.reading.read_line.Goals as goal
 
 pub bytes-init : goal.bytes-init
-bytes-init g c = rw c.new-line.ensures.items record {
+bytes-init g c = rw c.new-line.ensures record {
   read = consumes_nothing _;
   plain = line_begins;
   short = omega arith;
@@ -33,7 +33,7 @@ pub bytes-preserved : goal.bytes-preserved
 bytes-preserved g c =
     let byte = rw c.in-Some.is at c.in_ok-next_byte.ensures in
     let other : nat_eq c.in-Some.byte 10 ≡ false = search rules in
-    rw c.in_ok-push-in-Some.ensures.items record {
+    rw c.push.ensures.items record {
       read = consumes_more _ _ _ _ _ c.bytes.invariant.read byte;
       plain = line_grows c.in-Some.byte c.bytes.line.items other c.bytes.invariant.plain;
       short = grind (arith, common_steps);
@@ -41,11 +41,3 @@ bytes-preserved g c =
 
 pub returns : goal.returns
 returns g c = missing_short_line _ _ _ c.bytes.invariant.read c.bytes.invariant.plain c.bytes.invariant.short (omega arith)
-
-pub returns-in_err-push-in-Some : goal.returns-in_err-push-in-Some
-returns-in_err-push-in-Some g c =
-    let byte = rw c.in-Some.is at c.in_ok-next_byte.ensures in
-    let other : nat_eq c.in-Some.byte 10 ≡ false = search rules in
-    let p = err_from_is_err_and c.from_residual-in_err-push-in-Some.result c.from_residual-in_err-push-in-Some.ensures.1 in
-    rw (p.1, p.2) (stopped_for_memory _ _ _ (consumes_more _ _ _ _ _ c.bytes.invariant.read byte)
-    (line_grows c.in-Some.byte c.bytes.line.items other c.bytes.invariant.plain) (grind (arith, common_steps)))
