@@ -19,12 +19,3 @@ def workbook(*words, cwd=TOP):
 def session(script):
     """What the program itself prints for a script."""
     return subprocess.run([PROGRAM, "compile"], input=script, capture_output=True, check=True).stdout
-
-
-def takes_rows_for(folder):
-    """Tells whether the program takes the rows that a folder of `faults` needs: those of its needs.txt."""
-    needs = HERE / "faults" / folder / "needs.txt"
-    if not needs.exists():
-        return True
-    body = HEADER + needs.read_text(encoding="utf-8")
-    return session(f"SUBMIT s {len(body.encode())}\n{body}END\n".encode()) == b"accepted 1\n"

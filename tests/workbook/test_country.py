@@ -3,15 +3,11 @@ import pathlib
 import tempfile
 import unittest
 
-from tests.workbook.running import TOP, session, takes_rows_for, workbook
+from tests.workbook.running import TOP, session, workbook
 from tools import vocabulary
 
-# The folders of the country, each with the folder of `faults` whose rows it needs.
-FOLDERS = {
-    "examples/fuel-combustion": "", "examples/small-country": "", "examples/waste": "half-lives",
-    "examples/uncertainties": "uncertainties",
-}
-COUNTRY = [folder for folder, needs in FOLDERS.items() if takes_rows_for(needs)]
+# The folders of the country, in their order.
+COUNTRY = ["examples/fuel-combustion", "examples/small-country", "examples/waste", "examples/uncertainties"]
 
 
 def files():

@@ -3,7 +3,7 @@ import csv
 import decimal
 import unittest
 
-from tests.workbook.running import HEADER, TOP, session, takes_rows_for
+from tests.workbook.running import HEADER, TOP, session
 
 FILES = sorted((TOP / "defaults").glob("*.csv"))
 SPAN = f"{HEADER}enter,span,,,1990,2020,1990,,,\n".encode()
@@ -14,12 +14,6 @@ NOTE = r"^(Volume \d Table [\d.]+|\w+ Assessment Report, \d{4}).*: .*, from memo
 def script(bodies):
     """A session of these bodies."""
     return b"".join(b"SUBMIT s%d %d\n%b" % (at, len(body), body) for at, body in enumerate(bodies)) + b"END\n"
-
-
-def files():
-    """The files whose rows the program takes."""
-    left = [] if takes_rows_for("half-lives") else [HALF_LIVES]
-    return [path for path in FILES if path.name not in left]
 
 
 def rows_of(name):
@@ -36,12 +30,12 @@ def fuels(name, *fronts):
 
 class Defaults(unittest.TestCase):
     def test_each_is_accepted_behind_a_span(self):
-        for path in files():
+        for path in FILES:
             replies = session(script([SPAN, path.read_bytes()]))
             self.assertEqual(replies, b"accepted 1\naccepted 2\n", path.name)
 
     def test_all_are_accepted_together_with_one_report(self):
-        others = [path for path in files() if "second" not in path.name and "fifth" not in path.name]
+        others = [path for path in FILES if "second" not in path.name and "fifth" not in path.name]
         replies = session(script([SPAN, *(path.read_bytes() for path in others)])).decode().splitlines()
         self.assertEqual(replies, [f"accepted {at}" for at in range(1, len(others) + 2)])
 

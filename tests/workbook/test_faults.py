@@ -1,11 +1,9 @@
 """Each folder of `faults` holds one kind of fault, and in due.txt the lines that `./workbook check` has to
 print of it.
-
-A folder with a file needs.txt is tried with a program that takes the rows of that file.
 """
 import unittest
 
-from tests.workbook.running import HERE, takes_rows_for, workbook
+from tests.workbook.running import HERE, workbook
 
 
 class Faults(unittest.TestCase):
@@ -16,8 +14,6 @@ class Faults(unittest.TestCase):
 def of_folder(folder):
     """The test of a folder."""
     def test(self):
-        if not takes_rows_for(folder.name):
-            self.skipTest("the program does not take these rows yet")
         ran = workbook("check", folder)
         due = (folder / "due.txt").read_text(encoding="utf-8")
         self.assertEqual(ran.stdout, due)
