@@ -1,4 +1,4 @@
-"""The example country whole: no fault, the program's own tables, and which years are estimated."""
+"""The example country whole: no fault, the tables of tests/country, and which years are estimated."""
 import pathlib
 import tempfile
 import unittest
@@ -48,6 +48,13 @@ class Country(unittest.TestCase):
         replies = [line for line in ran.stderr.splitlines() if "accepted" in line]
         self.assertEqual(len(replies), len(files()))
         self.assertIn("examples/fuel-combustion/3-fuel-consumption.csv: accepted, 403 rows", replies)
+
+    def test_tables_are_those_that_are_stored(self):
+        stored = {path.name: path.read_text() for path in sorted((TOP / "tests/country").glob("*.csv"))}
+        self.assertEqual(sorted(stored), sorted(f"{name}-2020.csv" for name in vocabulary.words()["tables"]))
+        for name, due in stored.items():
+            ran = workbook("tables", *COUNTRY, "2020", "--table", name.removesuffix("-2020.csv"))
+            self.assertEqual(ran.stdout, due, name)
 
     def test_one_table_is_printed(self):
         ran = workbook("tables", *COUNTRY, "2020", "--table", "summary")
