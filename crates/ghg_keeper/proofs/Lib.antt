@@ -1,0 +1,4 @@
+pub mod RowLemmas
+pub mod Meanings
+pub mod Texts
+pub mod Effects

@@ -1,0 +1,11 @@
+use Rattle.sqlite.specs.Held.{state}
+use Rattle.ghg_keeper.proofs.Effects.{create_told, attach_makes}
+use Rattle.ghg_keeper.proofs.statements.make_table.Goals as goal
+
+pub returns-clause-keeps : goal.returns-clause-keeps
+returns-clause-keeps g c =
+    create_told (state g.S.Store c.args.connection.now) (state g.S.Store c.execute.new.self) c.execute.result _ c.requires c.execute.ensures.survives c.execute.ensures.runs
+
+pub returns-clause-made : goal.returns-clause-made
+returns-clause-made g c told clean =
+    attach_makes (state g.S.Store c.args.connection.now) (state g.S.Store c.execute.new.self) c.execute.result told (c.execute.ensures.runs clean)

@@ -1,0 +1,19 @@
+-- What a keeper over a database shows.
+use Rattle.sqlite_trees.specs.declared.store.Store.{Ghosts}
+use Rattle.sqlite.specs.State.{State}
+use Rattle.sqlite.specs.Held.{Held, state}
+use Rattle.ghg_keeper.specs.declared.sql.SqlKeeper.{SqlKeeper}
+use Rattle.ghg_keeper.specs.Listed.{sql_shelf}
+use Rattle.ghg_keeper.specs.Shelf.{Shelf}
+
+-- its connection
+abbrev pub held : {S : Type 0} → SqlKeeper S → Held S
+held keeper = keeper.connection
+
+-- what that shows
+abbrev pub database : {S : Type 0} → Ghosts S → SqlKeeper S → State
+database store keeper = state store (held keeper)
+
+-- what the keeper tells
+abbrev pub kept_shelf : {S : Type 0} → Ghosts S → SqlKeeper S → Shelf
+kept_shelf store keeper = sql_shelf (database store keeper) keeper.faults

@@ -1,0 +1,6 @@
+pub mod Accepted
+pub mod Databases
+pub mod Forms
+pub mod Id
+pub mod Listed
+pub mod Shelf

@@ -1,0 +1,34 @@
+-- What a keeper tells: a shelf, on which rows are kept.
+use Rattle.std.specs.Prelude.{◌≡◌, ℕ, List, [], ◌∷◌, ◌++◌, Option, Result, IsErrOf}
+use Rattle.ghg_outer.specs.Counts.{IsCounted}
+use Rattle.ghg_keeper.specs.declared.keeper.KeepError.{KeepError}
+use Rattle.ghg_keeper.specs.declared.keeper.KeepError.TheVariants.{Failed}
+use Rattle.ghg_keeper.specs.declared.row.KeptRow.{KeptRow}
+
+-- Whether the rows are told; the rows, the oldest first, of which nothing is said where they are not told;
+-- the name of the store in use, where that is told; and how many calls failed.
+pub record Shelf : Type 1 where
+  pub tells : Type 0
+  pub rows : List KeptRow
+  pub name : Option (List ℕ)
+  pub faults : ℕ
+
+-- rows that are told after a call were told before it, and are the same
+pub record KeepsRows (before after : Shelf) : Type 0 where
+  pub told : after.tells → before.tells
+  pub same : after.tells → after.rows ≡ before.rows
+
+-- the rows and the name in use are the same
+pub record Keeps (before after : Shelf) : Type 0 where
+  pub rows : KeepsRows before after
+  pub name : after.name ≡ before.name
+
+-- one row more stands behind the others, where they are told after the call, and the name is the same
+pub record Adds (before after : Shelf) (row : KeptRow) : Type 0 where
+  pub told : after.tells → before.tells
+  pub more : after.tells → after.rows ≡ before.rows ++ row ∷ []
+  pub name : after.name ≡ before.name
+
+-- the count of faults does not fall, and it rose where the call failed
+abbrev pub CountsFaults : {A : Type 0} → Shelf → Shelf → Result A KeepError → Type 0
+CountsFaults before after result = IsCounted before.faults after.faults (IsErrOf result Failed)
