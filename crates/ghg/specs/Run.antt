@@ -69,7 +69,8 @@ pub record CompileRun (before after : Snapshot State) (status : ℕ) : Type 0 wh
   -- In each table among the replies to any requests, so to those that were read and to those that are due,
   -- the bounds hold the exact values of the nodes of the data then in force, wherever the inputs are within
   -- their supplied bounds.
-  pub bounds : (asked : List Request) → AreSoundReplies before.state asked (replies protocol before.state asked)
+  pub bounds : (asked : List Request)
+      → AreSoundReplies before.state asked (replies protocol before.state asked)
 
 -- every status of the program
 abbrev pub is_status : ℕ → Bool
