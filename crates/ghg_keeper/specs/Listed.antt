@@ -87,7 +87,7 @@ IsBeforeOrAfter now id body db =
     let rows = now.trees accepted_tree in
     HoldsRows now rows db ⊎ HoldsRows now (rows ++ stored (length rows + 1) id body ∷ []) db
 
--- a crash at any moment of the insert leaves the rows as they were, or with the new one
+-- a crash at the end of the insert, with any answer, leaves the rows as they were, or with the new one
 abbrev pub SurvivesInsert : State → State → List ℕ → List ℕ → Type 0
 SurvivesInsert old new id body =
     TellsRows old → HasCleanDisk new → (db : Trees) → new.may_leave db → IsBeforeOrAfter old.now id body db

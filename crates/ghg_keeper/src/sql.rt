@@ -143,7 +143,7 @@ impl<S: Alter> Keeper for SqlKeeper<S> {
         // Over a clean store a row that is acknowledged leaves the rows told.
         ensures told { (kept_shelf S.Store self.old).tells → HasCleanDisk (database S.Store self.new)
             → OnOk result (kept_shelf S.Store self.new).tells }
-        // A crash at any moment of the call leaves the rows as they were, or with the new one.
+        // A crash at the end of the call, with any answer, leaves the rows as they were, or with the new one.
         ensures crash { SurvivesInsert (database S.Store self.old) (database S.Store self.new)
             id.now body.now }
         // Once the call has answered, each crash leaves the rows that are told.
