@@ -5,15 +5,17 @@ import csv
 import io
 import re
 
-from tools import sheets
+from tools import causes, sheets, vocabulary
 from tools.faults import Fault, counted
-from tools.sheets import COLUMNS, Row, joined
+from tools.sheets import COLUMN_AT, COLUMNS, Row, joined
 
 HEADER = ",".join(COLUMNS)
 # How a text of UTF-16 begins: with a mark, or with an ASCII letter.
 UTF16 = {rb"\xff\xfe|\xfe\xff": "utf-16", rb"[\x20-\x7e]\x00": "utf-16-le", rb"\x00[\x20-\x7e]": "utf-16-be"}
-# How a further row begins within a quote.
-FURTHER_ROW = re.compile(rb"[\r\n]\s*\"?(enter|correct|withdraw)\"?,")
+ACTS = vocabulary.words()["acts"]
+# How a further row begins within a quote: with its act and its kind.
+FURTHER_ROW = re.compile(
+    rf"[\r\n]\s*\"?({'|'.join(ACTS)})\"?,\"?({'|'.join(vocabulary.words()['kinds'])})\"?,".encode())
 SPREADSHEETS = (b"PK\x03\x04", b"\xd0\xcf\x11\xe0")
 SAVE = "save it as CSV UTF-8 with commas"
 # A title and notes in front of the header are looked for in so many rows.
@@ -58,18 +60,20 @@ def of_rows(rows):
         name = {";": "semicolons", "\t": "tabs", "|": "bars"}[between]
         cause = f"{name} between the fields; {SAVE}, and numbers with a point"
         return cause, [with_comma(row, between) for row in rows]
-    found = [at for at, row in enumerate(rows[:ROWS_IN_FRONT]) if bare(row.fields)[:10] == COLUMNS]
+    if in_one_field(rows[0]):
+        return "quotes around each row; take them out", [unquoted(row) for row in rows]
+    found = [at for at, row in enumerate(rows[:ROWS_IN_FRONT]) if is_like_a_header(row)]
     if found and found[0] > 0:
         cause = f"{counted(found[0], 'row')} in front of the header"
         return f"{cause}; take {'it' if found[0] == 1 else 'them'} out", rows[found[0]:]
     names = bare(rows[0].fields)
-    if found and len(names) > 10:
+    if len(names) > 10 and names[:10] == COLUMNS:
         return eleventh(rows)
-    if names[0] in ("enter", "correct", "withdraw"):
+    if names[0] in ACTS:
         return f"no header; put a first row {HEADER} in front", [header_of(rows)] + rows
     if sorted(names) == sorted(COLUMNS):
         return other_words(rows, names)
-    return missing(rows[0]), None
+    return other_names(rows, names) if found else no_header(rows)
 
 
 def utf16(data):
@@ -93,9 +97,27 @@ def with_comma(row, between):
     return Row(row.sheet, row.line, joined(fields))
 
 
+def in_one_field(row):
+    """Tells whether all of a row stands in its first field, in quotes."""
+    first, *others = row.fields
+    return row.raw.startswith(b'"') and first.count(",") >= 5 and not any(others)
+
+
+def unquoted(row):
+    """A row without the quotes around all of it."""
+    if not in_one_field(row):
+        return row
+    return Row(row.sheet, row.line, row.fields[0].encode("utf-8", "surrogateescape"))
+
+
 def bare(fields):
-    """Fields without blanks at their ends, in lower case."""
-    return [field.strip().casefold() for field in fields]
+    """Fields without blanks and unseen characters at their ends, in lower case."""
+    return [causes.without_blanks(field).text.strip().casefold() for field in fields]
+
+
+def is_like_a_header(row):
+    """Tells whether a row has at least half of the ten names."""
+    return len(set(bare(row.fields)) & set(COLUMNS)) >= 5
 
 
 def header_of(rows):
@@ -136,18 +158,44 @@ def eleventh(rows):
     return cause, narrow
 
 
-def missing(first):
-    """What a first row is, that has not the ten names."""
-    names = bare(first.fields)
+def other_names(rows, names):
+    """A header that has not the ten names. The rows go on with the columns that are known."""
     absent = [column for column in COLUMNS if column not in names]
-    odd = [field for field in first.fields if field.strip().casefold() not in COLUMNS]
-    if len(absent) > 5:
-        return f"no header; the first row is {HEADER}"
-    named = f", and has {', '.join(odd)}" if odd else ""
+    odd = [field for field, name in zip(rows[0].fields, names) if name not in COLUMNS]
+    named = f", and has {', '.join(odd)}" if any(odd) else ""
     lacks = "the header has a column twice"
     if absent:
         lacks = f"the header has no column {', '.join(absent)}{named}"
-    return f"{lacks}; it is {HEADER}"
+    once = [name if name not in names[:at] else "" for at, name in enumerate(names)]
+    places = [place_of(column, once) for column in COLUMNS]
+    placed = [with_columns(row, places) if len(row.fields) == len(names) else row for row in rows[1:]]
+    return f"{lacks}; it is {HEADER}", [header_of(rows)] + placed
+
+
+def place_of(column, names):
+    """Where a column stands under these names, or None where there is no such column.
+
+    One under another name stands at its own place, where the next name that is known does too.
+    """
+    if column in names:
+        return names.index(column)
+    at = COLUMN_AT[column]
+    if at >= len(names) or names[at] in COLUMNS:
+        return None
+    behind = next((place for place in range(at, len(names)) if names[place] in COLUMNS), None)
+    in_place = len(names) >= len(COLUMNS) if behind is None else COLUMN_AT[names[behind]] == behind
+    return at if in_place else None
+
+
+def with_columns(row, places):
+    """A row of the fields at these places, and of empty ones."""
+    return Row(row.sheet, row.line, joined(["" if at is None else row.fields[at] for at in places]))
+
+
+def no_header(rows):
+    """A first row that is no header. The rows behind it are read where they begin with an act."""
+    rest = rows[1:] if rows[1:] and bare(rows[1].fields)[0] in ACTS else None
+    return f"no header; the first row is {HEADER}", [header_of(rows)] + rest if rest else None
 
 
 def close_quotes(sheet):
