@@ -16,6 +16,9 @@ ACTS = vocabulary.words()["acts"]
 # How a further row begins within a quote: with its act and its kind.
 FURTHER_ROW = re.compile(
     rf"[\r\n]\s*\"?({'|'.join(ACTS)})\"?,\"?({'|'.join(vocabulary.words()['kinds'])})\"?,".encode())
+# A row all of which stands in quotes, and what may stand between fields.
+ROW_IN_QUOTES = re.compile(rb'"([^"]*(?:""[^"]*)*)"[,;\t|]*')
+SEPARATOR = re.compile(rb"[,;\t|]")
 SPREADSHEETS = (b"PK\x03\x04", b"\xd0\xcf\x11\xe0")
 SAVE = "save it as CSV UTF-8 with commas"
 # A title and notes in front of the header are looked for in so many rows.
@@ -55,13 +58,13 @@ def rows_as_meant(sheet):
 
 def of_rows(rows):
     """Why a header in rows that can be read is none, and the rows to go on with."""
+    if within_quotes(rows[0]) is not None:
+        return "quotes around each row; take them out", [unquoted(row) for row in rows]
     between = delimiter(rows)
     if between:
         name = {";": "semicolons", "\t": "tabs", "|": "bars"}[between]
         cause = f"{name} between the fields; {SAVE}, and numbers with a point"
         return cause, [with_comma(row, between) for row in rows]
-    if in_one_field(rows[0]):
-        return "quotes around each row; take them out", [unquoted(row) for row in rows]
     found = [at for at, row in enumerate(rows[:ROWS_IN_FRONT]) if is_like_a_header(row)]
     if found and found[0] > 0:
         cause = f"{counted(found[0], 'row')} in front of the header"
@@ -97,17 +100,16 @@ def with_comma(row, between):
     return Row(row.sheet, row.line, joined(fields))
 
 
-def in_one_field(row):
-    """Tells whether all of a row stands in its first field, in quotes."""
-    first, *others = row.fields
-    return row.raw.startswith(b'"') and first.count(",") >= 5 and not any(others)
+def within_quotes(row):
+    """What stands in one pair of quotes around all of a row, or None."""
+    found = ROW_IN_QUOTES.fullmatch(row.raw)
+    return found.group(1).replace(b'""', b'"') if found and SEPARATOR.findall(found.group(1))[4:] else None
 
 
 def unquoted(row):
     """A row without the quotes around all of it."""
-    if not in_one_field(row):
-        return row
-    return Row(row.sheet, row.line, row.fields[0].encode("utf-8", "surrogateescape"))
+    within = within_quotes(row)
+    return row if within is None else Row(row.sheet, row.line, within)
 
 
 def bare(fields):
@@ -241,5 +243,12 @@ def moved(rows, line):
 
 
 def takes_in_rows(row):
-    """Tells whether a quote of the row is open, or holds what looks like further rows."""
-    return sheets.open_quote(row.raw) is not None or FURTHER_ROW.search(row.raw) is not None
+    """Tells whether a quote of the row is open, or holds what looks like further rows up to a quote with a
+    text behind it.
+    """
+    return sheets.open_quote(row.raw) is not None or holds_rows(row) and sheets.is_closed_within(row.raw)
+
+
+def holds_rows(row):
+    """Tells whether the row holds what looks like further rows."""
+    return FURTHER_ROW.search(row.raw) is not None

@@ -2,7 +2,7 @@
 import decimal
 import re
 
-from tools import vocabulary
+from tools import headers, vocabulary
 from tools.faults import Fault, at_row, counted, years_said
 from tools.vocabulary import listed, nearest
 
@@ -18,6 +18,7 @@ NAMES_SHOWN = 6
 def all_warnings(book, refused, sheets, left):
     """Every warning about a workbook, but for those that only follow from a refused row."""
     found = headers_alone([sheet for sheet in sheets if sheet not in left])
+    found += rows_in_quotes(sheets)
     found += orphans(book, refused, sheets)
     found += double_lines(book)
     found += ratios(book)
@@ -52,6 +53,13 @@ def headers_alone(sheets):
     """Files without a row."""
     cause = "a header alone: the file has no rows"
     return [warn_of(sheet, cause) for sheet in sheets if len(sheet.rows) == 1]
+
+
+def rows_in_quotes(sheets):
+    """Rows in which a closed quote holds what looks like further rows."""
+    cause = "what looks like further rows stands in quotes, and counts as text"
+    rows = (row for sheet in sheets for row in headers.close_quotes(sheet)[1])
+    return [warn(row, cause) for row in rows if headers.holds_rows(row)]
 
 
 def untaken(book, refused, kind):

@@ -8,6 +8,7 @@ BYTE_ORDER_MARK = b"\xef\xbb\xbf"
 # A field to its end: a quoted one over closed pairs of quotes, or one without a quote in front. The flag of
 # the second group is set where the closing quote is missing.
 FIELD = re.compile(rb'"[^"]*(?:""[^"]*)*(?:"[^,\r\n]*|(\Z))|[^,\r\n]*')
+QUOTED = re.compile(rb'"([^"]*(?:""[^"]*)*)"?(.*)', re.DOTALL)
 LINE_END = re.compile(rb"\r\n|\r|\n")
 
 
@@ -98,10 +99,15 @@ def joined(fields):
 
 def fields_of(raw):
     """The fields of a record with quotes in it."""
+    return [unquoted(field).decode("utf-8", "surrogateescape") for field in written_fields(raw)]
+
+
+def written_fields(raw):
+    """The fields of a record with their quotes."""
     found, at = [], 0
     while True:
         end = FIELD.match(raw, at).end()
-        found.append(unquoted(raw[at:end]).decode("utf-8", "surrogateescape"))
+        found.append(raw[at:end])
         if end == len(raw):
             return found
         at = end + 1
@@ -109,10 +115,14 @@ def fields_of(raw):
 
 def unquoted(field):
     """A field without its quotes."""
-    if not field.startswith(b'"'):
-        return field
-    inner = re.match(rb'"([^"]*(?:""[^"]*)*)"?(.*)', field, re.DOTALL)
-    return inner.group(1).replace(b'""', b'"') + inner.group(2)
+    inner = QUOTED.fullmatch(field)
+    return inner.group(1).replace(b'""', b'"') + inner.group(2) if inner else field
+
+
+def is_closed_within(raw):
+    """Tells whether a text stands behind the closing quote of a field of a record."""
+    quoted = (QUOTED.fullmatch(field) for field in written_fields(raw))
+    return any(found and found.group(2) for found in quoted)
 
 
 def split(sheet, data):
