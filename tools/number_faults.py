@@ -3,8 +3,9 @@ import decimal
 import re
 
 from tools import causes, vocabulary
-from tools.asking import Asking, cause_of
+from tools.asking import cause_of
 from tools.faults import at_row
+from tools.percent_faults import PercentFaults
 from tools.vocabulary import HALF_LIFE_UNIT, limit, listed
 
 NO_FIGURE = {
@@ -15,7 +16,7 @@ NO_FIGURE = {
 UNCERTAIN = {"value": "activity", "low": "factor"}
 
 
-class NumberFaults(Asking):
+class NumberFaults(PercentFaults):
     """Explanations of numbers."""
 
     def number(self, row, column):
@@ -53,8 +54,9 @@ class NumberFaults(Asking):
         if other and not text:
             cause = f"{other} is {row.field(other)} and {column} is missing; fill both or neither"
             return at_row(row, cause, column), None
-        if text.strip().endswith("%"):
-            return self.percent(row, column)
+        percent = self.percent(row, column)
+        if percent:
+            return percent
         keys = vocabulary.words()["keys"]
         if column == "value" and text.strip().upper() in [*keys, "C"]:
             return self.key(row, column, keys)
@@ -71,21 +73,6 @@ class NumberFaults(Asking):
             cause = f"confidential is no key here; write the number, or one of {listed(keys)}"
             return at_row(row, cause, column), None
         return self.choice(row, column, keys, f"no number and no notation key ({listed(keys)})")
-
-    def percent(self, row, column):
-        """A figure with a percent sign, which the unit pct has in place of it."""
-        mended = causes.number(row.field(column).strip().removesuffix("%").rstrip())
-        changed = row.with_fields(**{column: mended.text})
-        write = mended.text
-        if row.field("unit") != "pct":
-            changed, write = changed.with_fields(unit="pct"), f"{mended.text} and the unit pct"
-        if not self.takes(changed, column):
-            return at_row(row, "a percent sign; write the number, and the unit pct", column), None
-        others = [other for other in ("value", "low", "high") if changed.field(other).strip().endswith("%")]
-        for other in others:
-            changed = changed.with_fields(**{other: changed.field(other).strip().removesuffix("%").rstrip()})
-        cause = "a percent sign" + (f", and one in {listed(others, 'and')} too" if others else "")
-        return at_row(row, cause, column, write), changed
 
     def half_life(self, row, column):
         """A half-life, which has no bounds, or a bound of it."""

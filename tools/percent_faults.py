@@ -1,0 +1,148 @@
+"""Explains percent signs in figures: a ratio in percent, a bound by its distance from the value, and a value
+with its uncertainty in one field. All are of rule 6.
+"""
+import decimal
+import re
+
+from tools import causes, vocabulary
+from tools.asking import Asking
+from tools.faults import at_row
+from tools.vocabulary import listed
+
+# A distance to both sides, or to one of them.
+BOTH_SIDES = r"\u00b1|\+/-|\+-|\+/\u2212"
+UNCERTAIN_FIGURE = re.compile(rf"(.+?)\s*(?:{BOTH_SIDES})\s*(.+?)\s*(%?)")
+DISTANCE = re.compile(rf"({BOTH_SIDES}|[+\-{causes.MINUS}])?\s*(.*?)\s*%")
+EXACT = decimal.Context(prec=100)
+
+
+class PercentFaults(Asking):
+    """Explanations of percent signs."""
+
+    def percent(self, row, column):
+        """A percent sign or an uncertainty in a figure, or None where it has neither."""
+        text, ratio = row.field(column).strip(), is_of_a_ratio(row)
+        uncertain = UNCERTAIN_FIGURE.fullmatch(text)
+        if column == "value" and uncertain:
+            return self.uncertain_figure(row, *uncertain.groups())
+        if not text.endswith("%"):
+            return None
+        if column == "value":
+            return self.ratio(row, column) if ratio else self.of_no_ratio(row)
+        sign = DISTANCE.fullmatch(text).group(1)
+        if sign or not ratio:
+            return self.distance(row, column)
+        return self.ratio(row, column) if row.field("unit") == "pct" else self.ratio_or_distance(row, column)
+
+    def ratio(self, row, column):
+        """A ratio in percent, which the unit pct says. Bounds without the sign are in the row's unit."""
+        figure = causes.number(row.field(column).strip().removesuffix("%").rstrip())
+        others = [other for other in ("value", "low", "high")
+                  if other != column and row.field(other).strip().endswith("%")]
+        changed = row.with_fields(**{column: figure.text})
+        write = figure.text
+        if row.field("unit") != "pct" and row.field("low") and not others:
+            write = in_unit(figure.text, row.field("unit"))
+            changed = row.with_fields(**{column: write or figure.text})
+        elif row.field("unit") != "pct":
+            changed, write = changed.with_fields(unit="pct"), f"{figure.text} and the unit pct"
+        if not self.takes(changed, column):
+            return at_row(row, "a percent sign; write the number, and the unit pct", column), None
+        for other in others:
+            changed = changed.with_fields(**{other: changed.field(other).strip().removesuffix("%").rstrip()})
+        return at_row(row, f"a percent sign{and_one_in(others)}", column, write), changed
+
+    def of_no_ratio(self, row):
+        """A value in percent beside a unit that measures no ratio."""
+        others = [other for other in ("low", "high") if row.field(other).strip().endswith("%")]
+        unit = row.field("unit")
+        cause = f"a percent sign{and_one_in(others)}, and {unit} is no ratio; write the figure in {unit}"
+        return at_row(row, cause, "value"), self.blank_figure(row) if others else None
+
+    def distance(self, row, column):
+        """A bound by its distance from the value in percent."""
+        cause = f"a bound is a figure in {row.field('unit')}, as the value is"
+        bound, said = bound_of(row, column)
+        changed = row.with_fields(**{column: bound})
+        if not bound or not self.takes(changed, column):
+            return at_row(row, cause, column), None
+        return at_row(row, cause, column, f"{bound}, which is {said}"), changed
+
+    def ratio_or_distance(self, row, column):
+        """A bound of a ratio that is in percent, or by its distance from the value."""
+        unit = row.field("unit")
+        share = in_unit(causes.number(row.field(column).strip().removesuffix("%").rstrip()).text, unit)
+        cause = f"a percent sign, and the value is in {unit}"
+        bound, said = bound_of(row, column)
+        meant = [f"{share} where a ratio is meant"] if share else []
+        if bound:
+            meant.append(f"{bound} where {said} is meant")
+        return at_row(row, cause, column, listed(meant)), None
+
+    def uncertain_figure(self, row, value, distance, percent):
+        """A value with its uncertainty behind it."""
+        cause = "a value with its uncertainty; the bounds stand in low and high"
+        value, distance = figure_of(value), figure_of(distance)
+        if value is None or distance is None or (percent and is_of_a_ratio(row)):
+            return at_row(row, cause, "value"), None
+        if percent:
+            distance = EXACT.multiply(abs(value), distance) / 100
+        changed = row.with_fields(value=written(value))
+        write = written(value)
+        if not row.field("low") and not row.field("high"):
+            low, high = (written(bound) for bound in (EXACT.subtract(value, distance),
+                                                      EXACT.add(value, distance)))
+            changed = changed.with_fields(low=low, high=high)
+            write += f" with low {low} and high {high}"
+        if not self.takes(changed, None):
+            return at_row(row, cause, "value"), None
+        return at_row(row, cause, "value", write), changed
+
+
+def is_of_a_ratio(row):
+    """Tells whether a row's unit measures a ratio, or is none of the table."""
+    return vocabulary.measured_by(row.field("unit")) in (None, "ratio")
+
+
+def and_one_in(columns):
+    """That other columns have a percent sign too."""
+    return f", and one in {listed(columns, 'and')} too" if columns else ""
+
+
+def figure_of(text):
+    """The figure of a text, or None where it is not sure or there is none."""
+    mended = causes.number(text)
+    if not mended.sure or not re.fullmatch(r"-?\d{1,40}(\.\d+)?", mended.text):
+        return None
+    return decimal.Decimal(mended.text)
+
+
+def written(figure):
+    """A figure with no more decimals than a number may have, and without zeros at their end."""
+    text = causes.number(format(figure, "f")).text
+    return re.sub(r"\.?0+$", "", text) if "." in text else text
+
+
+def in_unit(text, unit):
+    """A percentage in a unit of ratios, or None where it is no number."""
+    figure = figure_of(text)
+    if figure is None:
+        return None
+    size = vocabulary.units()[unit]
+    return written(figure * size["under"] / size["over"] / 100)
+
+
+def bound_of(row, column):
+    """The bound at a distance in percent from the value, and how it comes of it; or nothing.
+
+    A distance to the other side is no bound.
+    """
+    sign, text = DISTANCE.fullmatch(row.field(column).strip()).groups()
+    value, percent = figure_of(row.field("value")), figure_of(text)
+    other = "+" if column == "low" else causes.MINUS + "-"
+    if value is None or percent is None or row.has_other_figure or (sign and sign in other):
+        return "", ""
+    up = (column == "high") == (value >= 0)
+    part = 1 + percent / 100 if up else 1 - percent / 100
+    said = f"{written(value)} * (1 {'+' if up else '-'} {written(percent)}/100)"
+    return written(EXACT.multiply(value, part)), said
