@@ -8,7 +8,7 @@ import sys
 from tools import notices, vocabulary
 from tools.book import Book, lines_taken_by, record_taken_by
 from tools.faults import years_said
-from tools.tables import say_refused, submit_all
+from tools.tables import say_lacking, submit_all
 
 GAP = "!"
 # The state of a category and gas is that of its least complete line.
@@ -136,10 +136,7 @@ def print_list(heading, items):
 def run(program, sheets, arguments):
     """Prints the states of all categories and gases, then lists, and answers the status."""
     accepted = submit_all(program, sheets)
-    refused = len(sheets) - len(accepted)
-    if refused:
-        so = f"the years are without {'it' if refused == 1 else 'them'}"
-        say_refused(refused, sheets, arguments.folders, so)
+    lacking = say_lacking(sheets, accepted, arguments.folders, "the years are without {}")
     book = Book()
     for sheet in accepted:
         for row in sheet.rows[1:]:
@@ -162,5 +159,5 @@ def run(program, sheets, arguments):
     if not arguments.csv:
         for heading, items in {**wrongs, **others}.items():
             print_list(heading, items)
-    wrong = refused or any(wrongs.values()) or any(GAP in states for states in rows.values())
+    wrong = lacking or any(wrongs.values()) or any(GAP in states for states in rows.values())
     return 1 if wrong else 0

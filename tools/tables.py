@@ -3,7 +3,7 @@ import pathlib
 import shlex
 import sys
 
-from tools import vocabulary
+from tools import headers, vocabulary
 from tools.faults import counted
 
 
@@ -30,22 +30,35 @@ def submit_all(program, sheets):
     return accepted
 
 
-def say_refused(refused, sheets, folders, so):
-    """Says on standard error how many files are refused, what comes of it, and where the causes are told."""
-    what = f"{refused} of {counted(len(sheets), 'file')} {'is' if refused == 1 else 'are'} refused"
-    print(f"./workbook: {what}, and {so}; ./workbook check {shlex.join(folders)} tells why", file=sys.stderr)
+def say_lacking(sheets, accepted, folders, so):
+    """Says on standard error which quotes take in further rows, how many files are refused, what comes of it,
+    and where the causes are told. Answers whether anything lacks.
+    """
+    faults = [fault for sheet in sheets for fault in headers.close_quotes(sheet)[0]]
+    refused = len(sheets) - len(accepted)
+    for fault in faults:
+        print(fault, file=sys.stderr)
+    if refused:
+        what = f"{refused} of {counted(len(sheets), 'file')} {'is' if refused == 1 else 'are'} refused"
+        so = so.format("it" if refused == 1 else "them")
+    elif faults:
+        what = f"{counted(len(faults), 'quote')} {'is' if len(faults) == 1 else 'are'} open"
+        so = so.format("the rows in it" if len(faults) == 1 else "the rows in them")
+    if faults or refused:
+        tells = f"./workbook check {shlex.join(folders)} tells why"
+        print(f"./workbook: {what}, and {so}; {tells}", file=sys.stderr)
+    return bool(faults or refused)
 
 
 def run(program, sheets, arguments):
-    """Writes the tables of the year, where each file is accepted, and answers the status."""
+    """Writes the tables of the year, where each file is accepted and no quote is open, and answers the
+    status.
+    """
     accepted = submit_all(program, sheets)
-    refused = len(sheets) - len(accepted)
-    if refused and not arguments.partial:
-        say_refused(refused, sheets, arguments.folders, "no table is written")
+    so = "the tables are without {}" if arguments.partial else "no table is written"
+    lacking = say_lacking(sheets, accepted, arguments.folders, so)
+    if lacking and not arguments.partial:
         return 1
-    if refused:
-        so = f"the tables are without {'it' if refused == 1 else 'them'}"
-        say_refused(refused, sheets, arguments.folders, so)
     names = arguments.table or vocabulary.words()["tables"]
     shown = {name: program.show(name, arguments.year) for name in names}
     missing = [name for name, lines in shown.items() if lines is None]
@@ -55,7 +68,7 @@ def run(program, sheets, arguments):
         print(f"./workbook: {what}, or there is no span, or the tables are {known}", file=sys.stderr)
         return 1
     write(shown, arguments)
-    return 1 if refused else 0
+    return 1 if lacking else 0
 
 
 def write(shown, arguments):

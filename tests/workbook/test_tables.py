@@ -30,6 +30,25 @@ class Refused(unittest.TestCase):
         self.assertEqual(written, sorted(f"{name}-2020.csv" for name in vocabulary.words()["tables"]))
         self.assertEqual(ran.returncode, 1)
 
+    def test_an_open_quote_that_takes_in_rows(self):
+        folder = "tests/workbook/faults/an-open-quote-in-a-number"
+        cause = "2-power.csv:5: an open quote: it takes in the rows up to line 7; take the quote out\n"
+        for words in (["complete", folder], ["tables", folder, "2020"]):
+            ran = workbook(*words)
+            self.assertEqual(ran.returncode, 1)
+            self.assertIn(cause, ran.stderr)
+
+    def test_no_table_is_without_the_rows_of_an_open_quote(self):
+        with tempfile.TemporaryDirectory() as room:
+            rows = "enter,span,,,2019,2020,2019,,,\nenter,factor,,GWP.CO2,2019,1,,,1,\"of\n"
+            (pathlib.Path(room) / "1.csv").write_text(HEADER + rows + "enter,factor,,GWP.CH4,2019,28,,,1,\n")
+            ran = workbook("tables", room, "2020")
+            partial = workbook("tables", room, "2020", "--partial")
+        self.assertEqual((ran.stdout, ran.returncode, partial.returncode), ("", 1, 1))
+        self.assertIn("./workbook: 1 quote is open, and no table is written", ran.stderr)
+        self.assertIn("1 quote is open, and the tables are without the rows in it", partial.stderr)
+        self.assertTrue(partial.stdout.startswith("code,"), partial.stdout)
+
     def test_a_year_outside_the_span(self):
         ran = workbook("tables", "examples/fuel-combustion", "2030")
         self.assertEqual(ran.returncode, 1)
