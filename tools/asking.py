@@ -1,13 +1,15 @@
 """What all explanations of a row do: they try what the writer may have meant, and the program says whether
 it takes it.
 """
-from tools import causes
+import re
+
+from tools import causes, vocabulary
 from tools.faults import at_row
 from tools.sheets import COLUMNS
 from tools.vocabulary import listed, nearest
 
 
-# A word that a column takes, whatever the kind of its row.
+# A word that a column takes, whatever the kind of its row. What stands in for a kind is told by its rest.
 STAND_INS = {"act": "enter", "subject": "X", "name": "X", "year": "2000", "value": "Q10", "unit": "t"}
 
 
@@ -57,11 +59,10 @@ class Asking:
 
     def stand_in(self, row, column):
         """The row with a word in place of one that is none, so that the rest of it is looked at, or None."""
-        if column not in STAND_INS or row.field(column) == STAND_INS[column]:
+        word = kind_by_its_rest(row) if column == "kind" else STAND_INS.get(column)
+        if word is None or row.field(column) == word or is_empty(row) or is_header(row):
             return None
-        if is_empty(row) or is_header(row):
-            return None
-        changed = row.with_fields(**{column: STAND_INS[column]})
+        changed = row.with_fields(**{column: word})
         return changed if self.takes(changed, column) else None
 
     def blank_figure(self, row):
@@ -70,6 +71,16 @@ class Asking:
         """
         changed = row.with_fields(value="NE", low="", high="")
         return changed if self.takes(changed, None) else None
+
+
+def kind_by_its_rest(row):
+    """The kind that a row has by its unit or its value, or None."""
+    value = causes.without_blanks(row.field("value")).text
+    if causes.without_blanks(row.field("unit")).text:
+        return "factor"
+    if value.casefold() in vocabulary.words()["forms"]:
+        return "bind"
+    return "line" if re.fullmatch(r"[Qq]\d+", value) else None
 
 
 def is_empty(row):

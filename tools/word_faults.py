@@ -9,6 +9,12 @@ from tools.sheets import COLUMNS_OF_KEY
 from tools.vocabulary import limit, listed, nearest
 
 
+# Other words for the acts.
+OTHER_ACTS = {
+    "add": "enter", "update": "correct", "change": "correct", "delete": "withdraw", "remove": "withdraw",
+}
+
+
 class WordFaults(Asking):
     """Explanations of words."""
 
@@ -19,8 +25,10 @@ class WordFaults(Asking):
         if is_header(row):
             return at_row(row, "the header once more; take this row out"), None
         kind = row.field("kind")
-        if column in ("act", "kind"):
-            return self.choice(row, column, vocabulary.words()[column + "s"])
+        if column == "act":
+            return self.act(row, column)
+        if column == "kind":
+            return self.choice(row, column, vocabulary.words()["kinds"])
         if row.field("act") == "withdraw" and column in ("subject", "year", "value", "low", "high", "unit"):
             if (kind, column) not in (("bind", "subject"),):
                 cause = f"in a row that withdraws {article(kind)} only what names the record is filled"
@@ -40,6 +48,14 @@ class WordFaults(Asking):
             cause = f"beside the notation key {row.field('value')} low and high stay empty"
             return self.filled(row, column, cause)
         return self.filled(row, column, f"this column stays empty in {article(kind)} row")
+
+    def act(self, row, column):
+        """An act, or another word for one. A row with figures withdraws nothing."""
+        acts = vocabulary.words()["acts"]
+        meant = OTHER_ACTS.get(causes.without_blanks(row.field(column)).text.casefold())
+        if meant is None or meant == "withdraw" and any(map(row.field, ("value", "low", "high", "unit"))):
+            return self.choice(row, column, acts)
+        return self.first_taken(row, column, [("no such word", meant, True)], f"act is {listed(acts)}")
 
     def form(self, row, column):
         """The form of a binding, which goes on with NE."""
