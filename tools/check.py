@@ -11,7 +11,7 @@ from tools.book import Book, record_taken_by
 from tools.causes import name as mended_name
 from tools.explain import Explainer
 from tools.faults import Fault, counted
-from tools.sheets import COLUMNS, joined
+from tools.sheets import COLUMNS, COLUMNS_OF_KEY, joined
 from tools.vocabulary import limit
 
 HEADER = joined(COLUMNS)
@@ -106,7 +106,7 @@ class Check:
         self.program, self.sheets = program, sheets
         self.book, self.refused, self.later = Book(), Refused(), Later(sheets)
         self.applied = Applied(self.book)
-        self.faults, self.left = [], []
+        self.faults, self.left, self.lost = [], [], []
         self.clean = {}
 
     def run(self):
@@ -141,6 +141,25 @@ class Check:
             return
         for row in rows[1:]:
             self.book.apply(row)
+        self.lost = [row for row in self.lost if not self.is_entered_twice(row, sheet)]
+
+    def is_entered_twice(self, lost, sheet):
+        """Tells whether the record of a row that was taken out is entered once more, in the file at hand or
+        before. That is a fault of the row that comes later.
+        """
+        other = self.book.entered.get(lost.key)
+        if other is None or lost.field("act") != "enter":
+            return False
+        lost = lost.with_fields(unit=other.field("unit"))
+        if self.probe([lost])[0].rule != 9:
+            return False
+        first, later, book = other, lost, Book()
+        if other.line > lost.line if other.sheet is lost.sheet else lost.sheet is not sheet:
+            first, later = lost, other
+        book.apply(first)
+        fault, _ = Explainer(self.takes, book, self.refused).exists(later)
+        self.faults.append(fault)
+        return True
 
     def changed(self, sheet, rows, reply):
         """A file's rows without the fault of a reply, which is recorded, or None where nothing helps."""
@@ -242,11 +261,19 @@ class Check:
         self.faults.append(fault)
         if changed is None:
             self.refused.add([] if lost else [row])
-            stand_in = explainer.stand_in(row, reply.column)
-            if stand_in is not None:
-                self.without_faults(stand_in, explainer, True)
+            self.look_at_rest(explainer.stand_in(row, reply.column), reply.column, explainer)
             return None
         return self.without_faults(changed, explainer, lost)
+
+    def look_at_rest(self, stand_in, column, explainer):
+        """Looks for further faults of a row with a word in place of one in a column. What it enters is kept,
+        where that word does not name it.
+        """
+        if stand_in is None:
+            return
+        row = self.without_faults(stand_in, explainer, True)
+        if row is not None and column not in ["act", "kind", *COLUMNS_OF_KEY.get(row.field("kind"), [])]:
+            self.lost.append(row)
 
     def without_faults(self, row, explainer, lost):
         """A changed row without what it still breaks by itself, or None where it is taken out."""
