@@ -13,6 +13,10 @@ TOP = pathlib.Path(__file__).resolve().parent.parent
 # So many commands are written before their replies are read: as many replies have room in a pipe.
 COMMANDS_AT_ONCE = 400
 BYTES_AT_ONCE = 1 << 20
+# A script has as many commands, without its END, and the length of a body has eight digits. A longer body is
+# refused for its length as well where it is cut.
+MOST_COMMANDS = 999_999
+MOST_BYTES = 99_999_999
 REFUSED = re.compile(r"refused (\d+) (\w+)(?: row (\d+))?(?: column (\w+))?(?: (.*))?")
 
 
@@ -53,7 +57,7 @@ def found_program(given=None):
     """The program's path: the given one, or that of GHG_PROGRAM, or the launcher, which builds it where it
     is missing.
     """
-    path = given or os.environ.get("GHG_PROGRAM") or str(TOP / "ghg")
+    path = os.path.abspath(given or os.environ.get("GHG_PROGRAM") or TOP / "ghg")
     if not os.access(path, os.X_OK) or os.path.isdir(path):
         raise ProgramFailed(f"there is no program at {path}")
     return path
@@ -63,16 +67,24 @@ class Program:
     """A session of the program. It is closed at the end of a `with` block."""
 
     def __init__(self, path):
-        self.submitted = 0
+        self.path, self.submitted = path, 0
+        self._start()
+
+    def _start(self):
+        self.commands, self.accepted = 0, []
         try:
-            self.process = subprocess.Popen([path, "compile"], stdin=subprocess.PIPE, stdout=subprocess.PIPE)
+            self.process = subprocess.Popen([self.path, "compile"], stdin=subprocess.PIPE,
+                                            stdout=subprocess.PIPE)
         except OSError as error:
-            raise ProgramFailed(f"{path} cannot be run: {error.strerror}") from error
+            raise ProgramFailed(f"{self.path} cannot be run: {error.strerror}") from error
 
     def __enter__(self):
         return self
 
     def __exit__(self, *_):
+        self._end()
+
+    def _end(self):
         for stream in (self.process.stdin, self.process.stdout):
             try:
                 stream.close()
@@ -86,15 +98,28 @@ class Program:
 
     def submit_all(self, bodies):
         """Submits bodies in turn, and reads their replies."""
-        replies, waiting, size = [], 0, 0
+        replies, waiting, size = [], [], 0
         for body in bodies:
-            self.submitted += 1
-            self._write(b"SUBMIT w%d %d\n%b" % (self.submitted, len(body), body))
-            waiting, size = waiting + 1, size + len(body)
-            if waiting == COMMANDS_AT_ONCE or size > BYTES_AT_ONCE:
+            if self.commands == MOST_COMMANDS:
                 replies += self._replies(waiting)
-                waiting, size = 0, 0
+                waiting, size = [], 0
+                self._start_again()
+            body = body[:MOST_BYTES]
+            self.submitted += 1
+            self._command(b"SUBMIT w%d %d\n%b" % (self.submitted, len(body), body))
+            waiting.append(body)
+            size += len(body)
+            if len(waiting) == COMMANDS_AT_ONCE or size > BYTES_AT_ONCE:
+                replies += self._replies(waiting)
+                waiting, size = [], 0
         return replies + self._replies(waiting)
+
+    def _start_again(self):
+        """Starts a new process, and submits to it what the one before accepted."""
+        accepted = self.accepted
+        self._end()
+        self._start()
+        self.submit_all(accepted)
 
     def show(self, table, year):
         """The lines of a table with its header, or None where there is no such table.
@@ -103,18 +128,23 @@ class Program:
         """
         if not re.fullmatch(r"[a-z]{1,16} [0-9]{4}", f"{table} {year}"):
             return None
-        self._write(f"SHOW {table} {year}\n".encode())
+        if self.commands == MOST_COMMANDS:
+            self._start_again()
+        self._command(f"SHOW {table} {year}\n".encode())
         self._flush()
         first = self._line()
         if first == "no table":
             return None
         return [self._line() for _ in range(int(first.split()[-1]))]
 
-    def _replies(self, count):
+    def _replies(self, bodies):
         self._flush()
-        return [read_reply(self._line()) for _ in range(count)]
+        replies = [read_reply(self._line()) for _ in bodies]
+        self.accepted += [body for body, reply in zip(bodies, replies) if reply.accepted]
+        return replies
 
-    def _write(self, piece):
+    def _command(self, piece):
+        self.commands += 1
         try:
             self.process.stdin.write(piece)
         except OSError as error:

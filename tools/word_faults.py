@@ -253,7 +253,8 @@ def category_otherwise(code, text):
         return "empty; here stands the code of a category; ./workbook words categories lists them"
     if code in known:
         return f"not a leaf: its leaves are {listed(vocabulary.leaves_under(code), 'and')}"
-    above = next((code[:end] for end in range(len(code) - 1, 0, -1) if code[:end] in known), None)
+    longest = min(len(code) - 1, max(map(len, known)))
+    above = next((code[:end] for end in range(longest, 0, -1) if code[:end] in known), None)
     if above:
         there = [f"{leaf} ({known[leaf]['name']})" for leaf in known[above]["children"]]
         return f"no category of this tree; under {above} it has {listed(there, 'and')}"

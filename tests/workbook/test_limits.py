@@ -3,8 +3,10 @@ import itertools
 import pathlib
 import tempfile
 import unittest
+from unittest import mock
 
 from tests.workbook.running import HEADER, PROGRAM, workbook
+from tools import program as session
 
 SPAN = "enter,span,,,1990,2020,1990,,,\n"
 
@@ -27,6 +29,22 @@ class Limits(unittest.TestCase):
             '3.csv:3 low "A1": there is no activity A1, since its row was refused (follows from 2.csv:3)',
             "3 files: 2 faults, of which 1 only follows from others, 0 warnings"])
 
+    def test_a_file_whose_length_has_nine_digits(self):
+        self.assertEqual(checked(HEADER + SPAN, HEADER + "n" * (100_000_000 - len(HEADER))), [
+            "2.csv:1: 100,000,000 bytes where 4,194,304 are the most; split the file",
+            "2 files: 1 fault, 0 warnings"])
+
+    def test_more_commands_than_a_script_has(self):
+        span, record = (HEADER + SPAN).encode(), HEADER + "enter,activity,,A{},2000,1,,,t,\n"
+        with mock.patch.object(session, "MOST_COMMANDS", 3), session.Program(PROGRAM) as program:
+            self.assertEqual(program.submit(span).text, "accepted 1")
+            self.assertEqual([reply.rule for reply in program.submit_all([b"", span] * 3)], [4, 9] * 3)
+            self.assertEqual(program.submit(record.format(1).encode()).text, "accepted 2")
+            self.assertEqual(program.submit(record.format(2).encode()).text, "accepted 3")
+            self.assertEqual(program.submit(record.format(1).encode()).rule, 9)
+            self.assertEqual(program.show("cells", 2000), ["code,category,equation,gas,unit,value,low,high"])
+            self.assertIsNone(program.show("cells", 2021))
+
     def test_a_fault_in_each_of_many_rows(self):
         commas = HEADER + SPAN + "".join(f'enter,activity,,A{n},2000,"{n},5",,,t,\n' for n in range(2000))
         printed = checked(commas)
@@ -38,6 +56,10 @@ class Limits(unittest.TestCase):
         self.assertEqual(printed, [
             f'1.csv:3 value "{"1" * 60}...": 1000000 digits where 14 are the most; choose a greater unit',
             "1 file: 1 fault, 0 warnings"])
+
+    def test_a_category_of_a_million_letters(self):
+        printed = checked(HEADER + SPAN + f"enter,line,1Z{'z' * 1000000},L,,Q83,,,,\n")
+        self.assertIn("no category of this tree; under 1 it has 1A (", printed[0])
 
     def test_decimals_behind_many_digits(self):
         printed = checked(HEADER + SPAN + f"enter,activity,,A,2000,{'1' * 300}.{'1' * 13},,,t,\n")

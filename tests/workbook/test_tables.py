@@ -134,6 +134,15 @@ class Folders(unittest.TestCase):
         self.assertEqual((ran.returncode, ran.stdout), (2, ""))
         self.assertIn("no-such-folder is no folder", ran.stderr)
 
+    def test_a_program_in_the_folder_at_hand(self):
+        with tempfile.TemporaryDirectory() as room:
+            (pathlib.Path(room) / "1.csv").write_text(HEADER)
+            program = pathlib.Path(room) / "program"
+            program.write_text("#!/bin/sh\necho accepted 1\ncat > /dev/null\n")
+            program.chmod(0o755)
+            ran = workbook("check", ".", "--no-warnings", "--program", "program", cwd=room)
+        self.assertEqual((ran.stdout, ran.stderr), ("1 file: 0 faults, 0 warnings\n", ""))
+
     def test_no_program(self):
         ran = workbook("check", PLANTS, "--program", "/no/such/program")
         self.assertEqual((ran.returncode, ran.stdout), (2, ""))
