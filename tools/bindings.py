@@ -9,6 +9,7 @@ from tools.asking import article
 from tools.book import lines_taken_by, record_taken_by
 from tools.faults import Fault, at_row, counted
 from tools.sheets import COLUMNS, Row, joined
+from tools.shifts import said_of_swapped
 from tools.vocabulary import limit, listed, nearest, said_of_parameter
 
 
@@ -122,6 +123,12 @@ def without_line(line, parameter, bound, after):
         return at_row(gone[0], cause), after.without_line(line)
     if not after.is_own(bound):
         return None, None
+    other = after.book.lines.get(parameter)
+    bindings = after.book.bindings.get(parameter, {})
+    if other and line in vocabulary.parameters_of(other.field("value")) and line not in bindings:
+        meant = bound.with_fields(subject=parameter, name=line)
+        fault = at_row(bound, *said_of_swapped(meant, "subject", "name"))
+        return fault, after.changed(bound, subject=parameter, name=line)
     refused = after.refused.that_sets(("line", line))
     near = nearest(line, after.book.lines, 1, 0.75)
     if near and not refused and parameter not in after.book.bindings.get(near[0], {}):

@@ -21,7 +21,7 @@ class Explainer(WordFaults, NumberFaults, Shifts):
         if reply.rule == 4:
             return self.shape(row)
         if reply.rule == 5:
-            return self.shifted(row) or self.word(row, reply.column)
+            return self.shifted(row) or self.swapped(row) or self.word(row, reply.column)
         if reply.rule == 6:
             return self.shifted(row) or self.number(row, reply.column)
         if reply.rule == 7:

@@ -1,10 +1,16 @@
 """Explains a row whose fields stand one column too far left or right, since a comma is missing or there is
-one more.
+one more; and one of which two fields stand in each other's column.
 """
+import itertools
+
 from tools import vocabulary
 from tools.asking import Asking
 from tools.faults import at_row, shown
 from tools.sheets import COLUMN_AT, Row, joined
+
+
+# The columns that are filled in rows of these kinds.
+FILLED = {"line": ["subject", "name", "value"], "bind": ["subject", "name", "value", "low"]}
 
 
 def word_of_a_column(kind):
@@ -34,6 +40,22 @@ class Shifts(Asking):
             return self.first_of(row, self.moved_left(row, due), "right; take out a comma in front of it")
         return None
 
+    def swapped(self, row):
+        """The fault of two fields of a line or a binding that stand in each other's column, and the row as it
+        is meant, where the program takes it so; or None.
+        """
+        for one, other in itertools.combinations(FILLED.get(row.field("kind"), []), 2):
+            meant = row.with_fields(**{one: row.field(other), other: row.field(one)})
+            if meant.fields != row.fields and self.is_of_its_line(meant) and self.takes(meant, None):
+                return at_row(row, *said_of_swapped(meant, one, other)), meant
+        return None
+
+    def is_of_its_line(self, row):
+        """Tells whether a row is no binding, or one of a parameter that its line has."""
+        line = self.book.lines.get(row.field("subject"))
+        known = vocabulary.parameters_of(line.field("value")) if line else []
+        return row.field("kind") != "bind" or row.field("name") in known
+
     def first_of(self, row, candidates, where):
         """The fault and the first of some rows that the program takes, or None."""
         for text, fields in candidates:
@@ -59,3 +81,9 @@ class Shifts(Asking):
         for at in range(last, 1, -1):
             if not row.fields[at]:
                 yield next(filter(None, row.fields[at:])), row.fields[:at] + row.fields[at + 1:] + [""]
+
+
+def said_of_swapped(meant, one, other):
+    """The cause of two fields in each other's column, and how the row is meant."""
+    write = f"{meant.field(one)} in {one} and {meant.field(other)} in {other}"
+    return f"{one} and {other} are swapped", "", write

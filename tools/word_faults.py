@@ -59,6 +59,10 @@ class WordFaults(Asking):
 
     def form(self, row, column):
         """The form of a binding, which goes on with NE."""
+        key = causes.without_blanks(row.field(column)).text.upper()
+        bound = row.with_fields(value="key", low=key)
+        if key in vocabulary.words()["keys"] and not row.field("low") and self.takes(bound, None):
+            return at_row(row, "a notation key is bound by key", column, f"key,{key}"), bound
         forms = vocabulary.words()["forms"]
         fault, changed = self.choice(row, column, forms, f"a binding is by {listed(forms)}")
         return fault, changed or self.blank_binding(row)
