@@ -190,7 +190,14 @@ def unit_form(text):
     """A unit without case, blanks, gases and years, to compare units by."""
     text = unicodedata.normalize("NFKC", text).casefold()
     text = re.sub(r"\bper\b", "/", text)
-    gas = r"(?<![a-z0-9])(co2|ch4|n2o-n|n2o|cf4|c2f6)(-?eq|e)?(?![a-z0-9])|(?<=[tg])(co2|ch4|n2o)"
+    # A gas stands alone, or behind the g or t of a mass.
+    gas = r"(?<![0-9a-fh-su-z])(co2|ch4|n2o-n|n2o|cf4|c2f6)([\s-]*eq(uivalents?)?\.?|e)?(?![a-z0-9])"
     text = re.sub(gas, "", text)
     text = re.sub(r"[\s\u00b7*]", "", text)
     return re.sub(r"/(yr|year|a|annum|y)\b", "", text)
+
+
+def same_size_form(text):
+    """The form of a unit whose parts are written in the words of the table for the same size."""
+    text = re.sub("[A-Za-z]+", lambda found: BY_CASE.get(found.group(), found.group()), text)
+    return "/".join(unit_form(SAME_SIZE.get(part, part)) for part in unit_form(text).split("/"))

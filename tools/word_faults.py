@@ -155,9 +155,10 @@ class WordFaults(Asking):
         candidates = [(cause_of(bare.causes), bare.text, True)]
         for word in [word for word in vocabulary.units() if causes.unit_form(word) == form]:
             candidates.append((cause_of(bare.causes + [f"the unit is written {word}"]), word, True))
-        same = causes.BY_CASE.get(bare.text) or causes.SAME_SIZE.get(form)
-        if same:
-            candidates.append((f"the unit is written {same}", same, True))
+        by_parts = causes.same_size_form(bare.text)
+        same = [word for word in vocabulary.units() if causes.unit_form(word) == by_parts]
+        for word in filter(None, [causes.BY_CASE.get(bare.text), causes.SAME_SIZE.get(form), *same]):
+            candidates.append((f"the unit is written {word}", word, True))
         if row.field("name") in vocabulary.words()["potentials"]:
             candidates.append(("a warming potential is a ratio", "1", True))
         return self.first_taken(row, column, candidates, unit_otherwise(bare.text, form, dimension))
@@ -276,5 +277,6 @@ def unit_otherwise(text, form, dimension):
         word, how = causes.OTHER_SIZE[form]
         return f"no unit of the table; write {word} ({how})"
     near = nearest(text, vocabulary.units(), 3, 0.6)
-    shown = f"; the nearest are {listed(near, 'and')}" if near and not dimension else ""
+    are = "is" if len(near) == 1 else "are"
+    shown = f"; the nearest {are} {listed(near, 'and')}" if near and not dimension else ""
     return f"no unit of the table{of_record or shown}; ./workbook words units lists them"
