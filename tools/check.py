@@ -120,18 +120,29 @@ class Check:
         faults, rows = headers.close_quotes(sheet)
         self.faults += faults
         reply = self.program.submit(lines_of(rows) if faults else sheet.data)
-        tries = 0
-        while reply and reply.rule == 4 and reply.row == 0:
-            tries += 1
-            fault, rows = headers.explain(sheet, rows) if tries < headers.MOST_FAULTS else (None, None)
-            self.faults += [fault] if fault else []
-            reply = self.program.submit(lines_of(rows)) if rows else None
+        reply, rows = self.behind_header(sheet, rows, reply)
         tries = 0
         while reply and not reply.accepted:
             tries += 1
             rows = self.changed(sheet, rows, reply) if tries <= 10 * len(rows) + 100 else None
             reply = self.program.submit(lines_of(rows)) if rows else None
         self.take(sheet, rows if reply else None)
+
+    def behind_header(self, sheet, rows, reply):
+        """The reply to a file without what is wrong with its header, and its rows. A cause that comes once
+        more is none that helps.
+        """
+        found = set()
+        while reply.rule == 4 and reply.row == 0:
+            fault, rows = headers.explain(sheet, rows)
+            if fault.cause in found or len(found) == headers.MOST_FAULTS:
+                return None, None
+            found.add(fault.cause)
+            self.faults.append(fault)
+            if not rows:
+                return None, None
+            reply = self.program.submit(lines_of(rows))
+        return reply, rows
 
     def take(self, sheet, rows):
         """Keeps the rows of an accepted file, or marks those of one that no change helps."""

@@ -19,6 +19,7 @@ FURTHER_ROW = re.compile(
 # A row all of which stands in quotes, and what may stand between fields.
 ROW_IN_QUOTES = re.compile(rb'"([^"]*(?:""[^"]*)*)"[,;\t|]*')
 SEPARATOR = re.compile(rb"[,;\t|]")
+csv.field_size_limit(1 << 30)
 SPREADSHEETS = (b"PK\x03\x04", b"\xd0\xcf\x11\xe0")
 SAVE = "save it as CSV UTF-8 with commas"
 # A title and notes in front of the header are looked for in so many rows.
@@ -87,15 +88,16 @@ def utf16(data):
 def delimiter(rows):
     """What stands between the fields of the header in place of commas, or None."""
     for row in rows[:ROWS_IN_FRONT]:
-        for between in (";", "\t", "|"):
-            if row.raw.decode("utf-8", "replace").count(between) >= 5:
-                return between
+        for between in (b";", b"\t", b"|"):
+            if row.raw.count(between) >= max(5, row.raw.count(b",")):
+                return between.decode()
     return None
 
 
 def with_comma(row, between):
     """A row with commas between its fields."""
-    text = row.raw.decode("utf-8", "surrogateescape")
+    # Python 3.10 reads no field with a null character.
+    text = row.raw.replace(b"\0", b"").decode("utf-8", "surrogateescape")
     fields = next(csv.reader(io.StringIO(text, newline=""), delimiter=between), [])
     return Row(row.sheet, row.line, joined(fields))
 

@@ -213,6 +213,8 @@ def read_folders(paths):
         shown = (lambda name: name) if len(paths) == 1 else (lambda name: str(path / name))
         left += [(shown(name), shown("ORDER.txt")) for name in others]
         for name in names:
+            if not (path / name).is_file():
+                raise FolderFault(f"{path / name} is no file")
             try:
                 sheets.append(Sheet(shown(name), (path / name).read_bytes()))
             except OSError as error:

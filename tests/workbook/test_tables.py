@@ -143,6 +143,21 @@ class Folders(unittest.TestCase):
             ran = workbook("check", ".", "--no-warnings", "--program", "program", cwd=room)
         self.assertEqual((ran.stdout, ran.stderr), ("1 file: 0 faults, 0 warnings\n", ""))
 
+    def test_what_is_no_file(self):
+        with tempfile.TemporaryDirectory() as room:
+            os.mkfifo(pathlib.Path(room) / "1.csv")
+            ran = workbook("check", room)
+        self.assertEqual((ran.returncode, ran.stdout), (2, ""))
+        self.assertIn("1.csv is no file", ran.stderr)
+
+    def test_bytes_that_are_no_rows(self):
+        with tempfile.TemporaryDirectory() as room:
+            (pathlib.Path(room) / "1.csv").write_bytes(b'\x00\x01"a;b;c;d;e;f";";;;;;;"\x07' * 40000)
+            ran = workbook("check", room, "--no-warnings")
+        self.assertEqual((ran.returncode, ran.stderr), (1, ""))
+        causes = [line.split(": ", 1)[1] for line in ran.stdout.splitlines()]
+        self.assertEqual(len(causes), len(set(causes)))
+
     def test_no_program(self):
         ran = workbook("check", PLANTS, "--program", "/no/such/program")
         self.assertEqual((ran.returncode, ran.stdout), (2, ""))
