@@ -115,8 +115,8 @@ def unquoted(row):
 
 
 def bare(fields):
-    """Fields without blanks and unseen characters at their ends, in lower case."""
-    return [causes.without_blanks(field).text.strip().casefold() for field in fields]
+    """Fields without unseen characters and without blanks at their ends, in lower case."""
+    return [re.sub(f"[{causes.UNSEEN}]", "", field).strip().casefold() for field in fields]
 
 
 def is_like_a_header(row):
@@ -165,11 +165,10 @@ def eleventh(rows):
 def other_names(rows, names):
     """A header that has not the ten names. The rows go on with the columns that are known."""
     absent = [column for column in COLUMNS if column not in names]
-    odd = [field for field, name in zip(rows[0].fields, names) if name not in COLUMNS]
-    named = f", and has {', '.join(odd)}" if any(odd) else ""
-    lacks = "the header has a column twice"
+    odd = ", ".join(field for field, name in zip(rows[0].fields, names) if name and name not in COLUMNS)
+    lacks = f"the header has another column, {odd}" if odd else "the header has a column twice"
     if absent:
-        lacks = f"the header has no column {', '.join(absent)}{named}"
+        lacks = f"the header has no column {', '.join(absent)}{f', and has {odd}' if odd else ''}"
     once = [name if name not in names[:at] else "" for at, name in enumerate(names)]
     places = [place_of(column, once) for column in COLUMNS]
     placed = [with_columns(row, places) if len(row.fields) == len(names) else row for row in rows[1:]]

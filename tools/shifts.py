@@ -46,15 +46,17 @@ class Shifts(Asking):
         """
         for one, other in itertools.combinations(FILLED.get(row.field("kind"), []), 2):
             meant = row.with_fields(**{one: row.field(other), other: row.field(one)})
-            if meant.fields != row.fields and self.is_of_its_line(meant) and self.takes(meant, None):
+            if meant.fields != row.fields and self.has_known_words(meant) and self.takes(meant, None):
                 return at_row(row, *said_of_swapped(meant, one, other)), meant
         return None
 
-    def is_of_its_line(self, row):
-        """Tells whether a row is no binding, or one of a parameter that its line has."""
+    def has_known_words(self, row):
+        """Tells whether a line has a category and an equation, or a binding a parameter of its line."""
+        if row.field("kind") == "line":
+            has_equation = row.field("value") in vocabulary.equations()
+            return has_equation and row.field("subject") in vocabulary.leaves()
         line = self.book.lines.get(row.field("subject"))
-        known = vocabulary.parameters_of(line.field("value")) if line else []
-        return row.field("kind") != "bind" or row.field("name") in known
+        return bool(line) and row.field("name") in vocabulary.parameters_of(line.field("value"))
 
     def first_of(self, row, candidates, where):
         """The fault and the first of some rows that the program takes, or None."""
