@@ -152,11 +152,11 @@ class Check:
             return
         for row in rows[1:]:
             self.book.apply(row)
-        self.lost = [row for row in self.lost if not self.is_entered_twice(row, sheet)]
+        self.lost = [row for row in self.lost if not self.is_entered_twice(row)]
 
-    def is_entered_twice(self, lost, sheet):
-        """Tells whether the record of a row that was taken out is entered once more, in the file at hand or
-        before. That is a fault of the row that comes later.
+    def is_entered_twice(self, lost):
+        """Tells whether the record of a row that was taken out is entered once more. That is a fault of the
+        row that comes later.
         """
         other = self.book.entered.get(lost.key)
         if other is None or lost.field("act") != "enter":
@@ -164,9 +164,8 @@ class Check:
         lost = lost.with_fields(unit=other.field("unit"))
         if self.probe([lost])[0].rule != 9:
             return False
-        first, later, book = other, lost, Book()
-        if other.line > lost.line if other.sheet is lost.sheet else lost.sheet is not sheet:
-            first, later = lost, other
+        first, later = sorted((lost, other), key=lambda row: (self.sheets.index(row.sheet), row.line))
+        book = Book()
         book.apply(first)
         fault, _ = Explainer(self.takes, book, self.refused).exists(later)
         self.faults.append(fault)

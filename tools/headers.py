@@ -169,7 +169,8 @@ def other_names(rows, names):
     lacks = f"the header has another column, {odd}" if odd else "the header has a column twice"
     if absent:
         lacks = f"the header has no column {', '.join(absent)}{f', and has {odd}' if odd else ''}"
-    once = [name if name not in names[:at] else "" for at, name in enumerate(names)]
+    first = {name: at for at, name in reversed(list(enumerate(names)))}
+    once = [name if first[name] == at else "" for at, name in enumerate(names)]
     places = [place_of(column, once) for column in COLUMNS]
     placed = [with_columns(row, places) if len(row.fields) == len(names) else row for row in rows[1:]]
     return f"{lacks}; it is {HEADER}", [header_of(rows)] + placed
