@@ -195,6 +195,8 @@ def names_in(folder):
         raise FolderFault(f"{folder} is no folder")
     found = sorted((path.name for path in folder.iterdir() if path.suffix.lower() == ".csv"), key=natural)
     order = folder / "ORDER.txt"
+    if order.exists() and not order.is_file():
+        raise FolderFault(f"{order} is no file")
     if not order.exists():
         names, left = found, []
     else:

@@ -145,10 +145,11 @@ class Folders(unittest.TestCase):
 
     def test_what_is_no_file(self):
         with tempfile.TemporaryDirectory() as room:
-            os.mkfifo(pathlib.Path(room) / "1.csv")
-            ran = workbook("check", room)
-        self.assertEqual((ran.returncode, ran.stdout), (2, ""))
-        self.assertIn("1.csv is no file", ran.stderr)
+            for name in ("1.csv", "ORDER.txt"):
+                os.mkfifo(pathlib.Path(room) / name)
+                ran = workbook("check", room)
+                self.assertEqual((ran.returncode, ran.stdout), (2, ""))
+                self.assertIn(f"{name} is no file", ran.stderr)
 
     def test_bytes_that_are_no_rows(self):
         with tempfile.TemporaryDirectory() as room:
