@@ -1,6 +1,7 @@
 """The records of a workbook by their keys, as the accepted rows left them: to say where something stands,
 never to judge.
 """
+from tools import vocabulary
 
 
 # What kind of record a form of a binding takes. A half-life is a factor.
@@ -77,6 +78,15 @@ class Book:
             return years.get(year)
         begun = [start for start in years if start <= year]
         return years[max(begun)] if begun else None
+
+    def parameters_that_take(self, kind, name):
+        """The parameters that a record is bound to, each with the form of its binding."""
+        found = []
+        for line, bound in self.bindings.items():
+            of_line = vocabulary.parameters_of(self.lines[line].field("value")) if line in self.lines else {}
+            found += [(of_line[parameter], row.field("value")) for parameter, row in bound.items()
+                      if parameter in of_line and record_taken_by(row) == (kind, name)]
+        return found
 
     def taken(self):
         """The activities and factors that lines take, as pairs of kind and name, each with the bindings

@@ -197,6 +197,13 @@ def unit_form(text):
     return re.sub(r"/(yr|year|a|annum|y)\b", "", text)
 
 
+def is_yearly_share(text):
+    """Tells whether a unit is that of a share of a year: 1/yr, per year, yr-1."""
+    form = re.sub(r"\s", "", re.sub(r"\bper\b", "/", unicodedata.normalize("NFKC", text).casefold()))
+    years = "(yr|yrs|year|years|a|annum|y)"
+    return bool(re.fullmatch(rf"(1|fraction|ratio)?/{years}|{years}\^?[-{MINUS}]1", form))
+
+
 def same_size_form(text):
     """The form of a unit whose parts are written in the words of the table for the same size."""
     text = re.sub("[A-Za-z]+", lambda found: BY_CASE.get(found.group(), found.group()), text)

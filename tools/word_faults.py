@@ -1,4 +1,5 @@
 """Explains a word that is none of its column, or a column that has to be empty: rule 5."""
+import decimal
 import re
 
 from tools import causes, vocabulary
@@ -150,6 +151,9 @@ class WordFaults(Asking):
         text = row.field(column)
         bare = causes.without_blanks(text)
         form = causes.unit_form(bare.text)
+        rate = self.rate_of_decay(row, bare.text)
+        if rate:
+            return rate
         record = self.book.some_record(row.field("kind"), row.field("name"))
         dimension = vocabulary.measured_by(record.field("unit")) if record else None
         candidates = [(cause_of(bare.causes), bare.text, True)]
@@ -162,6 +166,28 @@ class WordFaults(Asking):
         if row.field("name") in vocabulary.words()["potentials"]:
             candidates.append(("a warming potential is a ratio", "1", True))
         return self.first_taken(row, column, candidates, unit_otherwise(bare.text, form, dimension))
+
+    def rate_of_decay(self, row, text):
+        """The fault of a factor in the unit of a yearly share that a line takes by decay, or may take so,
+        and the row with the half-life where a line does; or None.
+        """
+        if row.field("kind") != "factor" or not causes.is_yearly_share(text):
+            return None
+        forms = {form for _, form in self.book.parameters_that_take("factor", row.field("name"))}
+        if forms and "decay" not in forms:
+            return None
+        years = years_of_rate(causes.number(row.field("value")))
+        half_life = row.with_fields(value=years or "1", low="", high="", unit=vocabulary.HALF_LIFE_UNIT)
+        if not self.takes(half_life, None):
+            return None
+        value = f"ln 2 / {row.field('value').strip()} = {years}" if years else "ln 2 / k"
+        unit = f"the unit is {vocabulary.HALF_LIFE_UNIT}"
+        write = f"{unit}, the value the half-life {value} in whole years"
+        if not forms:
+            cause = f"where a line takes this factor by decay, {write}; else a share of a year is a ratio in 1"
+            return at_row(row, cause, "unit"), None
+        half_life.has_other_figure = not years
+        return at_row(row, f"no rate of decay; {write}", "unit"), half_life
 
     def target(self, row, column):
         """The target of a binding. The binding goes on with NE where it is not sure what is meant."""
@@ -200,6 +226,14 @@ class WordFaults(Asking):
         ]
         otherwise = f"no sum: it is 1 to {limit('sum')} different lines with one space between two"
         return self.first_taken(row, column, candidates, otherwise)
+
+
+def years_of_rate(mended):
+    """The whole years of the half-life of a yearly rate of decay, or None where a text is no such rate."""
+    if not mended.sure or not re.fullmatch(r"0?\.\d*[1-9]\d*", mended.text):
+        return None
+    years = decimal.Decimal(2).ln() / decimal.Decimal(mended.text)
+    return f"{years:.0f}" if round(years) in range(1, int(limit("half_life")) + 1) else None
 
 
 def equations_near(code, text):
