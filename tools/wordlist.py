@@ -7,6 +7,8 @@ PARTS = ["units", "categories", "equations", "parameters"]
 MEASURED_YEARLY = {
     "mass", "energy", "area", "volume", "animals", "people", "carbon", "gas", "days", "anode effect minutes",
 }
+# The parameters that take what a line gave the year before: the line itself, or that of the stock.
+LINE_OF_LAST_YEAR = {("Q91", "PREV"): "NAME", ("Q92", "PREV"): "STOCK"}
 
 
 def units():
@@ -50,9 +52,12 @@ def found_in(items, words):
             if all(part.casefold() in f"{word} {said} {also}".casefold() for part in words)]
 
 
-def sample(parameter):
+def sample(code, parameter):
     """The rows of a template that give a parameter its figure."""
     name = f"NAME.{parameter['name']}"
+    line = LINE_OF_LAST_YEAR.get((code, parameter["name"]))
+    if line:
+        return f"enter,bind,NAME,{parameter['name']},,prev,{line},,,", None
     if vocabulary.is_decay(parameter):
         half_life = f"enter,factor,,{name},YEAR,VALUE,,,{vocabulary.HALF_LIFE_UNIT},"
         return f"enter,bind,NAME,{parameter['name']},,decay,{name},,,", half_life
@@ -76,9 +81,9 @@ def print_equation(code):
         if vocabulary.is_decay(parameter):
             given = f"by decay, of a factor in {vocabulary.HALF_LIFE_UNIT}"
         print(f"  {parameter['name']:8} {parameter['measures']}, {given}")
-    rows = [sample(parameter) for parameter in equation["parameters"]]
+    rows = [sample(code, parameter) for parameter in equation["parameters"]]
     print(f"\n{','.join(COLUMNS)}\nenter,line,CATEGORY,NAME,,{code},,,,")
-    print("\n".join([bound for bound, _ in rows] + [figure for _, figure in rows]))
+    print("\n".join([bound for bound, _ in rows] + [figure for _, figure in rows if figure]))
 
 
 def run(words):

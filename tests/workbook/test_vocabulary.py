@@ -128,6 +128,12 @@ class Search(unittest.TestCase):
             found = workbook("words", "units", written).stdout.splitlines()
             self.assertIn(word, [line.split()[0] for line in found], written)
 
+    def test_templates_bind_what_a_line_gave_last_year(self):
+        for code, line in (("Q91", "NAME"), ("Q92", "STOCK")):
+            rows = workbook("words", code).stdout.splitlines()
+            self.assertIn(f"enter,bind,NAME,PREV,,prev,{line},,,", rows)
+            self.assertFalse([row for row in rows if "NAME.PREV" in row])
+
     def test_nothing(self):
         ran = workbook("words", "unobtainium")
         self.assertEqual((ran.returncode, ran.stdout), (1, "nothing has unobtainium in it\n"))
