@@ -26,7 +26,7 @@ SAME_SIZE = {
     "fraction": "1", "ratio": "1", "none": "1", "-": "1", "dimensionless": "1",
     "days": "day", "year": "yr", "years": "yr", "yrs": "yr", "a": "yr",
     "g/mj": "kg/GJ", "mj/kg": "GJ/t", "gj/tonne": "GJ/t", "tj/kt": "TJ/Gg", "kt/pj": "t/TJ", "gg/pj": "t/TJ",
-    "t/tonne": "t/t", "kg/tonne": "kg/t", "kg/kg": "kg/kg",
+    "ggc/gg": "t/t", "tc/t": "t/t", "t/tonne": "t/t", "kg/tonne": "kg/t", "kg/kg": "kg/kg",
 }
 # Units of the same size whose case tells them apart.
 BY_CASE = {"Mg": "t"}
