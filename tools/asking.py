@@ -60,7 +60,9 @@ class Asking:
     def stand_in(self, row, column):
         """The row with a word in place of one that is none, so that the rest of it is looked at, or None."""
         word = kind_by_its_rest(row) if column == "kind" else STAND_INS.get(column)
-        if word is None or row.field(column) == word or is_empty(row) or is_header(row):
+        if word is None or row.field(column) == word:
+            return None
+        if is_empty(row) or is_header(row) or is_total(row):
             return None
         changed = row.with_fields(**{column: word})
         return changed if self.takes(changed, column) else None
@@ -91,6 +93,14 @@ def is_empty(row):
 def is_header(row):
     """Tells whether a row is the header once more."""
     return [field.strip().casefold() for field in row.fields] == COLUMNS
+
+
+def is_total(row):
+    """Tells whether a row without a kind is one of totals, as spreadsheets have them."""
+    named = [row.field("act"), row.field("name")] if len(row.fields) == len(COLUMNS) else row.fields[:4]
+    has_kind = len(row.fields) > 1 and row.fields[1].strip()
+    total = r"((grand|sub)[ -]?)?totals?\b.*|sum( of\b.*)?"
+    return not has_kind and any(re.fullmatch(total, text.strip(), re.IGNORECASE) for text in named)
 
 
 def cause_of(found):

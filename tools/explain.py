@@ -5,6 +5,7 @@ What it says to write is what the program took when it was asked.
 import re
 
 from tools import vocabulary
+from tools.asking import is_total
 from tools.faults import at_row, years_said
 from tools.number_faults import NumberFaults
 from tools.sheets import Row, joined
@@ -40,6 +41,8 @@ class Explainer(WordFaults, NumberFaults, Shifts):
         cause = f"{count} {'field' if count == 1 else 'fields'} in place of 10"
         if not row.raw.strip(b" \t,"):
             return at_row(row, "an empty row; take it out"), None
+        if is_total(row):
+            return at_row(row, "a row of totals; take it out"), None
         if ";" in fields[0]:
             return at_row(row, f"{cause}: semicolons between the fields; write commas"), None
         if count == 1:

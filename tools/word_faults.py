@@ -3,7 +3,7 @@ import decimal
 import re
 
 from tools import causes, vocabulary
-from tools.asking import Asking, article, cause_of, is_empty, is_header
+from tools.asking import Asking, article, cause_of, is_empty, is_header, is_total
 from tools.book import KIND_TAKEN
 from tools.faults import at_row
 from tools.sheets import COLUMNS_OF_KEY
@@ -25,6 +25,8 @@ class WordFaults(Asking):
             return at_row(row, "an empty row; take it out", column), None
         if is_header(row):
             return at_row(row, "the header once more; take this row out"), None
+        if is_total(row):
+            return at_row(row, "a row of totals; take it out"), None
         kind = row.field("kind")
         if column == "act":
             return self.act(row, column)
@@ -184,8 +186,8 @@ class WordFaults(Asking):
         unit = f"the unit is {vocabulary.HALF_LIFE_UNIT}"
         write = f"{unit}, the value the half-life {value} in whole years"
         if not forms:
-            cause = f"where a line takes this factor by decay, {write}; else a share of a year is a ratio in 1"
-            return at_row(row, cause, "unit"), None
+            where = "where a line takes this factor by decay"
+            return at_row(row, f"{where}, {write}; else a share of a year is a ratio in 1", "unit"), None
         half_life.has_other_figure = not years
         return at_row(row, f"no rate of decay; {write}", "unit"), half_life
 
