@@ -14,6 +14,7 @@ from tools.vocabulary import limit, listed, nearest
 OTHER_ACTS = {
     "add": "enter", "update": "correct", "change": "correct", "delete": "withdraw", "remove": "withdraw",
 }
+NUMBER_AS_TARGET = "a target is a name and no number; enter the number as a factor, and bind that by factor"
 
 
 class WordFaults(Asking):
@@ -67,6 +68,9 @@ class WordFaults(Asking):
         if key in vocabulary.words()["keys"] and not row.field("low") and self.takes(bound, None):
             return at_row(row, "a notation key is bound by key", column, f"key,{key}"), bound
         forms = vocabulary.words()["forms"]
+        if is_number(row.field("low")) and not nearest(key, forms, 1, 0.75):
+            return at_row(row, f"a binding is by {listed(forms)}; {NUMBER_AS_TARGET}", column), \
+                self.blank_binding(row)
         fault, changed = self.choice(row, column, forms, f"a binding is by {listed(forms)}")
         return fault, changed or self.blank_binding(row)
 
@@ -211,6 +215,11 @@ class WordFaults(Asking):
         if form in ("line", "prev") and len(re.findall(r"[^\s,;+]+", text)) > 1:
             cause = f"more than one line; a binding by {form} takes one, and by sum several"
             return at_row(row, cause, column), None
+        if is_number(text):
+            return at_row(row, NUMBER_AS_TARGET, column), None
+        if re.search(r"\S\s*[+;,]\s*\S", text):
+            cause = f"more than one name; a binding by {form} takes one, and by sum the lines that it adds up"
+            return at_row(row, cause, column), None
         mended = causes.name(text)
         candidates = [(cause_of(mended.causes), mended.text, mended.sure)]
         return self.first_taken(row, column, candidates, name_otherwise(mended.text, "name"))
@@ -228,6 +237,11 @@ class WordFaults(Asking):
         ]
         otherwise = f"no sum: it is 1 to {limit('sum')} different lines with one space between two"
         return self.first_taken(row, column, candidates, otherwise)
+
+
+def is_number(text):
+    """Tells whether a text is a number, however it is written."""
+    return bool(re.fullmatch(r"-?\d+(\.\d+)?", causes.number(text).text))
 
 
 def years_of_rate(mended):
