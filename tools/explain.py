@@ -22,9 +22,10 @@ class Explainer(WordFaults, NumberFaults, Shifts):
         if reply.rule == 4:
             return self.shape(row)
         if reply.rule == 5:
-            return self.shifted(row) or self.swapped(row) or self.word(row, reply.column)
+            moved = self.shifted(row) or self.swapped(row) or self.astray(row)
+            return moved or self.word(row, reply.column)
         if reply.rule == 6:
-            return self.shifted(row) or self.number(row, reply.column)
+            return self.shifted(row) or self.swapped(row) or self.number(row, reply.column)
         if reply.rule == 7:
             return self.disorder(row), None if row.field("kind") == "span" else self.blank_figure(row)
         if reply.rule == 8:

@@ -4,13 +4,17 @@ one more; and one of which two fields stand in each other's column.
 import itertools
 
 from tools import vocabulary
-from tools.asking import Asking
+from tools.asking import Asking, article
 from tools.faults import at_row, shown
 from tools.sheets import COLUMN_AT, Row, joined
+from tools.vocabulary import limit
 
 
 # The columns that are filled in rows of these kinds.
-FILLED = {"line": ["subject", "name", "value"], "bind": ["subject", "name", "value", "low"]}
+FILLED = {
+    "line": ["subject", "name", "value"], "bind": ["subject", "name", "value", "low"],
+    "activity": ["year", "value"], "factor": ["year", "value"],
+}
 
 
 def word_of_a_column(kind):
@@ -41,7 +45,7 @@ class Shifts(Asking):
         return None
 
     def swapped(self, row):
-        """The fault of two fields of a line or a binding that stand in each other's column, and the row as it
+        """The fault of two fields of a row that stand in each other's column, and the row as it
         is meant, where the program takes it so; or None.
         """
         for one, other in itertools.combinations(FILLED.get(row.field("kind"), []), 2):
@@ -51,7 +55,12 @@ class Shifts(Asking):
         return None
 
     def has_known_words(self, row):
-        """Tells whether a line has a category and an equation, or a binding a parameter of its line."""
+        """Tells whether a line has a category and an equation, a binding a parameter of its line, or a figure
+        a year of the workbook.
+        """
+        if row.field("kind") in ("activity", "factor"):
+            first, last = self.book.span or (int(limit("first_year")), int(limit("last_year")))
+            return first <= int(row.field("year")) <= last if row.field("year").isdecimal() else False
         if row.field("kind") == "line":
             has_equation = row.field("value") in vocabulary.equations()
             return has_equation and row.field("subject") in vocabulary.leaves()
@@ -83,6 +92,18 @@ class Shifts(Asking):
         for at in range(last, 1, -1):
             if not row.fields[at]:
                 yield next(filter(None, row.fields[at:])), row.fields[:at] + row.fields[at + 1:] + [""]
+
+    def astray(self, row):
+        """The fault of a figure whose name stands in subject, and the row as it is meant, where the program
+        takes it so; or None.
+        """
+        if row.field("kind") not in ("activity", "factor") or row.field("name") or not row.field("subject"):
+            return None
+        meant = row.with_fields(subject="", name=row.field("subject"))
+        if not self.takes(meant, "name"):
+            return None
+        cause = f"the name of {article(row.field('kind'))} stands in name; move it there"
+        return at_row(row, cause, "subject"), meant
 
 
 def said_of_swapped(meant, one, other):
