@@ -4,6 +4,8 @@ They are judged with all rows of a file applied. What stands where is looked up 
 To find the next fault, the row at fault is taken out, or a binding takes NE in its place, so that its line
 stays and is blank.
 """
+import re
+
 from tools import vocabulary
 from tools.asking import article
 from tools.book import lines_taken_by, record_taken_by
@@ -315,13 +317,25 @@ def without_record(bound, wanted, after):
         fault = at_row(bound, after.in_later_file(kind, name), "low")
         after.refused.meant_records.add((kind, name))
     else:
-        near = nearest(name, after.book.years[kind], 1, 0.7)
+        near = nearest_record(kind, name, after.book)
         which = ": no row enters it"
         if near:
             which = f"; the nearest is {near[0]} ({after.book.some_record(kind, near[0]).place})"
         fault = at_row(bound, f"there is no {kind} of this name{which}", "low")
         after.refused.meant_records.update((kind, found) for found in near)
     return fault, after.without_target(bound, wanted)
+
+
+def nearest_record(kind, name, book):
+    """The name of a kind that is most likely meant, where one is near: one of the same parts in another
+    order, else the nearest of those that no line takes, else the nearest of all.
+    """
+    known = book.years[kind]
+    parts = sorted(re.split("[._-]", name))
+    same = [other for other in known if sorted(re.split("[._-]", other)) == parts]
+    near = nearest(name, known, 5, 0.7)
+    taken = book.taken()
+    return (same or [other for other in near if (kind, other) not in taken] or near)[:1]
 
 
 def taken_away(gone, what, bound, rest):
