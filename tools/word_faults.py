@@ -163,6 +163,9 @@ class WordFaults(Asking):
         record = self.book.some_record(row.field("kind"), row.field("name"))
         dimension = vocabulary.measured_by(record.field("unit")) if record else None
         candidates = [(cause_of(bare.causes), bare.text, True)]
+        of_gas = {"gg": "Gg-gas", "t": "t-gas", "kg": "kg-gas"}.get(form)
+        if of_gas and self.is_taken_as_gas(row):
+            candidates.append((f"a line takes this as a gas, whose unit is written {of_gas}", of_gas, True))
         for word in [word for word in vocabulary.units() if causes.unit_form(word) == form]:
             candidates.append((cause_of(bare.causes + [f"the unit is written {word}"]), word, True))
         by_parts = causes.same_size_form(bare.text)
@@ -172,6 +175,11 @@ class WordFaults(Asking):
         if row.field("name") in vocabulary.words()["potentials"]:
             candidates.append(("a warming potential is a ratio", "1", True))
         return self.first_taken(row, column, candidates, unit_otherwise(bare.text, form, dimension))
+
+    def is_taken_as_gas(self, row):
+        """Tells whether a parameter takes a record as an amount of a gas."""
+        taken = self.book.parameters_that_take(row.field("kind"), row.field("name"))
+        return any(parameter["measures"] == "gas" for parameter, _ in taken)
 
     def rate_of_decay(self, row, text):
         """The fault of a factor in the unit of a yearly share that a line takes by decay, or may take so,
