@@ -60,7 +60,8 @@ class Shifts(Asking):
         """
         if row.field("kind") in ("activity", "factor"):
             first, last = self.book.span or (int(limit("first_year")), int(limit("last_year")))
-            return first <= int(row.field("year")) <= last if row.field("year").isdecimal() else False
+            year = row.field("year")
+            return len(year) == 4 and year.isdecimal() and first <= int(year) <= last
         if row.field("kind") == "line":
             has_equation = row.field("value") in vocabulary.equations()
             return has_equation and row.field("subject") in vocabulary.leaves()
