@@ -1,11 +1,13 @@
-ghost use Rattle.std.specs.Prelude.{◌≡◌, ◌≤◌, ◌≤ℤ◌, SomeIff, OkIff, IfOk, IsTrue, ◌↔◌};
+ghost use Rattle.std.specs.Prelude.{◌≡◌, ◌≤◌, ◌≤ℤ◌, pos, SomeIff, OkIff, IfOk, IsTrue, ◌↔◌};
 ghost use Rattle.ghg_interval.specs.Fractions as fraction;
 ghost use Rattle.ghg_interval.specs.Bounds.{IsBounded, AreBounded, IsInterval, IsWithin, Inside, unit_scale, between, exactly, point, sum, difference, product, scaled, hull_of};
-ghost use Rattle.ghg_interval.specs.Corners.{corner, side};
+ghost use Rattle.ghg_interval.specs.Corners.{IsProduct, corner, quotients, side};
 ghost use Rattle.ghg_interval.specs.Containment.{Holds, HoldsBy, HoldsScaled, in_units};
 ghost use Rattle.ghg_interval.specs.Operations.{exact_in, whole_in, sum_in, difference_in, product_in, scaled_in};
 
-use crate::rounding::{ceil_product, ceil_scaled, floor_product, floor_scaled, is_bounded};
+use crate::rounding::{
+    bounded_product, ceil, ceil_after, ceil_scaled_beside, floor, floor_scaled, is_bounded,
+};
 use crate::{Over, SCALE};
 use std::marker::Model;
 
@@ -117,6 +119,45 @@ impl Interval {
         ensures gives { result ≡ product_in self.now other.now }
         ensures holds { IfOk result (HoldsBy fraction.product self.now other.now) }
     {
+        if self.lo == self.hi && other.lo == other.hi {
+            Interval::corner(self.lo, other.lo)
+        } else if self.lo >= 0 && other.lo >= 0 {
+            self.mul_upward(other)
+        } else {
+            self.mul_any(other)
+        }
+    }
+
+    // The products where no bound is negative: those of the lower bounds and of the upper ones are the least
+    // and the greatest.
+    fn mul_upward(&self, other: &Interval) -> Result<Interval, Over>
+        requires self_natural { pos 0 ≤ℤ self.now.lo }
+        requires other_natural { pos 0 ≤ℤ other.now.lo }
+        ensures { let b = product self.now other.now in OkIff result (AreBounded b) b }
+    {
+        match bounded_product(self.hi, other.hi) {
+            Some(greatest) => Ok(Interval::outward(self.lo * other.lo, greatest)),
+            None => Err(Over),
+        }
+    }
+
+    // The least and the greatest product of bounds over the unit, rounded outward.
+    fn outward(least: i128, greatest: i128) -> Interval
+        requires ordered { least ≤ℤ greatest }
+        requires least_in { IsProduct least }
+        requires greatest_in { IsProduct greatest }
+        ensures { result ≡ quotients least greatest }
+    {
+        Interval {
+            lo: floor(least),
+            hi: ceil(greatest),
+        }
+    }
+
+    // The products in any case, at all four corners.
+    fn mul_any(&self, other: &Interval) -> Result<Interval, Over>
+        ensures { let b = product self.now other.now in OkIff result (AreBounded b) b }
+    {
         match (
             Interval::side(self.lo, other),
             Interval::side(self.hi, other),
@@ -143,9 +184,15 @@ impl Interval {
         requires y_bounded { IsBounded y }
         ensures { let b = corner x y in OkIff result (AreBounded b) b }
     {
-        match (floor_product(x, y), ceil_product(x, y)) {
-            (Some(lo), Some(hi)) => Ok(Interval { lo, hi }),
-            _ => Err(Over),
+        match bounded_product(x, y) {
+            Some(n) => {
+                let lo = floor(n);
+                Ok(Interval {
+                    lo,
+                    hi: ceil_after(lo, n),
+                })
+            }
+            None => Err(Over),
         }
     }
 
@@ -157,7 +204,9 @@ impl Interval {
         ensures gives { result ≡ scaled_in p q self.now }
         ensures holds { IfOk result (HoldsScaled p q self.now) }
     {
-        Interval::limited(floor_scaled(self.lo, p, q), ceil_scaled(self.hi, p, q))
+        let lo = floor_scaled(self.lo, p, q);
+        let hi = ceil_scaled_beside(self.lo, lo, self.hi, p, q);
+        Interval::limited(lo, hi)
     }
 
     /// The least interval that has both in it.

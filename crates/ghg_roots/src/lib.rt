@@ -3,14 +3,15 @@
 //! No real number is needed: whole numbers bracket the root or the factor by inequalities.
 #![tactic(auto)]
 
-ghost use Rattle.std.specs.Prelude.{◌≡◌, ◌+◌, ◌-◌, ◌<◌, ◌≤◌, ◌+ℤ◌, ◌≤ℤ◌, ◌<ℤ◌, pos};
+ghost use Rattle.std.specs.Prelude.{◌≡◌, ◌+◌, ◌-◌, ◌*◌, ◌<◌, ◌≤◌, ◌+ℤ◌, ◌≤ℤ◌, ◌<ℤ◌, pos};
+ghost use Rattle.std.specs.Int.{div_ceil};
 ghost use Rattle.ghg_interval.specs.Bounds.{Bounds, between, unit_scale};
 ghost use Rattle.ghg_roots.specs.Decay.{HoldsDecay, IsDecayBracket, bracket_of, decay_bounds, most_parts, parts_down, parts_up};
 ghost use Rattle.ghg_roots.specs.Roots.{IsRootBracket};
 
 mod laws;
 
-use ghg_interval::{Interval, SCALE};
+use ghg_interval::{Interval, SCALE, whole_units};
 pub use laws::decay_brackets_are_exact;
 
 // How many parts make one unit.
@@ -58,16 +59,15 @@ fn bracket(parts: u128, exponent: u32) -> Interval
     interval_between(low, high)
 }
 
+// Both ends of the bracket. The lower one is just below the upper one.
 fn bracket_ends(parts: u128, exponent: u32) -> (u128, u128)
     requires some_parts { (2 ≤ parts) × (parts ≤ most_parts) }
     requires positive { 1 ≤ exponent }
     ensures bracket { IsDecayBracket parts exponent (between (pos result.0) (pos result.1)) }
     ensures in_unit { (result.0 < unit_scale) × (result.1 ≤ unit_scale) }
 {
-    (
-        last_within(parts, exponent),
-        first_reaching(parts, exponent),
-    )
+    let high = first_reaching(parts, exponent);
+    (last_within(parts, exponent, high + 1), high)
 }
 
 fn interval_between(low: u128, high: u128) -> Interval
@@ -78,28 +78,33 @@ fn interval_between(low: u128, high: u128) -> Interval
     Interval::new(low as i128, high as i128).unwrap()
 }
 
-// The last number of which so many powers, rounded up, are within a unit.
-fn last_within(parts: u128, exponent: u32) -> u128
+// The last number of which so many powers, rounded up, are within a unit. The search begins at the guess, and
+// goes by Newton's steps from above.
+fn last_within(parts: u128, exponent: u32, guess: u128) -> u128
     requires some_parts { (2 ≤ parts) × (parts ≤ most_parts) }
     requires positive { 1 ≤ exponent }
     ensures within { parts_up parts exponent (pos result) ≤ℤ pos unit_scale }
     ensures last { pos unit_scale <ℤ parts_up parts exponent (pos (result + 1)) }
     ensures in_unit { result < unit_scale }
 {
+    let mut guess = guess;
     let mut low = 0;
     let mut high = UNIT;
     while low + 1 < high {
-        let middle = (low + high) / 2;
-        if parts_up(parts, exponent, middle) <= UNIT {
+        let middle = next_between(low, high, guess);
+        let reached = parts_up(parts, exponent, middle);
+        if reached <= UNIT {
             low = middle;
         } else {
             high = middle;
+            guess = step_below(middle, exponent, reached);
         }
     }
     low
 }
 
-// The first number of which so many powers, rounded down, reach a unit.
+// The first number of which so many powers, rounded down, reach a unit. The search goes by Newton's steps, from
+// a unit.
 fn first_reaching(parts: u128, exponent: u32) -> u128
     requires some_parts { (2 ≤ parts) × (parts ≤ most_parts) }
     requires positive { 1 ≤ exponent }
@@ -107,17 +112,43 @@ fn first_reaching(parts: u128, exponent: u32) -> u128
     ensures reaches { pos unit_scale ≤ℤ parts_down parts exponent (pos result) }
     ensures in_unit { (1 ≤ result) × (result ≤ unit_scale) }
 {
+    let mut guess = step_below(UNIT, exponent, parts * UNIT);
     let mut low = 0;
     let mut high = UNIT;
     while low + 1 < high {
-        let middle = (low + high) / 2;
-        if parts_down(parts, exponent, middle) < UNIT {
+        let middle = next_between(low, high, guess);
+        let reached = parts_down(parts, exponent, middle);
+        if reached < UNIT {
             low = middle;
         } else {
             high = middle;
+            guess = step_below(middle, exponent, reached);
         }
     }
     high
+}
+
+// The guess where it is between both numbers, else the middle.
+fn next_between(low: u128, high: u128, guess: u128) -> u128
+    requires apart { low + 1 < high }
+    requires in_unit { high ≤ unit_scale }
+    ensures { (low < result) × (result < high) }
+{
+    if low < guess && guess < high {
+        guess
+    } else {
+        (low + high) / 2
+    }
+}
+
+// What Newton's step, of at least one, gives below a number of which so many powers reach a unit.
+fn step_below(x: u128, exponent: u32, reached: u128) -> u128
+    requires positive { 1 ≤ exponent }
+    requires reaches { unit_scale ≤ reached }
+    ensures { result ≤ x }
+{
+    let step = x.saturating_mul(reached - UNIT) / reached / u128::from(exponent);
+    x.saturating_sub(step.max(1))
 }
 
 // So many times the power of a number, with each product rounded up.
@@ -128,7 +159,7 @@ fn parts_up(parts: u128, exponent: u32, x: u128) -> u128
 {
     let mut power = UNIT;
     for _ in 0..exponent {
-        power = (power * x).div_ceil(UNIT);
+        power = product_up(power * x);
     }
     parts * power
 }
@@ -141,7 +172,15 @@ fn parts_down(parts: u128, exponent: u32, x: u128) -> u128
 {
     let mut power = UNIT;
     for _ in 0..exponent {
-        power = power * x / UNIT;
+        power = whole_units(power * x);
     }
     parts * power
+}
+
+// A product of two numbers over the unit, rounded up.
+fn product_up(product: u128) -> u128
+    requires { product ≤ unit_scale * unit_scale }
+    ensures { result ≡ div_ceil product unit_scale }
+{
+    whole_units(product + (UNIT - 1))
 }

@@ -1,7 +1,7 @@
 //! Scaled numbers times a ratio, rounded outward.
 
 ghost use Rattle.std.specs.Prelude.{◌≡◌, ◌≤◌, OkIff, ◌≤ℤ◌};
-ghost use Rattle.ghg_interval.specs.Bounds.{AreBounded, exactly, scaled};
+ghost use Rattle.ghg_interval.specs.Bounds.{AreBounded, between, exactly, scaled};
 ghost use Rattle.ghg_interval.specs.Rounding.{floor_by, ceil_by};
 ghost use Rattle.ghg_units.specs.Units.{IsRatioPart};
 
@@ -15,9 +15,19 @@ pub(crate) fn interval_of(parts: i128, over: u64, under: u64) -> Result<Interval
 {
     // A product that leaves 128 bits leaves the limit of intervals by far, also divided.
     match parts.checked_mul(i128::from(over)) {
-        Some(product) => between(floor(product, under), ceil(product, under)),
+        Some(product) if under == 1 => between(product, product),
+        Some(product) => outward(product, under),
         None => Err(Over),
     }
+}
+
+// A quotient, rounded outward, by one division.
+fn outward(n: i128, d: u64) -> Result<Interval, Over>
+    requires { 1 ≤ d }
+    ensures { let b = between (floor_by d n) (ceil_by d n) in OkIff result (AreBounded b) b }
+{
+    let lo = floor(n, d);
+    between(lo, ceil_after(lo, n, d))
 }
 
 // The interval between two bounds, where they are within the limit.
@@ -36,15 +46,14 @@ fn floor(n: i128, d: u64) -> i128
     n.div_euclid(i128::from(d))
 }
 
-// A quotient, rounded up.
-fn ceil(n: i128, d: u64) -> i128
-    requires { 1 ≤ d }
+// A quotient, rounded up, where it is known rounded down. A multiple that leaves 128 bits is not the number.
+fn ceil_after(floor: i128, n: i128, d: u64) -> i128
+    requires some { 1 ≤ d }
+    requires floor_known { floor ≡ floor_by d n }
     ensures { result ≡ ceil_by d n }
 {
-    let floor = n.div_euclid(i128::from(d));
-    if n.rem_euclid(i128::from(d)) == 0 {
-        floor
-    } else {
-        floor + 1
+    match floor.checked_mul(i128::from(d)) {
+        Some(multiple) if multiple == n => floor,
+        _ => floor + 1,
     }
 }
