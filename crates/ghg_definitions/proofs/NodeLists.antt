@@ -28,7 +28,7 @@ use Rattle.ghg_definitions.proofs.Listed.{contained, from_any, from_filter, from
 
 -- ---- years
 
-from_years : (first count year : ℕ) → IsListed year (years_from first count) → (first ≤ year) × (year < first + count)
+pub from_years : (first count year : ℕ) → IsListed year (years_from first count) → (first ≤ year) × (year < first + count)
 from_years first zero year h = absurd h
 from_years first (suc count) year (inl e) = (omega (arith, e), omega (arith, e))
 from_years first (suc count) year (inr h) = let rest = from_years (first + 1) count year h in (omega (arith, rest.0), omega (arith, rest.1))
@@ -69,7 +69,7 @@ tree_is c = (
 abbrev pub AreRecords : Data → Type 0
 AreRecords m = (k : RecordKey) (r : Record) → get m k ≡ Some r → IsRecord k r
 
-named_line : (k : RecordKey) (name : Name) → line_name k ≡ Some name → k ≡ key.Line name
+pub named_line : (k : RecordKey) (name : Name) → line_name k ≡ Some name → k ≡ key.Line name
 named_line key.Span name e = absurd (cc)
 named_line (key.Activity other year) name e = absurd (cc)
 named_line (key.Factor other start) name e = absurd (cc)
@@ -85,11 +85,14 @@ is_line name (entry.Line c e) h = refl
 is_line name (entry.Bind b) h = absurd h
 is_line name (entry.Uncert a f) h = absurd h
 
-line_there : (m : Data) → AreRecords m → (name : Name) → IsListed name (line_names m) → is_some (line m name) ≡ true
-line_there m records name h =
+-- each name of a line is that of a record
+pub record_there : (m : Data) (name : Name) → IsListed name (line_names m) → is_some (get m (key.Line name)) ≡ true
+record_there m name h =
     let found = from_filter_map line_name name (keys m) h in
-    let there : is_some (get m (key.Line name)) ≡ true = contains_key-keys m (key.Line name) ∙ listed_any (eq_by_cmp key_cmp (key.Line name)) (key.Line name) (keys m) (subst (λ k. IsListed k (keys m)) (named_line found.0 name found.2) found.1) (ap is_eq (tied_itself keys_total (key.Line name))) in
-    by (get m (key.Line name)) refl there
+    contains_key-keys m (key.Line name) ∙ listed_any (eq_by_cmp key_cmp (key.Line name)) (key.Line name) (keys m) (subst (λ k. IsListed k (keys m)) (named_line found.0 name found.2) found.1) (ap is_eq (tied_itself keys_total (key.Line name)))
+
+line_there : (m : Data) → AreRecords m → (name : Name) → IsListed name (line_names m) → is_some (line m name) ≡ true
+line_there m records name h = by (get m (key.Line name)) refl (record_there m name h)
   where
     by : (o : Option Record) → get m (key.Line name) ≡ o → is_some o ≡ true → is_some (line m name) ≡ true
     by None e there = absurd (cc)
@@ -99,7 +102,7 @@ line_there m records name h =
 pub lines_are : (m : Data) → AreRecords m → (name : Name) → Decides (is_some (line m name)) (Contains (line_names m) name)
 lines_are m records name = (λ e. contained _ name (line_listed m name e), λ c. line_there m records name (listed _ name c))
 
-emitting : (m : Data) (name : Name) → emits m name ≡ true → is_some (line m name) ≡ true
+pub emitting : (m : Data) (name : Name) → emits m name ≡ true → is_some (line m name) ≡ true
 emitting m name e = by (line m name) e
   where
     by : (o : Option EqId) → is_some (option_and_then (λ q. gas_of (output q)) o) ≡ true → is_some o ≡ true
@@ -119,7 +122,7 @@ module _ {A : Type 0} (to : A → ℕ → Node) (years : List ℕ) (xs : List A)
   in_each : (x : A) (year : ℕ) → IsListed x xs → IsListed year years → IsListed (to x year) (in_years to years xs)
   in_each x year h i = listed_flat (λ x. map (to x) years) x (to x year) xs h (listed_map (to x) year years i)
 
-  from_each : (n : Node) → IsListed n (in_years to years xs) → (x : A) × (year : ℕ) × IsListed x xs × IsListed year years × (n ≡ to x year)
+  pub from_each : (n : Node) → IsListed n (in_years to years xs) → (x : A) × (year : ℕ) × IsListed x xs × IsListed year years × (n ≡ to x year)
   from_each n h =
       let at = from_flat (λ x. map (to x) years) n xs h in
       let when = from_map (to at.0) n years at.2 in

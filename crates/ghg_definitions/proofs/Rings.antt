@@ -126,7 +126,7 @@ other_word parameter h = by (bytes_eq parameter uncertainty_word) refl
     by false e = refl
 
 -- each binding of a workbook is that of a parameter of its line's equation
-binding_sound : (m : Data) → IsWorkbook m → (k parameter : Name) (r : Record) → get m (key.Bind k parameter) ≡ Some r → option_map_or (λ e. binds_parameter m e parameter (binding m k parameter)) (line m k) false ≡ true
+pub binding_sound : (m : Data) → IsWorkbook m → (k parameter : Name) (r : Record) → get m (key.Bind k parameter) ≡ Some r → option_map_or (λ e. binds_parameter m e parameter (binding m k parameter)) (line m k) false ≡ true
 unfolding is_sound
 binding_sound m is k parameter r e =
     subst (λ b. option_map_or (λ e. b || binds_parameter m e parameter (binding m k parameter)) (line m k) false ≡ true)
@@ -134,7 +134,7 @@ binding_sound m is k parameter r e =
     (places_sound m is.bindings (record { line = k; parameter = parameter }) (bound_place m k parameter r e))
 
 -- the parameter is one of the equation's
-found_parameter : (m : Data) (e : EqId) (parameter : Name) (b : Option Binding) → binds_parameter m e parameter b ≡ true → (q : Quantity) × IsListed q (parameters e) × (q.name ≡ parameter)
+pub found_parameter : (m : Data) (e : EqId) (parameter : Name) (b : Option Binding) → binds_parameter m e parameter b ≡ true → (q : Quantity) × IsListed q (parameters e) × (q.name ≡ parameter)
 found_parameter m e parameter b h = by (parameters e) h
   where
     here : (q : Quantity) (qs : List Quantity) (t : Bool) → bytes_eq q.name parameter ≡ t
@@ -167,11 +167,11 @@ taken_of m is k name t = by (line m k) (binding_sound m is k t.parameter found.0
 
 -- ---- what a line takes is a line
 
-present : (o : Option EqId) (d : Dim) → option_map_or (λ e. same_dim d (dim_of_output (output e))) o false ≡ true → is_some o ≡ true
+pub present : (o : Option EqId) (d : Dim) → option_map_or (λ e. same_dim d (dim_of_output (output e))) o false ≡ true → is_some o ≡ true
 present None d h = h
 present (Some e) d h = refl
 
-all_listed : (p : Name → Bool) (names : List Name) (name : Name) → list_all p names ≡ true → IsListed name names → p name ≡ true
+pub all_listed : (p : Name → Bool) (names : List Name) (name : Name) → list_all p names ≡ true → IsListed name names → p name ≡ true
 all_listed p [] name h i = absurd i
 all_listed p (x ∷ names) name h (inl e) = ap p e ∙ first_so (p x) (list_all p names) h
 all_listed p (x ∷ names) name h (inr i) = all_listed p names name (second_so (p x) (list_all p names) h) i
@@ -254,7 +254,7 @@ not_less o e f = cc
 not_level : (o : Ordering) → o ≡ Equal → o ≢ Greater
 not_level o e f = cc
 
-is_before : (x k : Name) (names : List Name) → AllByRecursion (λ y. name_cmp x y ≡ Less) names → IsListed k names → name_cmp x k ≡ Less
+pub is_before : (x k : Name) (names : List Name) → AllByRecursion (λ y. name_cmp x y ≡ Less) names → IsListed k names → name_cmp x k ≡ Less
 is_before x k [] h i = absurd i
 is_before x k (y ∷ names) h (inl e) = ap (name_cmp x) e ∙ h.0
 is_before x k (y ∷ names) h (inr i) = is_before x k names h.1 i

@@ -1,0 +1,12 @@
+pub mod Bools
+pub mod Equalities
+pub mod Affected
+pub mod Closed
+pub mod Kept
+pub mod Patched
+pub mod Once
+pub mod Children
+pub mod Subtotals
+pub mod Dependence
+pub mod Marks
+pub mod Figures

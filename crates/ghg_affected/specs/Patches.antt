@@ -1,0 +1,123 @@
+-- What is said of affected nodes, and of outcomes of which these alone are evaluated anew.
+use Rattle.std.specs.Prelude.{◌≡◌, ⊤, Bool, true, false, not, ◌&&◌, fold, filter, if◌then◌else◌, List, [], ◌∷◌, Option, Some, None}
+use Rattle.std.specs.List.{Contains, list_any}
+use Rattle.ghg_units.specs.declared.node.Node.{Node}
+use Rattle.ghg_affected.specs.Affected.{IsAffected, affected_nodes}
+use Rattle.ghg_definitions.specs.Compilation.{compilation, is_node, overflow, sheet_of}
+use Rattle.ghg_definitions.specs.Data.{Data}
+use Rattle.ghg_affected.specs.Equalities.{same_node}
+use Rattle.ghg_definitions.specs.Formulas.{Outcome, inputs, map_formula, outcome_of}
+use Rattle.ghg_definitions.specs.Nodes.{least_node, lesser_node}
+use Rattle.ghg_definitions.specs.Rings.{IsAcyclic}
+use Rattle.ghg_definitions.specs.Sound.{IsWorkbook}
+use Rattle.ghg_definitions.specs.Trials.{IsInput, Outcomes, Sheet, breaks, is_over, or_blank}
+
+-- The affected nodes that are listed are all of them, and no other is listed.
+abbrev pub AffectedNodesAreListed : Type 0
+AffectedNodesAreListed = (old new : Data) (n : Node) →
+    (Contains (affected_nodes old new) n → IsAffected old new n)
+    × (IsAffected old new n → Contains (affected_nodes old new) n)
+
+-- a node of two data has one outcome in both
+pub record Keeps (old new : Data) (n : Node) : Type 0 where
+  pub node : is_node old n ≡ true
+  pub outcome : compilation old n ≡ compilation new n
+
+-- A node of a workbook that is not affected was a node before, and keeps its outcome.
+abbrev pub UnaffectedKeep : Type 0
+UnaffectedKeep = (old new : Data) → IsWorkbook new → IsAcyclic old → IsAcyclic new →
+    (n : Node) → is_node new n ≡ true → (IsAffected old new n → ⊥) → Keeps old new n
+
+-- ---- evaluation of some nodes
+
+-- the outcome of the node's formula over the outcomes
+abbrev pub outcome_over : {Source : Type 0} → Sheet Source → Outcomes → Node → Outcome
+outcome_over sheet outcomes n =
+    outcome_of (λ k. or_blank (outcomes k)) (map_formula sheet.given (sheet.formula n))
+
+-- the outcomes with that one at the node
+abbrev pub evaluated : {Source : Type 0} → Sheet Source → Outcomes → Node → Outcomes
+evaluated sheet outcomes n k =
+    if same_node k n then Some (outcome_over sheet outcomes n) else outcomes k
+
+-- each of the list is a node, and none of its inputs is it or stands behind it
+abbrev pub IsInTurn : {Source : Type 0} → Sheet Source → List Node → Type 0
+IsInTurn sheet [] = ⊤
+IsInTurn sheet (n ∷ ns) =
+    (sheet.is_node n ≡ true) × ((k : Node) → IsInput sheet k n → Contains (n ∷ ns) k → ⊥) × IsInTurn sheet ns
+
+-- Outcomes that are those of the compilation but at the nodes of a list become the compilation once these are
+-- evaluated in turn.
+abbrev pub RestIsEvaluated : Type 0
+RestIsEvaluated = (m : Data) → IsAcyclic m →
+    (ns : List Node) → IsInTurn (sheet_of m) ns →
+    (outcomes : Outcomes) → ((n : Node) → (Contains ns n → ⊥) → outcomes n ≡ compilation m n) →
+    fold (evaluated (sheet_of m)) outcomes ns ≡ compilation m
+
+-- ---- evaluation of the affected nodes
+
+-- the list has all affected nodes, each behind its inputs
+pub record IsPatch (old new : Data) (ns : List Node) : Type 0 where
+  pub in_turn : IsInTurn (sheet_of new) ns
+  pub complete : (n : Node) → IsAffected old new n → Contains ns n
+
+-- the outcomes are the old ones at all other nodes of the new data, and none where there is no node
+pub record IsKept (old new : Data) (ns : List Node) (outcomes : Outcomes) : Type 0 where
+  pub kept : (n : Node) → is_node new n ≡ true → (Contains ns n → ⊥) → outcomes n ≡ compilation old n
+  pub nowhere_else : (n : Node) → is_node new n ≡ false → outcomes n ≡ None
+
+-- The affected nodes alone, evaluated in turn over the old outcomes, give the compilation of the new data.
+abbrev pub PatchesAreCompilations : Type 0
+PatchesAreCompilations = (old new : Data) → IsWorkbook new → IsAcyclic old → IsAcyclic new →
+    (ns : List Node) → IsPatch old new ns → (outcomes : Outcomes) → IsKept old new ns outcomes →
+    fold (evaluated (sheet_of new)) outcomes ns ≡ compilation new
+
+-- Of a list of all nodes of the new data in turn, what passes a test that all affected nodes pass is a patch.
+abbrev pub PartsArePatches : Type 0
+PartsArePatches = (old new : Data) →
+    (ns : List Node) → IsInTurn (sheet_of new) ns → ((n : Node) → is_node new n ≡ true → Contains ns n) →
+    (passes : Node → Bool) → ((n : Node) → IsAffected old new n → passes n ≡ true) →
+    IsPatch old new (filter passes ns)
+
+-- ---- what breaks
+
+-- Where nothing was over, each node that breaks is affected.
+abbrev pub BreaksAreAffected : Type 0
+BreaksAreAffected = (old new : Data) →
+    IsWorkbook new → IsAcyclic old → IsAcyclic new → overflow old ≡ None →
+    (n : Node) → breaks (sheet_of new) (compilation new) n ≡ true → IsAffected old new n
+
+-- So the node that is named is the least that breaks of any list of nodes with all affected ones.
+abbrev pub OverflowsAreInPatches : Type 0
+OverflowsAreInPatches = (old new : Data) →
+    IsWorkbook new → IsAcyclic old → IsAcyclic new → overflow old ≡ None →
+    (ns : List Node) → ((n : Node) → IsAffected old new n → Contains ns n) →
+    overflow new ≡ least_node (filter (breaks (sheet_of new) (compilation new)) ns)
+
+-- ---- the two at once
+
+-- the node's outcome is over the outcomes over, and that of none of its inputs is
+abbrev pub breaks_over : {Source : Type 0} → Sheet Source → Outcomes → Node → Bool
+breaks_over sheet outcomes n =
+    is_over (Some (outcome_over sheet outcomes n))
+    && not (list_any (λ k. is_over (outcomes k)) (inputs (sheet.formula n)))
+
+-- outcomes, and the least node that broke on the way to them
+pub record Progress : Type 0 where
+  pub outcomes : Outcomes
+  pub least : Option Node
+
+abbrev pub one_further : {Source : Type 0} → Sheet Source → Progress → Node → Progress
+one_further sheet p n = record {
+  outcomes = evaluated sheet p.outcomes n;
+  least = if breaks_over sheet p.outcomes n then Some (lesser_node n p.least) else p.least;
+}
+
+-- The affected nodes alone, evaluated in turn over the old outcomes, of which none is over, give the
+-- compilation of the new data and the least node that breaks in it.
+abbrev pub PatchesFindOverflows : Type 0
+PatchesFindOverflows = (old new : Data) →
+    IsWorkbook new → IsAcyclic old → IsAcyclic new → overflow old ≡ None →
+    (ns : List Node) → IsPatch old new ns → (outcomes : Outcomes) → IsKept old new ns outcomes →
+    fold (one_further (sheet_of new)) (record { outcomes = outcomes; least = None }) ns
+    ≡ record { outcomes = compilation new; least = overflow new }

@@ -1,0 +1,15 @@
+//! What a change of the data affects, and what it does not: laws of the definitions.
+//!
+//! A corrected workbook is compiled by the evaluation of its affected nodes alone, over the outcomes that it
+//! had.
+#![tactic(auto)]
+
+mod laws;
+
+pub use laws::{
+    affected_nodes_are_listed, affected_nodes_are_marked, affected_nodes_stand_once,
+    breaks_are_affected, formulas_depend_on_reads, gross_totals_are_of_subtotals, nodes_stand_once,
+    nodes_stay_in_place, overflows_are_in_patches, parts_are_patches, patches_are_compilations,
+    patches_find_overflows, rest_is_evaluated, totals_are_of_subtotals, unaffected_keep,
+    untouched_are_unchanged,
+};
