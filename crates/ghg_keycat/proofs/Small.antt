@@ -1,5 +1,5 @@
 -- How large the numbers of an assessment are.
-use Rattle.std.proofs.Common.{◌≡◌, ℕ, ◌+◌, ◌*◌, ◌≤◌, List, [], ◌∷◌, arith, mul-le-mul_left, ℤ, pos, ◌+ℤ◌, unsigned_abs}
+use Rattle.std.proofs.Common.{◌+◌, ◌*◌, ◌≤◌, List, [], ◌∷◌, arith, mul-le-mul_left, ℤ, pos, ◌+ℤ◌, unsigned_abs}
 use Rattle.std.specs.List.{fold, sum_by}
 use Rattle.std.proofs.lemmas.Int.{ints}
 use Rattle.std.proofs.lemmas.List.Sums.{sum_by-cons}

@@ -63,6 +63,7 @@ ranking_bounded size rows keys ranking within k d h =
     record {
       whole = omega (arith, whole, is.size_is, is.before_is, is.total_is);
       small = omega (arith, is.total_is, within);
+      key_is = is.key_is;
     }
 
 -- ---- rows

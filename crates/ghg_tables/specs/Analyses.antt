@@ -11,7 +11,7 @@ use Rattle.ghg_cell.specs.declared.input.Input.{Input}
 use Rattle.ghg_cell.specs.declared.input.Input.TheVariants.{Blank, Known}
 use Rattle.ghg_definitions.specs.Data.{Name}
 use Rattle.ghg_keycat.specs.declared.Pair.{Pair}
-use Rattle.ghg_keycat.specs.Ranking.{before, in_order}
+use Rattle.ghg_keycat.specs.Ranking.{before, in_order, is_key}
 use Rattle.ghg_keycat.specs.Sizes.{base_size, base_sum, level_size, now_sum, trend_size}
 use Rattle.ghg_uncertainty.specs.declared.Share.{Share}
 use Rattle.ghg_uncertainty.specs.Brackets.{high_root, low_root}
@@ -54,13 +54,12 @@ approaches_text reference sectoral =
 unfoldable pub pair_words : Pair → List ℕ
 pair_words p = field (code_of p.category) ++ field (word_of p.gas)
 
--- the share of a size in a total, the share up to and with it, and whether less than 95 percent stands before
--- it
+-- the share of a size in a total, the share up to and with it, and whether it is key
 unfoldable pub shares_text : ℕ → ℕ → ℕ → List ℕ
 shares_text total size before =
     if total == 0 then codes "-,-,no"
     else field (percent_text total (pos size)) ++ field (percent_text total (pos (before + size))) ++
-    answer_text (nat_lt (20 * before) (19 * total))
+    answer_text (is_key before total)
 
 -- of a pair among all
 unfoldable pub ranked_text : (Pair → ℕ) → List Pair → Pair → List ℕ

@@ -3,6 +3,7 @@
 ghost use Rattle.std.specs.Prelude.{◌≡◌, ◌++◌, ◌^◌, ◌+◌, ◌*◌, ◌<◌, ◌≤◌, codes, OnOk, unsigned_abs};
 ghost use Rattle.ghg_keycat.specs.Sizes.{gross, gross_limit};
 ghost use Rattle.ghg_tables.specs.Analyses.{amounts_text, approaches_text, change_text, check_row, first_check_row, gap_flag, gap_text, item_text, pair_words, shares_text, trend_words, untrended_row};
+ghost use Rattle.ghg_tables.specs.Assessed.{IsBounded};
 ghost use Rattle.ghg_tables.specs.Gathering.{largest_tonnes};
 ghost use Rattle.ghg_tables.specs.Texts.{answer_text, field, hundredths_text, percent_text, tonnes_text};
 
@@ -10,7 +11,7 @@ use crate::figures::{append_field, append_number};
 use crate::precision::Precision;
 use crate::rounding::near;
 use ghg_categories::code;
-use ghg_keycat::Pair;
+use ghg_keycat::{KeyRow, Pair};
 use ghg_units::write_fixed;
 use std::alloc::AllocError;
 
@@ -44,6 +45,7 @@ fn append_percent(out: &mut Vec<u8>, d: u128, n: i128) -> Result<(), AllocError>
     append_hundredths(out, near(10_000 * n, d))
 }
 
+/// The same, and a comma.
 #[tactic(auto, unfolding(crate::specs::Texts::field))]
 pub(crate) fn append_percent_field(out: &mut Vec<u8>, d: u128, n: i128) -> Result<(), AllocError>
     requires divisor { 1 ≤ d }
@@ -167,24 +169,18 @@ pub(crate) fn append_pair_words(out: &mut Vec<u8>, pair: Pair) -> Result<(), All
     append_field(out, pair.gas.word().as_bytes())
 }
 
-/// Appends the share of a size in a total, the share up to and with it, and whether it is key.
+/// Appends the share of a row in the total, the share up to and with it, and whether it is key.
 #[tactic(auto, unfolding(crate::specs::Analyses::shares_text))]
-pub(crate) fn append_shares(
-    out: &mut Vec<u8>,
-    total: u128,
-    size: u128,
-    before: u128,
-) -> Result<(), AllocError>
-    requires whole { before + size ≤ total }
-    requires bounded { 10000 * total < 2 ^ 127 }
-    ensures { OnOk result (out.new.items ≡ out.old.items ++ shares_text total size before) }
+pub(crate) fn append_shares(out: &mut Vec<u8>, key: KeyRow) -> Result<(), AllocError>
+    requires { IsBounded key }
+    ensures { OnOk result (out.new.items ≡ out.old.items ++ shares_text key.total key.size key.before) }
 {
-    if total == 0 {
+    if key.total == 0 {
         return out.extend_from_slice(b"-,-,no");
     }
-    append_percent_field(out, total, size as i128)?;
-    append_percent_field(out, total, (before + size) as i128)?;
-    append_answer(out, 20 * before < 19 * total)
+    append_percent_field(out, key.total, key.size as i128)?;
+    append_percent_field(out, key.total, (key.before + key.size) as i128)?;
+    append_answer(out, key.key)
 }
 
 /// Appends the words of a pair and what it emits in both years.

@@ -54,7 +54,7 @@ fn append_level(out: &mut Vec<u8>, key: KeyRow) -> Result<(), AllocError>
 {
     append_pair_words(out, key.pair)?;
     append_tonnes_field(out, key.pair.now)?;
-    append_shares(out, key.total, key.size, key.before)?;
+    append_shares(out, key)?;
     out.push(b'\n')?;
     Ok(())
 }
@@ -117,7 +117,7 @@ fn append_trend(out: &mut Vec<u8>, denominator: u128, key: KeyRow) -> Result<(),
 {
     append_trend_words(out, key.pair)?;
     append_percent_field(out, denominator, key.size as i128)?;
-    append_shares(out, key.total, key.size, key.before)?;
+    append_shares(out, key)?;
     out.push(b'\n')?;
     Ok(())
 }
@@ -131,6 +131,8 @@ fn append_untrended_rows(out: &mut Vec<u8>, rows: &[Pair]) -> Result<(), AllocEr
     Ok(())
 }
 
+const CHECKS_HEADER: &[u8] = b"category,gas,previous,value,change,flag\n";
+
 /// The checks of a year that has one before it.
 pub(crate) fn print_checks<C: Cells>(
     alloc: Global,
@@ -141,7 +143,7 @@ pub(crate) fn print_checks<C: Cells>(
         (pairs (C.content cells.now) (compilation (C.content cells.now)) years)) }
 {
     let rows = pairs(alloc, cells, years)?;
-    let mut out = Vec::from_slice(alloc, b"category,gas,previous,value,change,flag\n")?;
+    let mut out = Vec::from_slice(alloc, CHECKS_HEADER)?;
     append_checks(&mut out, &rows)?;
     Ok(Text::new(out))
 }
@@ -166,7 +168,7 @@ pub(crate) fn print_first_checks<C: Cells>(
         (pairs (C.content cells.now) (compilation (C.content cells.now)) years)) }
 {
     let rows = pairs(alloc, cells, years)?;
-    let mut out = Vec::from_slice(alloc, b"category,gas,previous,value,change,flag\n")?;
+    let mut out = Vec::from_slice(alloc, CHECKS_HEADER)?;
     for pair in &rows {
         append_first_check(&mut out, *pair)?;
     }

@@ -27,7 +27,7 @@ use ghg_data::Records;
 use ghg_definitions::{Record, RecordKey};
 use ghg_equations::Gas;
 use ghg_graph::Cells;
-use ghg_uncertainty::{Share, TotalUncertainty, combined, total};
+use ghg_uncertainty::{Share, TotalUncertainty, combined, net, total};
 use ghg_units::{Name, Node, Text};
 use std::alloc::{AllocError, Global};
 
@@ -273,19 +273,6 @@ fn append_total(out: &mut Vec<u8>, lacks: bool, shares: &[Share]) -> Result<(), 
     append_bracket(out, lacks, shares)?;
     out.push(b'\n')?;
     Ok(())
-}
-
-// The sum of the amounts.
-fn net(shares: &[Share]) -> i128
-    requires count { length shares.now ≤ most_rows }
-    requires each { All IsShare shares.now }
-    ensures { result ≡ net shares.now }
-{
-    let mut sum: i128 = 0;
-    for share in shares {
-        sum += share.tonnes;
-    }
-    sum
 }
 
 // The uncertainty of the total, if it has one.

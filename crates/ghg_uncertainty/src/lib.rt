@@ -8,7 +8,7 @@ mod laws;
 
 ghost use Rattle.std.specs.Prelude.{◌≡◌, ◌≤◌, All, length};
 ghost use Rattle.ghg_roots.specs.Roots.{IsRootBracket};
-ghost use Rattle.ghg_uncertainty.specs.Totals.{HoldsTotal, IsShare, IsTotal, largest_square_sum, largest_variance, most_rows, percentage_limit, square_sum, variance};
+ghost use Rattle.ghg_uncertainty.specs.Totals.{HoldsTotal, IsShare, IsTotal, largest_square_sum, largest_variance, most_rows, net, percentage_limit, spread, square_sum, variance};
 
 use ghg_roots::sqrt_bracket;
 pub use laws::{brackets_are_roots, totals_are_small};
@@ -52,22 +52,43 @@ pub fn total(rows: &[Share]) -> TotalUncertainty
     ensures total { IsTotal rows.now result }
     ensures holds { HoldsTotal rows.now result }
 {
-    let mut net: i128 = 0;
-    let mut spread: u128 = 0;
-    for row in rows {
-        net += row.tonnes;
-        spread += row.variance();
-    }
+    let net = net(rows);
     let size = net.unsigned_abs();
     if size == 0 {
         TotalUncertainty::Undefined
     } else {
-        let (low, high) = sqrt_bracket(spread);
+        let (low, high) = sqrt_bracket(spread(rows));
         TotalUncertainty::Bracket {
             low: low / size,
             high: high.div_ceil(size),
         }
     }
+}
+
+/// The sum of the amounts.
+pub fn net(rows: &[Share]) -> i128
+    requires count { length rows.now ≤ most_rows }
+    requires shares { All IsShare rows.now }
+    ensures { result ≡ net rows.now }
+{
+    let mut sum: i128 = 0;
+    for row in rows {
+        sum += row.tonnes;
+    }
+    sum
+}
+
+// The sum of the variances.
+fn spread(rows: &[Share]) -> u128
+    requires count { length rows.now ≤ most_rows }
+    requires shares { All IsShare rows.now }
+    ensures { result ≡ spread rows.now }
+{
+    let mut sum: u128 = 0;
+    for row in rows {
+        sum += row.variance();
+    }
+    sum
 }
 
 impl Share {
