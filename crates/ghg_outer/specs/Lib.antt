@@ -4,3 +4,5 @@ pub mod Doors
 pub mod Links
 pub mod Plans
 pub mod Tape
+pub mod Tcp
+pub mod Writing

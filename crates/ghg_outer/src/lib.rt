@@ -8,8 +8,9 @@
 //!
 //! The forms in memory are proved to meet this. [`InputSource`], [`OutputSink`], [`TcpDoor`] and [`TcpLink`]
 //! are the trusted edge: what the process's own input, output and connections hold is known to no contract.
-//! It is proved that their count rose where they answer an error. They make a call again that a signal
-//! interrupted, which tests show for input and output.
+//! It is proved that their count rose where they answer an error, and that they give and take the bytes of
+//! readers, writers and streams that tell them. They make a call again that a signal interrupted, which tests
+//! show for input and output.
 #![tactic(auto)]
 
 mod door;
@@ -23,6 +24,7 @@ mod steady;
 mod streams;
 mod tcp;
 mod told;
+mod writing;
 
 pub use door::Door;
 pub use fault_plan::FaultPlan;
@@ -35,3 +37,4 @@ pub use steady::{SteadySink, SteadySource};
 pub use streams::{InputSource, OutputSink};
 pub use tcp::{TcpDoor, TcpLink};
 pub use told::Told;
+pub use writing::write_all;

@@ -1,6 +1,9 @@
 // Connections over TCP, which are the trusted edge.
-ghost use Rattle.std.specs.Prelude.{◌≡◌, ⊤, false, None};
+ghost use Rattle.std.specs.Prelude.{◌≡◌, ◌<◌, ◌≤◌, ⊤, length, Some, IfOk, IfErr, IsOk, IsErr, OnErr, OnOk};
+ghost use Rattle.std.specs.Io.{ReadsAtMost};
 ghost use Rattle.ghg_outer.specs.Counts.{IsCounted};
+ghost use Rattle.ghg_outer.specs.Doors.{IsKept, Opens};
+ghost use Rattle.ghg_outer.specs.Tape.{IsAtEnd, Reads, Rose, Writes};
 
 use crate::streams::{read_again, write_again};
 use crate::{Door, Failed, Sink, Source, Told, WriteError};
@@ -14,7 +17,7 @@ use std::time::Duration;
 /// no error. Where the peer takes nothing of a piece, that is an error.
 ///
 /// It is part of the trusted edge and tells nothing of its bytes. It is proved that the count rose where an
-/// error is answered.
+/// error is answered, and that each call gives and takes the bytes of a stream that tells them.
 #[derive(Drop)]
 pub struct TcpLink<S: Drop> {
     stream: S,
@@ -31,24 +34,31 @@ impl<S: Drop> TcpLink<S> {
 
     // Counts an error.
     fn count_fault(&mut self)
-        ensures { IsCounted self.old.faults self.new.faults ⊤ }
+        ensures stream { self.new.stream ≡ self.old.stream }
+        ensures faults { IsCounted self.old.faults self.new.faults ⊤ }
     {
         self.faults = self.faults.saturating_add(1);
     }
 }
 
 impl<S: Drop> Told for TcpLink<S> {
-    ghost tape = { λ l. record {
-      left = None;
-      taken = None;
-      written = None;
-      faults = l.faults;
-      grows = false;
-    } };
+    ghost use Rattle.ghg_outer.specs.Tcp.{tcp_tape};
+
+    ghost tape = { tcp_tape };
 }
 
 impl<S: Read + Drop> Source for TcpLink<S> {
-    fn read(&mut self, buf: &mut [u8]) -> Result<usize, Failed> {
+    ghost use Rattle.ghg_outer.specs.Tcp.{read_tape};
+
+    fn read(&mut self, buf: &mut [u8]) -> Result<usize, Failed>
+        requires { 0 < length buf.old }
+        ensures bound { ReadsAtMost result buf.new }
+        ensures read { Reads (read_tape S.remaining self.old) (read_tape S.remaining self.new)
+            result buf.new }
+        ensures end { IfOk result (λ n. n ≡ 0 → IsAtEnd (read_tape S.remaining self.new)) }
+        ensures failed { IsErr result
+            → Rose (read_tape S.remaining self.old) (read_tape S.remaining self.new) }
+    {
         match read_again(&mut self.stream, buf) {
             Ok(count) => Ok(count),
             Err(_) => {
@@ -60,7 +70,18 @@ impl<S: Read + Drop> Source for TcpLink<S> {
 }
 
 impl<S: Write + Drop> Sink for TcpLink<S> {
-    fn write(&mut self, piece: &[u8]) -> Result<usize, WriteError> {
+    ghost use Rattle.ghg_outer.specs.Tcp.{write_tape};
+
+    fn write(&mut self, piece: &[u8]) -> Result<usize, WriteError>
+        requires { 0 < length piece.now }
+        ensures some { IfOk result (λ n. 0 < n) }
+        ensures bound { IfOk result (λ n. n ≤ length piece.now) }
+        ensures wrote { Writes (write_tape S.contents self.old) (write_tape S.contents self.new)
+            result piece.now }
+        ensures failed { IsErr result
+            → Rose (write_tape S.contents self.old) (write_tape S.contents self.new) }
+        ensures only { IfErr result (λ error. error ≡ WriteError.Failed) }
+    {
         match write_again(&mut self.stream, piece) {
             Ok(count) if count > 0 => Ok(count),
             _ => {
@@ -73,23 +94,28 @@ impl<S: Write + Drop> Sink for TcpLink<S> {
 
 /// Connections on a port of loopback, with a count of errors.
 ///
-/// It is part of the trusted edge and tells nothing of its port and its links. It is proved that the count
-/// rose where an error is answered.
+/// It is part of the trusted edge. It tells the port that it opened last, for which it holds a listener, and
+/// nothing of its links. It is proved that the count rose where an error is answered.
 #[derive(Drop)]
 pub struct TcpDoor<R: Net + Drop> {
     net: R,
-    listener: Option<R::Listener>,
+    // The listener, and the port that it was opened at.
+    listening: Option<(R::Listener, u16)>,
     faults: u64,
 }
 
 impl<R: Net + Drop> TcpDoor<R> {
+    ghost use Rattle.std.specs.Prelude.{None};
+    ghost use Rattle.ghg_outer.specs.Tcp.{tcp_register};
+
     /// A door whose port is closed, with no fault yet.
     pub fn new(net: R) -> TcpDoor<R>
-        ensures { (⟦<TcpDoor<R> as Door>⟧.register result).faults ≡ 0 }
+        ensures port { (tcp_register result).port ≡ None }
+        ensures faults { (tcp_register result).faults ≡ 0 }
     {
         TcpDoor {
             net,
-            listener: None,
+            listening: None,
             faults: 0,
         }
     }
@@ -98,12 +124,20 @@ impl<R: Net + Drop> TcpDoor<R> {
 impl<R: Net + Drop> Door for TcpDoor<R> {
     type Link = TcpLink<R::Stream>;
 
-    ghost register = { λ d. record { port = None; given = None; finished = None; faults = d.faults } };
+    ghost use Rattle.ghg_outer.specs.Tcp.{tcp_register};
 
-    fn listen(&mut self, port: u16) -> Result<(), Failed> {
+    ghost register = { tcp_register };
+
+    fn listen(&mut self, port: u16) -> Result<(), Failed>
+        ensures opened { OnOk result (Opens (tcp_register self.old) (tcp_register self.new) port) }
+        ensures port { OnOk result ((tcp_register self.new).port ≡ Some port) }
+        ensures kept { OnErr result (IsKept (tcp_register self.old) (tcp_register self.new)) }
+        ensures counted { IsCounted (tcp_register self.old).faults (tcp_register self.new).faults
+            (IsErr result) }
+    {
         match TcpListener::bind(&self.net, (Ipv4Addr::LOCALHOST, port)) {
             Ok(listener) => {
-                self.listener = Some(listener);
+                self.listening = Some((listener, port));
                 Ok(())
             }
             Err(_) => {
@@ -114,7 +148,7 @@ impl<R: Net + Drop> Door for TcpDoor<R> {
     }
 
     fn next(&mut self) -> Result<TcpLink<R::Stream>, Failed> {
-        if let Some(listener) = &self.listener
+        if let Some((listener, _)) = &self.listening
             && let Ok(stream) = accept_again(listener)
         {
             let patience = Some(Duration::from_secs(PATIENCE));
@@ -126,7 +160,11 @@ impl<R: Net + Drop> Door for TcpDoor<R> {
         Err(Failed)
     }
 
-    fn finish(&mut self, link: TcpLink<R::Stream>) -> Result<(), AllocError> {
+    /// Takes no memory. What the peer still sends is read past, so that the reply is not taken from it.
+    fn finish(&mut self, link: TcpLink<R::Stream>) -> Result<(), AllocError>
+        ensures ok { IsOk result }
+        ensures same { self.new ≡ self.old }
+    {
         let mut stream = link.stream;
         let _ = stream.shutdown(Shutdown::Write);
         let _ = stream.set_read_timeout(Some(Duration::from_secs(FAREWELL)));
