@@ -2,3 +2,4 @@ pub mod RowLemmas
 pub mod Meanings
 pub mod Texts
 pub mod Effects
+pub mod Files

@@ -1,6 +1,7 @@
 //! Kept submissions: a list of rows that outlives a session.
 #![tactic(auto)]
 
+mod file;
 mod keeper;
 mod memory;
 mod row;
@@ -8,6 +9,7 @@ mod sql;
 mod statements;
 mod steady;
 
+pub use file::FileKeeper;
 pub use keeper::{KeepError, Keeper};
 pub use memory::MemoryKeeper;
 pub use row::KeptRow;

@@ -1,0 +1,5 @@
+use Rattle.ghg_keeper.proofs.file.FileKeeperKeeper.count.Goals as goal
+
+pub returns-clause-passed : goal.returns-clause-passed
+returns-clause-passed c = rw (c.in-Some.is, c.passed-2.ensures.store, c.passed-2.ensures.answer)
+    (c.count-answer.ensures.count, c.count-answer.ensures.keeps)

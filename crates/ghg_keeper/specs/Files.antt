@@ -1,0 +1,19 @@
+-- What a keeper over a database file shows.
+use Rattle.std.specs.Prelude.{[], None, Result, IsErrOf, IsSomeAnd, MatchOption}
+use Rattle.sqlite.specs.Files.{over_files}
+use Rattle.ghg_keeper.specs.Databases.{kept_shelf}
+use Rattle.ghg_keeper.specs.declared.file.FileKeeper.{FileKeeper}
+use Rattle.ghg_keeper.specs.declared.keeper.KeepError.{KeepError}
+use Rattle.ghg_keeper.specs.declared.keeper.KeepError.TheVariants.{Failed}
+use Rattle.ghg_keeper.specs.Shelf.{Shelf}
+
+-- it tells how many calls failed, and nothing of its rows
+abbrev pub file_shelf : FileKeeper → Shelf
+file_shelf keeper = record { tells = ⊥; rows = []; name = None; faults = keeper.faults }
+
+-- A call is passed to the store in use, and this holds of what that tells. Where no store is in use the call
+-- fails.
+abbrev pub IsPassed : {A : Type 0} → FileKeeper → FileKeeper → Result A KeepError → (Shelf → Shelf → Type 0)
+    → Type 0
+IsPassed before after result does = MatchOption before.store (IsErrOf result Failed)
+    (λ old. IsSomeAnd after.store (λ new. does (kept_shelf over_files old) (kept_shelf over_files new)))

@@ -1,0 +1,137 @@
+// The keeper of the program, over a database file.
+ghost use Rattle.std.specs.Prelude.{◌≡◌, ◌-◌, ◌≤◌, length, slice_get, codes, Some, IsSome, IsTrue, IfOk, IsErr, IsErrOf, OnOk, OnErr};
+ghost use Rattle.ghg_outer.specs.Counts.{IsCounted};
+ghost use Rattle.ghg_keeper.specs.Id.{is_id};
+ghost use Rattle.ghg_keeper.specs.Shelf.{Adds, CountsFaults, Keeps};
+
+use crate::{KeepError, Keeper, KeptRow, SqlKeeper};
+use sqlite::{Connection, Error, ErrorCode, File, FileStore};
+use std::rt::HostRuntime;
+
+/// Rows in the table of a database file, which `attach` opens, or makes where there is none. That call and
+/// each later one are passed to a [`SqlKeeper`] over the file.
+///
+/// It is part of the trusted edge and tells nothing of its rows. It is proved what each call does with the
+/// store in use. A file that does not open for another cause than memory, and a call before `attach`, fail
+/// and are counted: a folder, a file that is no database or that this process may not write, and a database
+/// that another process has open.
+///
+/// The file has its log beside it, named as the file with `-wal` behind that, and the two are one store. A
+/// row that was acknowledged has been synced. It outlives a crash where the disk has what a sync acknowledged,
+/// where each byte of a write that is cut off is the old or the new one and no other byte changes, and where
+/// nobody else writes the two files.
+#[derive(Drop)]
+pub struct FileKeeper<'a> {
+    rt: &'a HostRuntime,
+    store: Option<SqlKeeper<FileStore<File>>>,
+    faults: u64,
+}
+
+impl<'a> FileKeeper<'a> {
+    ghost use Rattle.std.specs.Prelude.{None};
+    ghost use Rattle.ghg_keeper.specs.Files.{file_shelf};
+
+    /// A keeper with no store in use. It takes no memory.
+    pub fn new(rt: &'a HostRuntime) -> FileKeeper<'a>
+        ensures unused { result.store ≡ None }
+        ensures faults { (file_shelf result).faults ≡ 0 }
+    {
+        FileKeeper {
+            rt,
+            store: None,
+            faults: 0,
+        }
+    }
+
+    // Passes an answer on, and counts a failure.
+    fn passed<T>(&mut self, answer: Result<T, KeepError>) -> Result<T, KeepError>
+        ensures answer { result ≡ answer }
+        ensures store { self.new.store ≡ self.old.store }
+        ensures faults { IsCounted self.old.faults self.new.faults (IsErrOf answer KeepError.Failed) }
+    {
+        match answer {
+            Err(KeepError::Failed) => {
+                self.faults = self.faults.saturating_add(1);
+                Err(KeepError::Failed)
+            }
+            other => other,
+        }
+    }
+}
+
+impl Keeper for FileKeeper<'_> {
+    ghost use Rattle.ghg_keeper.specs.Files.{IsPassed, file_shelf};
+
+    ghost shelf = { file_shelf };
+
+    fn attach(&mut self, name: &str) -> Result<(), KeepError>
+        ensures used { OnOk result (IsSome self.new.store) }
+        ensures err { OnErr result (self.new.store ≡ self.old.store) }
+        // This is the name of a store in memory, and of no file.
+        ensures memory { name.now ≡ codes ":memory:" → IsErr result }
+        ensures faults { CountsFaults (file_shelf self.old) (file_shelf self.new) result }
+    {
+        match opened(self.rt, name) {
+            Ok(store) => {
+                self.store = Some(store);
+                Ok(())
+            }
+            Err(error) => self.passed(Err(error)),
+        }
+    }
+
+    fn count(&mut self) -> Result<u64, KeepError>
+        ensures passed { IsPassed self.old self.new result (λ before after.
+            (after.tells → IfOk result (λ n. n ≡ length before.rows)) × Keeps before after) }
+        ensures faults { CountsFaults (file_shelf self.old) (file_shelf self.new) result }
+    {
+        let Some(store) = &mut self.store else {
+            return self.passed(Err(KeepError::Failed));
+        };
+        let answer = store.count();
+        self.passed(answer)
+    }
+
+    fn row(&mut self, seq: u64) -> Result<KeptRow, KeepError>
+        requires { 1 ≤ seq }
+        ensures passed { IsPassed self.old self.new result (λ before after.
+            (after.tells → IfOk result (λ row. slice_get before.rows (seq - 1) ≡ Some row))
+            × Keeps before after) }
+        ensures faults { CountsFaults (file_shelf self.old) (file_shelf self.new) result }
+    {
+        let Some(store) = &mut self.store else {
+            return self.passed(Err(KeepError::Failed));
+        };
+        let answer = store.row(seq);
+        self.passed(answer)
+    }
+
+    fn append(&mut self, id: &[u8], body: &[u8]) -> Result<u64, KeepError>
+        requires { IsTrue (is_id id.now) }
+        ensures passed { IsPassed self.old self.new result (λ before after.
+            OnOk result (Adds before after (record { id = id.now; body = body.now }))
+            × (after.tells → IfOk result (λ seq. seq ≡ length after.rows))
+            × OnErr result (Keeps before after)) }
+        ensures faults { CountsFaults (file_shelf self.old) (file_shelf self.new) result }
+    {
+        let Some(store) = &mut self.store else {
+            return self.passed(Err(KeepError::Failed));
+        };
+        let answer = store.append(id, body);
+        self.passed(answer)
+    }
+}
+
+// A keeper over the database file of this name, which has its table.
+fn opened(rt: &HostRuntime, name: &str) -> Result<SqlKeeper<FileStore<File>>, KeepError>
+    ensures memory { name.now ≡ codes ":memory:" → IsErr result }
+{
+    let connection = match Connection::open(rt, name) {
+        Ok(connection) => connection,
+        Err(Error::SqliteFailure(ErrorCode::OutOfMemory)) => return Err(KeepError::Memory),
+        Err(_) => return Err(KeepError::Failed),
+    };
+    let mut store = SqlKeeper::over(connection);
+    store.attach(name)?;
+    Ok(store)
+}
