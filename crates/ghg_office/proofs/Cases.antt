@@ -6,7 +6,7 @@ use Rattle.ghg_import.specs.Body.{max_body}
 use Rattle.ghg_units.specs.declared.rule.Rule.{Rule}
 use Rattle.ghg_units.specs.declared.rule.Rule.TheVariants.{BadId, BodyTooLong, IdReused}
 use Rattle.ghg_office.specs.Accepted.{Kept, kept_from}
-use Rattle.ghg_office.specs.Id.{is_id}
+use Rattle.ghg_keeper.specs.Id.{is_id}
 use Rattle.ghg_office.specs.declared.reply.Reply.TheVariants.{Accepted, Refused, Repeated}
 use Rattle.ghg_office.specs.Office.{Answer, State, decided, entered_by, judged, once, refused, repeated, submitted}
 

@@ -5,15 +5,20 @@ use Rattle.ghg_definitions.specs.Compilation.{overflow}
 use Rattle.ghg_definitions.specs.Data.{Data}
 use Rattle.ghg_definitions.specs.Rings.{ring_line}
 use Rattle.ghg_definitions.specs.Rules.{accepted, after_rows, arranged, binding_fault, judged, limit_fault, most_kept_bytes, or_broken, passed_limit, planned, rows_applied, unsound_place, without_ring}
+use Rattle.ghg_data.specs.declared.refusal.PlanRefusal.{PlanRefusal}
+use Rattle.ghg_data.specs.declared.refusal.PlanRefusal.TheVariants as refusal
+use Rattle.ghg_data.specs.Refusal.{IfRule}
 use Rattle.ghg_import.specs.Reading.{Reading}
 use Rattle.ghg_units.specs.declared.rule.Limit.{Limit}
 use Rattle.ghg_units.specs.declared.node.Node.{Node}
 use Rattle.ghg_units.specs.declared.rule.Limit.TheVariants.{Bytes}
 use Rattle.ghg_units.specs.declared.rule.Rule.{Rule}
 use Rattle.ghg_units.specs.declared.rule.Rule.TheVariants.{Overflow, TooMany}
-use Rattle.ghg_office.specs.declared.reply.Reply.TheVariants.{Accepted}
-use Rattle.ghg_office.specs.Accepted.{Submission}
-use Rattle.ghg_office.specs.Office.{State, decided, entered}
+use Rattle.ghg_office.specs.declared.reply.Reply.TheVariants.{Accepted, Refused}
+use Rattle.ghg_keeper.specs.declared.row.KeptRow.{KeptRow}
+use Rattle.ghg_office.specs.Office.{IsRead, State, decided, entered, entered_by, submitted}
+use Rattle.ghg_office.specs.Replies.{Answers, is_accepted, plan_reply}
+use Rattle.ghg_office.proofs.Reading.{read_decided}
 
 -- data, where no node of them is beyond the limits
 abbrev pub within_limits : Data → Option Node → Result Data Rule
@@ -63,10 +68,29 @@ entered-bytes m n reading bytes e = by (rows_applied m reading.rows) reading.res
     by (Ok k) None e = bound (binding_fault (unsound_place k)) k e
 
 -- what is answered where nothing is broken, and the state after it
-pub accepted_decided : (s : State) (id body : List ℕ) (r : Result Data Rule) (m n : Data) (seq : ℕ) (list : List Submission)
+accepted_decided : (s : State) (id body : List ℕ) (r : Result Data Rule) (m n : Data) (seq : ℕ) (list : List KeptRow)
     → r ≡ Ok m → n ≡ m → seq ≡ length s.accepted + 1 → list ≡ s.accepted ++ (record { id = id; body = body } ∷ [])
     → (Accepted seq ≡ (decided s id body r).reply) × (◌≡◌ {A = State} (record { content = n; accepted = list }) (decided s id body r).after)
 accepted_decided s id body (Err rule) m n seq list e f g h = absurd (cc)
 accepted_decided s id body (Ok k) m n seq list e f g h =
     let same : k ≡ m = cc in
-    (ap Accepted g, ap₂ (λ (c : Data) (l : List Submission). record { content = c; accepted = l }) (f ∙ sym same) h)
+    (ap Accepted g, ap₂ (λ (c : Data) (l : List KeptRow). record { content = c; accepted = l }) (f ∙ sym same) h)
+
+pub accepted_answers : (s : State) (id body : List ℕ) (m n : Data) (seq : ℕ) (list : List KeptRow) → IsRead s id body → entered_by s body ≡ Ok m
+    → n ≡ m → seq ≡ length s.accepted + 1 → list ≡ s.accepted ++ (record { id = id; body = body } ∷ [])
+    → Answers (submitted s id body) (Accepted seq) s (record { content = n; accepted = list })
+accepted_answers s id body m n seq list read e f g h = rw (read_decided s id body read) (accepted_decided s id body (entered_by s body) m n seq list e f g h)
+
+refused_answers : (s t : State) (id body : List ℕ) (rule : Rule) → IsRead s id body → entered_by s body ≡ Err rule → t ≡ s → Answers (submitted s id body) (Refused rule) s t
+refused_answers s t id body rule read e same = rw (read_decided s id body read, e) (refl, same)
+
+-- what is answered where the rows are not planned; the state is the one that was opened
+pub planned_answers : (opened s t : State) (id body : List ℕ) (why : PlanRefusal) → opened ≡ s → IsRead s id body
+    → IfRule (λ rule. entered_by opened body ≡ Err rule) why → t ≡ opened → Answers (submitted s id body) (plan_reply why) s t
+planned_answers opened s t id body (refusal.Rule rule) same read e kept =
+    refused_answers s t id body rule read (ap (λ u. entered_by u body) (sym same) ∙ e) (kept ∙ same)
+planned_answers opened s t id body refusal.Memory same read e kept = kept ∙ same
+
+-- a submission that breaks no rule is accepted
+pub accepted_reply : (s : State) (id body : List ℕ) (m : Data) → IsRead s id body → entered_by s body ≡ Ok m → is_accepted (submitted s id body).reply ≡ true
+accepted_reply s id body m read e = rw (read_decided s id body read, e) refl

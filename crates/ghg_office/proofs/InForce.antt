@@ -18,7 +18,8 @@ use Rattle.ghg_tables.specs.Tables.{table_text}
 use Rattle.ghg_tables.proofs.Sound.{texts_sound}
 use Rattle.ghg_units.specs.declared.node.Node.{Node}
 use Rattle.ghg_units.specs.declared.rule.Rule.{Rule}
-use Rattle.ghg_office.specs.Accepted.{Submission, kept_bytes}
+use Rattle.ghg_keeper.specs.declared.row.KeptRow.{KeptRow}
+use Rattle.ghg_office.specs.Accepted.{kept_bytes}
 use Rattle.ghg_office.specs.declared.reply.Reply.TheVariants.{NoTable, Table as Shown}
 use Rattle.ghg_office.specs.Laws.{BoundsHoldInForce, IsInForce, StatesStayInForce, state_after_all}
 use Rattle.ghg_office.specs.Office.{State, asked, decided, entered, entered_by, requested, start, submitted}
@@ -28,7 +29,7 @@ use Rattle.ghg_office.proofs.Entered.{compiled, entered-bytes, entered-overflow,
 use Rattle.ghg_office.proofs.Kept.{kept_bytes-push}
 
 -- what holds of a state and stays with each submission holds of each state that submissions lead to from there
-pub reached : (P : State → Type 0) → ((s : State) (id body : List ℕ) → P s → P (submitted s id body).after) → (s : State) (given : List Submission) → P s → P (state_after_all s given)
+pub reached : (P : State → Type 0) → ((s : State) (id body : List ℕ) → P s → P (submitted s id body).after) → (s : State) (given : List KeptRow) → P s → P (state_after_all s given)
 reached P stays s [] h = h
 reached P stays s (x ∷ given) h = reached P stays (submitted s x.id x.body).after given (stays s x.id x.body h)
 

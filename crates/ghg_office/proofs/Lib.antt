@@ -1,6 +1,10 @@
 pub mod Cases
+pub mod Reading
 pub mod Entered
 pub mod Kept
+pub mod Calls
 pub mod InForce
 pub mod Rebuilt
 pub mod Repeats
+pub mod Replayed
+pub mod Lines

@@ -2,8 +2,9 @@
 use Rattle.std.proofs.Common.{◌≡◌, ◌+◌, ◌++◌, ◌∙◌, ℕ, Bool, true, false, if◌then◌else◌, List, [], ◌∷◌, length, Some, None, inl, inr, refl, sym, ap, subst, arith}
 use Rattle.std.specs.Cmp.Lexicographic.{bytes_decides}
 use Rattle.std.specs.Str.{bytes_eq}
-use Rattle.ghg_office.specs.Accepted.{Kept, Submission, kept_from}
-use Rattle.ghg_office.specs.Id.{is_id}
+use Rattle.ghg_keeper.specs.declared.row.KeptRow.{KeptRow}
+use Rattle.ghg_office.specs.Accepted.{Kept, kept_from}
+use Rattle.ghg_keeper.specs.Id.{is_id}
 use Rattle.ghg_office.specs.declared.reply.Reply.TheVariants.{Accepted}
 use Rattle.ghg_office.specs.Laws.{RepeatsActOnce, state_after_all}
 use Rattle.ghg_office.specs.Office.{State, repeated, submitted}
@@ -15,7 +16,7 @@ bytes_same : (bytes : List ℕ) → bytes_eq bytes bytes ≡ true
 bytes_same bytes = (bytes_decides bytes bytes).1 refl
 
 -- what is found in a list is found in a longer one
-kept-longer : (seq : ℕ) (id : List ℕ) (list more : List Submission) (kept : Kept) → kept_from seq id list ≡ Some kept → kept_from seq id (list ++ more) ≡ Some kept
+kept-longer : (seq : ℕ) (id : List ℕ) (list more : List KeptRow) (kept : Kept) → kept_from seq id list ≡ Some kept → kept_from seq id (list ++ more) ≡ Some kept
 unfolding kept_from
 kept-longer seq id [] more kept e = absurd (cc)
 kept-longer seq id (s ∷ list) more kept e = by (bytes_eq id s.id) (kept-longer (seq + 1) id list more kept) e
@@ -27,7 +28,7 @@ kept-longer seq id (s ∷ list) more kept e = by (bytes_eq id s.id) (kept-longer
     by false later e = later e
 
 -- a new id at the end of the list is found there
-kept-last : (seq : ℕ) (id body : List ℕ) (list : List Submission) → kept_from seq id list ≡ None
+kept-last : (seq : ℕ) (id body : List ℕ) (list : List KeptRow) → kept_from seq id list ≡ None
     → kept_from seq id (list ++ (record { id = id; body = body } ∷ [])) ≡ Some (record { seq = seq + length list; body = body })
 unfolding kept_from
 kept-last seq id body [] e =

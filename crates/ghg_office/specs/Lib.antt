@@ -1,6 +1,7 @@
 pub mod Accepted
-pub mod Id
 pub mod Office
 pub mod Replies
+pub mod Keeping
+pub mod Replays
 pub mod Sound
 pub mod Laws

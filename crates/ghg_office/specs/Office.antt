@@ -10,8 +10,9 @@ use Rattle.ghg_definitions.specs.Data.{Data, span}
 use Rattle.ghg_definitions.specs.Rules.{accepted, arranged}
 use Rattle.ghg_import.specs.Body.{max_body}
 use Rattle.ghg_import.specs.Reading.{Reading, reading_of}
-use Rattle.ghg_office.specs.Accepted.{Kept, Submission, kept_bytes, kept_from, submission_code}
-use Rattle.ghg_office.specs.Id.{is_id}
+use Rattle.ghg_keeper.specs.Id.{is_id}
+use Rattle.ghg_keeper.specs.declared.row.KeptRow.{KeptRow}
+use Rattle.ghg_office.specs.Accepted.{Kept, kept_bytes, kept_from, row_code}
 use Rattle.ghg_office.specs.declared.reply.Reply.{Reply}
 use Rattle.ghg_office.specs.declared.reply.Reply.TheVariants.{Accepted, Repeated, Refused, NoTable, Table as Shown}
 use Rattle.ghg_tables.specs.declared.table.Table.{Table}
@@ -25,11 +26,11 @@ use Rattle.ghg_units.specs.declared.rule.Rule.TheVariants.{BadId, IdReused, Body
 -- the data in force, and the accepted submissions in their order
 pub record State : Type 0 where
   pub content : Data
-  pub accepted : List Submission
+  pub accepted : List KeptRow
 
 abbrev pub state_code : Coded RecordKey → Coded Record → Coded State
 state_code key entry =
-    code_by (Data × List Submission) (coded× (code key entry) (coded_list submission_code))
+    code_by (Data × List KeptRow) (coded× (code key entry) (coded_list row_code))
     (λ s. (s.content, s.accepted)) (λ p. record { content = p.0; accepted = p.1 }) (λ _. refl)
 
 abbrev pub start : State
@@ -50,9 +51,12 @@ pub record Answer : Type 0 where
   pub reply : Reply
   pub after : State
 
--- a refusal changes nothing
+-- an answer that changes nothing
+abbrev pub unchanged : State → Reply → Answer
+unchanged s reply = record { reply = reply; after = s }
+
 abbrev pub refused : State → Rule → Answer
-refused s rule = record { reply = Refused rule; after = s }
+refused s rule = unchanged s (Refused rule)
 
 abbrev pub decided : State → List ℕ → List ℕ → Result Data Rule → Answer
 decided s id body (Err rule) = refused s rule
@@ -67,9 +71,9 @@ judged s id body =
     if nat_lt max_body (length body) then refused s BodyTooLong
     else decided s id body (entered_by s body)
 
--- the same id and body again changes nothing
+-- the same id and body again
 abbrev pub repeated : State → ℕ → Answer
-repeated s seq = record { reply = Repeated seq; after = s }
+repeated s seq = unchanged s (Repeated seq)
 
 -- a submission whose id may be kept
 abbrev pub once : State → List ℕ → List ℕ → Option Kept → Answer

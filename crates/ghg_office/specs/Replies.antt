@@ -4,7 +4,9 @@ use Rattle.std.specs.Fmt.{decimal}
 use Rattle.ghg_data.specs.declared.refusal.PlanRefusal.{PlanRefusal}
 use Rattle.ghg_data.specs.declared.refusal.PlanRefusal.TheVariants as refusal
 use Rattle.ghg_office.specs.declared.reply.Reply.{Reply}
-use Rattle.ghg_office.specs.declared.reply.Reply.TheVariants.{Accepted, Repeated, Refused, Table, NoTable, Memory}
+use Rattle.ghg_office.specs.declared.reply.Reply.TheVariants.{Accepted, Repeated, Refused, Table, NoTable, KeeperFault, Memory}
+use Rattle.ghg_keeper.specs.declared.keeper.KeepError.{KeepError}
+use Rattle.ghg_keeper.specs.declared.keeper.KeepError.TheVariants as keep_error
 use Rattle.ghg_office.specs.Office.{Answer, State}
 use Rattle.ghg_units.specs.Refusals.{refusal_text}
 
@@ -15,19 +17,37 @@ reply_text (Repeated seq) = codes "repeated " ++ decimal seq
 reply_text (Refused rule) = codes "refused " ++ refusal_text rule
 reply_text (Table text) = text
 reply_text NoTable = codes "no table"
+reply_text KeeperFault = codes "keeper fault"
 reply_text Memory = codes "memory"
 
--- whether the line of the reply has a fixed length at most, and needs no memory
+-- whether the line of the reply has a fixed length at most, and needs no memory; a failure has no such line
 abbrev pub is_short : Reply → Bool
 is_short (Accepted seq) = true
 is_short (Repeated seq) = true
 is_short (Refused rule) = false
 is_short (Table text) = false
 is_short NoTable = true
+is_short KeeperFault = false
 is_short Memory = false
 
--- the reply is that of the answer, and the state the one after it; where memory ran out, nothing changed
+abbrev pub is_table : Reply → Bool
+is_table (Table text) = true
+is_table reply = false
+
+abbrev pub is_accepted : Reply → Bool
+is_accepted (Accepted seq) = true
+is_accepted reply = false
+
+-- whether the reply says that the keeper failed or memory ran out
+abbrev pub is_failure : Reply → Bool
+is_failure KeeperFault = true
+is_failure Memory = true
+is_failure reply = false
+
+-- The reply is that of the answer, and the state the one after it. Where the keeper failed or memory ran out,
+-- nothing changed.
 abbrev pub Answers : Answer → Reply → State → State → Type 0
+Answers answer KeeperFault old new = new ≡ old
 Answers answer Memory old new = new ≡ old
 Answers answer reply old new = (reply ≡ answer.reply) × (new ≡ answer.after)
 
@@ -36,8 +56,17 @@ abbrev pub Shows : Reply → Reply → Type 0
 Shows due Memory = ⊤
 Shows due reply = reply ≡ due
 
--- the reply to a submission that has this number, or was refused
-abbrev pub reply_of : Result ℕ PlanRefusal → Reply
+-- the reply to a submission that has this number, or the reply in its place
+abbrev pub reply_of : Result ℕ Reply → Reply
 reply_of (Ok seq) = Accepted seq
-reply_of (Err (refusal.Rule rule)) = Refused rule
-reply_of (Err refusal.Memory) = Memory
+reply_of (Err reply) = reply
+
+-- the reply where rows are not planned
+abbrev pub plan_reply : PlanRefusal → Reply
+plan_reply (refusal.Rule rule) = Refused rule
+plan_reply refusal.Memory = Memory
+
+-- the reply where a keeper has no answer
+abbrev pub keep_reply : KeepError → Reply
+keep_reply keep_error.Failed = KeeperFault
+keep_reply keep_error.Memory = Memory

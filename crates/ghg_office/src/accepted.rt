@@ -12,7 +12,7 @@ use std::marker::Model;
 
 /// The bodies of the accepted submissions under their ids, in the order in which they were accepted.
 ///
-/// Contracts see the list of submissions, and how many more fit without memory.
+/// Contracts see the list of rows, and how many more fit without memory.
 #[derive(Drop)]
 pub(crate) struct Accepted {
     bodies: IndexMap<SubmissionId, Text>,
@@ -24,16 +24,16 @@ impl Model for Accepted {
     ghost use Rattle.std.specs.Prelude.{◌≡◌, ◌≤◌, ◌<◌, ◌^◌, length, map};
     ghost use Rattle.indexmap.specs.IndexMap.{spare};
     ghost use Rattle.ghg_definitions.specs.Rules.{most_kept_bytes};
-    ghost use Rattle.ghg_office.specs.Accepted.{AcceptedList, accepted_code, kept_bytes, submission};
+    ghost use Rattle.ghg_office.specs.Accepted.{AcceptedList, accepted_code, entry_row, kept_bytes};
 
     ghost Value = { AcceptedList };
 
     ghost coded = { accepted_code };
 
-    ghost view = { λ a. record { list = map submission a.bodies.entries; spare = spare a.bodies } };
+    ghost view = { λ a. record { list = map entry_row a.bodies.entries; spare = spare a.bodies } };
 
     ghost invariant = { λ a.
-        (a.bytes ≡ kept_bytes (map submission a.bodies.entries)) ×
+        (a.bytes ≡ kept_bytes (map entry_row a.bodies.entries)) ×
         (a.bytes ≤ most_kept_bytes) ×
         (length a.bodies.entries < 2 ^ 64) };
 }

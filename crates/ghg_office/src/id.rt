@@ -2,7 +2,7 @@
 
 ghost use Rattle.std.specs.Prelude.{◌≡◌, IsTrue, SomeIff};
 ghost use Rattle.std.specs.List.{list_all};
-ghost use Rattle.ghg_office.specs.Id.{is_id, is_id_byte};
+ghost use Rattle.ghg_keeper.specs.Id.{is_id, is_id_byte};
 
 use ghg_units::ShortText;
 use std::marker::Model;
@@ -10,12 +10,12 @@ use std::marker::Model;
 /// A text of 1 to 40 bytes out of letters, digits, `.`, `_` and `-`.
 #[derive(Clone, Copy, PartialEq, Eq, Hash)]
 pub(crate) struct SubmissionId {
-    text: ShortText<40>,
+    text: ShortText<{ SubmissionId::MAX_LEN }>,
 }
 
 impl Model for SubmissionId {
     ghost use Rattle.std.specs.Prelude.{ℕ, List, IsTrue};
-    ghost use Rattle.ghg_office.specs.Id.{is_id};
+    ghost use Rattle.ghg_keeper.specs.Id.{is_id};
 
     ghost Value = { List ℕ };
 
@@ -29,7 +29,7 @@ impl Model for SubmissionId {
 impl SubmissionId {
     const MAX_LEN: usize = 40;
 
-    #[tactic(auto, unfolding(crate::specs::Id::is_id))]
+    #[tactic(auto, unfolding(ghg_keeper::specs::Id::is_id))]
     /// The id that a text is; `None` exactly where it is none.
     pub(crate) fn new(text: &[u8]) -> Option<SubmissionId>
         ensures { SomeIff result (IsTrue (is_id text.now)) text.now }
@@ -40,9 +40,17 @@ impl SubmissionId {
         let text = ShortText::new(text)?;
         Some(SubmissionId { text })
     }
+
+    /// The bytes of the id.
+    pub(crate) fn as_bytes(&self) -> &[u8]
+        ensures same { result.now ≡ self.now }
+        ensures form { IsTrue (is_id result.now) }
+    {
+        self.text.as_bytes()
+    }
 }
 
-#[tactic(auto, unfolding(crate::specs::Id::is_id))]
+#[tactic(auto, unfolding(ghg_keeper::specs::Id::is_id))]
 fn is_id(text: &[u8]) -> bool
     ensures { result ≡ is_id text.now }
 {

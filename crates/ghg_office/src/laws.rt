@@ -1,6 +1,6 @@
 //! What follows of the definitions alone.
 
-ghost use Rattle.ghg_office.specs.Laws.{AcceptedListsRebuildStates, BoundsHoldInForce, RepeatsActOnce, StatesStayInForce};
+ghost use Rattle.ghg_office.specs.Laws.{AcceptedListsRebuildStates, BoundsHoldInForce, RepeatsActOnce, ReplaysRebuildStates, StatesStayInForce};
 
 /// The data of every state that submissions lead to from the start are a workbook without a ring in which
 /// nothing is beyond the limits, and the accepted bodies are not beyond theirs.
@@ -18,6 +18,11 @@ pub fn repeats_act_once()
 /// to an office with no data, are all accepted, and lead to the same state.
 pub fn accepted_lists_rebuild_states()
     ensures { AcceptedListsRebuildStates }
+{}
+
+/// Replayed, the accepted list of every state that submissions lead to from the start gives that state.
+pub fn replays_rebuild_states()
+    ensures { ReplaysRebuildStates }
 {}
 
 /// In the reply to each request for a table of the data in force the bounds hold the exact values of its

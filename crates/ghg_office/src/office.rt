@@ -1,29 +1,28 @@
 //! The office.
 
-ghost use Rattle.std.specs.Prelude.{◌≡◌, ◌≢◌, ◌≤◌, ◌+◌, Ok, Err, None, length, MatchResult, IfOk, OnErr};
-ghost use Rattle.std.specs.FinMap as finite;
-ghost use Rattle.std.specs.List.{AllByRecursion};
-ghost use Rattle.ghg_units.specs.WellFormed.{IsWellFormed};
+ghost use Rattle.std.specs.Prelude.{◌≡◌, ◌≢◌, ◌≤◌, ◌+◌, true, false, IsErrOf, IfOk, IfErr};
 ghost use Rattle.ghg_definitions.specs.Compilation.{is_year_of};
 ghost use Rattle.ghg_definitions.specs.Data.{span};
-ghost use Rattle.ghg_definitions.specs.Rules.{arranged};
-ghost use Rattle.ghg_data.specs.Changes.{applied};
-ghost use Rattle.ghg_data.specs.Refusal.{IfRule};
-ghost use Rattle.ghg_import.specs.Body.{max_body};
-ghost use Rattle.ghg_import.specs.Reading.{reading_of};
-ghost use Rattle.ghg_engine.specs.Proposals.{IsProposed};
-ghost use Rattle.ghg_office.specs.Accepted.{kept_from};
-ghost use Rattle.ghg_office.specs.Office.{IsRead, arranged_by, decided, entered, entered_by, evaluations, evaluations_of, requested, start, submitted};
-ghost use Rattle.ghg_office.specs.Replies.{Answers, Shows, reply_of};
+ghost use Rattle.ghg_outer.specs.Counts.{IsCounted};
+ghost use Rattle.ghg_keeper.specs.Shelf.{Keeps};
+ghost use Rattle.ghg_office.specs.Office.{IsRead, evaluations, requested, start, submitted, unchanged};
+ghost use Rattle.ghg_office.specs.Keeping.{KeepsAccepted, Lists, is_to_append};
+ghost use Rattle.ghg_office.specs.Replays.{IsReplay, Takes, replay_evaluations, replayed, taken};
+ghost use Rattle.ghg_office.specs.Replies.{Answers, Shows, is_failure, reply_of};
+ghost use Rattle.ghg_office.specs.Laws.{IsInForce};
 ghost use Rattle.ghg_office.specs.Sound.{IsSoundReply};
 
 use crate::accepted::Accepted;
+use crate::fault::OpenFault;
 use crate::id::SubmissionId;
+use crate::keeping::append_row;
+use crate::proposing::prepare;
 use crate::reply::Reply;
-use ghg_data::{Book, PlanRefusal, Records};
-use ghg_engine::{Engine, EngineRefusal, Proposal};
+use ghg_data::{Book, Records};
+use ghg_engine::Engine;
 use ghg_graph::Cells;
-use ghg_import::{Rows, is_too_long, read_rows};
+use ghg_import::is_too_long;
+use ghg_keeper::{Keeper, KeptRow};
 use ghg_steps::Steps;
 use ghg_tables::{print, table_named};
 use ghg_units::{Rule, Text};
@@ -60,61 +59,166 @@ impl Office {
         }
     }
 
-    /// Answers a submission.
+    /// The office that the kept rows lead to, submitted again in their order.
     ///
-    /// With any answer but that it is accepted, the data and the accepted submissions are as before.
-    #[tactic(auto, unfolding(crate::specs::Office::submitted, crate::specs::Office::evaluations))]
-    pub fn submit<L: Ledger>(
+    /// The keeper's rows, and the name in use, are as before with every answer.
+    pub fn reopen<K: Keeper, L: Ledger>(
+        alloc: Global,
+        keeper: &mut K,
+        steps: &mut Steps<L>,
+    ) -> Result<Office, OpenFault>
+        // The result is that of replaying rows, but where the keeper failed or memory ran out. A keeper that
+        // tells its rows after the call tells these. No more nodes are evaluated than these rows ask for.
+        ensures replays { (rows : _) × Lists (K.shelf keeper.new) rows × IsReplay (replayed rows) result
+            × (steps.new ≤ steps.old + replay_evaluations start rows) }
+        ensures keeps { Keeps (K.shelf keeper.old) (K.shelf keeper.new) }
+        ensures faults { IsCounted (K.shelf keeper.old).faults (K.shelf keeper.new).faults
+            (IsErrOf result OpenFault.KeeperFault) }
+        // The accepted submissions are the rows, and the office can go on with this keeper.
+        ensures accepted { IfOk result (λ office. Lists (K.shelf keeper.new) office.accepted) }
+        ensures in_force { IfOk result IsInForce }
+    {
+        let count = keeper.count()?;
+        let mut office = Office::new(alloc);
+        for done in 0..count {
+            let row = keeper.row(done + 1)?;
+            office.replay(alloc, done + 1, row, steps)?;
+        }
+        Ok(office)
+    }
+
+    // Submits the kept row of this number again.
+    fn replay<L: Ledger>(
+        &mut self,
+        alloc: Global,
+        seq: u64,
+        row: KeptRow,
+        steps: &mut Steps<L>,
+    ) -> Result<(), OpenFault>
+        ensures takes { Takes (taken seq (submitted self.old row.id row.body)) self.new result }
+        ensures steps { steps.new ≤ steps.old + evaluations self.old row.id row.body }
+    {
+        match reply_of(self.submit_row(alloc, row, steps)) {
+            Reply::Accepted { .. } => Ok(()),
+            Reply::Memory => Err(OpenFault::Memory),
+            reply => Err(OpenFault::Kept { seq, reply }),
+        }
+    }
+
+    // Enters a kept row, and gives its number. With any other reply nothing changes.
+    fn submit_row<L: Ledger>(
+        &mut self,
+        alloc: Global,
+        row: KeptRow,
+        steps: &mut Steps<L>,
+    ) -> Result<u64, Reply>
+        ensures answer { Answers (submitted self.old row.id row.body) (reply_of result) self.old self.new }
+        ensures keeper { reply_of result ≢ Reply.KeeperFault }
+        ensures steps { steps.new ≤ steps.old + evaluations self.old row.id row.body }
+    {
+        let KeptRow { id, body } = row;
+        let id = self.new_id(id.as_slice(), body.as_slice())?;
+        let proposal = prepare(
+            &mut self.engine,
+            &mut self.accepted,
+            alloc,
+            body.as_slice(),
+            steps,
+        )?;
+        self.engine.accept(proposal);
+        Ok(self.accepted.push(id, body))
+    }
+
+    /// Answers a submission, and appends it to the keeper's rows where it is accepted and is to be stored.
+    ///
+    /// With any answer but that it is accepted, the data, the accepted submissions and the keeper's rows are
+    /// as before.
+    pub fn submit<K: Keeper, L: Ledger>(
         &mut self,
         alloc: Global,
         id: &[u8],
         body: &[u8],
+        keeper: &mut K,
+        stored: bool,
         steps: &mut Steps<L>,
     ) -> Reply
+        requires same { stored ≡ true → Lists (K.shelf keeper.old) self.old.accepted }
         ensures answer { Answers (submitted self.old id.now body.now) result self.old self.new }
         // Only a new submission whose body is read takes memory.
         ensures memory { result ≡ Reply.Memory → IsRead self.old id.now body.now }
         // With any answer no more nodes are evaluated than the data with its rows have, and none for a repeat
         // or where a rule before the last is broken.
         ensures steps { steps.new ≤ steps.old + evaluations self.old id.now body.now }
+        // With any answer the rows that a keeper tells are the accepted submissions.
+        ensures kept { stored ≡ true
+            → KeepsAccepted (K.shelf keeper.old) (K.shelf keeper.new) self.new.accepted }
+        // The keeper is called only for a submission that is to be stored and breaks no rule.
+        ensures untouched { is_to_append stored (submitted self.old id.now body.now) ≡ false
+            → keeper.new ≡ keeper.old }
+        ensures fault { result ≡ Reply.KeeperFault
+            → is_to_append stored (submitted self.old id.now body.now) ≡ true }
+        ensures faults { IsCounted (K.shelf keeper.old).faults (K.shelf keeper.new).faults
+            (result ≡ Reply.KeeperFault) }
+    {
+        match self.new_id(id, body) {
+            Ok(id) => reply_of(self.enter(alloc, id, body, keeper, stored, steps)),
+            Err(reply) => reply,
+        }
+    }
+
+    // The id of a submission that is new and whose body is to be read, or the reply to any other.
+    #[tactic(auto, unfolding(crate::specs::Office::submitted))]
+    fn new_id(&self, id: &[u8], body: &[u8]) -> Result<SubmissionId, Reply>
+        ensures new { IfOk result (λ new. (new ≡ id.now) × IsRead self.now id.now body.now) }
+        ensures settled { IfErr result
+            (λ reply. submitted self.now id.now body.now ≡ unchanged self.now reply) }
+        ensures failure { IfErr result (λ reply. is_failure reply ≡ false) }
     {
         let Some(id) = SubmissionId::new(id) else {
-            return Reply::Refused(Rule::BadId);
+            return Err(Reply::Refused(Rule::BadId));
         };
         if let Some((seq, kept)) = self.accepted.find(&id) {
-            return if kept.as_slice() == body {
+            return Err(if kept.as_slice() == body {
                 Reply::Repeated { seq }
             } else {
                 Reply::Refused(Rule::IdReused(seq))
-            };
+            });
         }
         if is_too_long(body) {
-            return Reply::Refused(Rule::BodyTooLong);
+            return Err(Reply::Refused(Rule::BodyTooLong));
         }
-        reply_of(self.enter(alloc, id, body, steps))
+        Ok(id)
     }
 
-    // Enters a body under an id that is not kept, and gives its number.
-    fn enter<L: Ledger>(
+    // Enters a new submission whose body is to be read, and gives its number. With any other reply nothing
+    // changes: all memory is taken first, then the row is appended, and what follows cannot fail.
+    fn enter<K: Keeper, L: Ledger>(
         &mut self,
         alloc: Global,
         id: SubmissionId,
         body: &[u8],
+        keeper: &mut K,
+        stored: bool,
         steps: &mut Steps<L>,
-    ) -> Result<u64, PlanRefusal>
-        requires new_id { kept_from 1 id self.old.accepted ≡ None }
-        requires short { length body.now ≤ max_body }
-        ensures steps { steps.new ≤ steps.old + evaluations_of (arranged_by self.old body.now) }
-        ensures answer { Answers (decided self.old id body.now (entered_by self.old body.now))
-            (reply_of result) self.old self.new }
+    ) -> Result<u64, Reply>
+        requires read { IsRead self.old id body.now }
+        requires same { stored ≡ true → Lists (K.shelf keeper.old) self.old.accepted }
+        ensures answer { Answers (submitted self.old id body.now) (reply_of result) self.old self.new }
+        ensures steps { steps.new ≤ steps.old + evaluations self.old id body.now }
+        ensures kept { stored ≡ true
+            → KeepsAccepted (K.shelf keeper.old) (K.shelf keeper.new) self.new.accepted }
+        ensures untouched { is_to_append stored (submitted self.old id body.now) ≡ false
+            → keeper.new ≡ keeper.old }
+        ensures fault { reply_of result ≡ Reply.KeeperFault
+            → is_to_append stored (submitted self.old id body.now) ≡ true }
+        ensures faults { IsCounted (K.shelf keeper.old).faults (K.shelf keeper.new).faults
+            (reply_of result ≡ Reply.KeeperFault) }
     {
-        let rows = read_rows(alloc, body)?;
-        let kept_bytes = self.accepted.kept_bytes() + body.len() as u64;
-        let proposal = propose(&mut self.engine, alloc, rows, kept_bytes, steps)?;
-        let body = Text::new(Vec::from_slice(alloc, body)?);
-        self.accepted.reserve()?;
+        let proposal = prepare(&mut self.engine, &mut self.accepted, alloc, body, steps)?;
+        let kept = Text::new(Vec::from_slice(alloc, body)?);
+        append_row(keeper, stored, &id, body)?;
         self.engine.accept(proposal);
-        Ok(self.accepted.push(id, body))
+        Ok(self.accepted.push(id, kept))
     }
 
     /// Answers a request for a table of a year, printed from the compilation of the data in force.
@@ -149,40 +253,11 @@ fn has_year(book: &Book, year: u32) -> bool
     }
 }
 
-// The proposal that the rows of a body ask for, or the first rule that is broken. The records stay.
-#[tactic(auto, unfolding(crate::specs::Office::entered, ghg_definitions::specs::Rules::accepted))]
-fn propose<L: Ledger>(
-    engine: &mut Engine,
-    alloc: Global,
-    rows: Rows,
-    kept_bytes: u64,
-    steps: &mut Steps<L>,
-) -> Result<Proposal, PlanRefusal>
-    requires { AllByRecursion IsWellFormed rows.rows.items }
-    ensures kept { engine.new.content ≡ engine.old.content }
-    ensures steps { steps.new ≤ steps.old +
-        evaluations_of (arranged engine.old.content rows.rows.items rows.rest kept_bytes) }
-    ensures proposed { IfOk result (IsProposed engine.new) }
-    ensures entered { let made =
-        entered engine.old.content (record { rows = rows.rows.items; rest = rows.rest }) kept_bytes in
-        MatchResult result
-        (λ p. made ≡ Ok (applied engine.old.content p.edits))
-        (IfRule (λ rule. made ≡ Err rule)) }
-{
-    let edits = engine.plan(alloc, &rows.rows, rows.rest, kept_bytes)?;
-    match engine.propose(alloc, edits, steps) {
-        Ok(proposal) => Ok(proposal),
-        Err(EngineRefusal::Overflow(node)) => Err(PlanRefusal::Rule(Rule::Overflow(node))),
-        Err(EngineRefusal::Memory) => Err(PlanRefusal::Memory),
-    }
-}
-
-fn reply_of(outcome: Result<u64, PlanRefusal>) -> Reply
+fn reply_of(outcome: Result<u64, Reply>) -> Reply
     ensures { result ≡ reply_of outcome }
 {
     match outcome {
         Ok(seq) => Reply::Accepted { seq },
-        Err(PlanRefusal::Rule(rule)) => Reply::Refused(rule),
-        Err(PlanRefusal::Memory) => Reply::Memory,
+        Err(reply) => reply,
     }
 }

@@ -2,7 +2,7 @@ use Rattle.std.proofs.Common.{◌≡◌, ◌++◌, ◌∷◌, [], ◌∙◌, ap,
 use Rattle.std.proofs.lemmas.List.{length-map, map-append}
 use Rattle.std.specs.Str.{bytes_eq}
 use Rattle.indexmap.proofs.CallerLemmas.{insert_entry-new}
-use Rattle.ghg_office.specs.Accepted.{kept_bytes, kept_from, submission}
+use Rattle.ghg_office.specs.Accepted.{entry_row, kept_bytes, kept_from}
 use Rattle.ghg_office.proofs.Kept.{kept_bytes-push, missing}
 use Rattle.ghg_office.proofs.accepted.Accepted.push.Goals as goal
 
@@ -14,9 +14,9 @@ longer c =
     rw c.unwrap.ensures at c.insert.ensures.entries ∙ insert_entry-new bytes_eq old c.args.id c.args.body none
 
 -- and so has the list
-added : (c : goal.After-len) → map submission c.insert.new.self.entries ≡ c.args.self.now.list ++ (record { id = c.args.id; body = c.args.body } ∷ [])
+added : (c : goal.After-len) → map entry_row c.insert.new.self.entries ≡ c.args.self.now.list ++ (record { id = c.args.id; body = c.args.body } ∷ [])
 added c =
-    ap (map submission) (longer c) ∙ map-append submission c.self.inside.bodies.entries ((c.args.id, c.args.body) ∷ [])
+    ap (map entry_row) (longer c) ∙ map-append entry_row c.self.inside.bodies.entries ((c.args.id, c.args.body) ∷ [])
     ∙ ap (λ a. a.list ++ (record { id = c.args.id; body = c.args.body } ∷ [])) c.self.view_is
 
 pub invariant_of-self : goal.invariant_of-self
@@ -32,5 +32,5 @@ returns-clause-list c = added c
 pub returns-clause-seq : goal.returns-clause-seq
 returns-clause-seq c =
     let view = ap (λ a. length a.list) c.self.view_is in
-    let mapped = length-map c.self.inside.bodies.entries submission in
+    let mapped = length-map c.self.inside.bodies.entries entry_row in
     omega (arith, c.len.ensures.len, ap length (longer c), length-append c.self.inside.bodies.entries ((c.args.id, c.args.body) ∷ []), view, mapped)

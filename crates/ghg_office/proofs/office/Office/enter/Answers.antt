@@ -1,27 +1,58 @@
-use Rattle.std.proofs.Common.{◌+◌, ◌∙◌, ◌++◌, ◌∷◌, [], ap, ap₂, sym, length, arith}
+use Rattle.std.proofs.Common.{◌+◌, sym, ◌∙◌, ◌++◌, ◌∷◌, [], ap, ap₂, length, List}
+use Rattle.std.proofs.lemmas.Bool.{both_ways}
+use Rattle.std.proofs.lemmas.Result.{err_from_is_err_and}
+use Rattle.ghg_definitions.specs.Data.{Data}
 use Rattle.ghg_data.specs.Changes.{applied}
-use Rattle.ghg_office.specs.Accepted.{kept_bytes}
-use Rattle.ghg_office.specs.Office.{entered}
-use Rattle.ghg_office.proofs.Entered.{accepted_decided, entered-bytes}
+use Rattle.ghg_keeper.specs.declared.row.KeptRow.{KeptRow}
+use Rattle.ghg_office.specs.Office.{entered_by, submitted}
+use Rattle.ghg_office.proofs.Calls.{is_appended, unstored}
+use Rattle.ghg_office.proofs.Entered.{accepted_answers, accepted_reply, planned_answers}
+use Rattle.ghg_office.proofs.Reading.{spent_reading}
 use Rattle.ghg_office.proofs.office.Office.enter.Goals as goal
 
-pub push-requires-clause-limit : goal.push-requires-clause-limit
-push-requires-clause-limit g c =
-    let fits = entered-bytes _ _ _ _ c.in_ok-proposal.ensures.entered in
-    let list = ap kept_bytes c.reserve.ensures.list in
-    let text = ap length c.new-body.ensures in
-    omega (arith, fits, list, text, c.kept_bytes.ensures.sum, c.in_ok-from_slice.ensures.len)
+pub returns-in_err-proposal-clause-answer : goal.returns-in_err-proposal-clause-answer
+returns-in_err-proposal-clause-answer g c =
+    let p = err_from_is_err_and c.from_residual.result c.from_residual.ensures.1 in
+    rw (p.1, p.2) (planned_answers _ c.args.self.now _ c.args.id c.args.body.now c.in_err-proposal.field-0.0 c.self.view_is c.requires.read
+    c.in_err-proposal.ensures.entered
+    (ap₂ (λ (m : Data) (l : List KeptRow). record { content = m; accepted = l }) c.prepare.ensures.content c.prepare.ensures.list))
+
+pub returns-in_err-proposal-clause-steps : goal.returns-in_err-proposal-clause-steps
+returns-in_err-proposal-clause-steps g c = spent_reading _ _ _ _ _ _ c.self.view_is c.requires.read c.prepare.ensures.steps
+
+pub returns-in_err-from_slice-clause-steps : goal.returns-in_err-from_slice-clause-steps
+returns-in_err-from_slice-clause-steps g c = spent_reading _ _ _ _ _ _ c.self.view_is c.requires.read c.prepare.ensures.steps
+
+pub returns-in_err-append_row-clause-steps : goal.returns-in_err-append_row-clause-steps
+returns-in_err-append_row-clause-steps g c = spent_reading _ _ _ _ _ _ c.self.view_is c.requires.read c.prepare.ensures.steps
+
+pub returns-in_err-append_row-clause-fault : goal.returns-in_err-append_row-clause-fault
+returns-in_err-append_row-clause-fault g c =
+    let made = ap (λ s. entered_by s c.args.body.now) (sym c.self.view_is) ∙ c.in_ok-proposal.ensures.entered in
+    λ _. is_appended c.args.stored (submitted c.args.self.now c.args.id c.args.body.now) c.in_err-append_row.ensures.stored
+    (accepted_reply c.args.self.now c.args.id c.args.body.now _ c.requires.read made)
+
+pub returns-in_err-append_row-clause-untouched : goal.returns-in_err-append_row-clause-untouched
+returns-in_err-append_row-clause-untouched g c =
+    let made = ap (λ s. entered_by s c.args.body.now) (sym c.self.view_is) ∙ c.in_ok-proposal.ensures.entered in
+    let appended = is_appended c.args.stored (submitted c.args.self.now c.args.id c.args.body.now) c.in_err-append_row.ensures.stored
+    (accepted_reply c.args.self.now c.args.id c.args.body.now _ c.requires.read made) in
+    λ none. absurd (both_ways _ none appended)
 
 pub returns-clause-answer : goal.returns-clause-answer
 returns-clause-answer g c =
-    let content = ap (λ s. s.content) c.self.view_is in
-    let accepted = ap (λ s. s.accepted) c.self.view_is in
-    let rows = sym c.in_ok-rows.ensures.reads.0 in
-    let rest = sym c.in_ok-rows.ensures.reads.1 in
-    let sum = sym (c.kept_bytes.ensures.sum ∙ ap kept_bytes accepted) in
-    let list = c.reserve.ensures.list ∙ accepted in
-    accepted_decided c.args.self.now c.args.id c.args.body.now _ _ _ _ _
-    ((λ i. entered (sym content i) (record { rows = rows i; rest = rest i }) (sum i + length c.args.body.now)) ∙ c.in_ok-proposal.ensures.entered)
-    (c.accept.ensures.made ∙ ap (λ m. applied m c.in_ok-proposal.proposal.edits) c.propose.ensures.kept)
+    let made = ap (λ s. entered_by s c.args.body.now) (sym c.self.view_is) ∙ c.in_ok-proposal.ensures.entered in
+    let list = c.prepare.ensures.list ∙ ap (λ s. s.accepted) c.self.view_is in
+    accepted_answers c.args.self.now c.args.id c.args.body.now _ _ _ _ c.requires.read made
+    (c.accept.ensures.made ∙ ap (λ m. applied m c.in_ok-proposal.proposal.edits) c.prepare.ensures.content)
     (c.push.ensures.seq ∙ ap (λ l. length l + 1) list)
-    (c.push.ensures.list ∙ ap₂ (λ l b. l ++ (record { id = c.args.id; body = b } ∷ [])) list (c.new-body.ensures ∙ c.in_ok-from_slice.ensures.items))
+    (c.push.ensures.list ∙ ap₂ (λ l b. l ++ (record { id = c.args.id; body = b } ∷ [])) list (c.new-kept.ensures ∙ c.in_ok-from_slice.ensures.items))
+
+pub returns-clause-steps : goal.returns-clause-steps
+returns-clause-steps g c = spent_reading _ _ _ _ _ _ c.self.view_is c.requires.read c.prepare.ensures.steps
+
+pub returns-clause-untouched : goal.returns-clause-untouched
+returns-clause-untouched g c =
+    let made = ap (λ s. entered_by s c.args.body.now) (sym c.self.view_is) ∙ c.in_ok-proposal.ensures.entered in
+    λ none. c.in_ok-append_row.ensures.untouched (unstored c.args.stored (submitted c.args.self.now c.args.id c.args.body.now)
+    (accepted_reply c.args.self.now c.args.id c.args.body.now _ c.requires.read made) none)

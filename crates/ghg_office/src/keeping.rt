@@ -1,0 +1,32 @@
+//! The row that is kept of an accepted submission.
+
+ghost use Rattle.std.specs.Prelude.{◌≡◌, true, false, OnOk, OnErr, IfErr, IsErrOf};
+ghost use Rattle.ghg_outer.specs.Counts.{IsCounted};
+ghost use Rattle.ghg_keeper.specs.Shelf.{Adds, Keeps};
+ghost use Rattle.ghg_office.specs.Replies.{is_failure};
+
+use crate::id::SubmissionId;
+use crate::reply::Reply;
+use ghg_keeper::Keeper;
+
+/// Appends a row to the keeper's where it is to be stored.
+pub(crate) fn append_row<K: Keeper>(
+    keeper: &mut K,
+    stored: bool,
+    id: &SubmissionId,
+    body: &[u8],
+) -> Result<(), Reply>
+    ensures adds { stored ≡ true → OnOk result
+        (Adds (K.shelf keeper.old) (K.shelf keeper.new) (record { id = id.now; body = body.now })) }
+    ensures keeps { OnErr result (Keeps (K.shelf keeper.old) (K.shelf keeper.new)) }
+    ensures untouched { stored ≡ false → keeper.new ≡ keeper.old }
+    ensures failure { IfErr result (λ reply. is_failure reply ≡ true) }
+    ensures stored { OnErr result (stored ≡ true) }
+    ensures faults { IsCounted (K.shelf keeper.old).faults (K.shelf keeper.new).faults
+        (IsErrOf result Reply.KeeperFault) }
+{
+    if stored {
+        keeper.append(id.as_bytes(), body)?;
+    }
+    Ok(())
+}
