@@ -1,7 +1,6 @@
 -- What was read from a link by several reads holds a request.
-use Rattle.std.proofs.Common.{◌≡◌, ℕ, ◌+◌, ◌<◌, ◌≤◌, List, [], ◌++◌, length, take, drop, sym, ap, ◌∙◌, append_assoc, append-nil, length-append, refl, subst, arith, inr, Result, Ok, Err, Bor, Vec, string_bytes}
-use Rattle.std.specs.Global.{Global}
-use Rattle.std.specs.Prelude.{IfErr, IfOk, String}
+use Rattle.std.proofs.Common.{◌≡◌, ℕ, ◌+◌, ◌<◌, ◌≤◌, List, [], ◌++◌, length, take, drop, sym, ap, ◌∙◌, append_assoc, append-nil, length-append, refl, subst, arith, inr, Option, Some, None, Result, Ok, Err, Bor}
+use Rattle.std.specs.Prelude.{IfErr, IfOk}
 use Rattle.std.proofs.lemmas.List.{take-append-drop, nil_from_length}
 use Rattle.httparse.specs.Grammar.{ReadsRequest}
 use Rattle.httparse.proofs.GrammarLemmas.{ReadsRequest-append}
@@ -16,7 +15,7 @@ use Rattle.ghg_http.specs.declared.decision.Refusal.{Refusal}
 use Rattle.ghg_http.specs.declared.request.ReceiveError.{ReceiveError}
 use Rattle.ghg_http.specs.declared.request.ReceiveError.TheVariants.{Memory}
 use Rattle.ghg_http.specs.declared.request.Request.{Request}
-use Rattle.ghg_http.specs.declared.request.Request.TheVariants.{Refused, Submit, Show, Cut}
+use Rattle.ghg_http.specs.declared.request.Request.TheVariants.{Refused, Submit, Show}
 
 -- ---- stopping
 
@@ -101,7 +100,7 @@ module _ (bytes : List ℕ) (made : Decision) (size : ℕ) (h : IsWhole bytes ma
   }
 
   -- the request is refused
-  pub refuses : (a : Tape) (reason : Refusal) → made ≡ decided.Refuse reason → FollowsHead a a bytes (Refused reason)
+  pub refuses : (a : Tape) (reason : Refusal) → made ≡ decided.Refuse reason → FollowsHead a a bytes (Some (Refused reason))
   refuses a reason is = record {
     got = [];
     read = consumes_nothing a;
@@ -114,8 +113,8 @@ module _ (bytes : List ℕ) (made : Decision) (size : ℕ) (h : IsWhole bytes ma
   }
 
   -- it asks for a table
-  pub shows : (a : Tape) (table year : Bor (List ℕ)) (name when : String Global) → made ≡ decided.Show table year
-      → string_bytes name ≡ table.now → string_bytes when ≡ year.now → FollowsHead a a bytes (Show name when)
+  pub shows : (a : Tape) (table year : Bor (List ℕ)) (name when : List ℕ) → made ≡ decided.Show table year
+      → name ≡ table.now → when ≡ year.now → FollowsHead a a bytes (Some (Show name when))
   shows a table year name when is named dated = record {
     got = [];
     read = consumes_nothing a;
@@ -123,28 +122,28 @@ module _ (bytes : List ℕ) (made : Decision) (size : ℕ) (h : IsWhole bytes ma
       head = h.head;
       rest = drop size bytes ++ [];
       has_head = has_head [] (drop size bytes ++ []) refl;
-      decides = sym h.decides ∙ ap seen is ∙ ap (λ t. show t year.now) (sym named) ∙ ap (show (string_bytes name)) (sym dated);
+      decides = sym h.decides ∙ ap seen is ∙ ap (λ t. show t year.now) (sym named) ∙ ap (show name) (sym dated);
     };
   }
 
   -- it is a submission whose body came
-  pub submits : (a b : Tape) (id : Bor (List ℕ)) (n : ℕ) (name : String Global) (body : Vec ℕ Global) → made ≡ decided.Submit id n
-      → string_bytes name ≡ id.now → CompletesBody a b (drop size bytes) body.items → length body.items ≡ n
-      → FollowsHead a b bytes (Submit name body)
+  pub submits : (a b : Tape) (id : Bor (List ℕ)) (n : ℕ) (name body : List ℕ) → made ≡ decided.Submit id n
+      → name ≡ id.now → CompletesBody a b (drop size bytes) body → length body ≡ n
+      → FollowsHead a b bytes (Some (Submit name body))
   submits a b id n name body is named came count = record {
     got = came.got;
     read = came.read;
     holds = record {
       head = h.head;
       extra = came.extra;
-      has_head = has_head came.got (body.items ++ came.extra) came.whole;
-      decides = sym h.decides ∙ ap seen is ∙ ap (λ i. submit i n) (sym named) ∙ ap (submit (string_bytes name)) (sym count);
+      has_head = has_head came.got (body ++ came.extra) came.whole;
+      decides = sym h.decides ∙ ap seen is ∙ ap (λ i. submit i n) (sym named) ∙ ap (submit name) (sym count);
     };
   }
 
   -- or one that is cut off
   pub cuts : (a b : Tape) (id : Bor (List ℕ)) (n : ℕ) → made ≡ decided.Submit id n → CutsBody a b (drop size bytes) n
-      → FollowsHead a b bytes Cut
+      → FollowsHead a b bytes None
   cuts a b id n is cut = record {
     got = cut.got;
     read = cut.read;
@@ -163,16 +162,16 @@ module _ (bytes : List ℕ) (made : Decision) (size : ℕ) (h : IsWhole bytes ma
   }
 
 -- a request that follows its head was read with it
-pub follows : (a b c : Tape) (buffer : List ℕ) (r : Result Request ReceiveError) → Grows a b [] buffer
+pub follows : (a b c : Tape) (buffer : List ℕ) (r : Result (Option Request) ReceiveError) → Grows a b [] buffer
     → IfOk r (FollowsHead b c buffer) → IfOk r (TakesRequest a c)
 follows a b c buffer (Err e) grows h = tt
-follows a b c buffer (Ok request) grows h = record {
+follows a b c buffer (Ok found) grows h = record {
   bytes = buffer ++ h.got;
   read = consumes_more a b c buffer h.got (all_read a b buffer grows) h.read;
   holds = h.holds;
 }
 
-pub follows_stopped : (a b c : Tape) (buffer : List ℕ) (r : Result Request ReceiveError) → Grows a b [] buffer
+pub follows_stopped : (a b c : Tape) (buffer : List ℕ) (r : Result (Option Request) ReceiveError) → Grows a b [] buffer
     → IfErr r (Stopped b c) → IfErr r (Stopped a c)
-follows_stopped a b c buffer (Ok request) grows h = tt
+follows_stopped a b c buffer (Ok found) grows h = tt
 follows_stopped a b c buffer (Err e) grows h = stopped_later a b c buffer e (all_read a b buffer grows) h

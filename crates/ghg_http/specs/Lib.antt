@@ -1,6 +1,9 @@
 pub mod Decision
 pub mod Fields
 pub mod Head
+pub mod Laws
 pub mod Receive
 pub mod Reply
 pub mod Route
+pub mod Serve
+pub mod Statuses

@@ -1,5 +1,5 @@
 -- What is received from a link, and where a request stands in it.
-use Rattle.std.specs.Prelude.{◌≡◌, ℕ, ◌<◌, ◌⊎◌, List, ◌++◌, length, string_bytes}
+use Rattle.std.specs.Prelude.{◌≡◌, ℕ, ◌<◌, ◌⊎◌, List, ◌++◌, length, Option, Some, None}
 use Rattle.httparse.specs.Grammar.{RequestHead, HasNoRequest, NeverHasRequest}
 use Rattle.ghg_outer.specs.Tape.{Consumes, IsAtEnd, Rose, Tape}
 use Rattle.ghg_http.specs.Decision.{decision_of, refuse, submit, show}
@@ -9,7 +9,7 @@ use Rattle.ghg_http.specs.declared.decision.Refusal.TheVariants.{BadRequest, Hea
 use Rattle.ghg_http.specs.declared.request.ReceiveError.{ReceiveError}
 use Rattle.ghg_http.specs.declared.request.ReceiveError.TheVariants.{Failed}
 use Rattle.ghg_http.specs.declared.request.Request.{Request}
-use Rattle.ghg_http.specs.declared.request.Request.TheVariants.{Refused, Submit, Show, Cut}
+use Rattle.ghg_http.specs.declared.request.Request.TheVariants.{Refused, Submit, Show}
 
 -- ---- reading
 
@@ -79,22 +79,30 @@ pub record HasShortBody (bytes : List ℕ) : Type 0 where
   pub decides : decision_of head ≡ submit id size
   pub short : length rest < size
 
--- the bytes that were read hold this request
-abbrev pub IsRequest : Tape → List ℕ → Request → Type 0
-IsRequest after bytes (Refused reason) = IsRefusedBy bytes reason
-IsRequest after bytes (Submit id body) = HoldsSubmission bytes (string_bytes id) body.items
-IsRequest after bytes (Show table year) = HoldsTableRequest bytes (string_bytes table) (string_bytes year)
--- the input ended before a whole request
-IsRequest after bytes Cut = IsAtEnd after × (HasNoRequest bytes ⊎ HasShortBody bytes)
+-- the bytes hold this request
+abbrev pub HoldsRequest : List ℕ → Request → Type 0
+HoldsRequest bytes (Refused reason) = IsRefusedBy bytes reason
+HoldsRequest bytes (Submit id body) = HoldsSubmission bytes id body
+HoldsRequest bytes (Show name year) = HoldsTableRequest bytes name year
 
--- Some bytes were read, and they hold this request.
-pub record TakesRequest (before after : Tape) (request : Request) : Type 0 where
+-- the bytes end before a whole request
+abbrev pub EndsEarly : List ℕ → Type 0
+EndsEarly bytes = HasNoRequest bytes ⊎ HasShortBody bytes
+
+-- the bytes that were read hold this request, or the input ended before a whole one
+abbrev pub IsReceived : Tape → List ℕ → Option Request → Type 0
+IsReceived after bytes (Some request) = HoldsRequest bytes request
+IsReceived after bytes None = IsAtEnd after × EndsEarly bytes
+
+-- Some bytes were read, and they hold this request, or end before a whole one.
+pub record TakesRequest (before after : Tape) (found : Option Request) : Type 0 where
   pub bytes : List ℕ
   pub read : Consumes before after bytes
-  pub holds : IsRequest after bytes request
+  pub holds : IsReceived after bytes found
 
--- Some bytes were read behind those that begin with the head, and all of them hold this request.
-pub record FollowsHead (before after : Tape) (bytes : List ℕ) (request : Request) : Type 0 where
+-- Some bytes were read behind those that begin with the head, and all of them hold this request, or end before
+-- a whole one.
+pub record FollowsHead (before after : Tape) (bytes : List ℕ) (found : Option Request) : Type 0 where
   pub got : List ℕ
   pub read : Consumes before after got
-  pub holds : IsRequest after (bytes ++ got) request
+  pub holds : IsReceived after (bytes ++ got) found

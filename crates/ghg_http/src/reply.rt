@@ -1,7 +1,7 @@
 //! The bytes of a reply.
 
 ghost use Rattle.std.specs.Prelude.{◌≡◌, string_bytes, IfOk};
-ghost use Rattle.ghg_http.specs.Reply.{json_body, json_reply, reply_bytes, reply_head};
+ghost use Rattle.ghg_http.specs.Reply.{IsMessageOf, in_json, json_body, reply_bytes, reply_head};
 
 use http::StatusCode;
 use serde_json::json;
@@ -31,6 +31,13 @@ impl fmt::Display for MediaType {
     }
 }
 
+/// A reply as it is sent: its status, and all of its bytes from the status line on.
+#[derive(Drop)]
+pub struct Message {
+    pub status: StatusCode,
+    pub bytes: Vec<u8>,
+}
+
 // The status line, the fields and the empty line.
 fn reply_head(
     alloc: Global,
@@ -47,18 +54,18 @@ fn reply_head(
 
 /// A reply with a body.
 #[tactic(auto, unfolding(crate::specs::Reply::reply_bytes))]
-pub fn reply_bytes(
+pub fn reply_message(
     alloc: Global,
     status: StatusCode,
     media: MediaType,
     body: &[u8],
-) -> Result<Vec<u8>, AllocError>
-    ensures { IfOk result (λ v. v.items ≡ reply_bytes status media body.now) }
+) -> Result<Message, AllocError>
+    ensures { IfOk result (IsMessageOf (record { code = status; media = media; body = body.now })) }
 {
     let head = reply_head(alloc, status, media, body.len())?;
     let mut bytes = Vec::from_slice(alloc, head.as_bytes())?;
     bytes.extend_from_slice(body)?;
-    Ok(bytes)
+    Ok(Message { status, bytes })
 }
 
 // A text as a body in JSON.
@@ -69,9 +76,9 @@ fn json_body(alloc: Global, text: &str) -> Result<String, AllocError>
 }
 
 /// A reply whose body is a text in JSON.
-pub fn json_reply(alloc: Global, status: StatusCode, text: &str) -> Result<Vec<u8>, AllocError>
-    ensures { IfOk result (λ v. v.items ≡ json_reply status text.now) }
+pub fn json_message(alloc: Global, status: StatusCode, text: &str) -> Result<Message, AllocError>
+    ensures { IfOk result (IsMessageOf (in_json status text.now)) }
 {
     let body = json_body(alloc, text)?;
-    reply_bytes(alloc, status, MediaType::Json, body.as_bytes())
+    reply_message(alloc, status, MediaType::Json, body.as_bytes())
 }

@@ -10,6 +10,7 @@ use crate::decision::{Decision, Refusal};
 use crate::head::{Head, MAX_HEAD, read_head};
 use crate::route::Route;
 use ghg_outer::{Failed, Source};
+use ghg_units::Text;
 use matchit::Router;
 use std::alloc::{AllocError, AllocFailed, Global};
 
@@ -42,20 +43,18 @@ impl From<AllocError> for ReceiveError {
     }
 }
 
-/// A request, or what stands in its place.
-#[derive(Debug, Drop)]
+/// A request.
+#[derive(Drop)]
 pub enum Request {
     /// It is refused before its body is read.
     Refused(Refusal),
     /// A submission.
-    Submit { id: String, body: Vec<u8> },
+    Submit { id: Text, body: Text },
     /// A request for a table.
-    Show { table: String, year: String },
-    /// The input ended before a whole request.
-    Cut,
+    Show { table: Text, year: Text },
 }
 
-/// Receives the next request from a link.
+/// Receives the next request from a link, or finds that the input ends before a whole one.
 ///
 /// Of a head no more than 16,384 bytes are read before it is whole. A read may take bytes that stand behind
 /// the request too.
@@ -63,7 +62,7 @@ pub fn receive_request<T: Source>(
     alloc: Global,
     router: &Router<Route>,
     link: &mut T,
-) -> Result<Request, ReceiveError>
+) -> Result<Option<Request>, ReceiveError>
     requires { router.now ≡ routes }
     ensures request { IfOk result (TakesRequest (T.tape link.old) (T.tape link.new)) }
     ensures stopped { IfErr result (Stopped (T.tape link.old) (T.tape link.new)) }
@@ -74,11 +73,11 @@ pub fn receive_request<T: Source>(
             Head::Unfinished => {
                 let room = MAX_HEAD - buffer.len();
                 if receive(link, &mut buffer, room)? == 0 {
-                    return Ok(Request::Cut);
+                    return Ok(None);
                 }
             }
-            Head::Malformed => return Ok(Request::Refused(Refusal::BadRequest)),
-            Head::TooLarge => return Ok(Request::Refused(Refusal::HeadTooLarge)),
+            Head::Malformed => return Ok(Some(Request::Refused(Refusal::BadRequest))),
+            Head::TooLarge => return Ok(Some(Request::Refused(Refusal::HeadTooLarge))),
             Head::Whole { decision, size } => {
                 return receive_rest(alloc, link, &buffer, decision, size);
             }
@@ -93,31 +92,38 @@ fn receive_rest<T: Source>(
     bytes: &[u8],
     decision: Decision<'_>,
     size: usize,
-) -> Result<Request, ReceiveError>
+) -> Result<Option<Request>, ReceiveError>
     requires whole { IsWhole bytes.now decision size }
     requires short { length bytes.now ≤ MAX_HEAD }
     ensures request { IfOk result (FollowsHead (T.tape link.old) (T.tape link.new) bytes.now) }
     ensures stopped { IfErr result (Stopped (T.tape link.old) (T.tape link.new)) }
 {
     match decision {
-        Decision::Refuse(reason) => Ok(Request::Refused(reason)),
+        Decision::Refuse(reason) => Ok(Some(Request::Refused(reason))),
         Decision::Show { table, year } => {
-            let table = String::from_str(alloc, table)?;
-            let year = String::from_str(alloc, year)?;
-            Ok(Request::Show { table, year })
+            let table = text_of(alloc, table)?;
+            let year = text_of(alloc, year)?;
+            Ok(Some(Request::Show { table, year }))
         }
         Decision::Submit {
             id,
             size: body_size,
         } => {
-            let id = String::from_str(alloc, id)?;
+            let id = text_of(alloc, id)?;
             let rest = bytes.split_at(size).1;
             match receive_body(alloc, link, rest, body_size as usize)? {
-                Some(body) => Ok(Request::Submit { id, body }),
-                None => Ok(Request::Cut),
+                Some(body) => Ok(Some(Request::Submit { id, body })),
+                None => Ok(None),
             }
         }
     }
+}
+
+// A text's bytes.
+fn text_of(alloc: Global, text: &str) -> Result<Text, AllocError>
+    ensures { IfOk result (λ bytes. bytes ≡ text.now) }
+{
+    Ok(Text::new(text.as_bytes().to_vec(alloc)?))
 }
 
 // Receives the rest of a body of this size, or finds that the input ends before.
@@ -126,11 +132,11 @@ fn receive_body<T: Source>(
     link: &mut T,
     rest: &[u8],
     size: usize,
-) -> Result<Option<Vec<u8>>, ReceiveError>
+) -> Result<Option<Text>, ReceiveError>
     ensures body { IfOk result (λ body. MatchOption body
         (CutsBody (T.tape link.old) (T.tape link.new) rest.now size)
-        (λ bytes. CompletesBody (T.tape link.old) (T.tape link.new) rest.now bytes.items)) }
-    ensures size { IfOk result (λ body. IfSome body (λ bytes. length bytes.items ≡ size)) }
+        (CompletesBody (T.tape link.old) (T.tape link.new) rest.now)) }
+    ensures size { IfOk result (λ body. IfSome body (λ bytes. length bytes ≡ size)) }
     ensures stopped { IfErr result (Stopped (T.tape link.old) (T.tape link.new)) }
 {
     let mut body = Vec::from_slice(alloc, rest)?;
@@ -138,7 +144,7 @@ fn receive_body<T: Source>(
         return Ok(None);
     }
     body.truncate(size);
-    Ok(Some(body))
+    Ok(Some(Text::new(body)))
 }
 
 // Receives bytes until there are so many, and says whether that came before the end of the input.

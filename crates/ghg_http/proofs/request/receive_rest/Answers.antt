@@ -7,14 +7,14 @@ returns-in-Refuse-clause-request g c = refuses _ _ _ c.requires.whole c.requires
 pub returns-in_ok-year-in-Show-clause-request : goal.returns-in_ok-year-in-Show-clause-request
 returns-in_ok-year-in-Show-clause-request g c =
     shows _ _ _ c.requires.whole c.requires.short _ c.in-Show.table c.in-Show.year _ _ c.in-Show.is
-    c.in_ok-table-in-Show.ensures.ok c.in_ok-year-in-Show.ensures.ok
+    c.in_ok-table-in-Show.ensures c.in_ok-year-in-Show.ensures
 
 pub returns-in-Some-clause-request : goal.returns-in-Some-clause-request
 returns-in-Some-clause-request g c =
     let came = rw (c.in-Some.is, c.split_at.ensures.back) at c.in_ok-body-in-Submit.ensures.body in
     let count = rw c.in-Some.is at c.in_ok-body-in-Submit.ensures.size in
     submits _ _ _ c.requires.whole c.requires.short _ _ c.in-Submit.id c.in-Submit.body_size _ _ c.in-Submit.is
-    c.in_ok-id-in-Submit.ensures.ok came count
+    c.in_ok-id-in-Submit.ensures came count
 
 pub returns-in-None-clause-request : goal.returns-in-None-clause-request
 returns-in-None-clause-request g c =

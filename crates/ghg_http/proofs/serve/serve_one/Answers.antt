@@ -1,0 +1,23 @@
+use Rattle.ghg_http.proofs.Serving.{cut_off, link_failed, ran_out, sent, unwritten}
+use Rattle.ghg_http.proofs.serve.serve_one.Goals as goal
+
+pub returns-in-Ok-None-clause-serves : goal.returns-in-Ok-None-clause-serves
+returns-in-Ok-None-clause-serves g c = cut_off _ _ _ _ (rw c.in-Ok-None.field-0-is at c.in-Ok-None.ensures.request)
+
+pub returns-in-Err-Failed-clause-serves : goal.returns-in-Err-Failed-clause-serves
+returns-in-Err-Failed-clause-serves g c =
+    link_failed _ _ _ _ (rw c.in-Err-Failed.field-0-is at c.in-Err-Failed.ensures.stopped)
+
+pub returns-in-Err-Memory-clause-serves : goal.returns-in-Err-Memory-clause-serves
+returns-in-Err-Memory-clause-serves g c =
+    ran_out _ _ _ _ (rw c.in-Err-Memory.field-0-is at c.in-Err-Memory.ensures.stopped)
+
+pub returns-in-Ok-clause-serves : goal.returns-in-Ok-clause-serves
+returns-in-Ok-clause-serves g c =
+    let took = rw c.in-Ok-Some.field-0-is at c.in-Ok-Some.ensures.request in
+    sent _ _ _ _ _ _ _ took c.answer.ensures.steps _ (rw c.in-Ok.is at c.answer.ensures.answers) _ _ c.send.ensures
+
+pub returns-clause-serves : goal.returns-clause-serves
+returns-clause-serves g c =
+    let took = rw c.in-Ok-Some.field-0-is at c.in-Ok-Some.ensures.request in
+    unwritten _ _ _ _ _ _ _ took c.answer.ensures.steps _ c.answer.ensures.answers

@@ -1,0 +1,144 @@
+-- What comes of a link that is served: a request is read from it, the office answers, and the reply is written
+-- to it.
+use Rattle.std.specs.Prelude.{◌≡◌, ◌==◌, ⊤, ℕ, ◌+◌, ◌<◌, ◌≤◌, ◌⊎◌, List, [], length, take, Option, Some, None, Result, IfOk, if◌then◌else◌}
+use Rattle.std.specs.declared.alloc.AllocError.{AllocError}
+use Rattle.std.specs.Io.KnownBytes as known
+use Rattle.ghg_units.specs.Decimal.{number_in}
+use Rattle.ghg_outer.specs.Tape.{Appends, AppendsProperPrefix, IsAtEnd, Rose, Tape}
+use Rattle.ghg_office.specs.Office.{State, evaluations, requested, submitted}
+use Rattle.ghg_office.specs.Replies.{Answers, Shows}
+use Rattle.ghg_office.specs.declared.reply.Reply.{Reply}
+use Rattle.ghg_office.specs.declared.reply.Reply.TheVariants.{NoTable}
+use Rattle.ghg_http.specs.Receive.{EndsEarly, HoldsRequest}
+use Rattle.ghg_http.specs.Reply.{HttpReply, IsMessageOf, reply_bytes}
+use Rattle.ghg_http.specs.Statuses.{office_reply, refusal_reply}
+use Rattle.ghg_http.specs.declared.reply.Message.{Message}
+use Rattle.ghg_http.specs.declared.request.Request.{Request}
+use Rattle.ghg_http.specs.declared.request.Request.TheVariants.{Refused, Submit, Show}
+use Rattle.ghg_http.specs.declared.serve.LinkEnd.{LinkEnd}
+use Rattle.ghg_http.specs.declared.serve.LinkEnd.TheVariants.{Served, Cut, LinkFault, Memory}
+
+-- ---- the reply to a request
+
+-- the year that four digits write
+abbrev pub year_of : List ℕ → Option ℕ
+year_of text = if length text == 4 then number_in 4 text else None
+
+-- what the office shows of a table; for what is no year there is none
+abbrev pub shown : State → List ℕ → Option ℕ → Reply
+shown s name None = NoTable
+shown s name (Some year) = requested s name year
+
+-- The office's answer to a request, and the state after it, as the reply that is due. Where the keeper failed
+-- or memory ran out, the reply says so, and the state is as before.
+abbrev pub Replies : State → Request → HttpReply → State → Type 0
+Replies s (Refused reason) due after = (due ≡ refusal_reply reason) × (after ≡ s)
+Replies s (Submit id body) due after =
+    (answer : Reply) × Answers (submitted s id body) answer s after × (due ≡ office_reply answer)
+Replies s (Show name year) due after =
+    (answer : Reply) × Shows (shown s name (year_of year)) answer × (due ≡ office_reply answer) × (after ≡ s)
+
+-- The office answered the request, and where there was memory for it, this is the reply.
+pub record AnswersRequest (s : State) (request : Request) (after : State) (result : Result Message AllocError) : Type 0 where
+  pub due : HttpReply
+  pub replies : Replies s request due after
+  pub made : IfOk result (IsMessageOf due)
+
+-- how many evaluations a request asks for
+abbrev pub evaluations_for : State → Request → ℕ
+evaluations_for s (Submit id body) = evaluations s id body
+evaluations_for s request = 0
+
+-- ---- what passes over a link
+
+-- The states of the office before and after; what was taken from the link, and what was written to it; and how
+-- many evaluations were asked for.
+pub record Exchange : Type 0 where
+  pub before : State
+  pub after : State
+  pub taken : List ℕ
+  pub written : List ℕ
+  pub evaluations : ℕ
+
+-- What was taken holds a request, to which this reply is due.
+pub record IsAnswered (x : Exchange) (due : HttpReply) : Type 0 where
+  pub request : Request
+  pub holds : HoldsRequest x.taken request
+  pub replies : Replies x.before request due x.after
+  pub asks : x.evaluations ≡ evaluations_for x.before request
+
+-- The whole reply was written.
+pub record IsReplied (x : Exchange) (code : ℕ) : Type 0 where
+  pub due : HttpReply
+  pub answered : IsAnswered x due
+  pub code_is : due.code ≡ code
+  pub whole : x.written ≡ reply_bytes due
+
+-- A proper prefix of the reply was written, perhaps nothing.
+pub record BreaksOff (x : Exchange) : Type 0 where
+  pub due : HttpReply
+  pub answered : IsAnswered x due
+  pub count : ℕ
+  pub short : count < length (reply_bytes due)
+  pub prefix : x.written ≡ take count (reply_bytes due)
+
+-- Nothing was answered.
+pub record IsUnanswered (x : Exchange) : Type 0 where
+  pub same : x.after ≡ x.before
+  pub nothing : x.written ≡ []
+  pub asks : x.evaluations ≡ 0
+
+-- What was taken ends before a whole request, and nothing was answered.
+pub record IsCutOff (x : Exchange) : Type 0 where
+  pub early : EndsEarly x.taken
+  pub unanswered : IsUnanswered x
+
+-- what passes over a link that ends so
+abbrev pub Passes : Exchange → LinkEnd → Type 0
+Passes x (Served code) = IsReplied x code
+Passes x Cut = IsCutOff x
+Passes x LinkFault = IsUnanswered x ⊎ BreaksOff x
+Passes x Memory = IsUnanswered x ⊎ BreaksOff x
+
+-- The bytes that were taken were read from the link, and then those that were written were appended to it.
+pub record Exchanges (before after : Tape) (x : Exchange) : Type 0 where
+  pub left : known.Consumes before.left after.left x.taken
+  pub taken : known.Appends before.taken after.taken x.taken
+  pub written : known.Appends before.written after.written x.written
+  pub counts : before.faults ≤ after.faults
+  pub grows : after.grows ≡ before.grows
+
+-- ---- serving a link
+
+-- the whole message was written, or a proper prefix of it, and then the link failed or memory ran out
+abbrev pub Sends : Tape → Tape → Message → LinkEnd → Type 0
+Sends before after message (Served code) = (code ≡ message.status) × Appends before after message.bytes.items
+Sends before after message Cut = ⊥
+Sends before after message LinkFault =
+    AppendsProperPrefix before after message.bytes.items × Rose before after
+Sends before after message Memory = AppendsProperPrefix before after message.bytes.items
+
+-- what a serving acts on, but for the keeper
+pub record Snapshot : Type 0 where
+  pub state : State
+  pub link : Tape
+  pub steps : ℕ
+
+abbrev pub snapshot : State → Tape → ℕ → Snapshot
+snapshot state link steps = record { state = state; link = link; steps = steps }
+
+-- why a link ended: its input came to its end, or its count of faults rose
+abbrev pub IsCaused : Tape → Tape → LinkEnd → Type 0
+IsCaused before after Cut = IsAtEnd after
+IsCaused before after LinkFault = Rose before after
+IsCaused before after end = ⊤
+
+-- This passed over the link, which ended so, and no more steps were taken than were asked for.
+pub record ServesLink (before after : Snapshot) (end : LinkEnd) : Type 0 where
+  pub exchange : Exchange
+  pub from : exchange.before ≡ before.state
+  pub to : exchange.after ≡ after.state
+  pub link : Exchanges before.link after.link exchange
+  pub passes : Passes exchange end
+  pub cause : IsCaused before.link after.link end
+  pub spent : after.steps ≤ before.steps + exchange.evaluations

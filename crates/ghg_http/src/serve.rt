@@ -1,0 +1,138 @@
+//! One connection is served: one request is read, and one reply is written.
+
+ghost use Rattle.std.specs.Prelude.{◌≡◌, ◌≢◌, ◌≤◌, ◌+◌, true, false, IfOk, IsOkAnd};
+ghost use Rattle.ghg_outer.specs.Counts.{IsCounted};
+ghost use Rattle.ghg_office.specs.Keeping.{KeepsAccepted, Lists};
+ghost use Rattle.ghg_office.specs.Replies.{Shows};
+ghost use Rattle.ghg_http.specs.Route.{routes};
+ghost use Rattle.ghg_http.specs.Serve.{AnswersRequest, Sends, ServesLink, evaluations_for, shown, snapshot, year_of};
+
+use crate::reply::Message;
+use crate::request::{ReceiveError, Request, receive_request};
+use crate::route::Route;
+use crate::status::{office_message, refusal_message};
+use ghg_keeper::Keeper;
+use ghg_office::{Office, Reply};
+use ghg_outer::{Sink, Source, WriteError, write_all};
+use ghg_steps::Steps;
+use ghg_units::read_number;
+use matchit::Router;
+use std::alloc::{AllocError, Global};
+use std::sync::ledger::Ledger;
+
+/// How a connection ended.
+#[derive(Clone, Copy, Debug, PartialEq, Eq, Drop)]
+pub enum LinkEnd {
+    /// The whole reply was written, which has this status.
+    Served(u16),
+    /// The input ended before a whole request, and nothing was written.
+    Cut,
+    /// The link failed.
+    LinkFault,
+    /// Memory ran out, here or at the link.
+    Memory,
+}
+
+/// Reads one request from a link, answers it, and writes the reply, which is whole in memory before its first
+/// byte is written.
+///
+/// Where a submission is to be stored, it is kept before it is in force.
+pub fn serve_one<T: Source + Sink, K: Keeper, L: Ledger>(
+    alloc: Global,
+    router: &Router<Route>,
+    link: &mut T,
+    office: &mut Office,
+    keeper: &mut K,
+    stored: bool,
+    steps: &mut Steps<L>,
+) -> LinkEnd
+    requires router { router.now ≡ routes }
+    requires same { stored ≡ true → Lists (K.shelf keeper.old) office.old.accepted }
+    ensures serves { ServesLink (snapshot office.old (T.tape link.old) steps.old)
+        (snapshot office.new (T.tape link.new) steps.new) result }
+
+    // However the connection ends, the rows that a keeper tells are the accepted submissions.
+    ensures kept { stored ≡ true
+        → KeepsAccepted (K.shelf keeper.old) (K.shelf keeper.new) office.new.accepted }
+    ensures untouched { stored ≡ false → keeper.new ≡ keeper.old }
+    // Only a fault of the keeper is replied to as one.
+    ensures fault { result ≡ LinkEnd.Served 503 → stored ≡ true }
+    ensures faults { IsCounted (K.shelf keeper.old).faults (K.shelf keeper.new).faults
+        (result ≡ LinkEnd.Served 503) }
+{
+    let request = match receive_request(alloc, router, link) {
+        Ok(Some(request)) => request,
+        Ok(None) => return LinkEnd::Cut,
+        Err(ReceiveError::Failed) => return LinkEnd::LinkFault,
+        Err(ReceiveError::Memory) => return LinkEnd::Memory,
+    };
+    match answer(alloc, &request, office, keeper, stored, steps) {
+        Ok(message) => send(link, &message),
+        Err(_) => LinkEnd::Memory,
+    }
+}
+
+// Answers a request, and makes the whole reply.
+fn answer<K: Keeper, L: Ledger>(
+    alloc: Global,
+    request: &Request,
+    office: &mut Office,
+    keeper: &mut K,
+    stored: bool,
+    steps: &mut Steps<L>,
+) -> Result<Message, AllocError>
+    requires same { stored ≡ true → Lists (K.shelf keeper.old) office.old.accepted }
+    ensures answers { AnswersRequest office.old request.now office.new result }
+    ensures steps { steps.new ≤ steps.old + evaluations_for office.old request.now }
+    ensures kept { stored ≡ true
+        → KeepsAccepted (K.shelf keeper.old) (K.shelf keeper.new) office.new.accepted }
+    ensures untouched { stored ≡ false → keeper.new ≡ keeper.old }
+    ensures fault { IfOk result (λ message. message.status ≡ 503 → stored ≡ true) }
+    ensures faults { IsCounted (K.shelf keeper.old).faults (K.shelf keeper.new).faults
+        (IsOkAnd result (λ message. message.status ≡ 503)) }
+{
+    match request {
+        Request::Refused(reason) => refusal_message(alloc, *reason),
+        Request::Submit { id, body } => {
+            let reply = office.submit(alloc, id.as_slice(), body.as_slice(), keeper, stored, steps);
+            office_message(alloc, &reply)
+        }
+        Request::Show { table, year } => {
+            let reply = show(alloc, office, table.as_slice(), year.as_slice());
+            office_message(alloc, &reply)
+        }
+    }
+}
+
+// What the office shows of a table for a text that may be a year.
+fn show(alloc: Global, office: &Office, table: &[u8], year: &[u8]) -> Reply
+    ensures table { Shows (shown office.now table.now (year_of year.now)) result }
+    ensures fault { result ≢ Reply.KeeperFault }
+{
+    match read_year(year) {
+        Some(year) => office.show(alloc, table, year),
+        None => Reply::NoTable,
+    }
+}
+
+// The year that four digits write.
+fn read_year(text: &[u8]) -> Option<u32>
+    ensures { result ≡ year_of text.now }
+{
+    if text.len() != 4 {
+        return None;
+    }
+    let year = read_number(text, 4)?;
+    Some(year as u32)
+}
+
+// Writes a whole message to a link.
+fn send<T: Sink>(link: &mut T, message: &Message) -> LinkEnd
+    ensures { Sends (T.tape link.old) (T.tape link.new) message.now result }
+{
+    match write_all(link, &message.bytes) {
+        Ok(()) => LinkEnd::Served(message.status.as_u16()),
+        Err(WriteError::Failed) => LinkEnd::LinkFault,
+        Err(WriteError::Memory) => LinkEnd::Memory,
+    }
+}
