@@ -1,5 +1,5 @@
 -- The bounds that a session prints hold, since the data stay in force.
-use Rattle.std.proofs.Common.{◌≡◌, ℕ, List, [], ◌∷◌, ◌++◌, Option, Some, None, IfSome, refl}
+use Rattle.std.proofs.Common.{ℕ, List, [], ◌∷◌, Option, Some, None, IfSome, refl}
 use Rattle.ghg_office.specs.Laws.{IsInForce}
 use Rattle.ghg_office.specs.Office.{State, requested}
 use Rattle.ghg_office.proofs.InForce.{requested_sound, states_stay}

@@ -1,2 +1,4 @@
 pub mod Held
+mod Quiet
+mod Stored
 mod Whole

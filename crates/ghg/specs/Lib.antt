@@ -1,4 +1,3 @@
 pub mod Bounds
 pub mod Laws
 pub mod Run
-pub mod Words

@@ -5,14 +5,16 @@
 //! process's words, input and output, and ends with its status.
 #![tactic(auto)]
 
-ghost use Rattle.std.specs.Prelude.{◌≡◌, ◌<◌};
+ghost use Rattle.std.specs.Prelude.{◌≡◌, ◌<◌, true, IfErr, IfOk};
+ghost use Rattle.ghg.specs.Run.{is_status};
 
 mod laws;
+mod opening;
 mod run;
 #[cfg(test)]
 mod tests;
-mod words;
 
+use ghg_keeper::FileKeeper;
 use ghg_outer::{InputSource, OutputSink};
 use ghg_session::Stop;
 use ghg_steps::Steps;
@@ -34,19 +36,24 @@ fn answer<L: Ledger>(rt: HostRuntime, blank: Blank) -> Result<u8, Stop>
     requires name { blank.name ≡ L.name }
     requires parts { blank.parts ≡ L.parts }
     requires some { 0 < blank.parts }
+    ensures status { IfOk result (λ status. is_status status ≡ true) }
+    ensures memory { IfErr result (λ stop. stop ≡ Stop.Memory) }
 {
     let alloc = rt.alloc();
     let words = read_words(&rt)?;
     let reader = BufReader::new(alloc, rt.reader()).map_err(|_| Stop::Memory)?;
     let mut input = InputSource::new(reader);
     let mut out = OutputSink::new(io::writer(&rt));
+    let mut keeper = FileKeeper::new(&rt);
     let mut steps = Steps::<L>::new(blank);
-    Ok(run::run(alloc, &words, &mut input, &mut out, &mut steps))
+    Ok(run::run(alloc, &words, &mut input, &mut out, &mut keeper, &mut steps))
 }
 
 // The words behind the program's name. There are none where one of them is not UTF-8, which is no command
 // either.
-fn read_words(rt: &HostRuntime) -> Result<Vec<String>, Stop> {
+fn read_words(rt: &HostRuntime) -> Result<Vec<String>, Stop>
+    ensures { IfErr result (λ stop. stop ≡ Stop.Memory) }
+{
     let alloc = rt.alloc();
     match env::args(rt) {
         Ok(words) => Ok(words.skip(1).collect(alloc)?),

@@ -1,21 +1,31 @@
 -- What the office answers a request with, and its state then.
-use Rattle.std.proofs.Common.{◌≡◌, ◌≢◌, ◌+◌, ◌∙◌, ℕ, Bool, true, false, inl, inr, List, length, refl, sym, ap, Ok, Err, Result, OnErr, Option, Some, None, nat_lt, if◌then◌else◌}
+use Rattle.std.proofs.Common.{◌≡◌, ◌≢◌, ◌+◌, ◌∙◌, ℕ, Bool, true, false, inl, inr, List, length, refl, sym, ap, Ok, Err, Result, IfErr, OnErr, Option, Some, None, nat_lt, if◌then◌else◌}
 use Rattle.ghg_definitions.specs.Compilation.{is_year_of}
 use Rattle.ghg_definitions.specs.Data.{Data, span}
 use Rattle.ghg_import.specs.Body.{max_body}
+use Rattle.ghg_office.specs.Keeping.{is_to_append}
 use Rattle.ghg_office.specs.Office.{Answer, IsRead, State, asked, decided, entered_by, refused, requested, submitted}
-use Rattle.ghg_office.specs.Replies.{Answers, Shows, is_short}
+use Rattle.ghg_office.specs.Replies.{Answers, Shows}
 use Rattle.ghg_office.specs.declared.reply.Reply.{Reply}
-use Rattle.ghg_office.specs.declared.reply.Reply.TheVariants.{Accepted, Repeated, Refused, Table, NoTable, Memory}
+use Rattle.ghg_office.specs.declared.reply.Reply.TheVariants.{Accepted, Repeated, Refused, Table, NoTable, KeeperFault, Memory}
 use Rattle.ghg_office.proofs.Cases.{submitted_cases}
 use Rattle.ghg_tables.specs.declared.table.Table.{Table as NamedTable}
 use Rattle.ghg_tables.specs.Names.{table_in}
 use Rattle.ghg_units.specs.declared.rule.Rule.{Rule}
 use Rattle.ghg_units.specs.declared.rule.Rule.TheVariants.{BodyTooLong}
 use Rattle.ghg_session.specs.declared.command.Request.TheVariants.{Submit, Show}
-use Rattle.ghg_session.specs.Replies.{needs_memory, takes_memory}
+use Rattle.ghg_session.specs.declared.stop.Stop.{Stop}
+use Rattle.ghg_session.specs.Interruptions.{MayLeaveUndone}
+use Rattle.ghg_session.specs.Replies.{HasNoLines, is_to_keep, needs_memory, protocol, takes_memory}
 
--- ---- a request that is left undone takes memory
+-- ---- a request that is left undone takes memory, or is to be kept
+
+-- what is to be appended is to be kept
+append_kept : (s : State) (id body : List ℕ) (stored : Bool) → is_to_append stored (submitted s id body) ≡ true
+    → is_to_keep s (Submit id body) ≡ true
+unfolding is_to_keep
+append_kept s id body true h = h
+append_kept s id body false h = absurd cc
 
 -- a new submission whose body is read is no repeat
 read_needs : (s : State) (id body : List ℕ) → IsRead s id body → needs_memory (submitted s id body).reply ≡ true
@@ -45,18 +55,22 @@ is_refused rule seq e = cc
 is_table : (text : List ℕ) (seq : ℕ) → Table text ≢ Accepted seq
 is_table text seq e = cc
 
-pub submit_undone : (s : State) (id body : List ℕ) (reply : Reply) (new : State) → Answers (submitted s id body) reply s new
-    → (reply ≡ Memory → IsRead s id body) → is_short reply ≡ false
-    → (new ≡ s) × (takes_memory s (Submit id body) ≡ true)
+-- where there is no reply to a submission, nothing changed, and the submission may be left undone
+pub submission_undone : (s : State) (id body : List ℕ) (stored : Bool) (reply : Reply) (stop : Stop) (new : State)
+    → Answers (submitted s id body) reply s new → (reply ≡ Memory → IsRead s id body)
+    → (reply ≡ KeeperFault → is_to_append stored (submitted s id body) ≡ true) → HasNoLines reply stop
+    → (new ≡ s) × MayLeaveUndone protocol s (Submit id body) stop
 unfolding takes_memory
-submit_undone s id body Memory new h read long = (h, read_needs s id body (read refl))
-submit_undone s id body (Accepted seq) new h read long = absurd cc
-submit_undone s id body (Repeated seq) new h read long = absurd cc
-submit_undone s id body (Refused rule) new h read long =
-    (h.1 ∙ stays s id body (Refused rule) (is_refused rule) h.0, ap needs_memory (sym h.0))
-submit_undone s id body (Table text) new h read long =
-    (h.1 ∙ stays s id body (Table text) (is_table text) h.0, ap needs_memory (sym h.0))
-submit_undone s id body NoTable new h read long = absurd cc
+submission_undone s id body stored KeeperFault stop new h read kept none =
+    (h, rw none.0 (append_kept s id body stored (kept refl)))
+submission_undone s id body stored Memory stop new h read kept none = (h, rw none.0 (read_needs s id body (read refl)))
+submission_undone s id body stored (Accepted seq) stop new h read kept none = let long = none.1 in absurd cc
+submission_undone s id body stored (Repeated seq) stop new h read kept none = let long = none.1 in absurd cc
+submission_undone s id body stored (Refused rule) stop new h read kept none =
+    (h.1 ∙ stays s id body (Refused rule) (is_refused rule) h.0, rw none.0 (ap needs_memory (sym h.0)))
+submission_undone s id body stored (Table text) stop new h read kept none =
+    (h.1 ∙ stays s id body (Table text) (is_table text) h.0, rw none.0 (ap needs_memory (sym h.0)))
+submission_undone s id body stored NoTable stop new h read kept none = let long = none.1 in absurd cc
 
 -- a table that is there needs memory
 requested_needs : (s : State) (table : List ℕ) (year : ℕ) → requested s table year ≢ NoTable
@@ -73,18 +87,36 @@ requested_needs s name year there = by (table_in name) there
     by None there = absurd (there refl)
     by (Some table) there = within (is_year_of (span s.content) year) _ there
 
-pub show_undone : (s : State) (table : List ℕ) (year : ℕ) (reply : Reply) → Shows (requested s table year) reply
-    → (reply ≡ Memory → requested s table year ≢ NoTable) → is_short reply ≡ false
-    → takes_memory s (Show table year) ≡ true
+-- and a table wants no keeper
+requested_works : (s : State) (table : List ℕ) (year : ℕ) → requested s table year ≢ KeeperFault
+unfolding requested
+requested_works s name year = by (table_in name)
+  where
+    within : (is : Bool) (text : List ℕ) → (if is then Table text else NoTable) ≢ KeeperFault
+    within true text e = cc
+    within false text e = cc
+
+    by : (found : Option NamedTable) → asked s year found ≢ KeeperFault
+    by None e = cc
+    by (Some table) e = within (is_year_of (span s.content) year) _ e
+
+pub table_undone : (s : State) (table : List ℕ) (year : ℕ) (reply : Reply) (stop : Stop) → Shows (requested s table year) reply
+    → (reply ≡ Memory → requested s table year ≢ NoTable) → HasNoLines reply stop
+    → MayLeaveUndone protocol s (Show table year) stop
 unfolding takes_memory
-show_undone s table year Memory h there long = requested_needs s table year (there refl)
-show_undone s table year (Accepted seq) h there long = absurd cc
-show_undone s table year (Repeated seq) h there long = absurd cc
-show_undone s table year (Refused rule) h there long = ap needs_memory (sym h)
-show_undone s table year (Table text) h there long = ap needs_memory (sym h)
-show_undone s table year NoTable h there long = absurd cc
+table_undone s table year Memory stop h there none = rw none.0 (requested_needs s table year (there refl))
+table_undone s table year KeeperFault stop h there none = absurd (requested_works s table year (sym h))
+table_undone s table year (Accepted seq) stop h there none = let long = none.1 in absurd cc
+table_undone s table year (Repeated seq) stop h there none = let long = none.1 in absurd cc
+table_undone s table year (Refused rule) stop h there none = rw none.0 (ap needs_memory (sym h))
+table_undone s table year (Table text) stop h there none = rw none.0 (ap needs_memory (sym h))
+table_undone s table year NoTable stop h there none = let long = none.1 in absurd cc
 
 -- of a result that is an error
-pub map_on_err : {T E : Type 0} (r : Result T E) (P Q : Type 0) → (P → Q) → OnErr r P → OnErr r Q
-map_on_err (Ok v) P Q f h = tt
-map_on_err (Err e) P Q f h = f h
+pub map_if_err : {T E : Type 0} (r : Result T E) (P Q : E → Type 0) → ((e : E) → P e → Q e) → IfErr r P → IfErr r Q
+map_if_err (Ok v) P Q f h = tt
+map_if_err (Err e) P Q f h = f e h
+
+pub on_if_err : {T E : Type 0} (r : Result T E) (P : E → Type 0) (Q : Type 0) → ((e : E) → P e → Q) → IfErr r P → OnErr r Q
+on_if_err (Ok v) P Q f h = tt
+on_if_err (Err e) P Q f h = f e h

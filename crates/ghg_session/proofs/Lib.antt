@@ -1,6 +1,7 @@
 mod Answering
 mod Bodies
 mod Commands
+pub mod Keeping
 mod Lines
 mod Local
 mod Readings

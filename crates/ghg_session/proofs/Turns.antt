@@ -6,8 +6,8 @@ use Rattle.ghg_session.specs.declared.command.Command.TheVariants as command
 use Rattle.ghg_session.specs.declared.session.End.{End}
 use Rattle.ghg_session.specs.declared.session.End.TheVariants.{Script, NoScript}
 use Rattle.ghg_session.specs.declared.stop.Stop.{Stop}
-use Rattle.ghg_session.specs.declared.stop.Stop.TheVariants.{Input, Output, Memory}
-use Rattle.ghg_session.specs.Interruptions.{Interrupted, IsCaused, IsUndone, NextIsNone}
+use Rattle.ghg_session.specs.declared.stop.Stop.TheVariants.{Input, Output, Keeper, Memory}
+use Rattle.ghg_session.specs.Interruptions.{Interrupted, IsCaused, IsUndone, MayLeaveUndone, NextIsNone}
 use Rattle.ghg_session.specs.Protocol.{Protocol}
 use Rattle.ghg_session.specs.Reader.{Found, Missing, Stopped}
 use Rattle.ghg_session.specs.Script.{Reading, after_requests, ended, most_commands, no_command, with_more}
@@ -196,13 +196,22 @@ caused_by_reading : {S R : Type 0} (p : Protocol S R) (before : Snapshot S) (inp
     → Stopped p.commands before.input input stop → IsCaused before (record before { input = input }) stop
 caused_by_reading p before input Input s = s.cause refl
 caused_by_reading p before input Output s = absurd (output_is_not_read s.only)
+caused_by_reading p before input Keeper s = tt
 caused_by_reading p before input Memory s = tt
 
 caused_by_writing : {S : Type 0} (before after : Snapshot S) (text : List ℕ) (stop : Stop)
     → StoppedWriting before.output after.output text stop → IsCaused before after stop
 caused_by_writing before after text Input s = absurd (input_is_not_written s.only)
 caused_by_writing before after text Output s = s.cause refl
+caused_by_writing before after text Keeper s = tt
 caused_by_writing before after text Memory s = tt
+
+caused_by_leaving : {S R : Type 0} (p : Protocol S R) (before after : Snapshot S) (asked : R) (stop : Stop)
+    → MayLeaveUndone p before.state asked stop → IsCaused before after stop
+caused_by_leaving p before after asked Input h = absurd h
+caused_by_leaving p before after asked Output h = absurd h
+caused_by_leaving p before after asked Keeper h = tt
+caused_by_leaving p before after asked Memory h = tt
 
 pub stops_in_command : {S R : Type 0} (p : Protocol S R) (from : SessionPosition S) (input : Tape) (stop : Stop)
     → from.answered < most_commands → Stopped p.commands from.at.input input stop
@@ -226,15 +235,15 @@ stops_in_reply p from after stop asked h m s state spent = record {
   cause = caused_by_writing from.at after (p.reply from.at.state asked) stop s;
 }
 
-pub stops_undone : {S R : Type 0} (p : Protocol S R) (from : SessionPosition S) (after : Snapshot S) (asked : R)
+pub stops_undone : {S R : Type 0} (p : Protocol S R) (from : SessionPosition S) (after : Snapshot S) (stop : Stop) (asked : R)
     → from.answered < most_commands → Found p.commands from.at.input after.input (command.Request asked)
-    → IsUndone p from.at asked after → after.steps ≤ from.at.steps + p.steps from.at.state asked
-    → Interrupted p from after Memory
-stops_undone p from after asked h m undone spent = record {
+    → MayLeaveUndone p from.at.state asked stop → IsUndone from.at after
+    → after.steps ≤ from.at.steps + p.steps from.at.state asked → Interrupted p from after stop
+stops_undone p from after stop asked h m may undone spent = record {
   last = from;
   answered = begins p from;
-  stops = inr (inl (record { allowed = h; request = asked; found = m; stopped = inr (refl, undone); spent = spent }));
-  cause = tt;
+  stops = inr (inl (record { allowed = h; request = asked; found = m; stopped = inr (may, undone); spent = spent }));
+  cause = caused_by_leaving p from.at after asked stop may;
 }
 
 pub stops_in_refusal : {S R : Type 0} (p : Protocol S R) (from : SessionPosition S) (input output : Tape) (stop : Stop)
@@ -251,6 +260,7 @@ caused_later : {S : Type 0} (before mid after : Snapshot S) (stop : Stop) → be
     → before.output.faults ≤ mid.output.faults → IsCaused mid after stop → IsCaused before after stop
 caused_later before mid after Input h k rose = rose_later before.input mid.input after.input h rose
 caused_later before mid after Output h k rose = rose_later before.output mid.output after.output k rose
+caused_later before mid after Keeper h k rose = tt
 caused_later before mid after Memory h k rose = tt
 
 pub interrupted_later : {S R : Type 0} (p : Protocol S R) (a b : SessionPosition S) (after : Snapshot S) (stop : Stop)

@@ -178,9 +178,8 @@ short_in_reply p from after stop s wrote = record {
 }
 
 -- nothing is written of the reply to a request that is left undone
-none_undone : {S R : Type 0} (p : Protocol S R) (before after : Snapshot S) (asked : R) → IsUndone p before asked after
-    → Appends before.output after.output []
-none_undone p before after asked u =
+none_undone : {S : Type 0} (before after : Snapshot S) → IsUndone before after → Appends before.output after.output []
+none_undone before after u =
     subst (λ (o : Tape). Appends before.output o []) (sym u.output) (appends_nothing before.output)
 
 cut_in_reply : {S R : Type 0} (p : Protocol S R) (from : SessionPosition S) (after : Snapshot S) (stop : Stop)
@@ -191,7 +190,7 @@ cut_in_reply p from after stop s =
       text = s.found.text;
       read = s.found.read;
       due = λ rest left. longer_prefix from.at.output after.output [] _
-          (whole_prefix from.at.output after.output [] (none_undone p from.at after s.request u.1));
+          (whole_prefix from.at.output after.output [] (none_undone from.at after u.1));
     })
 
 short_in_refusal : {S R : Type 0} (p : Protocol S R) (from : SessionPosition S) (after : Snapshot S) (stop : Stop)
@@ -237,7 +236,7 @@ short_at : {S R : Type 0} (p : Protocol S R) (from : SessionPosition S) (after :
     → IsShortAt p from after
 short_at p from after (inl s) = absurd (output_is_not_read s.stopped.only)
 short_at p from after (inr (inl s)) =
-    either s.stopped (λ w. short_in_reply p from after Output s w.0.wrote) (λ u. let e = u.0 in absurd cc)
+    either s.stopped (λ w. short_in_reply p from after Output s w.0.wrote) (λ u. absurd u.0)
 short_at p from after (inr (inr s)) = short_in_refusal p from after Output s
 
 pub interrupted_short : {S R : Type 0} (p : Protocol S R) (from : SessionPosition S) (after : Snapshot S)
@@ -270,7 +269,7 @@ interrupted_unfinished p from after i = by i.stops
     by : StopsInCommand p i.last after Input ⊎ (StopsInReply p i.last after Input ⊎ StopsInRefusal p i.last after Input)
         → IsUnfinished p from after
     by (inl s) = unfinished_in_command p from i.last after i.answered s
-    by (inr (inl s)) = either s.stopped (λ w. absurd (input_is_not_written w.0.only)) (λ u. let e = u.0 in absurd cc)
+    by (inr (inl s)) = either s.stopped (λ w. absurd (input_is_not_written w.0.only)) (λ u. absurd u.0)
     by (inr (inr s)) = absurd (input_is_not_written s.stopped.only)
 
 -- where memory ran out and no write takes any, nothing was written of the next reply
@@ -283,9 +282,10 @@ interrupted_runs_out {S} {R} p from after i still = record { last = i.last; answ
 
     by : StopsInCommand p i.last after Memory ⊎ (StopsInReply p i.last after Memory ⊎ StopsInRefusal p i.last after Memory)
         → StopsInCommand p i.last after Memory
-        ⊎ ((request : R) × Found p.commands i.last.at.input after.input (command.Request request) × IsUndone p i.last.at request after)
+        ⊎ ((request : R) × Found p.commands i.last.at.input after.input (command.Request request)
+        × (p.takes_memory i.last.at.state request ≡ true) × IsUndone i.last.at after)
     by (inl s) = inl s
-    by (inr (inl s)) = either s.stopped (λ w. absurd (no_writing _ w.0)) (λ u. inr (s.request, s.found, u.1))
+    by (inr (inl s)) = either s.stopped (λ w. absurd (no_writing _ w.0)) (λ u. inr (s.request, s.found, u.0, u.1))
     by (inr (inr s)) = absurd (no_writing _ s.stopped)
 
 -- ---- steps
@@ -328,7 +328,7 @@ writes_at : {S R : Type 0} (p : Protocol S R) (from : SessionPosition S) (after 
     → (text : List ℕ) × Appends from.at.output after.output text
 writes_at p from after stop (inl s) = ([], nothing_written p from after stop s)
 writes_at p from after stop (inr (inl s)) =
-    either s.stopped (λ w. (_, w.0.wrote.wrote)) (λ u. ([], none_undone p from.at after s.request u.1))
+    either s.stopped (λ w. (_, w.0.wrote.wrote)) (λ u. ([], none_undone from.at after u.1))
 writes_at p from after stop (inr (inr s)) = (_, s.stopped.wrote.wrote)
 
 pub interrupted_writes : {S R : Type 0} (p : Protocol S R) (from : SessionPosition S) (after : Snapshot S) (stop : Stop)

@@ -5,7 +5,7 @@ use Rattle.ghg_outer.specs.Tape.{Appends, Consumes, IsAtEnd, Rose, Tape}
 use Rattle.ghg_session.specs.declared.command.Command.TheVariants as command
 use Rattle.ghg_session.specs.declared.session.End.{End}
 use Rattle.ghg_session.specs.declared.stop.Stop.{Stop}
-use Rattle.ghg_session.specs.declared.stop.Stop.TheVariants.{Input, Output, Memory}
+use Rattle.ghg_session.specs.declared.stop.Stop.TheVariants.{Input, Output, Keeper, Memory}
 use Rattle.ghg_session.specs.Protocol.{Protocol}
 use Rattle.ghg_session.specs.Reader.{Found, Stopped}
 use Rattle.ghg_session.specs.Script.{most_commands, no_command}
@@ -19,10 +19,16 @@ pub record StopsInCommand {State Request : Type 0} (p : Protocol State Request) 
   pub stopped : Stopped p.commands from.at.input after.input stop
   pub rest : after ≡ record from.at { input = after.input }
 
--- The request was left undone, since it takes memory to answer it. Nothing changed, and nothing was written.
-pub record IsUndone {State Request : Type 0} (p : Protocol State Request) (before : Snapshot State)
-    (asked : Request) (after : Snapshot State) : Type 0 where
-  pub memory : p.takes_memory before.state asked ≡ true
+-- A request may be left undone for want of memory where it takes memory to answer it, and for a fault of the
+-- keeper where it has to be kept.
+abbrev pub MayLeaveUndone : {State Request : Type 0} → Protocol State Request
+    → State → Request → Stop → Type 0
+MayLeaveUndone p state asked Memory = p.takes_memory state asked ≡ true
+MayLeaveUndone p state asked Keeper = p.is_to_keep state asked ≡ true
+MayLeaveUndone p state asked _ = ⊥
+
+-- nothing changed, and nothing was written
+pub record IsUndone {State : Type 0} (before after : Snapshot State) : Type 0 where
   pub state : after.state ≡ before.state
   pub output : after.output ≡ before.output
 
@@ -35,7 +41,7 @@ pub record StopsInReply {State Request : Type 0} (p : Protocol State Request) (f
   pub found : Found p.commands from.at.input after.input (command.Request request)
   pub stopped : (StoppedWriting from.at.output after.output (p.reply from.at.state request) stop
       × (after.state ≡ p.next_state from.at.state request))
-      ⊎ ((stop ≡ Memory) × IsUndone p from.at request after)
+      ⊎ (MayLeaveUndone p from.at.state request stop × IsUndone from.at after)
   pub spent : after.steps ≤ from.at.steps + p.steps from.at.state request
 
 -- What was read is no command, or one too many: nothing is left, or it is none whatever follows.
@@ -54,11 +60,12 @@ pub record StopsInRefusal {State Request : Type 0} (p : Protocol State Request) 
   pub stopped : StoppedWriting from.at.output after.output (wrong_line (from.answered + 1)) stop
   pub rest : after ≡ record from.at { input = after.input; output = after.output }
 
--- why: a count of faults rose; that memory ran out has no cause that is told
+-- why: a count of faults rose; that memory ran out has no cause that is told, and what the keeper tells stands
+-- beside the session
 abbrev pub IsCaused : {State : Type 0} → Snapshot State → Snapshot State → Stop → Type 0
 IsCaused before after Input = Rose before.input after.input
 IsCaused before after Output = Rose before.output after.output
-IsCaused before after Memory = ⊤
+IsCaused before after _ = ⊤
 
 -- Requests were read and answered, and then the session stopped at a command. Behind that nothing was read.
 -- So a reply is complete before the next command is read.
@@ -103,7 +110,7 @@ pub record RunsOut {State Request : Type 0} (p : Protocol State Request) (from :
   pub answered : Continues p from last
   pub next : StopsInCommand p last after Memory
       ⊎ ((request : Request) × Found p.commands last.at.input after.input (command.Request request)
-      × IsUndone p last.at request after)
+      × (p.takes_memory last.at.state request ≡ true) × IsUndone last.at after)
 
 -- Some text was read, and no more steps were taken than the requests that it reads as ask for.
 pub record SpendsWithin {State Request : Type 0} (p : Protocol State Request) (from : SessionPosition State)

@@ -17,5 +17,7 @@ pub record Protocol (State Request : Type 0) : Type 0 where
   pub next_state : State → Request → State
   -- whether it takes memory to answer the request
   pub takes_memory : State → Request → Bool
+  -- whether the request changes the state, and so has to be kept
+  pub is_to_keep : State → Request → Bool
   -- the most steps that the request may take
   pub steps : State → Request → ℕ

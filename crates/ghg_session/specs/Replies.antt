@@ -1,14 +1,16 @@
 -- What the office replies to requests, as bytes, and its state after them.
-use Rattle.std.specs.Prelude.{ℕ, Bool, true, false, List, ◌++◌, ◌==◌, codes, count_by}
+use Rattle.std.specs.Prelude.{◌≡◌, ℕ, Bool, true, false, List, ◌++◌, ◌==◌, codes, count_by}
 use Rattle.std.specs.Fmt.{decimal}
 use Rattle.ghg_session.specs.declared.command.Request.{Request}
 use Rattle.ghg_session.specs.declared.command.Request.TheVariants.{Submit, Show}
 use Rattle.ghg_session.specs.declared.reply.Lines.{Lines}
 use Rattle.ghg_session.specs.declared.reply.Lines.TheVariants.{Short, Long}
+use Rattle.ghg_session.specs.declared.stop.Stop.{Stop}
+use Rattle.ghg_session.specs.declared.stop.Stop.TheVariants.{Keeper, Memory}
 use Rattle.ghg_office.specs.Office.{Answer, State, evaluations, submitted, requested}
-use Rattle.ghg_office.specs.Replies.{reply_text}
+use Rattle.ghg_office.specs.Replies.{is_accepted, is_short, reply_text}
 use Rattle.ghg_office.specs.declared.reply.Reply.{Reply}
-use Rattle.ghg_office.specs.declared.reply.Reply.TheVariants.{NoTable, Repeated, Table}
+use Rattle.ghg_office.specs.declared.reply.Reply.TheVariants.{KeeperFault, NoTable, Repeated, Table}
 use Rattle.ghg_session.specs.Commands.{commands}
 use Rattle.ghg_session.specs.Protocol.{Protocol}
 use Rattle.ghg_session.specs.Session.{line_of}
@@ -32,6 +34,15 @@ table_lines table year reply = line_of (reply_text reply)
 abbrev pub bytes_of : Lines → List ℕ
 bytes_of (Short line) = line.items
 bytes_of (Long first below) = first.items ++ below
+
+-- why a reply has no line: the keeper failed, or memory ran out, perhaps for the line
+abbrev pub HasNoReply : Reply → Stop → Type 0
+HasNoReply KeeperFault stop = stop ≡ Keeper
+HasNoReply reply stop = stop ≡ Memory
+
+-- a short line needs no memory
+abbrev pub HasNoLines : Reply → Stop → Type 0
+HasNoLines reply stop = HasNoReply reply stop × (is_short reply ≡ false)
 
 -- the office's answer to a request, and the state after it
 abbrev pub answer_of : State → Request → Answer
@@ -61,6 +72,10 @@ needs_memory reply = true
 unfoldable pub takes_memory : State → Request → Bool
 takes_memory s asked = needs_memory (answer_of s asked).reply
 
+-- of all requests only a submission that is accepted is kept
+unfoldable pub is_to_keep : State → Request → Bool
+is_to_keep s asked = is_accepted (answer_of s asked).reply
+
 -- A step is the evaluation of a node. A table evaluates none.
 abbrev pub steps_for : State → Request → ℕ
 steps_for s (Submit id body) = evaluations s id body
@@ -72,5 +87,6 @@ protocol = record {
   reply = reply_of;
   next_state = state_after;
   takes_memory = takes_memory;
+  is_to_keep = is_to_keep;
   steps = steps_for;
 }

@@ -2,7 +2,7 @@
 use Rattle.std.specs.Prelude.{◌≡◌, ◌⊎◌, ℕ, true, List, Result, MatchResult}
 use Rattle.ghg_outer.specs.Tape.{Appends, AppendsProperPrefix, Rose, Tape}
 use Rattle.ghg_session.specs.declared.stop.Stop.{Stop}
-use Rattle.ghg_session.specs.declared.stop.Stop.TheVariants.{Input, Output, Memory}
+use Rattle.ghg_session.specs.declared.stop.Stop.TheVariants.{Input, Output, Keeper, Memory}
 
 -- The sink failed, where its count rose, or it grows and memory ran out, before all of the text was written.
 pub record StoppedWriting (before after : Tape) (text : List ℕ) (stop : Stop) : Type 0 where
@@ -20,4 +20,5 @@ WritesAll before after text result =
 abbrev pub stop_status : Stop → ℕ
 stop_status Input = 4
 stop_status Output = 5
+stop_status Keeper = 6
 stop_status Memory = 8

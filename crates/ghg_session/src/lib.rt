@@ -9,7 +9,9 @@
 //! - Where it is interrupted, the replies of the requests done were written, each before the next command was
 //!   read, and at most a proper prefix of the next reply, or of the line that gives the malformed command. So
 //!   a failure of the output never follows a complete output.
-//! - A failure of the input or the output comes only where its count of faults rose.
+//! - Where submissions are stored, the rows that the keeper tells are the accepted submissions. A submission
+//!   that the keeper fails to keep is left undone.
+//! - A failure of the input, the output or the keeper comes only where its count of faults rose.
 //!
 //! [`parses_texts`] says how the commands are written.
 #![tactic(auto)]

@@ -1,10 +1,11 @@
 //! The lines that reply to requests.
 
-ghost use Rattle.std.specs.Prelude.{◌≡◌, ◌≢◌, false, IfOk, OnErr, OnOk};
-ghost use Rattle.ghg_office.specs.Replies.{is_short, reply_text};
-ghost use Rattle.ghg_session.specs.Replies.{bytes_of, heading, line_count, table_lines};
+ghost use Rattle.std.specs.Prelude.{◌≡◌, false, IfErr, IfOk, OnOk};
+ghost use Rattle.ghg_office.specs.Replies.{is_failure, reply_text};
+ghost use Rattle.ghg_session.specs.Replies.{HasNoLines, HasNoReply, bytes_of, heading, line_count, table_lines};
 ghost use Rattle.ghg_session.specs.Session.{line_of};
 
+use crate::stop::Stop;
 use ghg_office::{Reply, ShortLine, append_reply, short_text};
 use ghg_units::Text;
 use std::alloc::{AllocError, Global};
@@ -18,16 +19,11 @@ pub enum Lines {
     Long { first: Vec<u8>, below: Text },
 }
 
-/// The lines that reply to a request for a table. That memory ran out is no reply.
-pub fn table_lines(
-    alloc: Global,
-    table: &[u8],
-    year: u32,
-    reply: Reply,
-) -> Result<Lines, AllocError>
+/// The lines that reply to a request for a table. That the keeper failed or memory ran out is no reply.
+pub fn table_lines(alloc: Global, table: &[u8], year: u32, reply: Reply) -> Result<Lines, Stop>
     ensures lines { IfOk result (λ lines. bytes_of lines ≡ table_lines table.now year reply) }
-    ensures answered { OnOk result (reply ≢ Reply.Memory) }
-    ensures short { OnErr result (is_short reply ≡ false) }
+    ensures answered { OnOk result (is_failure reply ≡ false) }
+    ensures none { IfErr result (HasNoLines reply) }
 {
     match reply {
         Reply::Table(text) => {
@@ -58,11 +54,12 @@ fn line_count(text: &[u8]) -> usize
     text.iter().filter(|b| **b == b'\n').count()
 }
 
-/// The line of a reply, with nothing under it. That memory ran out is no reply. A short line needs no memory.
-pub fn one_line(alloc: Global, reply: &Reply) -> Result<Lines, AllocError>
+/// The line of a reply, with nothing under it. That the keeper failed or memory ran out is no reply. A short
+/// line needs no memory.
+pub fn one_line(alloc: Global, reply: &Reply) -> Result<Lines, Stop>
     ensures line { IfOk result (λ lines. bytes_of lines ≡ line_of (reply_text reply.now)) }
-    ensures answered { OnOk result (reply.now ≢ Reply.Memory) }
-    ensures short { OnErr result (is_short reply.now ≡ false) }
+    ensures answered { OnOk result (is_failure reply.now ≡ false) }
+    ensures none { IfErr result (HasNoLines reply.now) }
 {
     match short_text(reply) {
         Some(mut line) => {
@@ -77,13 +74,15 @@ pub fn one_line(alloc: Global, reply: &Reply) -> Result<Lines, AllocError>
     }
 }
 
-// The line of a reply, in memory. That memory ran out is no reply.
-fn long_line(alloc: Global, reply: &Reply) -> Result<Vec<u8>, AllocError>
+// The line of a reply, in memory.
+fn long_line(alloc: Global, reply: &Reply) -> Result<Vec<u8>, Stop>
     ensures line { IfOk result (λ line. line.items ≡ line_of (reply_text reply.now)) }
-    ensures answered { OnOk result (reply.now ≢ Reply.Memory) }
+    ensures answered { OnOk result (is_failure reply.now ≡ false) }
+    ensures none { IfErr result (HasNoReply reply.now) }
 {
     match reply {
-        Reply::Memory => Err(AllocError),
+        Reply::KeeperFault => Err(Stop::Keeper),
+        Reply::Memory => Err(Stop::Memory),
         _ => {
             let mut line = Vec::new(alloc);
             append_reply(&mut line, reply)?;

@@ -1,8 +1,10 @@
 //! Answers a whole script.
 
-ghost use Rattle.std.specs.Prelude.{◌≡◌, ◌+◌, ◌<◌, ◌≤◌, ◌^◌, true, IfOk, OnErr, OnOk};
-ghost use Rattle.ghg_session.specs.Interruptions.{AnswersScript, TakesTurn};
-ghost use Rattle.ghg_session.specs.Replies.{bytes_of, protocol, reply_of, state_after, steps_for, takes_memory};
+ghost use Rattle.std.specs.Prelude.{◌≡◌, ◌+◌, ◌<◌, ◌≤◌, ◌^◌, true, false, IfErr, IfOk, IsErrOf, OnErr, OnOk};
+ghost use Rattle.ghg_office.specs.Keeping.{KeepsAccepted, Lists};
+ghost use Rattle.ghg_outer.specs.Counts.{IsCounted};
+ghost use Rattle.ghg_session.specs.Interruptions.{AnswersScript, MayLeaveUndone, TakesTurn};
+ghost use Rattle.ghg_session.specs.Replies.{bytes_of, protocol, reply_of, state_after, steps_for};
 ghost use Rattle.ghg_session.specs.Script.{most_commands};
 ghost use Rattle.ghg_session.specs.Session.{beginning, end_status, position, snapshot, wrong_line};
 ghost use Rattle.ghg_session.specs.Writing.{WritesAll};
@@ -13,11 +15,12 @@ use crate::reply::{Lines, one_line, table_lines};
 use crate::stop::Stop;
 use crate::writing::write_all;
 use arrayvec::ArrayVec;
+use ghg_keeper::Keeper;
 use ghg_office::Office;
 use ghg_outer::{Sink, Source};
 use ghg_steps::Steps;
 use itoa::Buffer;
-use std::alloc::{AllocError, Global};
+use std::alloc::Global;
 use std::sync::ledger::Ledger;
 
 /// How a session ends.
@@ -45,20 +48,31 @@ impl End {
 const MOST_COMMANDS: u32 = 1_000_000;
 
 /// Answers a script to its end, command by command: each reply is written whole before the next command
-/// is read.
-pub fn answer_script<S: Source, W: Sink, L: Ledger>(
+/// is read. Where submissions are stored, the keeper keeps each one before it is accepted.
+pub fn answer_script<S: Source, W: Sink, K: Keeper, L: Ledger>(
     alloc: Global,
     input: &mut S,
     out: &mut W,
     office: &mut Office,
+    keeper: &mut K,
+    stored: bool,
     steps: &mut Steps<L>,
 ) -> Result<End, Stop>
-    ensures { AnswersScript protocol
+    requires { stored ≡ true → Lists (K.shelf keeper.old) office.old.accepted }
+    ensures session { AnswersScript protocol
         (beginning (snapshot office.old (S.tape input.old) (W.tape out.old) steps.old))
         (snapshot office.new (S.tape input.new) (W.tape out.new) steps.new) result }
+    // With every result the keeper's rows are the accepted submissions.
+    ensures kept { stored ≡ true
+        → KeepsAccepted (K.shelf keeper.old) (K.shelf keeper.new) office.new.accepted }
+    ensures untouched { stored ≡ false → keeper.new ≡ keeper.old }
+    // The session stops at the keeper only where that keeps the submissions, and its count of faults rose.
+    ensures stored { IsErrOf result Stop.Keeper → stored ≡ true }
+    ensures counted { IsCounted (K.shelf keeper.old).faults (K.shelf keeper.new).faults
+        (IsErrOf result Stop.Keeper) }
 {
     'commands: for done in 0..MOST_COMMANDS {
-        match turn(alloc, input, out, office, done, steps) {
+        match turn(alloc, input, out, office, keeper, stored, done, steps) {
             Ok(None) => {}
             Ok(Some(end)) => return Ok(end),
             Err(stop) => return Err(stop),
@@ -71,18 +85,27 @@ pub fn answer_script<S: Source, W: Sink, L: Ledger>(
 }
 
 // Answers the next command, or says how the session ended.
-fn turn<S: Source, W: Sink, L: Ledger>(
+fn turn<S: Source, W: Sink, K: Keeper, L: Ledger>(
     alloc: Global,
     input: &mut S,
     out: &mut W,
     office: &mut Office,
+    keeper: &mut K,
+    stored: bool,
     done: u32,
     steps: &mut Steps<L>,
 ) -> Result<Option<End>, Stop>
-    requires { done < most_commands }
-    ensures { TakesTurn protocol
+    requires allowed { done < most_commands }
+    requires same { stored ≡ true → Lists (K.shelf keeper.old) office.old.accepted }
+    ensures turn { TakesTurn protocol
         (position done (snapshot office.old (S.tape input.old) (W.tape out.old) steps.old))
         (snapshot office.new (S.tape input.new) (W.tape out.new) steps.new) result }
+    ensures kept { stored ≡ true
+        → KeepsAccepted (K.shelf keeper.old) (K.shelf keeper.new) office.new.accepted }
+    ensures untouched { stored ≡ false → keeper.new ≡ keeper.old }
+    ensures stored { IsErrOf result Stop.Keeper → stored ≡ true }
+    ensures counted { IsCounted (K.shelf keeper.old).faults (K.shelf keeper.new).faults
+        (IsErrOf result Stop.Keeper) }
 {
     match next_command(alloc, input)? {
         None => match refuse(out, done + 1) {
@@ -91,7 +114,7 @@ fn turn<S: Source, W: Sink, L: Ledger>(
         },
         Some(Command::End) => Ok(Some(End::Script)),
         Some(Command::Request(request)) => {
-            let lines = answer(alloc, office, &request, steps)?;
+            let lines = answer(alloc, office, &request, keeper, stored, steps)?;
             match write_lines(out, &lines) {
                 Ok(()) => Ok(None),
                 Err(stop) => Err(stop),
@@ -134,23 +157,33 @@ fn write_lines<W: Sink>(out: &mut W, lines: &Lines) -> Result<(), Stop>
     }
 }
 
-// The lines that reply to a request. Only a request that takes memory is left undone for want of it.
+// The lines that reply to a request. It is left undone for want of memory only where it takes memory, and for
+// a fault of the keeper only where it would be accepted.
 #[tactic(auto, unfolding(crate::specs::Replies::reply_of, crate::specs::Replies::state_after))]
-fn answer<L: Ledger>(
+fn answer<K: Keeper, L: Ledger>(
     alloc: Global,
     office: &mut Office,
     request: &Request,
+    keeper: &mut K,
+    stored: bool,
     steps: &mut Steps<L>,
-) -> Result<Lines, AllocError>
+) -> Result<Lines, Stop>
+    requires { stored ≡ true → Lists (K.shelf keeper.old) office.old.accepted }
     ensures lines { IfOk result (λ lines. bytes_of lines ≡ reply_of office.old request.now) }
     ensures after { OnOk result (office.new ≡ state_after office.old request.now) }
     ensures undone { OnErr result (office.new ≡ office.old) }
-    ensures memory { OnErr result (takes_memory office.old request.now ≡ true) }
+    ensures cause { IfErr result (MayLeaveUndone protocol office.old request.now) }
     ensures steps { steps.new ≤ steps.old + steps_for office.old request.now }
+    ensures kept { stored ≡ true
+        → KeepsAccepted (K.shelf keeper.old) (K.shelf keeper.new) office.new.accepted }
+    ensures untouched { stored ≡ false → keeper.new ≡ keeper.old }
+    ensures stored { IsErrOf result Stop.Keeper → stored ≡ true }
+    ensures counted { IsCounted (K.shelf keeper.old).faults (K.shelf keeper.new).faults
+        (IsErrOf result Stop.Keeper) }
 {
     match request {
         Request::Submit { id, body } => {
-            let reply = office.submit(alloc, id.as_slice(), body.as_slice(), steps);
+            let reply = office.submit(alloc, id.as_slice(), body.as_slice(), keeper, stored, steps);
             one_line(alloc, &reply)
         }
         Request::Show { table, year } => {

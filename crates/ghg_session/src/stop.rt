@@ -13,6 +13,8 @@ pub enum Stop {
     Input,
     /// The output failed.
     Output,
+    /// The keeper failed to keep a submission, which was left undone.
+    Keeper,
     /// Memory ran out, here or at the output.
     Memory,
 }
@@ -25,6 +27,7 @@ impl Stop {
         match self {
             Stop::Input => 4,
             Stop::Output => 5,
+            Stop::Keeper => 6,
             Stop::Memory => 8,
         }
     }

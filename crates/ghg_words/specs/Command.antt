@@ -1,5 +1,5 @@
 -- The command that the words after the program's name ask for.
-use Rattle.std.specs.Prelude.{ℕ, ◌&&◌, List, [], ◌∷◌, if◌then◌else◌, Option, Some, None, is_none, option_map, option_and_then, codes}
+use Rattle.std.specs.Prelude.{⊤, ℕ, ◌≤◌, ◌&&◌, List, [], ◌∷◌, if◌then◌else◌, Option, Some, None, is_none, option_map, option_and_then, codes}
 use Rattle.std.specs.Str.{bytes_eq}
 use Rattle.ghg_words.specs.declared.command.Command.{Command}
 use Rattle.ghg_words.specs.declared.command.Command.TheVariants.{Compile, Serve}
@@ -46,3 +46,8 @@ command_named word o =
 unfoldable pub command_in : List (List ℕ) → Option Command
 command_in [] = None
 command_in (word ∷ words) = option_and_then (command_named word) (options_in no_options words)
+
+-- a command serves one connection at least
+abbrev pub ServesSome : Command → Type 0
+ServesSome (Compile settings) = ⊤
+ServesSome (Serve service) = 1 ≤ service.connections

@@ -1,8 +1,8 @@
 //! Commands, and the words that ask for them.
 
-ghost use Rattle.std.specs.Prelude.{◌≡◌, map, option_map, option_and_then};
+ghost use Rattle.std.specs.Prelude.{◌≡◌, IfSome, map, option_map, option_and_then};
 ghost use Rattle.std.specs.String.{string_bytes};
-ghost use Rattle.ghg_words.specs.Command.{command_in, compile_of, serve_of, settings_of};
+ghost use Rattle.ghg_words.specs.Command.{ServesSome, command_in, compile_of, serve_of, settings_of};
 ghost use Rattle.ghg_words.specs.Options.{seen};
 
 use crate::options::{Options, read_options};
@@ -39,7 +39,8 @@ pub struct Service<'a> {
 /// Reads the words after the program's name. `None` where they are no command.
 #[tactic(auto, unfolding(crate::specs::Command::command_in))]
 pub fn read_command(words: &[String]) -> Option<Command<'_>>
-    ensures { result ≡ command_in (map string_bytes words.now) }
+    ensures command { result ≡ command_in (map string_bytes words.now) }
+    ensures some { IfSome result ServesSome }
 {
     let (word, rest) = words.split_first()?;
     let options = read_options(rest)?;
@@ -51,7 +52,8 @@ pub fn read_command(words: &[String]) -> Option<Command<'_>>
 }
 
 fn compile_with(options: Options<'_>) -> Option<Command<'_>>
-    ensures { result ≡ compile_of (seen options.entry) }
+    ensures command { result ≡ compile_of (seen options.entry) }
+    ensures some { IfSome result ServesSome }
 {
     if options.port.is_some() || options.connections.is_some() {
         return None;
@@ -60,7 +62,8 @@ fn compile_with(options: Options<'_>) -> Option<Command<'_>>
 }
 
 fn serve_with(options: Options<'_>) -> Option<Command<'_>>
-    ensures { result ≡ serve_of (seen options.entry) }
+    ensures command { result ≡ serve_of (seen options.entry) }
+    ensures some { IfSome result ServesSome }
 {
     Some(Command::Serve(Service {
         settings: settings_from(options)?,

@@ -65,6 +65,7 @@ fn all_store_bytes(bytes: &[u8]) -> bool
 #[tactic(auto, unfolding(crate::specs::Values::number_within))]
 pub fn number_within(low: u32, high: u32, text: &str) -> Option<u32>
     ensures value { result ≡ number_within low high text.now }
+    ensures least { IfSome result (λ n. low ≤ n) }
     ensures bound { IfSome result (λ n. n ≤ high) }
 {
     if text.len() > 10 || !all_digits(text.as_bytes()) {

@@ -1,8 +1,16 @@
+use Rattle.std.proofs.Common.{◌≡◌, ◌≤◌, true, false}
+use Rattle.ghg_office.specs.Keeping.{KeepsAccepted}
 use Rattle.ghg_session.specs.Replies.{protocol}
 use Rattle.ghg_session.specs.Session.{Continues, beginning, position, snapshot}
 use Rattle.ghg_session.proofs.session.answer_script.Given as goal
 
 abbrev pub invariant-commands : goal.invariant-commands
-invariant-commands g l = Continues protocol
-    (beginning (snapshot l.fn.office (g.S.Told.tape l.fn.input) (g.W.Told.tape l.fn.out) l.fn.steps))
-    (position l.done (snapshot l.office (g.S.Told.tape l.input) (g.W.Told.tape l.out) l.steps))
+invariant-commands g l = record {
+  session : Continues protocol
+      (beginning (snapshot l.fn.office (g.S.Told.tape l.fn.input) (g.W.Told.tape l.fn.out) l.fn.steps))
+      (position l.done (snapshot l.office (g.S.Told.tape l.input) (g.W.Told.tape l.out) l.steps));
+  kept : l.stored ≡ true
+      → KeepsAccepted (g.K.Keeper.shelf l.fn.keeper) (g.K.Keeper.shelf l.keeper) l.office.accepted;
+  untouched : l.stored ≡ false → l.keeper ≡ l.fn.keeper;
+  counts : (g.K.Keeper.shelf l.fn.keeper).faults ≤ (g.K.Keeper.shelf l.keeper).faults;
+}
