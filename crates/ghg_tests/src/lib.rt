@@ -12,8 +12,6 @@ mod cases;
 #[cfg(test)]
 mod categories;
 #[cfg(test)]
-mod commands;
-#[cfg(test)]
 mod doors;
 #[cfg(test)]
 mod equations;

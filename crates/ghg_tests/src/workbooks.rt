@@ -440,31 +440,18 @@ fn nodes_have_their_values(rt: HostRuntime) {
         "three lines",
     );
     let gas = name(&rt, "ELEC.GAS");
-    check(
-        &rt,
-        has_value(&engine, Node::Line(gas, 1990), "56.1,54.3,58.3"),
-        "a line",
-    );
-    check(
-        &rt,
-        has_value(&engine, Node::Equiv(gas, 1990), "56.1,54.3,116.6"),
-        "1990",
-    );
-    check(
-        &rt,
-        has_value(&engine, Node::Equiv(gas, 1991), "112.2,108.6,233.2"),
-        "1991",
-    );
-    check(
-        &rt,
-        has_value(&engine, Node::Line(name(&rt, "BOILER"), 1991), "NE"),
-        "a blank",
-    );
-    check(
-        &rt,
-        has_value(&engine, Node::Line(gas, 1992), ""),
-        "no year of the span",
-    );
+    for (node, want) in [
+        (Node::Line(gas, 1990), "56.1,54.3,58.3"),
+        (Node::Equiv(gas, 1990), "56.1,54.3,116.6"),
+        (Node::Equiv(gas, 1991), "112.2,108.6,233.2"),
+        (Node::Line(name(&rt, "BOILER"), 1991), "NE"),
+        // no year of the span
+        (Node::Line(gas, 1992), ""),
+        (Node::Gross(1990), "84.15,81.45,174.9"),
+        (Node::Gross(1991), "112.2,108.6,233.2"),
+    ] {
+        check(&rt, has_value(&engine, node, want), want);
+    }
     for (category, year, want) in TOTALS {
         check(
             &rt,
@@ -472,16 +459,6 @@ fn nodes_have_their_values(rt: HostRuntime) {
             want,
         );
     }
-    check(
-        &rt,
-        has_value(&engine, Node::Gross(1990), "84.15,81.45,174.9"),
-        "gross of 1990",
-    );
-    check(
-        &rt,
-        has_value(&engine, Node::Gross(1991), "112.2,108.6,233.2"),
-        "gross of 1991",
-    );
 }
 
 const GREAT_PLANT: &str = "enter,span,,,1990,1991,1990,,,\nenter,line,1A1a,ELEC.GAS,,Q10,,,,\n\

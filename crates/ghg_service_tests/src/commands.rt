@@ -1,10 +1,15 @@
 //! Command lines, and the same ones as `clap` reads them.
 
-use crate::cases::check;
 use clap::{Arg, ArgAction, ArgMatches, Error};
 use ghg_words::{Command, Settings, read_command};
 use std::alloc::{AllocError, Global};
+use std::process::Abort;
 use std::test::Fail;
+
+// Fails with the line where it is not read as it has to be.
+fn check(rt: &impl Abort, holds: bool, line: &str) {
+    assert!(rt; holds, "{line}");
+}
 
 // The words of a line, as the program gets them.
 fn words_of(alloc: Global, line: &str) -> Result<Vec<String>, AllocError> {
