@@ -5,6 +5,7 @@ import re
 
 from tools import causes, vocabulary
 from tools.faults import at_row
+from tools.other_words import OTHER_ACTS, OTHER_KINDS
 from tools.sheets import COLUMNS
 from tools.vocabulary import listed, nearest
 
@@ -16,11 +17,27 @@ STAND_INS = {"act": "enter", "subject": "X", "name": "X", "year": "2000", "value
 class Asking:
     """Explanations.
 
-    `takes` asks the program whether it takes a row at a column; `book` is what is in force.
+    `takes` asks the program whether it takes a row at a column; `book` is what is in force, `refused` has the
+    rows that were taken out, and `ahead` all rows as they are meant.
     """
 
-    def __init__(self, takes, book, refused):
-        self.takes, self.book, self.refused = takes, book, refused
+    def __init__(self, takes, book, refused, ahead):
+        self.takes, self.book, self.refused, self.ahead = takes, book, refused, ahead
+
+    def parameters_that_take(self, row):
+        """The parameters that the record of a row is bound to, each with the form of its binding: those in
+        force, else those of any row.
+        """
+        kind, name = row.field("kind"), causes.name(row.field("name")).text
+        return self.book.parameters_that_take(kind, name) or self.ahead.parameters_that_take(kind, name)
+
+    def measured(self, row):
+        """What the record of a row measures in another year, or for the parameters that take it, or None."""
+        record = self.book.some_record(row.field("kind"), row.field("name"))
+        if record:
+            return vocabulary.measured_by(record.field("unit"))
+        wanted = {vocabulary.record_of(parameter) for parameter, _ in self.parameters_that_take(row)}
+        return wanted.pop() if len(wanted) == 1 else None
 
     def first_taken(self, row, column, candidates, otherwise):
         """The first candidate that the program takes: a cause, a text and whether it is sure.
@@ -47,6 +64,14 @@ class Asking:
         otherwise = f"{'no such word' if bare.text else 'empty'}; {what}"
         return self.first_taken(row, column, candidates, otherwise)
 
+    def other_word(self, row, column, others, known, what):
+        """One of a few words, or another word for one."""
+        said = f"{what} {listed(known)}"
+        meant = others.get(causes.without_blanks(row.field(column)).text.casefold())
+        if meant:
+            return self.first_taken(row, column, [("no such word", meant, True)], said)
+        return self.choice(row, column, known, said)
+
     def filled(self, row, column, cause):
         """A column that has to be empty."""
         text = row.field(column)
@@ -62,7 +87,7 @@ class Asking:
         word = kind_by_its_rest(row) if column == "kind" else STAND_INS.get(column)
         if word is None or row.field(column) == word:
             return None
-        if is_empty(row) or is_header(row) or is_total(row):
+        if is_empty(row) or is_header(row) or is_total(row) or is_note(row):
             return None
         changed = row.with_fields(**{column: word})
         return changed if self.takes(changed, column) else None
@@ -91,8 +116,9 @@ def is_empty(row):
 
 
 def is_header(row):
-    """Tells whether a row is the header once more."""
-    return [field.strip().casefold() for field in row.fields] == COLUMNS
+    """Tells whether a row is the header once more, some of it under other names."""
+    same = [field.strip().casefold() == column for field, column in zip(row.fields, COLUMNS)]
+    return sum(same) > len(COLUMNS) // 2
 
 
 def is_total(row):
@@ -101,6 +127,23 @@ def is_total(row):
     has_kind = len(row.fields) > 1 and row.fields[1].strip()
     total = r"((grand|sub)[ -]?)?totals?\b.*|sum( of\b.*)?"
     return not has_kind and any(re.fullmatch(total, text.strip(), re.IGNORECASE) for text in named)
+
+
+def has_figure(row):
+    """Tells whether a row has what no merged cell holds: a figure of a year, a form or an equation."""
+    value = row.field("value").strip()
+    if value and re.fullmatch(r"\d{4}", causes.year(row.field("year")).text):
+        return True
+    return value.casefold() in vocabulary.words()["forms"] or bool(re.fullmatch(r"[Qq]\d+", value))
+
+
+def is_note(row):
+    """Tells whether a row is a heading or a note: text, but neither an act nor a kind nor a figure."""
+    words = vocabulary.words()
+    act, kind = (row.field(column).strip().casefold() for column in ("act", "kind"))
+    known = nearest(act, [*words["acts"], *OTHER_ACTS], 1, 0.75) if act else []
+    of_kind = nearest(kind, [*words["kinds"], *OTHER_KINDS], 1, 0.75) if kind else []
+    return not known and not of_kind and not has_figure(row)
 
 
 def cause_of(found):

@@ -1,4 +1,4 @@
-"""Explains the refusals that name a line, a node or a limit: rules 10 to 13.
+"""Explains the refusals that name a line and a parameter: rule 10.
 
 They are judged with all rows of a file applied. What stands where is looked up in the book after these rows.
 To find the next fault, the row at fault is taken out, or a binding takes NE in its place, so that its line
@@ -6,12 +6,13 @@ stays and is blank.
 """
 import re
 
-from tools import vocabulary
+from tools import units, vocabulary
 from tools.asking import article
 from tools.book import lines_taken_by, record_taken_by
-from tools.faults import Fault, at_row, counted
+from tools.faults import at_row, counted
 from tools.sheets import COLUMNS, Row, joined
 from tools.shifts import said_of_swapped
+from tools.unit_faults import years_of_rate
 from tools.vocabulary import limit, listed, nearest, said_of_parameter
 
 
@@ -22,12 +23,12 @@ HALF_LIFE = "NO.SUCH.HALF.LIFE.-.-.-."
 
 
 class After:
-    """The data after a file's rows, of which some are the file's own; the rows that were refused; and what
-    later files enter.
+    """The data after a file's rows, of which some are the file's own; the rows that were refused; and all
+    rows as they are meant.
     """
 
-    def __init__(self, book, rows, refused, later):
-        self.book, self.rows, self.refused, self.later = book, rows, refused, later
+    def __init__(self, book, rows, refused, ahead):
+        self.book, self.rows, self.refused, self.ahead = book, rows, refused, ahead
 
     def is_own(self, row):
         """Tells whether a row is of the file at hand."""
@@ -53,10 +54,15 @@ class After:
 
     def in_later_file(self, kind, name):
         """That a later file enters what is not there, or nothing."""
-        row = self.later.entry(kind, name)
+        row = self.ahead.entry(kind, name)
         if row is None:
             return ""
-        return f"{kind} {name} is entered in a later file ({row.place}); put that file in front of this one"
+        entered = f"{kind} {name} is entered in a later file ({row.place})"
+        return f"{entered}; put that file in front of this one, by its number or in ORDER.txt"
+
+    def line_of(self, name):
+        """The row of a line, there or meant to be there, or None."""
+        return self.book.lines.get(name) or self.ahead.row_of("line", name)
 
     def changed(self, changed, **fields):
         """The file's rows with other fields in one of them."""
@@ -168,7 +174,9 @@ def uncertainty_without_line(line, after):
     elif after.in_later_file("line", line):
         fault = at_row(row, after.in_later_file("line", line), "name")
     else:
-        fault = at_row(row, f"there is no line {line}{nearest_line(near, after)}", "name")
+        other = after.book.rows.get((UNCERTAINTY, near[0])) if near else None
+        known = f", whose uncertainty stands at {other.place}; take one of the two out" if other else ""
+        fault = at_row(row, f"there is no line {line}{nearest_line(near, after)}{known}", "name")
     after.refused.add([row])
     return fault, after.without([row])
 
@@ -200,7 +208,8 @@ def without_parameter(holder, bound, parameters, after):
     if near:
         return at_row(bound, has, "name", near[0]), after.changed(bound, name=near[0])
     after.refused.add([bound])
-    return at_row(bound, has, "name"), after.without([bound])
+    done = "" if unbound else "; all of them are bound, so take the row out"
+    return at_row(bound, f"{has}{done}", "name"), after.without([bound])
 
 
 def may_take(bound, parameter, after):
@@ -235,9 +244,24 @@ def without_binding(holder, wanted, after):
     astray = [row for row in after.acts_on("bind", name, ("enter",)) if is_astray(row, line, after)]
     if astray:
         return misspelt_line(astray[0], line, after)
-    form = "decay" if vocabulary.is_decay(wanted) else "FORM"
-    write = f"a row enter,bind,{line},{name},,{form},TARGET,,,"
+    form, target = target_left(wanted, after)
+    write = f"a row enter,bind,{line},{name},,{form},{target},,,"
     return at_row(holder, f"{needs}, and no row binds it", "name", write), with_blank
+
+
+def target_left(wanted, after):
+    """The form and the target of a binding that is missing: the one record that measures what is wanted and
+    that nothing takes, else placeholders.
+    """
+    taken = set(after.book.taken()) | after.refused.meant_records
+    measures = vocabulary.record_of(wanted)
+    left = [(kind, name) for kind, named in after.book.years.items() for name in named
+            if (kind, name) not in taken and not name.startswith("GWP.")
+            and vocabulary.measured_by(after.book.some_record(kind, name).field("unit")) == measures]
+    decays = vocabulary.is_decay(wanted)
+    if len(left) == 1:
+        return "decay" if decays else left[0][0], left[0][1]
+    return "decay" if decays else "FORM", "TARGET"
 
 
 def is_astray(bound, line, after):
@@ -271,6 +295,7 @@ def of_another_form(bound, holder, wanted, after):
         return at_row(bound, cause, "value", meant), after.changed(bound, value=meant)
     if record and vocabulary.is_decay(wanted):
         cause += f", and {taken[0]} {taken[1]} is in {record.field('unit')} ({measures}) at {record.place}"
+        cause += way_to(wanted, record)
     return at_row(bound, cause, "value"), after.without_target(bound, wanted)
 
 
@@ -280,13 +305,13 @@ def of_record(bound, holder, wanted, after):
     record = after.book.some_record(kind, name)
     if record is None:
         return without_record(bound, wanted, after)
-    units = listed(vocabulary.units_that_measure(vocabulary.record_of(wanted)))
+    words = listed(vocabulary.units_that_measure(vocabulary.record_of(wanted)))
     measured = f"{kind} {name} is in {record.field('unit')} ({vocabulary.measured_by(record.field('unit'))})"
     after.refused.meant_records.add((kind, name))
     of = f"the {wanted['measures']} of a half-life" if vocabulary.is_decay(wanted) else wanted["measures"]
-    takes = f"{wanted['name']} of {holder.field('value')} takes {of} ({units})"
+    takes = f"{wanted['name']} of {holder.field('value')} takes {of} ({words})"
     if after.is_own(bound):
-        cause = f"{takes}, and {measured} at {record.place}"
+        cause = f"{takes}, and {measured} at {record.place}{way_to(wanted, record)}"
         return at_row(bound, cause, "low"), after.without_target(bound, wanted)
     cause = f"{takes}, and {measured}; the binding stands at {bound.place}"
     entered = after.acts_on(kind, name, ("enter", "correct"))
@@ -295,6 +320,25 @@ def of_record(bound, holder, wanted, after):
     if after.is_own(holder):
         return at_row(holder, cause, "value"), after.without_line(holder.field("name"))
     return None, None
+
+
+def way_to(wanted, record):
+    """How a record that measures something else comes to what a parameter takes, where that is known."""
+    unit, measures = record.field("unit"), vocabulary.record_of(wanted)
+    years = years_of_rate(record.field("value")) if measures == vocabulary.half_life() else None
+    if years:
+        return f"; of a yearly rate of {record.field('value')} write the half-life, {years} in yr, there"
+    meant = units.meant(unit, measures)
+    if meant and vocabulary.measured_by(meant.word) == measures:
+        return f"; write {meant.word} there{'' if meant.times == 1 else f' ({meant.said})'}"
+    known = vocabulary.units_that_measure(measures)
+    if len(known) == 1 and known[0].startswith(f"{unit}/"):
+        return f"; write {known[0]} there"
+    makes = vocabulary.made_of(vocabulary.measured_by(unit), measures)
+    if not makes:
+        return ""
+    of_it = vocabulary.equations()[makes[0]]["computes"]
+    return f"; a line of {makes[0]} ({of_it}) makes it: ./workbook words {makes[0]} shows its rows"
 
 
 def without_record(bound, wanted, after):
@@ -313,12 +357,17 @@ def without_record(bound, wanted, after):
         column, write = ("low", None) if vocabulary.is_decay(wanted) else ("value", other)
         fault = at_row(bound, f"{name} is no {kind} but {article(other)} ({place})", column, write)
         after.refused.meant_records.add((other, name))
+    elif after.line_of(name) and not vocabulary.is_decay(wanted):
+        place = after.line_of(name).place
+        fault = at_row(bound, f"{name} is no {kind} but a line ({place})", "value", "line")
     elif after.in_later_file(kind, name):
         fault = at_row(bound, after.in_later_file(kind, name), "low")
         after.refused.meant_records.add((kind, name))
     else:
         near = nearest_record(kind, name, after.book)
-        which = ": no row enters it"
+        unit = vocabulary.HALF_LIFE_UNIT if vocabulary.is_decay(wanted) else wanted["unit"]
+        year = after.book.span[0] if after.book.span else "YEAR"
+        which = f": no row enters it; write a row enter,{kind},,{name},{year},VALUE,,,{unit},"
         if near:
             which = f"; the nearest is {near[0]} ({after.book.some_record(kind, near[0]).place})"
         fault = at_row(bound, f"there is no {kind} of this name{which}", "low")
@@ -350,7 +399,7 @@ def of_lines(bound, holder, wanted, after):
     """A binding to lines of which one is not there, or gives something else."""
     absent = [name for name in lines_taken_by(bound) if name not in after.book.lines]
     if absent:
-        return absent_lines(bound, absent, after)
+        return absent_lines(bound, absent, wanted, after)
     for name in lines_taken_by(bound):
         taken = after.book.lines[name]
         code = taken.field("value")
@@ -359,6 +408,7 @@ def of_lines(bound, holder, wanted, after):
             cause = f"{wanted['name']} of {holder.field('value')} takes {takes}"
             cause += f", and line {name} ({code} at {taken.place}) gives {given(code)}"
             if after.is_own(bound):
+                cause += lines_that_give(wanted, bound, name, after.book)
                 return at_row(bound, cause, "low"), after.blank(bound)
             changed = [row for row in (taken, holder) if after.is_own(row)]
             if not changed:
@@ -368,19 +418,36 @@ def of_lines(bound, holder, wanted, after):
     return None, None
 
 
+def lines_that_give(wanted, bound, name, book):
+    """The nearest lines by name that give what a parameter takes, where there are any."""
+    there = [other for other, row in book.lines.items() if other != bound.field("subject")
+             and vocabulary.given_by(row.field("value")) == wanted["measures"]]
+    near = [f"line {other} ({book.lines[other].place})" for other in nearest(name, there, 2, 0.5)]
+    if not near:
+        known = {other: book.some_record("activity", other) for other in book.years["activity"]}
+        measured = [other for other, row in known.items()
+                    if vocabulary.measured_by(row.field("unit")) == wanted["measures"]]
+        near = [f"activity {other} ({known[other].place})" for other in nearest(name, measured, 1, 0.5)]
+    return f"; near it {listed(near, 'and')} {'has' if len(near) == 1 else 'have'} that" if near else ""
+
+
 def given(code):
     """What a line of an equation gives, with its unit."""
     output = vocabulary.equations()[code]["output"]
     return f"{output['gas']} (Gg)" if "gas" in output else f"{output['measures']} ({output['unit']})"
 
 
-def absent_lines(bound, names, after):
+def absent_lines(bound, names, wanted, after):
     """A binding to lines that are not there. A sum goes on with the others."""
     if not after.is_own(bound):
         gone = after.acts_on("line", names[0], ("withdraw",))
         return taken_away(gone, f"line {names[0]}", bound, after.without_line(names[0]))
     refused = [after.refused.that_sets(("line", name)) for name in names]
     cause = "; ".join(absent_line(name, row, after) for name, row in zip(names, refused))
+    kind, record = record_of_name(names[0], after.book)
+    if lines_taken_by(bound) == names[:1] and record and not refused[0] \
+            and vocabulary.measured_by(record.field("unit")) == vocabulary.record_of(wanted):
+        cause += f"; write {kind} in value"
     fault = at_row(bound, cause, "low", follows=refused[0].place if all(refused) else None)
     others = [name for name in lines_taken_by(bound) if name not in names]
     return fault, after.changed(bound, low=" ".join(others)) if others else after.blank(bound)
@@ -390,107 +457,20 @@ def absent_line(name, refused, after):
     """Why a line is not there."""
     if refused:
         return f"there is no line {name}, since its row was refused"
-    activity = after.book.some_record("activity", name)
-    if activity:
-        after.refused.meant_records.add(("activity", name))
-        return f"{name} is no line but an activity ({activity.place})"
+    kind, record = record_of_name(name, after.book)
+    if record:
+        after.refused.meant_records.add((kind, name))
+        return f"{name} is no line but {article(kind)} ({record.place})"
     near = nearest(name, after.book.lines, 1, 0.7)
     return after.in_later_file("line", name) or f"there is no line {name}{nearest_line(near, after)}"
+
+
+def record_of_name(name, book):
+    """The kind and the earliest record of an activity or a factor of this name, or None twice."""
+    found = [(kind, book.some_record(kind, name)) for kind in book.years if book.some_record(kind, name)]
+    return found[0] if found else (None, None)
 
 
 def nearest_line(near, after):
     """The nearest line that there is, with its place."""
     return f"; the nearest is {near[0]} ({after.book.lines[near[0]].place})" if near else ""
-
-
-def ring(line, after):
-    """The fault of lines that take each other in a ring, and the rows with one of its bindings blank."""
-    path = bindings_to_itself(line, after.book)
-    own = [bound for bound in path if after.is_own(bound)]
-    if not own:
-        return None, None
-    steps = [f"{bound.field('subject')} takes {taken} ({bound.place})"
-             for bound, taken in zip(path, following(path, line))]
-    cause = f"lines take each other's values of the same year in a ring: {listed(steps, 'and')}"
-    cause += "; bind one of them to last year by prev, or to an activity"
-    return at_row(own[0], cause, "low"), after.blank(own[0])
-
-
-def following(path, line):
-    """The line that each binding of a path takes on it."""
-    return [bound.field("subject") for bound in path[1:]] + [line]
-
-
-def bindings_to_itself(line, book):
-    """The bindings by which a line takes itself in the same year, over as few lines as there are."""
-    reached, waiting = {}, [line]
-    while waiting:
-        name = waiting.pop(0)
-        for bound in book.bindings.get(name, {}).values():
-            for taken in lines_taken_by(bound) if bound.field("value") != "prev" else []:
-                if taken == line:
-                    return path_to(name, reached) + [bound]
-                if taken not in reached:
-                    reached[taken] = bound
-                    waiting.append(taken)
-    return []
-
-
-def path_to(name, reached):
-    """The bindings over which a line was reached."""
-    path = []
-    while name in reached:
-        path.insert(0, reached[name])
-        name = reached[name].field("subject")
-    return path
-
-
-def overflow(node, sheet, after):
-    """The fault of a node beyond the limits, and the rows with one of its figures blank."""
-    kind, *rest = node.split(":")
-    year = int(rest[-1])
-    equivalents = f"{limit('equivalent')} Gg of CO2 equivalent"
-    if kind in ("total", "gross"):
-        code = rest[0] if kind == "total" else "0"
-        cause = f"the total of {code} in {year} is beyond {equivalents} with the rows of this file"
-        cause += "; look for a figure in a wrong unit"
-        return Fault(sheet, 1, "", None, cause), None
-    inputs = inputs_of(rest[0], year, after.book)
-    what = f"line {rest[0]} in {year}, or a result on the way to it, is beyond {limit('figure')} units"
-    if kind == "equiv":
-        what = f"line {rest[0]} in {year} is beyond {equivalents}"
-        gas = f"GWP.{vocabulary.gas_of(after.book.lines[rest[0]].field('value'))}"
-        inputs.append((gas, after.book.in_force("factor", gas, year)))
-    figures = [f"{name} is {row.field('value')} {row.field('unit')} ({row.place})" for name, row in inputs]
-    cause = f"{what}: {listed(figures, 'and')}; look at the units"
-    own = [row for _, row in inputs if after.is_own(row)]
-    if not own:
-        return Fault(sheet, 1, "", None, cause), None
-    greatest = max(own, key=lambda row: abs(float(row.field("value"))))
-    return at_row(greatest, cause, "value"), after.changed(greatest, value="NE", low="", high="")
-
-
-def inputs_of(line, year, book):
-    """The figures that a line takes in a year, by their parameters, with those of the lines that it takes."""
-    found, seen, waiting = [], set(), [line]
-    while waiting:
-        name = waiting.pop(0)
-        if name in seen:
-            continue
-        seen.add(name)
-        for parameter, bound in book.bindings.get(name, {}).items():
-            waiting += lines_taken_by(bound)
-            if record_taken_by(bound):
-                row = book.in_force(*record_taken_by(bound), year)
-                if row is not None and row.field("value") not in vocabulary.words()["keys"]:
-                    found.append((parameter if name == line else f"{parameter} of {name}", row))
-    return found
-
-
-def too_many(named, sheet, rows):
-    """The fault of a limit of the whole workbook, and the rows without its span where that is too long."""
-    spans = [row for row in rows[1:] if named == "span" and row.field("kind") == "span"]
-    if spans:
-        cause = f"more than {limit('span')} years from the first to the last"
-        return at_row(spans[-1], cause, "value"), [row for row in rows if row not in spans]
-    return Fault(sheet, 1, "", None, f"more than {limit(named)} {named} with this file"), None

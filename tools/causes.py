@@ -8,49 +8,16 @@ import functools
 import re
 import unicodedata
 
-from tools.vocabulary import limit
+from tools import vocabulary
+from tools.vocabulary import limit, nearest
 
 NO_BREAK = "\u00a0\u2007\u202f"
 UNSEEN = "\u200b\u200c\u200d\u2060\ufeff\u00ad"
 MINUS = "\u2212\u2010\u2011\u2012\u2013\u2014"
-# Units that people write, in the word of the table for the same size.
-SAME_SIZE = {
-    "tonne": "t", "tonnes": "t", "ton": "t", "tons": "t", "metricton": "t",
-    "kilogram": "kg", "kilograms": "kg",
-    "kilotonne": "kt", "kilotonnes": "kt", "1000t": "kt", "gigagram": "Gg", "gigagrams": "Gg",
-    "terajoule": "TJ", "terajoules": "TJ", "petajoule": "PJ", "gigajoule": "GJ",
-    "hectare": "ha", "hectares": "ha", "1000ha": "kha", "m^3": "m3", "cubicmetre": "m3", "cubicmetres": "m3",
-    "heads": "head", "animal": "head", "animals": "head", "kg/animal": "kg/head",
-    "persons": "person", "people": "person", "capita": "person", "inhabitants": "person",
-    "%": "pct", "percent": "pct", "percentage": "pct",
-    "fraction": "1", "ratio": "1", "none": "1", "-": "1", "dimensionless": "1",
-    "days": "day", "year": "yr", "years": "yr", "yrs": "yr", "a": "yr",
-    "g/mj": "kg/GJ", "mj/kg": "GJ/t", "gj/tonne": "GJ/t", "tj/kt": "TJ/Gg", "kt/pj": "t/TJ", "gg/pj": "t/TJ",
-    "ggc/gg": "t/t", "tc/t": "t/t", "t/tonne": "t/t", "kg/tonne": "kg/t", "kg/kg": "kg/kg",
-}
-# Units of the same size whose case tells them apart.
-BY_CASE = {"Mg": "t"}
-# Units that people write and the table has not, with the word of another size, and how to come to it.
-OTHER_SIZE = {
-    "kwh": ("GWh", "divide by 1000000"), "mwh": ("GWh", "divide by 1000"), "twh": ("GWh", "multiply by 1000"),
-    "j": ("GJ", "divide by 1000000000"), "kj": ("GJ", "divide by 1000000"), "mj": ("GJ", "divide by 1000"),
-    "ej": ("PJ", "multiply by 1000"), "toe": ("ktoe", "divide by 1000"), "mtoe": ("ktoe", "multiply by 1000"),
-    "g": ("kg", "divide by 1000"), "mt": ("kt", "multiply by 1000; t where metric tons are meant"),
-    "tg": ("Gg", "multiply by 1000"),
-    "l": ("m3", "divide by 1000"), "litre": ("m3", "divide by 1000"), "km2": ("ha", "multiply by 100"),
-    "mha": ("kha", "multiply by 1000"),
-    "km3": ("Mm3", "multiply by 1000"), "1000m3": ("m3", "multiply by 1000"),
-    "1000head": ("head", "multiply by 1000"), "mg/mj": ("g/GJ", "the same number"),
-    "kg/mwh": ("kg/TJ", "divide by 0.0036"), "ppm": ("g/kg", "divide by 1000"),
-}
-
-
-def written_for(word):
-    """What people write for a unit of the table, or for one that is some tens, hundreds or thousands of
-    it.
-    """
-    others = {written: other for written, (other, _) in OTHER_SIZE.items()}
-    return " ".join(written for written, other in {**SAME_SIZE, **BY_CASE, **others}.items() if other == word)
+QUOTES = "'\"`\u2018\u2019\u201a\u201c\u201d\u201e\u00ab\u00bb"
+# Words in front of a number, and the mark of a footnote or of an estimate behind it.
+ABOUT = r"^(ca|approx|about|~|\u2248)\.?\s*(?=\d)"
+MARK = r"^(-?\d[\d.,\s]*?)\s*([*\u2020\u2021\u00a7]+|[\u00b9\u00b2\u00b3]|[(\[][^()\[\]]*[)\]])$"
 
 
 @dataclasses.dataclass
@@ -95,6 +62,11 @@ def number(text, most_decimals=None):
     """A number as it is written elsewhere, as this program takes it."""
     mended = ascii_digits(without_blanks(text))
     mended = mended.less("a minus sign of typography", re.sub(f"^[{MINUS}](?=[\\d.,])", "-", mended.text))
+    mended = mended.less("an apostrophe in front", re.sub(r"^['\u2019`](?=[-\d.,])", "", mended.text))
+    mended = mended.less("the minus sign behind the number", re.sub(r"^(\d[\d.,\s]*)-$", r"-\1", mended.text))
+    mended = mended.less("an equals sign in front", re.sub(r'^="?(-?[\d.,]+)"?$', r"\1", mended.text))
+    mended = mended.less("a word in front", re.sub(ABOUT, "", mended.text, flags=re.IGNORECASE))
+    mended = mended.less("a mark behind the number", re.sub(MARK, r"\1", mended.text))
     bracketed = re.fullmatch(r"\(([\d.,\s]+)\)", mended.text)
     if bracketed:
         mended = mended.less("parentheses for a negative number", "-" + bracketed.group(1))
@@ -103,14 +75,17 @@ def number(text, most_decimals=None):
     for separator, name in separators:
         joined = re.sub(rf"(?<=\d)[{separator}](?=\d{{3}}(\D|$))", "", mended.text)
         mended = mended.less(f"{name} between thousands", joined)
-    mended = exponent(points(mended))
+    mended = product(fraction(exponent(points(mended))))
     mended = mended.less("no digit in front of the point", re.sub(r"^(-?)\.(?=\d)", r"\g<1>0.", mended.text))
     mended = mended.less("no digit behind the point", re.sub(r"^(-?\d+)\.$", r"\1", mended.text))
     return decimals(mended, int(limit("decimals")) if most_decimals is None else most_decimals)
 
 
 def ascii_digits(mended):
-    """With the digits 0 to 9 in place of those of another script."""
+    """With the digits 0 to 9 in place of those of another script, and of letters that look like them."""
+    if re.fullmatch(r"-?[OoIl]*[0-9][0-9OoIl]*([.,][0-9OoIl]+)?", mended.text):
+        digits = mended.text.translate(str.maketrans("OoIl", "0011"))
+        return mended.less("letters in place of digits", digits)
     if mended.text.isascii():
         return mended
     digits = [str(unicodedata.decimal(letter)) if letter.isdecimal() else letter for letter in mended.text]
@@ -143,6 +118,39 @@ def exponent(mended):
     return mended.less("an exponent", format(decimal.Decimal(mended.text), "f"))
 
 
+def product(mended):
+    """Without a word for thousands or millions behind it, and without signs of multiplication."""
+    found = re.fullmatch(r"(.*\d)\s*(thousand|million|mio|mln|billion|bn)\.?", mended.text.lower())
+    front = number(found.group(1)) if found else None
+    if front and front.sure and re.fullmatch(r"-?\d+(\.\d+)?", front.text):
+        power = {"t": 3, "m": 6, "b": 9}[found.group(2)[0]]
+        return mended.less("a word for thousands", plain(decimal.Decimal(front.text).scaleb(power)))
+    factors = re.split(r"\s*[*\u00d7]\s*", mended.text)
+    if len(factors) < 2 or not all(re.fullmatch(r"-?\d{1,15}(\.\d{1,12})?", factor) for factor in factors):
+        return mended
+    exact = decimal.Context(prec=200)
+    made = functools.reduce(exact.multiply, map(decimal.Decimal, factors))
+    return mended.less("a product", plain(made))
+
+
+def plain(number):
+    """A number in digits, without zeros at the end of its decimals."""
+    text = format(number, "f")
+    return text.rstrip("0").rstrip(".") if "." in text else text
+
+
+def fraction(mended):
+    """Without a stroke, where the quotient has few decimals. Any other is not sure."""
+    found = re.fullmatch(r"(-?\d{1,9})\s?/\s?([1-9]\d{0,8})", mended.text)
+    if not found:
+        return mended
+    over, under = map(int, found.groups())
+    quotient = decimal.Decimal(over) / under
+    if quotient * under == over and quotient.as_tuple().exponent >= -int(limit("decimals")):
+        return mended.less("a fraction", format(quotient, "f"))
+    return Mended(mended.causes + [f"a fraction; write {quotient:.6f}, or more decimals"], mended.text, False)
+
+
 def decimals(mended, most):
     """With as many decimals as a number may have. One that would be zero then is not sure."""
     found = re.fullmatch(r"-?\d+\.(\d+)", mended.text)
@@ -159,52 +167,60 @@ def decimals(mended, most):
 
 
 def year(text):
-    """A year as it is written elsewhere."""
+    """A year as it is written elsewhere. One of two is not sure."""
     mended = ascii_digits(without_blanks(text))
     found = re.fullmatch(r"(\d{4})[.,]0*", mended.text)
     if found:
         return mended.less("a year has no decimals", found.group(1))
-    found = re.fullmatch(r"(\d{4})[-/.]\d{1,2}([-/.]\d{1,2})?|\d{1,2}[-/.]\d{1,2}[-/.](\d{4})", mended.text)
+    found = re.fullmatch(rf"(\d{{4}})\s*[-/{MINUS}]\s*(\d\d)?(\d\d)", mended.text)
+    if found and int(found.group(3)) == (int(found.group(1)) + 1) % 100:
+        cause = f"two years in one field; write {found.group(1)} or {int(found.group(1)) + 1}, as in all rows"
+        return Mended(mended.causes + [cause], text, False)
+    found = re.fullmatch(r"(\d{4})[-/.]\d{1,2}([-/.]\d{1,2})?([T ].*)?|\d{1,2}[-/.]\d{1,2}[-/.](\d{4})",
+                         mended.text)
     if found:
-        return mended.less("a date in place of a year", found.group(1) or found.group(3))
+        return mended.less("a date in place of a year", found.group(1) or found.group(4))
     found = re.fullmatch(r"(\d),?(\d{3})", mended.text)
-    return mended.less("a comma in a year", "".join(found.groups())) if found else mended
+    if found:
+        return mended.less("a comma in a year", "".join(found.groups()))
+    found = re.findall(r"(?<!\d)(?:19|20)\d\d(?!\d)", mended.text)
+    return mended.less("more than the year", found[0]) if len(found) == 1 else mended
+
+
+def notation_key(text):
+    """The notation key that a text is, as no, N.O., not occurring or NE (no data); else the text in upper
+    case.
+    """
+    bare = without_blanks(text).text
+    names = vocabulary.words()["key_names"]
+    named = nearest(bare, names.values(), 1, 0.85) if " " in bare else []
+    if named:
+        return next(key for key, name in names.items() if name == named[0])
+    if bare.upper() == "N0":
+        return "NO"
+    letters = re.fullmatch(r"([A-Za-z])\.\s?([A-Za-z])\.?", bare)
+    if letters and bare.upper() not in ("N.A", "N.A."):
+        bare = "".join(letters.groups())
+    first = re.match(rf"(N[OAE]|IE)\s*[(*:;,{MINUS}-]", bare)
+    if first and not re.search(r"\b(N[OAE]|IE)\b", bare[2:]):
+        return first.group(1)
+    return "C" if bare.casefold() == "confidential" else bare.upper()
 
 
 @functools.lru_cache(maxsize=10000)
 def name(text):
     """A name as it is written elsewhere: in upper case, without blanks and accents."""
     mended = without_blanks(text)
+    mended = mended.less("quotes around a name", mended.text.strip(QUOTES))
     mended = mended.less("lower case", mended.text.upper())
     mended = mended.less("a blank in a name", re.sub(r"\s+", ".", mended.text))
     parts = unicodedata.normalize("NFKD", mended.text)
     bare = "".join(letter for letter in parts if not unicodedata.combining(letter))
     mended = mended.less("a letter with an accent", bare)
     odd = sorted(set(re.findall(r"[^A-Z0-9._-]", mended.text)))
-    if not odd:
+    if odd:
+        mended = mended.less(f"{' '.join(odd)} in a name", re.sub(r"[^A-Z0-9._-]+", ".", mended.text))
+    if not re.search("[A-Z]", mended.text):
         return mended
-    return mended.less(f"{' '.join(odd)} in a name", re.sub(r"[^A-Z0-9._-]+", ".", mended.text))
-
-
-def unit_form(text):
-    """A unit without case, blanks, gases and years, to compare units by."""
-    text = unicodedata.normalize("NFKC", text).casefold()
-    text = re.sub(r"\bper\b", "/", text)
-    # A gas stands alone, or behind the g or t of a mass.
-    gas = r"(?<![0-9a-fh-su-z])(co2|ch4|n2o-n|n2o|cf4|c2f6)([\s-]*eq(uivalents?)?\.?|e)?(?![a-z0-9])"
-    text = re.sub(gas, "", text)
-    text = re.sub(r"[\s\u00b7*]", "", text)
-    return re.sub(r"/(yr|year|a|annum|y)\b", "", text)
-
-
-def is_yearly_share(text):
-    """Tells whether a unit is that of a share of a year: 1/yr, per year, yr-1."""
-    form = re.sub(r"\s", "", re.sub(r"\bper\b", "/", unicodedata.normalize("NFKC", text).casefold()))
-    years = "(yr|yrs|year|years|a|annum|y)"
-    return bool(re.fullmatch(rf"(1|fraction|ratio)?/{years}|{years}\^?[-{MINUS}]1", form))
-
-
-def same_size_form(text):
-    """The form of a unit whose parts are written in the words of the table for the same size."""
-    text = re.sub("[A-Za-z]+", lambda found: BY_CASE.get(found.group(), found.group()), text)
-    return "/".join(unit_form(SAME_SIZE.get(part, part)) for part in unit_form(text).split("/"))
+    mended = mended.less("a name begins with a letter", mended.text.lstrip("._-"))
+    return mended.less("a name begins with a letter", re.sub(r"^(?=\d)", "N", mended.text))

@@ -6,7 +6,8 @@ each fault is one that the program found.
 """
 import collections
 
-from tools import bindings, headers
+from tools import bindings, headers, limit_faults
+from tools.ahead import Ahead
 from tools.book import Book, record_taken_by
 from tools.causes import name as mended_name
 from tools.explain import Explainer
@@ -55,28 +56,6 @@ class Refused:
         return self.rows.get((kind, name))
 
 
-class Later:
-    """What the files behind the one at hand are meant to enter, by kind and name."""
-
-    def __init__(self, sheets):
-        self.waiting, self.entered = list(sheets), None
-
-    def next_file(self):
-        """Passes on to the next file."""
-        del self.waiting[0]
-        self.entered = None
-
-    def entry(self, kind, name):
-        """The first row of a later file that enters a name, or None."""
-        if self.entered is None:
-            self.entered = {}
-            for row in (row for sheet in self.waiting for row in headers.rows_as_meant(sheet)):
-                if row.field("act").strip().lower() == "enter":
-                    meant = (row.field("kind").strip().lower(), mended_name(row.field("name")).text)
-                    self.entered.setdefault(meant, row)
-        return self.entered.get((kind, name))
-
-
 class Applied:
     """The book after a file's rows. Between two tries of one file it changes by the rows that changed."""
 
@@ -104,7 +83,7 @@ class Check:
 
     def __init__(self, program, sheets):
         self.program, self.sheets = program, sheets
-        self.book, self.refused, self.later = Book(), Refused(), Later(sheets)
+        self.book, self.refused, self.ahead = Book(), Refused(), Ahead(sheets)
         self.applied = Applied(self.book)
         self.faults, self.left, self.lost = [], [], []
         self.clean = {}
@@ -112,7 +91,7 @@ class Check:
     def run(self):
         """Checks all files."""
         for sheet in self.sheets:
-            self.later.next_file()
+            self.ahead.next_file()
             self.add(sheet)
 
     def add(self, sheet):
@@ -167,7 +146,7 @@ class Check:
         first, later = sorted((lost, other), key=lambda row: (self.sheets.index(row.sheet), row.line))
         book = Book()
         book.apply(first)
-        fault, _ = Explainer(self.takes, book, self.refused).exists(later)
+        fault, _ = self.explainer(book).exists(later)
         self.faults.append(fault)
         return True
 
@@ -189,25 +168,29 @@ class Check:
             return None, None
         words = reply.rest.split()
         if reply.rule == 11:
-            return bindings.too_many(words[0], sheet, rows)
-        after = bindings.After(self.applied.book_after(rows), rows, self.refused, self.later)
+            return limit_faults.too_many(words[0], sheet, rows)
+        after = bindings.After(self.applied.book_after(rows), rows, self.refused, self.ahead)
         if reply.rule == 10:
             return bindings.explain(*words, after)
         if reply.rule == 12:
-            return bindings.ring(words[0], after)
-        return bindings.overflow(words[0], sheet, after)
+            return limit_faults.ring(words[0], after)
+        return limit_faults.overflow(words[0], sheet, after)
 
     def swept(self, rows, reply):
         """The rows without those that break a rule by themselves: the one that the reply names, and those
         that follow.
         """
         at = reply.row
-        explainer = Explainer(self.takes, self.book_behind(rows[1:at]), self.refused)
+        explainer = self.explainer(self.book_behind(rows[1:at]))
         front, rows = rows[:at], self.alone(rows[at:], reply, explainer)
         if reply.rule in OF_THE_ROW_ALONE:
             return front + rows
         explainer.book = self.book_behind(front[1:])
         return front + self.beside(front, rows, explainer)
+
+    def explainer(self, book):
+        """Explains the refusals of rows beside what is in force."""
+        return Explainer(self.takes, book, self.refused, self.ahead)
 
     def book_behind(self, rows):
         """The book with rows of the file at hand."""

@@ -8,7 +8,7 @@ from tools import vocabulary
 from tools.asking import is_total
 from tools.faults import at_row, years_said
 from tools.number_faults import NumberFaults
-from tools.sheets import Row, joined
+from tools.sheets import COLUMNS, Row, joined
 from tools.shifts import Shifts
 from tools.vocabulary import listed, nearest
 from tools.word_faults import WordFaults
@@ -27,7 +27,7 @@ class Explainer(WordFaults, NumberFaults, Shifts):
         if reply.rule == 6:
             return self.shifted(row) or self.swapped(row) or self.number(row, reply.column)
         if reply.rule == 7:
-            return self.disorder(row), None if row.field("kind") == "span" else self.blank_figure(row)
+            return self.disorder(row)
         if reply.rule == 8:
             return self.unit_of_another_dimension(row)
         return self.exists(row) if reply.text.split()[2] == "Exists" else self.absent(row)
@@ -46,21 +46,33 @@ class Explainer(WordFaults, NumberFaults, Shifts):
             return at_row(row, "a row of totals; take it out"), None
         if ";" in fields[0]:
             return at_row(row, f"{cause}: semicolons between the fields; write commas"), None
+        if count == len(COLUMNS):
+            return at_row(row, "no row of ten fields of UTF-8"), None
         if count == 1:
             return at_row(row, f"{cause}; take the row out, or write what it says into a note"), None
         if count < 10:
-            changed = self.of_ten(row, fields + [""] * (10 - count))
-            return at_row(row, f"{cause}: write a comma for each empty column too"), changed
+            return self.too_few(row, f"{cause}: write a comma for each empty column too")
         pair = self.number_in_two(row)
         if pair:
             cause += f": a comma in the number {pair}; write a point for a decimal comma"
             return at_row(row, f"{cause}, and nothing between thousands"), None
         if not any(fields[10:]):
             commas = "comma" if count == 11 else f"{count - 10} commas"
-            return at_row(row, f"{cause}; take out the {commas} at the end"), self.of_ten(row, fields[:10])
-        where = "the note" if self.of_ten(row, fields[:10]) else "a field"
-        cause += f": a comma in {where}; put it in quotes"
-        return at_row(row, cause), self.of_ten(row, fields[:9] + [",".join(fields[9:])])
+            return at_row(row, f"{cause}; take out the {commas} at the end"), of_rest(row, fields[:10])
+        in_note = self.of_ten(row, fields[:10])
+        cause += f": a comma in {'the note' if in_note else 'a field'}; put it in quotes"
+        noted = fields[:9] + [",".join(fields[9:])]
+        return at_row(row, cause), self.of_ten(row, noted) or (of_rest(row, noted) if fields[8] else None)
+
+    def too_few(self, row, cause):
+        """Less than ten fields. Empty ones are put in at the end, else where the program takes them."""
+        fields, empty = row.fields, [""] * (10 - len(row.fields))
+        for at in range(len(fields), 1, -1):
+            changed = self.of_ten(row, fields[:at] + empty + fields[at:])
+            if changed:
+                write = "" if at == len(fields) else f", as {changed.raw.decode('utf-8', 'replace')}"
+                return at_row(row, f"{cause}{write}"), changed
+        return at_row(row, cause), of_rest(row, fields + empty)
 
     def of_ten(self, row, fields):
         """The row with other fields, where the program takes it."""
@@ -128,8 +140,8 @@ class Explainer(WordFaults, NumberFaults, Shifts):
             return at_row(row, f"{cause}; take one of the two out"), None
         cause = f"{said_of_key(key)} is entered already{where}"
         other = "take one of the two out"
-        if key[0] in ("activity", "factor", "line"):
-            other = f"give this one another name{'' if key[0] == 'line' else ' or year'}"
+        if key[0] in ("activity", "factor"):
+            other = "give this one another name or year"
         return at_row(row, f"{cause}; to change it use correct, else {other}"), None
 
     def absent(self, row):
@@ -143,7 +155,7 @@ class Explainer(WordFaults, NumberFaults, Shifts):
         there = f"; there are records of {years_said(years)}" if years else ""
         near = self.nearest_name(key)
         other = f"; the nearest name is {near}" if near else ""
-        instead = "; use enter" if act == "correct" else ""
+        instead = "" if near else "; use enter" if act == "correct" else "; take the row out"
         changed = row.with_fields(act="enter") if act == "correct" and not near else None
         return at_row(row, f"there is no {said_of_key(key)} to {act}{instead}{there}{other}"), changed
 
@@ -155,7 +167,17 @@ class Explainer(WordFaults, NumberFaults, Shifts):
         if len(key) == 1 or key[1] in named:
             return None
         near = nearest(key[1], named, 1, 0.75)
-        return near[0] if near else None
+        there = [name for name in near if (key[0], name, *key[2:]) in self.book.rows]
+        return there[0] if there else None
+
+
+def of_rest(row, fields):
+    """The row with ten other fields, where it has an act and a kind, so that what else it breaks is told too;
+    else None.
+    """
+    words = vocabulary.words()
+    has_front = fields[0] in words["acts"] and fields[1] in words["kinds"]
+    return Row(row.sheet, row.line, joined(fields)) if has_front else None
 
 
 def said_of_key(key):

@@ -21,8 +21,11 @@ def all_warnings(book, refused, sheets, left):
     found += rows_in_quotes(sheets)
     found += orphans(book, refused, sheets)
     found += double_lines(book)
+    found += other_volumes(book)
     found += ratios(book)
     found += negatives(book)
+    found += hundredfold(book)
+    found += shares_as_percentages(book)
     span = book.rows.get(("span",))
     if not span and refused.that_sets(("span",)):
         return found
@@ -95,7 +98,12 @@ def orphan_activity(book, name):
 
 
 def other_name(book, kind, name):
-    """A name that a line takes and that may be meant, with the years that it lacks."""
+    """A name that is meant most likely: that of a potential, or one that a line takes, with the years that it
+    lacks.
+    """
+    potential = re.sub("^(GWP[._-]?)?", "GWP.", name)
+    if kind == "factor" and potential in vocabulary.words()["potentials"]:
+        return f"; is it {potential}?"
     known = [taken for of_kind, taken in book.taken() if of_kind == kind and taken in book.years[kind]]
     near = nearest(name, known, 1, 0.8)
     if not near:
@@ -263,10 +271,76 @@ def negatives(book):
     return found
 
 
+def other_volumes(book):
+    """Lines that emit a gas by an equation of another volume than that of their category, but for measured
+    emissions, whose ratios are 1.
+    """
+    found = []
+    for row in by_place(book):
+        code, equation = row.field("subject"), row.field("value")
+        volumes = vocabulary.volume_of_category(code), vocabulary.volume_of_equation(equation)
+        if None in volumes or volumes[0] == volumes[1] or not vocabulary.gas_of(equation):
+            continue
+        if row.has_other_figure:
+            continue
+        if is_measured(book, row.field("name"), equation):
+            continue
+        what = vocabulary.equations()[equation]["computes"]
+        cause = f"line {row.field('name')} at {code} ({vocabulary.categories()[code]['name']}) has {equation}"
+        cause += f" of Volume {volumes[1]} ({what})"
+        other = vocabulary.elsewhere(code, equation)
+        found.append(warn(row, f"{cause}; {other[0] if other else 'is the category another?'}"))
+    return found
+
+
+def is_measured(book, line, equation):
+    """Tells whether all ratios that a line takes are factors of 1."""
+    bound, ratios = book.bindings.get(line, {}), []
+    for name, parameter in vocabulary.parameters_of(equation).items():
+        if parameter["measures"] == "ratio" and name in bound:
+            record = book.some_record("factor", bound[name].field("low"))
+            ratios.append(bool(record) and record.field("value") == "1")
+    return bool(ratios) and all(ratios)
+
+
+def hundredfold(book):
+    """Activities that grow or shrink a hundredfold from one record to the next: once for each name."""
+    found = []
+    for kind, name, records in named_records(book):
+        known = [(row, figures(row)[0]) for _, row in records if not row.has_other_figure and figures(row)]
+        for (before, one), (row, other) in zip(known, known[1:]):
+            least, most = sorted((abs(one), abs(other)))
+            if kind == "activity" and one * other > 0 and most >= 100 * least:
+                were = " and ".join(f"{of.field('value')} {of.field('unit')} in {of.field('year')}"
+                                    for of in (before, row))
+                found.append(warn(row, f"activity {name} is {were}; is a unit or a point wrong?"))
+                break
+    return found
+
+
+def shares_as_percentages(book):
+    """Uncertainties of which both percentages are below 1."""
+    found = []
+    for key, row in sorted(book.rows.items(), key=lambda item: item[1].line):
+        if key[0] == "uncert" and not row.has_other_figure:
+            both = [decimal.Decimal(row.field(column)) for column in ("value", "low")]
+            if all(0 < percentage < 1 for percentage in both):
+                figures_said = f"{row.field('value')} and {row.field('low')}"
+                cause = f"both percentages of {key[1]} are below 1: {figures_said}; are they shares?"
+                found.append(warn(row, cause))
+    return found
+
+
+def by_place(book):
+    """The lines by their files and the rows in them."""
+    return sorted(book.lines.values(), key=lambda row: (row.sheet.name, row.line))
+
+
 def double_lines(book):
     """Lines of one equation over the same activities that no share tells apart."""
     found, seen = [], {}
-    for name, row in sorted(book.lines.items(), key=lambda item: (item[1].sheet.name, item[1].line)):
+    for row in by_place(book):
+        name = row.field("name")
         if row.field("subject") in MEMOS:
             continue
         key = what_it_takes(book, name, row.field("value"))

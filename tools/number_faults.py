@@ -2,16 +2,22 @@
 import decimal
 import re
 
-from tools import causes, vocabulary
+from tools import causes, units, vocabulary
 from tools.asking import cause_of
 from tools.faults import at_row
-from tools.percent_faults import PercentFaults
+from tools.percent_faults import PercentFaults, figure_of, written
 from tools.vocabulary import HALF_LIFE_UNIT, limit, listed
 
 NO_FIGURE = {
     "-", "--", "n/a", "na.", "n.a.", "n.a", "nan", "null", "none", "...", "..", ".", "x", "?", "tbd", "nd",
-    "n.d.",
+    "n.d.", "nil", "zero", "missing", "unknown", "not available", "no data",
 }
+# How a formula begins, and a number that a spreadsheet took for a day and a month.
+FORMULA = ("=", "+", "@")
+DAY_AND_MONTH = r"\d{1,4}[-. ](jan|feb|mar|apr|may|jun|jul|aug|sep|oct|nov|dec)[a-z]*|[a-z]{3}[-. ]\d{1,4}"
+BOUNDS = rf"(-?[\d.,\s]*\d)\s*(?:[-~{causes.MINUS}]|to|\.{{2,3}}|\u2026)\s*(-?\d[\d.,\s]*)"
+TWO_BOUNDS = re.compile(BOUNDS)
+ALL_IN_ONE = re.compile(rf"(-?[\d.,\s]*\d)\s*[(\[]\s*{BOUNDS}[)\]]")
 # What the two percentages of an uncertainty are of.
 UNCERTAIN = {"value": "activity", "low": "factor"}
 
@@ -50,15 +56,20 @@ class NumberFaults(PercentFaults):
     def figure(self, row, column):
         """The value, low or high of an activity or a factor."""
         text = row.field(column)
+        bounds = self.all_in_one(row, column) or self.two_in_one(row, column)
+        if bounds:
+            return bounds
         other = {"low": "high", "high": "low"}.get(column)
+        if column == "high" and not text and self.is_in_two(row):
+            return self.in_two(row)
         if other and not text:
             cause = f"{other} is {row.field(other)} and {column} is missing; fill both or neither"
             return at_row(row, cause, column), None
-        percent = self.percent(row, column)
+        percent = self.percent(row, column) or self.with_unit(row, column)
         if percent:
             return percent
         keys = vocabulary.words()["keys"]
-        if column == "value" and text.strip().upper() in [*keys, "C"]:
+        if column == "value" and causes.notation_key(text) in [*keys, "C"]:
             return self.key(row, column, keys)
         mended = causes.number(text)
         if not mended.sure:
@@ -68,11 +79,79 @@ class NumberFaults(PercentFaults):
 
     def key(self, row, column, keys):
         """A notation key, or what looks like one."""
-        text = row.field(column).strip()
-        if text.upper() == "C":
+        meant = causes.notation_key(row.field(column))
+        if meant == "C":
             cause = f"confidential is no key here; write the number, or one of {listed(keys)}"
             return at_row(row, cause, column), None
+        if meant != row.field(column).strip().upper():
+            return self.first_taken(row, column, [("a notation key has two letters", meant, True)], "no key")
         return self.choice(row, column, keys, f"no number and no notation key ({listed(keys)})")
+
+    def all_in_one(self, row, column):
+        """A value with its bounds in brackets behind it, as 25 (7.5-86), or None."""
+        found = ALL_IN_ONE.fullmatch(row.field(column).strip()) if column == "value" else None
+        figures = [figure_of(text) for text in found.groups()] if found else [None]
+        if None in figures:
+            return None
+        value, low, high = map(written, figures)
+        changed = row.with_fields(value=value, low=low, high=high)
+        if not self.takes(changed, None):
+            return None
+        write = f"{value} in value, {low} in low and {high} in high"
+        return at_row(row, "a value with its bounds", column, write), changed
+
+    def two_in_one(self, row, column):
+        """Two bounds in one field, as 89500-99700, or None. In the value they leave it open which it is."""
+        at = column if row.field(column) else {"low": "high", "high": "low"}.get(column, column)
+        found = TWO_BOUNDS.fullmatch(row.field(at).strip())
+        low, high = (figure_of(text) for text in found.groups()) if found else (None, None)
+        if low is None or high is None or low > high:
+            return None
+        low, high = written(low), written(high)
+        other = {"low": "high", "high": "low"}.get(at)
+        where = f"{low} in low and {high} in high"
+        changed = row.with_fields(low=low, high=high)
+        if other and row.field(other) in ("", low, high) and self.takes(changed, column):
+            return at_row(row, "two bounds in one field", at, where), changed
+        if other:
+            return None
+        changed = changed.with_fields(value=low)
+        changed.has_other_figure = True
+        cause = f"two bounds and no value; write the value between them here, and {where}"
+        return at_row(row, cause, at), changed if self.takes(changed, None) else None
+
+    @staticmethod
+    def is_in_two(row):
+        """Tells whether a number with a comma stands in value and low: what stands in low is no low bound."""
+        value, low = row.field("value"), row.field("low")
+        return bool(re.fullmatch(r"\d{1,3}", value)) and low.isdecimal() and int(low) > int(value)
+
+    def in_two(self, row):
+        """A number with a comma that stands in value and low."""
+        value, low = row.field("value"), row.field("low")
+        cause = f"a comma in the number {value},{low} has parted it"
+        if len(low) == 3 and value != "0":
+            either = f"{value}{low} in value and nothing in low, or {value}.{low} where it is a decimal comma"
+            return at_row(row, f"{cause}; write {either}", "low"), self.blank_figure(row)
+        changed = row.with_fields(value=f"{value}.{low}", low="")
+        return at_row(row, cause, "low", f"{value}.{low} in value and nothing in low"), changed
+
+    def with_unit(self, row, column):
+        """A number with a unit behind it, or None. It is sure where that is the row's own unit."""
+        found = re.fullmatch(r"(-?[\d.,\s]*\d)\s*([A-Za-z].*)", row.field(column).strip())
+        meant = units.meant(found.group(2)) if found else None
+        figure = causes.number(found.group(1)) if meant else None
+        if not meant or not figure.sure:
+            return None
+        cause, unit = "a unit behind the number; it stands in the column unit alone", row.field("unit")
+        if meant.times != 1 or meant.word != unit and unit in vocabulary.units():
+            return at_row(row, f"{cause}, as a number of {unit}", column), None
+        fields = {column: figure.text} if meant.word == unit else {column: figure.text, "unit": meant.word}
+        changed = row.with_fields(**fields)
+        if not self.takes(changed, column):
+            return None
+        write = figure.text if meant.word == unit else f"{figure.text} and the unit {meant.word}"
+        return at_row(row, cause, column, write), changed
 
     def half_life(self, row, column):
         """A half-life, which has no bounds, or a bound of it."""
@@ -109,6 +188,17 @@ class NumberFaults(PercentFaults):
     def year(self, row, column):
         """A year, or one of the three of a span."""
         mended = causes.year(row.field(column))
+        if not mended.sure:
+            first = row.with_fields(**{column: mended.text[:4]})
+            return at_row(row, cause_of(mended.causes), column), first if self.takes(first, column) else None
+        between = year_between(row) if not mended.text and column == "year" else None
+        if between:
+            return self.first_taken(row, column, [("empty, between two years", between, True)], "no year")
+        first, last = self.book.span or (0, -1)
+        short = [str(year) for year in range(first, last + 1)
+                 if re.fullmatch(r"['\u2019]?\d\d", mended.text) and str(year).endswith(mended.text[-2:])]
+        if len(short) == 1:
+            mended = mended.less("two digits of a year", short[0])
         digits = f"four digits from {limit('first_year')} to {limit('last_year')}"
         otherwise = f"no year; a year is {digits}"
         if row.field("kind") == "span":
@@ -117,18 +207,73 @@ class NumberFaults(PercentFaults):
         return self.first_taken(row, column, [(cause_of(mended.causes), mended.text, True)], otherwise)
 
     def disorder(self, row):
-        """Bounds that do not hold their value, or a span whose years are in disorder."""
+        """Bounds that do not hold their value, or a span whose years are in disorder; and the row to go on
+        with.
+        """
         value, low, high = (row.field(column) for column in ("value", "low", "high"))
         if row.field("kind") == "span":
-            first, last, base = row.field("year"), value, low
-            if last < first:
-                return at_row(row, f"the last year {last} is before the first, {first}", "value")
-            return at_row(row, f"the base year {base} is not from {first} to {last}", "low")
-        if decimal.Decimal(low) > decimal.Decimal(high):
-            return at_row(row, f"low {low} is above high {high}", "low")
-        if decimal.Decimal(low) > decimal.Decimal(value):
-            return at_row(row, f"low is above the value {value}", "low")
-        return at_row(row, f"high is below the value {value}", "high")
+            return self.disorder_of_span(row, row.field("year"), value, low), None
+        number, least, most = (decimal.Decimal(text) for text in (value, low, high))
+        if most <= number <= least:
+            changed = row.with_fields(low=high, high=low)
+            write = f"{high} in low and {low} in high"
+            return at_row(row, "low and high are swapped", "low", write), changed
+        if least > most:
+            inner = sorted((least, number, most))
+            order = "in order they are {1} with low {0} and high {2}".format(*map(written, inner))
+            fault = at_row(row, f"low {low} is above high {high}; {order}", "low")
+        elif 0 <= least == most < number <= 100 * most:
+            distance = written(most), written(number - most), written(number + most)
+            cause = "low and high are the same figure and below the value; they are bounds, and no distances"
+            sides = "of a distance of {} they are {} and {}".format(*distance)
+            share = "of {} percent {} and {}".format(written(most), *shares(number, most))
+            fault = at_row(row, f"{cause}: {sides}, {share}", "low")
+        else:
+            side, bound = ("low", "above") if least > number else ("high", "below")
+            held = scaled(number, least, most)
+            advice = "write bounds that hold it, or leave both empty"
+            if held:
+                advice = f"{held} would hold it: is the unit of the bounds another?"
+            fault = at_row(row, f"{side} is {bound} the value {value}; {advice}", side)
+        return fault, self.blank_figure(row)
+
+    @staticmethod
+    def disorder_of_span(row, first, last, base):
+        """The years of a span in disorder."""
+        if last < first:
+            cause = f"the last year {last} is before the first, {first}"
+            if last <= base <= first:
+                return at_row(row, cause, "value", f"{last} in year and {first} in value")
+            return at_row(row, cause, "value")
+        cause = f"the base year {base} is not from {first} to {last}"
+        span = f"{base} in year" if base < first else f"{base} in value"
+        return at_row(row, f"{cause}; write one of these here, or {span}", "low")
+
+
+def year_between(row):
+    """The year between those of the rows above and below a row, where these are of the same name, or None."""
+    above = next(row.sheet.rows_above(row.line), None)
+    below = next(row.sheet.rows_below(row.line), None)
+    if above is None or below is None or not row.key[1:] or {above.key[1], below.key[1]} != {row.key[1]}:
+        return None
+    first, last = (causes.year(other.field("year")).text for other in (above, below))
+    if not (first.isdecimal() and last.isdecimal()) or int(last) - int(first) != 2:
+        return None
+    return str(int(first) + 1)
+
+
+def shares(number, percent):
+    """The bounds at a distance in percent to both sides."""
+    return [written(number * (100 + sign * percent) / 100) for sign in (-1, 1)]
+
+
+def scaled(number, least, most):
+    """Bounds that are some thousand times others and hold a number, as a text, or nothing."""
+    for power in (-6, -3, 3, 6):
+        low, high = (bound.scaleb(power) for bound in (least, most))
+        if low <= number <= high:
+            return f"{written(low)} and {written(high)}"
+    return ""
 
 
 def in_years(figure):
@@ -140,9 +285,16 @@ def in_years(figure):
 
 def number_otherwise(column, text, row):
     """Why a text is no number."""
-    if text.startswith("#"):
-        return "an error of the spreadsheet in place of a number"
     keys = vocabulary.words()["keys"]
+    if text.startswith("#"):
+        instead = f"; write the number, or a notation key ({listed(keys)})" if column == "value" else ""
+        return f"an error of the spreadsheet in place of a number{instead}"
+    if text.startswith(FORMULA):
+        return "a formula of the spreadsheet in place of a number; write the number that it gives"
+    if re.fullmatch(DAY_AND_MONTH, text, re.IGNORECASE):
+        return "a date in place of a number; the spreadsheet has made it of what was typed"
+    if text.startswith(("<", ">")):
+        return "a bound in place of a number; write the number, and the bounds in low and high"
     if column == "value":
         if not text:
             return f"empty; write a number, or a notation key ({listed(keys)})"
@@ -150,12 +302,13 @@ def number_otherwise(column, text, row):
             return f"no number; where there is none write a notation key ({listed(keys)})"
     if column != "value" and text in keys:
         return "a notation key stands in the value alone"
+    parts = re.split(r"[\s,;/&+]+", text)
+    if len(parts) > 1 and all(part.upper() in keys for part in parts):
+        return f"more than one notation key; write one ({listed(keys)})"
     if re.fullmatch(r"-?\d+(\.\d+)?", text):
         digits = text.lstrip("-").split(".")[0]
         if len(digits) > int(limit("digits")):
             return f"{len(digits)} digits where {limit('digits')} are the most; choose a greater unit"
         return f"beyond {limit('figure')} in the base unit of {row.field('unit')}"
-    if text.split()[1:] and text.split()[-1] in vocabulary.units():
-        return "a unit behind the number; it stands in the column unit alone"
     key = f" and no notation key ({listed(keys)})" if column == "value" else ""
     return f"no number{key}; a number is digits with a point, as 0.5 or -12"

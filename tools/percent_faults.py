@@ -50,6 +50,9 @@ class PercentFaults(Asking):
             return at_row(row, "a percent sign; write the number, and the unit pct", column), None
         for other in others:
             changed = changed.with_fields(**{other: changed.field(other).strip().removesuffix("%").rstrip()})
+        if others:
+            columns = [column, *others] + (["unit"] if row.field("unit") != "pct" else [])
+            write = listed([f"{changed.field(name)} in {name}" for name in columns], "and")
         return at_row(row, f"a percent sign{and_one_in(others)}", column, write), changed
 
     def of_no_ratio(self, row):
@@ -64,6 +67,12 @@ class PercentFaults(Asking):
         cause = f"a bound is a figure in {row.field('unit')}, as the value is"
         bound, said = bound_of(row, column)
         changed = row.with_fields(**{column: bound})
+        other = {"low": "high", "high": "low"}[column]
+        if bound and not row.field(other) and re.match(BOTH_SIDES, row.field(column).strip()):
+            beside = bound_of(row.with_fields(**{other: row.field(column)}), other)[0]
+            changed = changed.with_fields(**{other: beside})
+            bounds = f"{changed.field('low')} in low and {changed.field('high')} in high"
+            return at_row(row, cause, column, bounds), changed if self.takes(changed, None) else None
         if not bound or not self.takes(changed, column):
             return at_row(row, cause, column), None
         return at_row(row, cause, column, f"{bound}, which is {said}"), changed

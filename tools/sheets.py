@@ -1,6 +1,5 @@
 """A folder of CSV files: their order, and each file's rows with the lines on which an editor shows them."""
-import csv
-import io
+import bisect
 import pathlib
 import re
 
@@ -87,14 +86,25 @@ class Sheet:
         self.name, self.data = name, data
         self.rows = split(self, data)
 
+    def rows_above(self, line):
+        """The rows above a line up to the header, the nearest first."""
+        for at in range(bisect.bisect_left(self.rows, line, key=lambda row: row.line) - 1, 0, -1):
+            yield self.rows[at]
+
+    def rows_below(self, line):
+        """The rows below a line, the nearest first."""
+        for at in range(bisect.bisect_right(self.rows, line, key=lambda row: row.line), len(self.rows)):
+            yield self.rows[at]
+
 
 def joined(fields):
     """Fields as a record of CSV."""
-    if not any(set(field) & set(',"\r\n') for field in fields):
-        return ",".join(fields).encode("utf-8", "surrogateescape")
-    written = io.StringIO()
-    csv.writer(written, lineterminator="").writerow(fields)
-    return written.getvalue().encode("utf-8", "surrogateescape")
+    return ",".join(map(quoted, fields)).encode("utf-8", "surrogateescape")
+
+
+def quoted(field):
+    """A field as CSV has it, in quotes where it holds a comma, a quote or the end of a line."""
+    return '"' + field.replace('"', '""') + '"' if set(field) & set(',"\r\n') else field
 
 
 def fields_of(raw):

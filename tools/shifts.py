@@ -7,7 +7,7 @@ from tools import vocabulary
 from tools.asking import Asking, article
 from tools.faults import at_row, shown
 from tools.sheets import COLUMN_AT, Row, joined
-from tools.vocabulary import limit
+from tools.vocabulary import limit, listed
 
 
 # The columns that are filled in rows of these kinds.
@@ -95,16 +95,33 @@ class Shifts(Asking):
                 yield next(filter(None, row.fields[at:])), row.fields[:at] + row.fields[at + 1:] + [""]
 
     def astray(self, row):
-        """The fault of a figure whose name stands in subject, and the row as it is meant, where the program
-        takes it so; or None.
+        """The fault of a figure or an uncertainty whose name stands in subject, or of percentages in other
+        columns, and the row as it is meant, where the program takes it so; or None.
         """
-        if row.field("kind") not in ("activity", "factor") or row.field("name") or not row.field("subject"):
+        if row.field("kind") == "uncert" and row.field("name"):
+            return self.percentages_astray(row)
+        named = ("activity", "factor", "uncert")
+        if row.field("kind") not in named or row.field("name") or not row.field("subject"):
             return None
         meant = row.with_fields(subject="", name=row.field("subject"))
         if not self.takes(meant, "name"):
             return None
         cause = f"the name of {article(row.field('kind'))} stands in name; move it there"
         return at_row(row, cause, "subject"), meant
+
+
+    def percentages_astray(self, row):
+        """The fault of an uncertainty whose two percentages stand in other columns, or None."""
+        columns = ("year", "value", "low", "high")
+        texts = [row.field(column) for column in columns if row.field(column)]
+        if len(texts) != 2:
+            return None
+        meant = row.with_fields(year="", value=texts[0], low=texts[1], high="")
+        if meant.fields == row.fields or not self.takes(meant, None):
+            return None
+        changed = [column for column in columns if row.field(column) != meant.field(column)]
+        write = listed([f"{meant.field(column) or 'nothing'} in {column}" for column in changed], "and")
+        return at_row(row, "the two percentages stand in value and low", changed[0], write), meant
 
 
 def said_of_swapped(meant, one, other):

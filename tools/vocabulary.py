@@ -1,4 +1,5 @@
 """The words of the program, out of tools/vocabulary.json, and the nearest of them to a text."""
+import csv
 import difflib
 import functools
 import json
@@ -8,6 +9,7 @@ import re
 # Half-lives are in this unit, out of which the form `decay` of a binding makes a yearly decay factor.
 HALF_LIFE_UNIT = "yr"
 PATH = pathlib.Path(__file__).resolve().parent / "vocabulary.json"
+EARLIER = PATH.parent / "earlier-codes.csv"
 
 
 @functools.cache
@@ -37,6 +39,34 @@ def categories():
 def equations():
     """Each equation by its code."""
     return {equation["code"]: equation for equation in words()["equations"]}
+
+
+@functools.cache
+def earlier_codes():
+    """The codes of other guidelines that are another's here, with what they are of."""
+    with open(EARLIER, encoding="utf-8", newline="") as file:
+        return list(csv.DictReader(file))
+
+
+def volume_of_category(code):
+    """The volume of the Guidelines that a category is of, or None where any may be."""
+    return {"1": "2", "2": "3", "3": "4", "4": "5", "M": "2", "R": "2"}.get(code[:1])
+
+
+def volume_of_equation(code):
+    """The volume of the Guidelines that an equation is of, or None where it is of none."""
+    found = re.match(r"Volume (\d)", equations()[code]["source"])
+    return found.group(1) if found else None
+
+
+def elsewhere(code, equation):
+    """What the code of a line of an equation is in other guidelines, and which code that is here; or None."""
+    there = [row for row in earlier_codes()
+             if code.upper().startswith(row["code"]) and equation in row["equations"].split()]
+    if not there:
+        return None
+    row = max(there, key=lambda row: len(row["code"]))
+    return f"{row['code']} is {row['name']} in the {row['of']}, and that is {row['here']} here", row["here"]
 
 
 @functools.cache
@@ -86,6 +116,13 @@ def given_by(code):
     """What a line of an equation gives, in the words of the table of units."""
     output = equations()[code]["output"]
     return "gas" if "gas" in output else output["measures"]
+
+
+def made_of(measures, wanted):
+    """The equations that make what is wanted of something measured, with one parameter more at the most."""
+    return [code for code, equation in equations().items()
+            if given_by(code) == wanted and len(equation["parameters"]) <= 2
+            and measures in [parameter["measures"] for parameter in equation["parameters"]]]
 
 
 def gas_of(code):

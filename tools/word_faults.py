@@ -1,23 +1,21 @@
 """Explains a word that is none of its column, or a column that has to be empty: rule 5."""
-import decimal
 import re
 
 from tools import causes, vocabulary
-from tools.asking import Asking, article, cause_of, is_empty, is_header, is_total
-from tools.book import KIND_TAKEN
+from tools.asking import article, cause_of, has_figure, is_empty, is_header, is_note, is_total
 from tools.faults import at_row
+from tools.other_words import OTHER_ACTS, OTHER_KINDS
 from tools.sheets import COLUMNS_OF_KEY
-from tools.vocabulary import limit, listed, nearest
+from tools.target_faults import TargetFaults, name_otherwise
+from tools.unit_faults import UnitFaults, unit_beside
+from tools.vocabulary import limit, listed
 
 
-# Other words for the acts.
-OTHER_ACTS = {
-    "add": "enter", "update": "correct", "change": "correct", "delete": "withdraw", "remove": "withdraw",
-}
-NUMBER_AS_TARGET = "a target is a name and no number; enter the number as a factor, and bind that by factor"
+# The columns that a merged cell may leave empty, by the kind of a row.
+MERGED = {"activity": ["name", "unit"], "factor": ["name", "unit"], "line": ["subject"], "bind": ["subject"]}
 
 
-class WordFaults(Asking):
+class WordFaults(UnitFaults, TargetFaults):
     """Explanations of words."""
 
     def word(self, row, column):
@@ -28,11 +26,18 @@ class WordFaults(Asking):
             return at_row(row, "the header once more; take this row out"), None
         if is_total(row):
             return at_row(row, "a row of totals; take it out"), None
+        below = self.below_a_merged_cell(row, column)
+        if below:
+            return below
+        if is_note(row):
+            return at_row(row, "a row of text; take it out, or write what it says into a note"), None
+        if row.field(column).startswith("="):
+            return at_row(row, "a formula of the spreadsheet in place of what it shows", column), None
         kind = row.field("kind")
         if column == "act":
             return self.act(row, column)
         if column == "kind":
-            return self.choice(row, column, vocabulary.words()["kinds"])
+            return self.other_word(row, column, OTHER_KINDS, vocabulary.words()["kinds"], "kind is")
         if row.field("act") == "withdraw" and column in ("subject", "year", "value", "low", "high", "unit"):
             if (kind, column) not in (("bind", "subject"),):
                 cause = f"in a row that withdraws {article(kind)} only what names the record is filled"
@@ -53,34 +58,22 @@ class WordFaults(Asking):
             return self.filled(row, column, cause)
         return self.filled(row, column, f"this column stays empty in {article(kind)} row")
 
+    def below_a_merged_cell(self, row, column):
+        """Empty fields that rows above fill, as a spreadsheet writes cells that were merged, or None."""
+        fields = filled_from_above(row)
+        changed = row.with_fields(**fields)
+        if column not in fields or not self.takes(changed, column):
+            return None
+        write = listed([f"{text} in {name}" for name, text in fields.items()], "and")
+        return at_row(row, "empty, as behind a merged cell; the row above has it", column, write), changed
+
     def act(self, row, column):
         """An act, or another word for one. A row with figures withdraws nothing."""
         acts = vocabulary.words()["acts"]
         meant = OTHER_ACTS.get(causes.without_blanks(row.field(column)).text.casefold())
-        if meant is None or meant == "withdraw" and any(map(row.field, ("value", "low", "high", "unit"))):
+        if meant == "withdraw" and any(map(row.field, ("value", "low", "high", "unit"))):
             return self.choice(row, column, acts)
-        return self.first_taken(row, column, [("no such word", meant, True)], f"act is {listed(acts)}")
-
-    def form(self, row, column):
-        """The form of a binding, which goes on with NE."""
-        key = causes.without_blanks(row.field(column)).text.upper()
-        bound = row.with_fields(value="key", low=key)
-        if key in vocabulary.words()["keys"] and not row.field("low") and self.takes(bound, None):
-            return at_row(row, "a notation key is bound by key", column, f"key,{key}"), bound
-        forms = vocabulary.words()["forms"]
-        if is_number(row.field("low")) and not nearest(key, forms, 1, 0.75):
-            return at_row(row, f"a binding is by {listed(forms)}; {NUMBER_AS_TARGET}", column), \
-                self.blank_binding(row)
-        fault, changed = self.choice(row, column, forms, f"a binding is by {listed(forms)}")
-        return fault, changed or self.blank_binding(row)
-
-    def blank_binding(self, row):
-        """The binding with NE as its target, so that its line is not left without it, where the program
-        takes it.
-        """
-        changed = row.with_fields(value="key", low="NE")
-        changed.has_other_figure = True
-        return changed if self.takes(changed, None) else None
+        return self.other_word(row, column, OTHER_ACTS, acts, "act is")
 
     def name(self, row, column):
         """A name of a record, or of the line of a binding."""
@@ -100,19 +93,24 @@ class WordFaults(Asking):
             cause = "names that begin with GWP. are of factors, the warming potentials"
             return at_row(row, cause, column), None
         bare = causes.name(row.field(column))
-        otherwise = f"no such potential; there are {listed(known, 'and')}"
-        return self.first_taken(row, column, [(cause_of(bare.causes), bare.text, True)], otherwise)
+        otherwise = f"no such potential; there are {listed(known, 'and')}; of another gas take the row out"
+        candidates = [(cause_of(bare.causes), bare.text, True)]
+        letters = bare.text[:4] + bare.text[4:].replace("0", "O")
+        candidates.append(("a zero in place of the letter O", letters, True))
+        return self.first_taken(row, column, candidates, otherwise)
 
     def parameter(self, row, column):
         """A parameter of a binding."""
         mended = causes.name(row.field(column))
         line = self.book.lines.get(row.field("subject"))
-        has = ""
+        has, known = "", []
         if line:
-            code = line.field("value")
-            has = f"; {code} has {listed(vocabulary.parameters_of(code), 'and')}"
+            known = vocabulary.parameters_of(line.field("value"))
+            has = f"; {line.field('value')} has {listed(known, 'and')}"
         otherwise = f"no parameter: it is 1 to {limit('parameter')} upper-case letters or digits{has}"
-        return self.first_taken(row, column, [(cause_of(mended.causes), mended.text, True)], otherwise)
+        candidates = alone(row.field(column).strip().upper(), known, "a parameter without what it measures")
+        candidates.append((cause_of(mended.causes), mended.text, True))
+        return self.first_taken(row, column, candidates, otherwise)
 
     def category(self, row, column):
         """A code of the tree.
@@ -124,16 +122,25 @@ class WordFaults(Asking):
         code = re.sub(r"[\s.]", "", bare.text)
         candidates = [(cause_of(bare.causes), bare.text, True)]
         candidates.append((cause_of(bare.causes + ["a code has no dots or blanks"]), code, True))
+        candidates += alone(bare.text, vocabulary.leaves(), "a code without its name")
+        named = {leaf: vocabulary.categories()[leaf]["name"] for leaf in vocabulary.leaves()}
+        candidates += called(bare.text, named, "the code of the category stands here")
         for word in [word for word in vocabulary.categories() if word.casefold() == code.casefold()]:
             candidates.append((cause_of(bare.causes + [f"the code is written {word}"]), word, True))
+        other = None
+        if code not in vocabulary.categories():
+            other = vocabulary.elsewhere(code, row.field("value").strip().upper())
         for leaf in [leaf for leaf in vocabulary.leaves() if code.casefold().startswith(leaf.casefold())]:
-            candidates.append((f"this tree has {leaf} undivided", leaf, True))
+            if not other or vocabulary.volume_of_category(leaf) == vocabulary.volume_of_category(other[1]):
+                candidates.append((f"this tree has {leaf} undivided", leaf, True))
+        candidates += [(*other, True)] if other else []
         fault, changed = self.first_taken(row, column, candidates, category_otherwise(code, bare.text))
         return fault, changed or self.placed(row, column)
 
     def placed(self, row, column):
         """The row at a memo code, where the program takes it."""
         changed = row.with_fields(**{column: "RA"})
+        changed.has_other_figure = True
         return changed if self.takes(changed, column) else None
 
     def equation(self, row, column):
@@ -142,9 +149,14 @@ class WordFaults(Asking):
         bare = causes.without_blanks(text)
         code = re.sub(r"\s", "", bare.text).upper()
         candidates = [(cause_of(bare.causes), bare.text, True)]
-        candidates.append(("an equation is written like Q10", code, True))
+        candidates += alone(bare.text.upper(), vocabulary.equations(), "a code without its name")
+        named = {known: equation["computes"] for known, equation in vocabulary.equations().items()}
+        candidates += called(bare.text, named, "the code of the equation stands here")
+        number = re.fullmatch(r"(?:Q|EQ|EQUATION)?[._-]?(\d+)", code)
         if code.isdigit():
             candidates.append(("the code of an equation begins with Q", "Q" + code, True))
+        elif number:
+            candidates.append(("an equation is written like Q10", "Q" + number.group(1), True))
         known = equations_near(code, bare.text)
         what = f"no equation of this code{near_it(map(said_of_equation, known))}"
         if not code:
@@ -152,112 +164,48 @@ class WordFaults(Asking):
         otherwise = f"{what}; ./workbook words equations lists them"
         return self.first_taken(row, column, candidates, otherwise)
 
-    def unit(self, row, column):
-        """A unit."""
-        text = row.field(column)
-        bare = causes.without_blanks(text)
-        form = causes.unit_form(bare.text)
-        rate = self.rate_of_decay(row, bare.text)
-        if rate:
-            return rate
-        record = self.book.some_record(row.field("kind"), row.field("name"))
-        dimension = vocabulary.measured_by(record.field("unit")) if record else None
-        candidates = [(cause_of(bare.causes), bare.text, True)]
-        of_gas = {"gg": "Gg-gas", "t": "t-gas", "kg": "kg-gas"}.get(form)
-        if of_gas and self.is_taken_as_gas(row):
-            candidates.append((f"a line takes this as a gas, whose unit is written {of_gas}", of_gas, True))
-        for word in [word for word in vocabulary.units() if causes.unit_form(word) == form]:
-            candidates.append((cause_of(bare.causes + [f"the unit is written {word}"]), word, True))
-        by_parts = causes.same_size_form(bare.text)
-        same = [word for word in vocabulary.units() if causes.unit_form(word) == by_parts]
-        for word in filter(None, [causes.BY_CASE.get(bare.text), causes.SAME_SIZE.get(form), *same]):
-            candidates.append((f"the unit is written {word}", word, True))
-        if row.field("name") in vocabulary.words()["potentials"]:
-            candidates.append(("a warming potential is a ratio", "1", True))
-        return self.first_taken(row, column, candidates, unit_otherwise(bare.text, form, dimension))
-
-    def is_taken_as_gas(self, row):
-        """Tells whether a parameter takes a record as an amount of a gas."""
-        taken = self.book.parameters_that_take(row.field("kind"), row.field("name"))
-        return any(parameter["measures"] == "gas" for parameter, _ in taken)
-
-    def rate_of_decay(self, row, text):
-        """The fault of a factor in the unit of a yearly share that a line takes by decay, or may take so,
-        and the row with the half-life where a line does; or None.
-        """
-        if row.field("kind") != "factor" or not causes.is_yearly_share(text):
-            return None
-        forms = {form for _, form in self.book.parameters_that_take("factor", row.field("name"))}
-        if forms and "decay" not in forms:
-            return None
-        years = years_of_rate(causes.number(row.field("value")))
-        half_life = row.with_fields(value=years or "1", low="", high="", unit=vocabulary.HALF_LIFE_UNIT)
-        if not self.takes(half_life, None):
-            return None
-        value = f"ln 2 / {row.field('value').strip()} = {years}" if years else "ln 2 / k"
-        unit = f"the unit is {vocabulary.HALF_LIFE_UNIT}"
-        write = f"{unit}, the value the half-life {value} in whole years"
-        if not forms:
-            where = "where a line takes this factor by decay"
-            return at_row(row, f"{where}, {write}; else a share of a year is a ratio in 1", "unit"), None
-        half_life.has_other_figure = not years
-        return at_row(row, f"no rate of decay; {write}", "unit"), half_life
-
-    def target(self, row, column):
-        """The target of a binding. The binding goes on with NE where it is not sure what is meant."""
-        fault, changed = self.target_alone(row, column)
-        return fault, changed or self.blank_binding(row)
-
-    def target_alone(self, row, column):
-        """A name, several names or a notation key."""
-        text, form = row.field(column), row.field("value")
-        if not text.strip():
-            return at_row(row, f"no target; a binding by {form} names {target_of(form)}", column), None
-        if form == "key":
-            keys = vocabulary.words()["keys"]
-            return self.choice(row, column, keys, f"a binding by key takes {listed(keys)}")
-        if form == "sum":
-            return self.sum_target(row, column)
-        if text.upper() in vocabulary.words()["potentials"]:
-            return at_row(row, "a potential is no target: equivalents take it by themselves", column), None
-        if form in ("line", "prev") and len(re.findall(r"[^\s,;+]+", text)) > 1:
-            cause = f"more than one line; a binding by {form} takes one, and by sum several"
-            return at_row(row, cause, column), None
-        if is_number(text):
-            return at_row(row, NUMBER_AS_TARGET, column), None
-        if re.search(r"\S\s*[+;,]\s*\S", text):
-            cause = f"more than one name; a binding by {form} takes one, and by sum the lines that it adds up"
-            return at_row(row, cause, column), None
-        mended = causes.name(text)
-        candidates = [(cause_of(mended.causes), mended.text, mended.sure)]
-        return self.first_taken(row, column, candidates, name_otherwise(mended.text, "name"))
-
-    def sum_target(self, row, column):
-        """The lines of a sum."""
-        text = row.field(column)
-        names = re.split(r"[\s,;+]+", text.strip())
-        once = list(dict.fromkeys(name for name in names if name))
-        meant = " ".join(causes.name(name).text for name in once)
-        candidates = [
-            ("one space stands between two lines of a sum", " ".join(names), True),
-            ("a line stands twice in the sum", " ".join(once), False),
-            ("names are in upper case, with one space between two", meant, True),
-        ]
-        otherwise = f"no sum: it is 1 to {limit('sum')} different lines with one space between two"
-        return self.first_taken(row, column, candidates, otherwise)
+def filled_from_above(row):
+    """What the rows above have in the columns that a merged cell may leave empty and that are, by column."""
+    if not has_figure(row):
+        return {}
+    kind, fields = row.field("kind").strip(), {}
+    for column in ("act", "kind"):
+        if not row.field(column).strip():
+            fields[column] = text_above(row, column, kind)
+    kind = fields.get("kind", kind)
+    for column in MERGED.get(kind, []):
+        if not row.field(column).strip() and (column != "unit" or is_of_name_above(row, kind)):
+            fields[column] = text_above(row, column, kind)
+    return {column: text for column, text in fields.items() if text}
 
 
-def is_number(text):
-    """Tells whether a text is a number, however it is written."""
-    return bool(re.fullmatch(r"-?\d+(\.\d+)?", causes.number(text).text))
+def is_of_name_above(row, kind):
+    """Tells whether a row without a unit of its own is of the name that stands above it."""
+    name = row.field("name").strip()
+    return unit_beside(row)[1] is None and name in ("", text_above(row, "name", kind))
 
 
-def years_of_rate(mended):
-    """The whole years of the half-life of a yearly rate of decay, or None where a text is no such rate."""
-    if not mended.sure or not re.fullmatch(r"0?\.\d*[1-9]\d*", mended.text):
-        return None
-    years = decimal.Decimal(2).ln() / decimal.Decimal(mended.text)
-    return f"{years:.0f}" if round(years) in range(1, int(limit("half_life")) + 1) else None
+def text_above(row, column, kind):
+    """The nearest text above a field in its column, where that row is of a kind or none is known; or
+    nothing.
+    """
+    for other in row.sheet.rows_above(row.line):
+        if other.field(column).strip():
+            return other.field(column) if kind in ("", other.field("kind").strip()) else ""
+    return ""
+
+
+def alone(text, known, cause):
+    """The word that a text begins with, as a candidate, where it is a known one and more stands behind it."""
+    first = re.split(r"[\s(,:;/-]", text, maxsplit=1)[0]
+    return [(cause, first, True)] if first in known and first != text else []
+
+
+def called(text, named, cause):
+    """The code that has a text as its name, as a candidate."""
+    plain = re.sub(r"\W+", " ", text).casefold().strip()
+    return [(cause, code, True) for code, name in named.items()
+            if plain and re.sub(r"\W+", " ", name).casefold().strip() == plain]
 
 
 def equations_near(code, text):
@@ -289,26 +237,6 @@ def said_of_equation(code):
     return f"{code} ({vocabulary.equations()[code]['computes']})"
 
 
-def target_of(form):
-    """What a binding by a form names."""
-    if form in KIND_TAKEN:
-        return article(KIND_TAKEN[form])
-    return {"key": "a notation key", "sum": "lines"}.get(form, "a line")
-
-
-def name_otherwise(text, what):
-    """Why a text is no name, where nothing that is sure mends it."""
-    if not text:
-        return f"empty; here stands the {what}"
-    length = len(text.encode("utf-8", "replace"))
-    if length > int(limit("name")):
-        most = f"{length} letters where {limit('name')} are the most"
-        return f"{most}; write a shorter name, the same everywhere"
-    if not re.match("[A-Z]", text):
-        return "a name begins with a letter"
-    return f"a name is 1 to {limit('name')} of A to Z, 0 to 9, . _ and -, and begins with a letter"
-
-
 def category_otherwise(code, text):
     """Why a code is no leaf of the tree."""
     known = vocabulary.categories()
@@ -324,17 +252,3 @@ def category_otherwise(code, text):
     leaves = {leaf: f"{known[leaf]['name']}; {known[leaf]['also']}" for leaf in vocabulary.leaves()}
     like = [f"{leaf} ({known[leaf]['name']})" for leaf in named_like(text, leaves)]
     return f"no category of this tree{near_it(like)}; ./workbook words categories lists them"
-
-
-def unit_otherwise(text, form, dimension):
-    """Why a text is no unit."""
-    of_record = f"; this record is in {listed(vocabulary.units_that_measure(dimension))}" if dimension else ""
-    if not text:
-        return f"empty: a unit is needed, beside a notation key too{of_record}"
-    if form in causes.OTHER_SIZE:
-        word, how = causes.OTHER_SIZE[form]
-        return f"no unit of the table; write {word} ({how})"
-    near = nearest(text, vocabulary.units(), 3, 0.6)
-    are = "is" if len(near) == 1 else "are"
-    shown = f"; the nearest {are} {listed(near, 'and')}" if near and not dimension else ""
-    return f"no unit of the table{of_record or shown}; ./workbook words units lists them"

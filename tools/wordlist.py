@@ -1,5 +1,6 @@
 """Searches the vocabulary, and shows an equation with a template of its rows."""
-from tools import causes, vocabulary
+from tools import units as readings
+from tools import vocabulary
 from tools.sheets import COLUMNS
 
 PARTS = ["units", "categories", "equations", "parameters"]
@@ -17,7 +18,7 @@ def units():
         base = vocabulary.units_that_measure(unit["measures"])[0]
         ratio = f"{unit['over']}" if unit["under"] == 1 else f"{unit['over']}/{unit['under']}"
         of_base = "" if word == base else f", {ratio} {base}"
-        yield word, f"{unit['measures']}{of_base}", causes.written_for(word)
+        yield word, f"{unit['measures']}{of_base}", readings.spellings(word)
 
 
 def categories():

@@ -1,0 +1,76 @@
+"""Units as people write them: the word of the table for each, and what a figure is multiplied by."""
+import fractions
+import unittest
+
+from tools import units, vocabulary
+
+SAME = "the same number"
+# Each text with the unit of the table that it means, and how to come to it.
+MEANT = [
+    ("tonnes", "t", SAME), ("metric tons", "t", SAME), ("Mg", "t", SAME), ("tn", "t", SAME),
+    ("1000 t", "kt", SAME), ("'000 t", "kt", SAME), ("10^3 t", "kt", SAME), ("10\u00b3 t", "kt", SAME),
+    ("thousand tonnes", "kt", SAME), ("Mt", "kt", "multiply by 1000"), ("lb", "kg", "multiply by 0.45359237"),
+    ("kt CO2", "kt", SAME), ("Gg CO2-eq.", "Gg", SAME), ("ktCO2e", "kt", SAME), ("t of clinker", "t", SAME),
+    ("MWh", "GWh", "divide by 1000"), ("TWh", "GWh", "multiply by 1000"), ("toe", "ktoe", "divide by 1000"),
+    ("Tcal", "ktoe", "divide by 10"), ("MMBtu", "GJ", "multiply by 1.055056"), ("TJ (NCV)", "TJ", SAME),
+    ("km2", "kha", "divide by 10"), ("thousand hectares", "kha", SAME), ("m\u00b3", "m3", SAME),
+    ("bcm", "Mm3", "multiply by 1000"), ("million m3", "Mm3", SAME), ("litres", "m3", "divide by 1000"),
+    ("thousand head", "head", "multiply by 1000"), ("head of cattle", "head", SAME),
+    ("inhabitants", "person", SAME), ("years", "yr", SAME), ("days", "day", SAME),
+    ("%", "pct", SAME), ("fraction", "1", SAME), ("-", "1", SAME),
+    ("kg CO2/TJ", "kg/TJ", SAME), ("kg CO2 per TJ", "kg/TJ", SAME), ("g CO2/kWh", "t/TJ", "divide by 3.6"),
+    ("tonnes/terajoule", "t/TJ", SAME), ("t C/TJ", "tC/TJ", SAME), ("kg C/GJ", "kgC/GJ", SAME),
+    ("kcal/kg", "TJ/Gg", "multiply by 0.0041868"), ("GJ/tonne", "GJ/t", SAME), ("GgC", "GgC", SAME),
+    ("kt C", "ktC", SAME), ("t C/t", "t/t", SAME), ("t C/ha", "t/ha", SAME), ("t d.m./ha", "t/ha", SAME),
+    ("kg N ha-1 yr-1", "kg/ha", SAME), ("kg N/head/yr", "kg/head", SAME),
+    ("kg N2O\u2013N (kg N)\u20131", "kg/kg", SAME),
+    ("kg/1000 head", "kg/head", "divide by 1000"), ("kg N (1000 kg animal mass)-1 day-1", "kg/t/day", SAME),
+    ("m3 CH4/kg VS", "m3/kg", SAME), ("g BOD/cap/day", "g/person/day", SAME), ("min/cell-day", "AEmin", SAME),
+]
+# Each text with what is measured, and the unit that it means then.
+MEASURED = [
+    ("kt CO2", "gas", "Gg-gas", SAME), ("t", "carbon", "tC", SAME), ("kt", "gas", "Gg-gas", SAME),
+    ("kg/m3", "mass per volume of wood", "t/m3", "divide by 1000"),
+    ("m3/t", "methane yield", "m3/kg", "divide by 1000"),
+    ("thousand", "animals", "head", "multiply by 1000"), ("t C/TJ", "emission factor of fuel", "tC/TJ", SAME),
+]
+# Texts that are no unit of the table, or that give another figure, as a gross calorific value.
+NONE = ["", "n/a", "barrels", "TJ GCV", "thousand", "C", "CO2", "/", "US$", "TJ/", "furlongs"]
+
+
+class Units(unittest.TestCase):
+    def test_meant(self):
+        for text, word, said in MEANT:
+            found = units.meant(text)
+            self.assertEqual((found and found.word, found and found.said), (word, said), text)
+
+    def test_meant_by_what_is_measured(self):
+        for text, measures, word, said in MEASURED:
+            found = units.meant(text, measures)
+            self.assertEqual((found and found.word, found and found.said), (word, said), text)
+
+    def test_none(self):
+        for text in NONE:
+            self.assertIsNone(units.meant(text), text)
+
+    def test_shares_of_a_year(self):
+        percent = fractions.Fraction(1, 100)
+        for text, size in (("1/yr", 1), ("per year", 1), ("yr-1", 1), ("a\u207b\u00b9", 1),
+                           ("%/yr", percent), ("percent per annum", percent)):
+            reading = units.read(text)
+            self.assertTrue(reading.is_yearly_share, text)
+            self.assertEqual(reading.size, size, text)
+        for text in ("yr", "kg/yr", "1", "%"):
+            self.assertFalse(units.read(text).is_yearly_share, text)
+
+    def test_units_of_the_table_mean_themselves_in_their_sizes(self):
+        for word, unit in vocabulary.units().items():
+            found = units.meant(word, unit["measures"])
+            self.assertEqual((found.word, found.times), (word, 1), word)
+            base = vocabulary.units_that_measure(unit["measures"])[0]
+            ratio = units.table()[word].size / units.table()[base].size
+            self.assertEqual(ratio, fractions.Fraction(unit["over"], unit["under"]), word)
+
+
+if __name__ == "__main__":
+    unittest.main()

@@ -1,0 +1,100 @@
+"""Explains the refusals that name a ring of lines, a node beyond the limits, or a limit of the workbook: rules
+11 to 13. They are judged with all rows of a file applied.
+"""
+from tools import vocabulary
+from tools.book import lines_taken_by, record_taken_by
+from tools.faults import Fault, at_row
+from tools.vocabulary import limit, listed
+
+
+def ring(line, after):
+    """The fault of lines that take each other in a ring, and the rows with one of its bindings blank."""
+    path = bindings_to_itself(line, after.book)
+    own = [bound for bound in path if after.is_own(bound)]
+    if not own:
+        return None, None
+    steps = [f"{bound.field('subject')} takes {taken} ({bound.place})"
+             for bound, taken in zip(path, following(path, line))]
+    cause = f"lines take each other's values of the same year in a ring: {listed(steps, 'and')}"
+    cause += "; bind one of them to last year by prev, or to an activity"
+    return at_row(own[0], cause, "low"), after.blank(own[0])
+
+
+def following(path, line):
+    """The line that each binding of a path takes on it."""
+    return [bound.field("subject") for bound in path[1:]] + [line]
+
+
+def bindings_to_itself(line, book):
+    """The bindings by which a line takes itself in the same year, over as few lines as there are."""
+    reached, waiting = {}, [line]
+    while waiting:
+        name = waiting.pop(0)
+        for bound in book.bindings.get(name, {}).values():
+            for taken in lines_taken_by(bound) if bound.field("value") != "prev" else []:
+                if taken == line:
+                    return path_to(name, reached) + [bound]
+                if taken not in reached:
+                    reached[taken] = bound
+                    waiting.append(taken)
+    return []
+
+
+def path_to(name, reached):
+    """The bindings over which a line was reached."""
+    path = []
+    while name in reached:
+        path.insert(0, reached[name])
+        name = reached[name].field("subject")
+    return path
+
+
+def overflow(node, sheet, after):
+    """The fault of a node beyond the limits, and the rows with one of its figures blank."""
+    kind, *rest = node.split(":")
+    year = int(rest[-1])
+    equivalents = f"{limit('equivalent')} Gg of CO2 equivalent"
+    if kind in ("total", "gross"):
+        code = rest[0] if kind == "total" else "0"
+        cause = f"the total of {code} in {year} is beyond {equivalents} with the rows of this file"
+        cause += "; look for a figure in a wrong unit"
+        return Fault(sheet, 1, "", None, cause), None
+    inputs = inputs_of(rest[0], year, after.book)
+    what = f"line {rest[0]} in {year}, or a result on the way to it, is beyond {limit('figure')} units"
+    if kind == "equiv":
+        what = f"line {rest[0]} in {year} is beyond {equivalents}"
+        gas = f"GWP.{vocabulary.gas_of(after.book.lines[rest[0]].field('value'))}"
+        inputs.append((gas, after.book.in_force("factor", gas, year)))
+    figures = [f"{name} is {row.field('value')} {row.field('unit')} ({row.place})" for name, row in inputs]
+    cause = f"{what}: {listed(figures, 'and')}; look at the units"
+    own = [row for _, row in inputs if after.is_own(row)]
+    if not own:
+        return Fault(sheet, 1, "", None, cause), None
+    greatest = max(own, key=lambda row: abs(float(row.field("value"))))
+    return at_row(greatest, cause, "value"), after.changed(greatest, value="NE", low="", high="")
+
+
+def inputs_of(line, year, book):
+    """The figures that a line takes in a year, by their parameters, with those of the lines that it takes."""
+    found, seen, waiting = [], set(), [line]
+    while waiting:
+        name = waiting.pop(0)
+        if name in seen:
+            continue
+        seen.add(name)
+        for parameter, bound in book.bindings.get(name, {}).items():
+            waiting += lines_taken_by(bound)
+            if record_taken_by(bound):
+                row = book.in_force(*record_taken_by(bound), year)
+                if row is not None and row.field("value") not in vocabulary.words()["keys"]:
+                    found.append((parameter if name == line else f"{parameter} of {name}", row))
+    return found
+
+
+def too_many(named, sheet, rows):
+    """The fault of a limit of the whole workbook, and the rows without its span where that is too long."""
+    spans = [row for row in rows[1:] if named == "span" and row.field("kind") == "span"]
+    if spans:
+        cause = f"more than {limit('span')} years from the first to the last"
+        return at_row(spans[-1], cause, "value"), [row for row in rows if row not in spans]
+    return Fault(sheet, 1, "", None, f"more than {limit(named)} {named} with this file"), None

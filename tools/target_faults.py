@@ -1,0 +1,163 @@
+"""Explains the form and the target of a binding: rule 5."""
+import re
+
+from tools import causes, vocabulary
+from tools.asking import Asking, article, cause_of
+from tools.book import KIND_TAKEN
+from tools.faults import at_row
+from tools.other_words import OTHER_FORMS
+from tools.vocabulary import limit, listed, nearest, said_of_parameter
+
+
+class TargetFaults(Asking):
+    """Explanations of forms and targets."""
+
+    def form(self, row, column):
+        """The form of a binding, which goes on with NE."""
+        forms, text = vocabulary.words()["forms"], causes.without_blanks(row.field(column)).text
+        key = causes.notation_key(text)
+        bound = row.with_fields(value="key", low=key)
+        if key in vocabulary.words()["keys"] and not row.field("low") and self.takes(bound, None):
+            return at_row(row, "a notation key is bound by key", column, f"key,{key}"), bound
+        target = self.target_in_value(row, text) or self.form_of_target(row, column)
+        if target:
+            return target
+        if is_number(row.field("low") or text) and not nearest(key, forms, 1, 0.75):
+            number = self.number_as_target(row, row.field("low") or text)
+            return at_row(row, f"a binding is by {listed(forms)}; {number}", column), self.blank_binding(row)
+        fault, changed = self.other_word(row, column, OTHER_FORMS, forms, "a binding is by")
+        return fault, changed or self.blank_binding(row)
+
+    def form_of_target(self, row, column):
+        """The form of a binding that has a target and no form, told by what the target is, or None."""
+        low = row.field("low")
+        if row.field(column).strip() or not low.strip():
+            return None
+        kinds = ["key"] if causes.notation_key(low) in vocabulary.words()["keys"] else []
+        name = causes.name(low).text
+        kinds += [kind for kind in ("activity", "factor", "line") if self.ahead.row_of(kind, name)]
+        candidates = [(f"empty; {low.strip()} is taken by {kind}", kind, True) for kind in kinds]
+        return self.first_taken(row, column, candidates, "empty") if candidates else None
+
+    def target_in_value(self, row, text):
+        """The target of a binding in value, alone or behind its form, or None. Which form is meant is told by
+        what has the name.
+        """
+        forms = vocabulary.words()["forms"]
+        found = re.fullmatch(rf"(?:({'|'.join(forms)})[\s:=]+)?(.*)", text, re.IGNORECASE)
+        form, name = (found.group(1) or "").lower(), causes.name(found.group(2)).text
+        entered = [(kind, self.ahead.row_of(kind, name)) for kind in ("activity", "factor", "line")]
+        there = [(kind, one) for kind, one in entered if one]
+        if not name or row.field("low") or not there and not form:
+            return None
+        kind = form or there[0][0]
+        changed = row.with_fields(value=kind, low=name)
+        if not self.takes(changed, None):
+            return None
+        cause = "the form of a binding stands here, and the target in low"
+        if not form:
+            cause = f"{name} is {article(kind)} ({there[0][1].place}); {cause}"
+        return at_row(row, cause, "value", f"{kind} in value and {name} in low"), changed
+
+    def blank_binding(self, row):
+        """The binding with NE as its target, so that its line is not left without it, where the program
+        takes it.
+        """
+        changed = row.with_fields(value="key", low="NE")
+        changed.has_other_figure = True
+        return changed if self.takes(changed, None) else None
+
+    def target(self, row, column):
+        """The target of a binding. The binding goes on with NE where it is not sure what is meant."""
+        fault, changed = self.target_alone(row, column)
+        return fault, changed or self.blank_binding(row)
+
+    def target_alone(self, row, column):
+        """A name, several names or a notation key."""
+        text, form = row.field(column), row.field("value")
+        if not text.strip():
+            return at_row(row, f"no target; a binding by {form} names {target_of(form)}", column), None
+        if form == "key":
+            keys, meant = vocabulary.words()["keys"], causes.notation_key(text)
+            if meant in keys and meant != text.strip().upper():
+                candidates = [("a notation key has two letters", meant, True)]
+                return self.first_taken(row, column, candidates, "no key")
+            return self.choice(row, column, keys, f"a binding by key takes {listed(keys)}")
+        if form == "sum":
+            return self.sum_target(row, column)
+        if text.upper() in vocabulary.words()["potentials"]:
+            cause = "a potential is no target: equivalents take it by themselves"
+            parameter = self.parameter_of(row)
+            takes = f"; {said_of_parameter(parameter)} is what is taken here" if parameter else ""
+            return at_row(row, f"{cause}{takes}", column), None
+        if form in ("line", "prev") and len(re.findall(r"[^\s,;+]+", text)) > 1:
+            cause = f"more than one line; a binding by {form} takes one, and by sum several"
+            return at_row(row, cause, column), None
+        if is_number(text):
+            return at_row(row, self.number_as_target(row, text), column), None
+        if re.search(r"\S\s*[+;,]\s*\S", text):
+            cause = f"more than one name; a binding by {form} takes one, and by sum the lines that it adds up"
+            return at_row(row, cause, column), None
+        mended = causes.name(text)
+        candidates = [(cause_of(mended.causes), mended.text, mended.sure)]
+        return self.first_taken(row, column, candidates, name_otherwise(mended.text, "name"))
+
+    def parameter_of(self, row):
+        """The parameter that a binding names, where its line is known, or None."""
+        line = self.book.lines.get(row.field("subject")) or self.ahead.row_of("line", row.field("subject"))
+        code = line.field("value") if line else None
+        known = vocabulary.parameters_of(code) if code in vocabulary.equations() else {}
+        return known.get(row.field("name"))
+
+    def number_as_target(self, row, text):
+        """What to write in place of a number as a target: a factor of it, with the units that its parameter
+        takes, and its name.
+        """
+        said = "a target is a name and no number; enter the number as a factor, and bind that by factor"
+        parameter = self.parameter_of(row)
+        if not parameter:
+            return said
+        name = f"{row.field('subject')}.{row.field('name')}"[:int(limit("name"))]
+        year = self.book.span[0] if self.book.span else "YEAR"
+        units = vocabulary.units_that_measure(vocabulary.record_of(parameter))
+        row_of_it = f"enter,factor,,{name},{year},{causes.number(text).text},,,UNIT,"
+        return f"{said}: {row_of_it} in {listed(units)}, and factor,{name}"
+
+    def sum_target(self, row, column):
+        """The lines of a sum."""
+        text = row.field(column)
+        names = re.split(r"[\s,;+]+", text.strip())
+        once = list(dict.fromkeys(name for name in names if name))
+        meant = " ".join(causes.name(name).text for name in once)
+        candidates = [
+            ("one space stands between two lines of a sum", " ".join(names), True),
+            ("a line stands twice in the sum", " ".join(once), False),
+            ("names are in upper case, with one space between two", meant, True),
+        ]
+        otherwise = f"no sum: it is 1 to {limit('sum')} different lines with one space between two"
+        return self.first_taken(row, column, candidates, otherwise)
+
+
+def is_number(text):
+    """Tells whether a text is a number, however it is written."""
+    return bool(re.fullmatch(r"-?\d+(\.\d+)?", causes.number(text).text))
+
+
+def target_of(form):
+    """What a binding by a form names."""
+    if form in KIND_TAKEN:
+        return article(KIND_TAKEN[form])
+    return {"key": "a notation key", "sum": "lines"}.get(form, "a line")
+
+
+def name_otherwise(text, what):
+    """Why a text is no name, where nothing that is sure mends it."""
+    if not text:
+        return f"empty; here stands the {what}"
+    length = len(text.encode("utf-8", "replace"))
+    if length > int(limit("name")):
+        most = f"{length} letters where {limit('name')} are the most"
+        return f"{most}; write a shorter name, the same everywhere"
+    if not re.match("[A-Z]", text):
+        return "a name begins with a letter"
+    return f"a name is 1 to {limit('name')} of A to Z, 0 to 9, . _ and -, and begins with a letter"

@@ -1,0 +1,312 @@
+"""Reads a unit as people write it: which unit of the table it is, or what a figure in it is multiplied by."""
+import fractions
+import functools
+import math
+import re
+import unicodedata
+
+from tools import vocabulary
+from tools.causes import MINUS
+
+Exact = fractions.Fraction
+POWERS = {"k": 3, "M": 6, "G": 9, "T": 12, "P": 15, "E": 18}
+LONG_POWERS = {"kilo": 3, "mega": 6, "giga": 9, "tera": 12, "peta": 15, "exa": 18}
+# What is measured, the base, its size in t, TJ, ha or m3, the powers in front of it, and its long names.
+BASES = [
+    ("mass", "t", "1", "kMG", ["tonne", "ton"]),
+    ("mass", "g", "0.000001", "kMGTP", ["gram", "gramme"]),
+    ("energy", "J", "0.000000000001", "kMGTPE", ["joule"]),
+    ("energy", "Wh", "0.0000000036", "kMGT", ["watthour"]),
+    ("energy", "cal", "0.0000000000041868", "kMGTP", ["calorie"]),
+    ("energy", "toe", "0.041868", "kM", []),
+    ("energy", "tce", "0.0293076", "kM", []),
+    ("area", "ha", "1", "kM", ["hectare"]),
+    ("volume", "l", "0.001", "k", ["litre", "liter"]),
+]
+OTHERS = {
+    ("mass", "0.000000001"): ["mg", "milligram"], ("mass", "0.00045359237"): ["lb", "pound"],
+    ("mass", "0.1"): ["quintal"],
+    ("energy", "0.001055056"): ["MMBtu"], ("energy", "0.000000001055056"): ["Btu"],
+    ("area", "100"): ["km2"], ("area", "0.0001"): ["m2"], ("area", "0.40468564224"): ["acre"],
+    ("volume", "1"): ["m3", "Nm3", "Sm3", "cbm"], ("volume", "1000000"): ["Mm3", "mcm"],
+    ("volume", "1000000000"): ["km3", "bcm"], ("volume", "1000"): ["ML", "megalitre"],
+    ("volume", "0.1"): ["hl"],
+    ("animals", "1"): ["head"], ("people", "1"): ["person", "people", "capita", "cap", "inhabitant"],
+    ("days", "1"): ["day", "d"], ("years", "1"): ["yr", "year", "y", "a", "annum"],
+    ("minutes", "1"): ["AEmin", "min", "minute"], ("ratio", "0.01"): ["pct", "%", "percent", "percentage"],
+    ("ratio", "0.001"): ["\u2030"], ("ratio", "0.000001"): ["ppm"],
+    ("ratio", "1"): ["-", "fraction", "ratio", "none", "dimensionless"],
+}
+MULTIPLES = {
+    "hundred": 2, "thousand": 3, "'000": 3, "000": 3, "000s": 3, "k": 3, "million": 6, "mio": 6, "mln": 6,
+    "billion": 9, "bn": 9, "mrd": 9,
+}
+PHRASES = {
+    "ae-min/cell-day": "AEmin", "ae min/cell-day": "AEmin", "min/cell-day": "AEmin", "ae-min": "AEmin",
+    "min per cell-day": "AEmin",
+    "metric ton": "t", "cubic metre": "m3", "cubic meter": "m3", "square kilometre": "km2", "watt hour": "Wh",
+    "watt-hour": "Wh", "per cent": "%", "p.a.": "/yr", "d.m.": "dm",
+    "anode effect minute": "AEmin", "ae min": "AEmin",
+}
+# Equivalents of a gas, behind its formula.
+EQUIVALENTS = re.compile(r"(co2|ch4|n2o)[\s-]*e(q\.?|quivalents?)?(?![a-z0-9])", re.IGNORECASE)
+# Animals are counted in heads. Behind a mass they only say what it is of.
+ANIMALS = {"animal", "cow", "cattle", "bovine", "sheep", "goat", "pig", "swine", "horse", "poultry", "bird"}
+GASES = {"co2", "ch4", "n2o", "cf4", "c2f6"}
+# What stands without a blank behind the mass of it.
+GLUED = GASES | {"c", "n", "n2o-n", "gas", "dm", "vs", "bod", "cod"}
+# What a figure of fuel is in other than its net calorific value: another figure.
+GROSS = {"gross", "gcv", "hhv"}
+RAISED = re.compile("[\u2070\u00b9\u00b2\u00b3\u2074-\u2079\u207b]+")
+LOWERED = str.maketrans("\u2070\u00b9\u00b2\u00b3\u2074\u2075\u2076\u2077\u2078\u2079\u207b", "0123456789-")
+
+
+class Reading:
+    """A unit in its parts: the power of each thing measured, and the size in t, TJ, ha, m3, head and person.
+
+    `of` is C for carbon or gas for a gas in front of the first stroke, and `words` are the units as the table
+    writes them, those behind a stroke with it.
+    """
+
+    def __init__(self):
+        self.powers, self.size, self.of, self.words = {}, Exact(1), None, []
+
+    def add(self, word, power):
+        """Multiplies by a unit, or divides by it."""
+        measures, size, symbol = known()[word]
+        self.powers[measures] = self.powers.get(measures, 0) + power
+        self.size *= size ** power
+        if measures != "years":
+            self.words.append(symbol if power > 0 else f"/{symbol}")
+
+    @property
+    def measured(self):
+        """What is measured, without years: a rate per year has no year in its word."""
+        return {measures: power for measures, power in self.powers.items()
+                if power and measures not in ("ratio", "years")}
+
+    @property
+    def is_half_life(self):
+        """Tells whether it is a unit of years alone."""
+        return self.powers == {"years": 1}
+
+    @property
+    def is_yearly_share(self):
+        """Tells whether it is a share of a year, as 1/yr or percent per year."""
+        return not self.measured and self.powers.get("years") == -1
+
+
+@functools.cache
+def known():
+    """What each unit measures, its size and its symbol, by all its names."""
+    found = {}
+    for measures, base, size, powers, names in BASES:
+        sizes = {"": Exact(size), **{power: Exact(size) * 10 ** POWERS[power] for power in powers}}
+        found.update({front + base: (measures, one, front + base) for front, one in sizes.items()})
+        fronts = {"": 0, **LONG_POWERS}
+        for name in names:
+            found.update({front + name: (measures, Exact(size) * 10 ** power, symbol_of(front) + base)
+                          for front, power in fronts.items()})
+    for (measures, size), words in OTHERS.items():
+        found.update({word: (measures, Exact(size), words[0]) for word in words})
+    found.update(dict.fromkeys(ANIMALS, ("animals", Exact(1), "head")))
+    return found
+
+
+def symbol_of(front):
+    """The letter of a power that is written out, as k of kilo; nothing of none."""
+    return next((letter for letter, power in POWERS.items() if power == LONG_POWERS.get(front)), "")
+
+
+@functools.cache
+def without_case():
+    """The units by their letters without case. Of two that differ in it alone the first counts."""
+    found = {}
+    for word in known():
+        found.setdefault(word.casefold(), word)
+    return found
+
+
+def unit_of(text):
+    """The unit that a text without blanks is, in the plural too, or None."""
+    for word in (text, text.removesuffix("s"), text.removesuffix("es")):
+        if word in known():
+            return word
+        if word.casefold() in without_case():
+            return without_case()[word.casefold()]
+    return None
+
+
+def prepared(text):
+    """A text with one form for blanks, strokes, powers and phrases."""
+    text = RAISED.sub(lambda found: "^" + found.group().translate(LOWERED), text)
+    text = re.sub(f"[{MINUS}]", "-", unicodedata.normalize("NFKC", text))
+    text = re.sub(r"\(([^()]*)\)\s*\^?-1(?!\d)", r"/ \1 ", text)
+    text = EQUIVALENTS.sub(r"\1", text)
+    for phrase, word in PHRASES.items():
+        text = re.sub(rf"(?<![a-z]){re.escape(phrase)}s?(?![a-z0-9])\.?", word, text, flags=re.IGNORECASE)
+    text = re.sub(r"\b(per|each)\b", "/", text, flags=re.IGNORECASE)
+    text = re.sub(r"(?<=[a-z])\^([23])", r"\1", text, flags=re.IGNORECASE)
+    text = re.sub(r"(?<=[a-z0-9])\^?-1\b", "^-1", text, flags=re.IGNORECASE)
+    text = re.sub(r"[\u00b7*\u00d7()\[\]]|\.(?=[\s/]|$)", " ", text)
+    return re.sub(r"(?<=\d)(?!e\d)(?=[A-Za-z%])(?<![A-Za-z]\d)", " ", text)
+
+
+@functools.lru_cache(maxsize=10000)
+def read(text):
+    """The reading of a text, without what stands in brackets if need be, or None where it is no unit."""
+    return read_parts(text) or read_parts(re.sub(r"\s*\([^()]*\)(?!\s*\^?-)", "", text))
+
+
+def read_parts(text):
+    """The reading of a text of units with strokes between them, or None."""
+    front, *behind = [part.split() for part in prepared(text).split("/")]
+    reading = Reading()
+    if not front and not behind or front and not add_part(reading, front, 1):
+        return None
+    return reading if all(add_part(reading, words, -1) for words in behind) else None
+
+
+def add_part(reading, words, sign):
+    """Adds the words between two strokes to a reading, and tells whether all of them are known."""
+    has_unit = has_number = False
+    for word in words:
+        power = -1 if word.endswith("^-1") else sign
+        word = word.removesuffix("^-1")
+        unit, what = unit_of(word), word
+        if not unit and not multiple_of(word):
+            unit, what = without_what_it_is_of(word)
+        if unit and not (has_unit and unit in ANIMALS):
+            reading.add(unit, power)
+            has_unit = True
+        elif multiple_of(word):
+            reading.size *= multiple_of(word) ** power
+            has_number = True
+        elif not has_unit or not is_of_something(what):
+            return False
+        if power > 0 and unit != what:
+            reading.of = {"c": "C", "gas": "gas"}.get(what, "gas" if what in GASES else reading.of)
+    return has_unit or has_number
+
+
+def without_what_it_is_of(word):
+    """The unit in front of what it is of, as kg in kgCO2, or None; and what it is of, in lower case."""
+    text = word.casefold().strip("-.,")
+    for what in sorted(GLUED, key=len, reverse=True):
+        unit = unit_of(word[:len(text) - len(what)].rstrip("-")) if text.endswith(what) else None
+        if unit:
+            return unit, what
+    return None, text
+
+
+def is_of_something(what):
+    """Tells whether a word behind a unit says what it is of, and changes no figure."""
+    return what not in GROSS and bool(re.fullmatch("[a-z][a-z0-9-]*", what.casefold()))
+
+
+def multiple_of(word):
+    """The number that a word is, or None."""
+    named = word.casefold().removesuffix("s")
+    if named in MULTIPLES or word.casefold() in MULTIPLES:
+        return Exact(10) ** MULTIPLES.get(named, MULTIPLES.get(word.casefold()))
+    if re.fullmatch(r"10\^\d{1,2}", word):
+        return Exact(10) ** int(word[3:])
+    if re.fullmatch(r"\d{1,3}([,.]?000)*(\.\d+)?|1e\d{1,2}", word):
+        number = Exact(re.sub(r"[,.](?=000)", "", word))
+        return number or None
+    return None
+
+
+@functools.cache
+def table():
+    """The readings of the units of the table."""
+    return {word: read(word) for word in vocabulary.units()}
+
+
+class Meant:
+    """A unit of the table that is meant, and what a figure is multiplied by."""
+
+    def __init__(self, word, times):
+        self.word, self.times = word, times
+
+    @property
+    def said(self):
+        """How to come to a figure in this unit."""
+        if self.times == 1:
+            return "the same number"
+        if self.times.numerator == 1:
+            return f"divide by {self.times.denominator}"
+        inverse = 1 / self.times
+        if is_short(self.times) or not is_short(inverse):
+            return f"multiply by {written(self.times)}"
+        return f"divide by {written(inverse)}"
+
+
+def is_short(number):
+    """Tells whether a number has few decimals."""
+    return number * 10 ** 9 == int(number * 10 ** 9)
+
+
+def written(number):
+    """A number in digits: exact, or in six that count."""
+    if is_short(number):
+        return f"{number.numerator / number.denominator:.9f}".rstrip("0").rstrip(".")
+    return f"{float(number):.6g}"
+
+
+def meant(text, measures=None):
+    """The unit of the table that a text most likely is, or None.
+
+    Where it is known what is measured, it is one that measures that, if any is.
+    """
+    reading = read(text)
+    if reading is None:
+        return None
+    if not reading.powers and reading.size != 1:
+        base = vocabulary.units_that_measure(measures)[:1]
+        return Meant(base[0], reading.size) if base and measures != "ratio" else None
+    found = [(word, of_table) for word, of_table in table().items()
+             if is_like(reading, of_table, word, measures)]
+    wanted = [(word, of_table) for word, of_table in found if vocabulary.measured_by(word) == measures]
+    carbon = [(word, of_table) for word, of_table in found if of_table.of == reading.of == "C"]
+    found = carbon or wanted or [(word, of_table) for word, of_table in found if not of_table.of]
+    if not found:
+        return None
+    word, of_table = min(found, key=lambda pair: distance(reading, pair[1]))
+    return Meant(word, reading.size / of_table.size)
+
+
+def is_like(reading, of_table, word, measures):
+    """Tells whether a text may be a unit of the table."""
+    if reading.is_half_life or of_table.is_half_life:
+        return reading.is_half_life and of_table.is_half_life
+    if of_table.measured != reading.measured:
+        return False
+    return not of_table.of or of_table.of == reading.of or \
+        reading.of is None and vocabulary.measured_by(word) == measures
+
+
+def distance(reading, of_table):
+    """How far a unit of the table is from a text: the same words first, then the same size, then powers of
+    ten, and the least of them.
+    """
+    times = reading.size / of_table.size
+    power = math.log10(times)
+    same_form = len(reading.words) == len(of_table.words)
+    return (reading.words != of_table.words or times != 1, times != 1, not is_power_of_ten(times),
+            not same_form, abs(power))
+
+
+def is_power_of_ten(number):
+    """Tells whether a number is a power of ten."""
+    greatest = max(number.numerator, number.denominator)
+    return min(number.numerator, number.denominator) == 1 and str(greatest).strip("0") == "1"
+
+
+def spellings(word):
+    """What people write for a unit of the table that has one part, and for others that measure the same."""
+    reading = table()[word]
+    if reading is None or len(reading.powers) != 1:
+        return ""
+    (measures, _), = reading.powers.items()
+    return " ".join(name for name, (what, _, _) in known().items() if what == measures)
