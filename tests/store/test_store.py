@@ -1,0 +1,227 @@
+"""The built program with a store: what one run keeps the next one has, and stores that fail.
+
+The rows of a store are read, and made, by the sqlite3 of the standard library.
+"""
+import contextlib
+import os
+import pathlib
+import resource
+import signal
+import sqlite3
+import subprocess
+import tempfile
+import unittest
+
+from tests.service.serving import GAS, HEADER, PROGRAM, SECONDS
+from tests.workbook.test_country import files, script
+
+TABLE = "CREATE TABLE accepted(seq INTEGER PRIMARY KEY, id TEXT UNIQUE NOT NULL, body BLOB NOT NULL)"
+CELLS = b"""table cells 1990 rows 2
+code,category,equation,gas,unit,value,low,high
+ELEC.GAS,1A1a,Q10,CO2,Gg,56.100,54.300,58.300
+"""
+POTENTIAL = HEADER + b"enter,factor,,GWP.CO2,1990,1,,,1,\n"
+
+
+def submit(name, body):
+    """A submission as a command."""
+    return b"SUBMIT %b %d\n%b" % (name, len(body), body)
+
+
+def session(*commands):
+    """A script of commands."""
+    return b"".join([*commands, b"END\n"])
+
+
+GAS_THEN_CELLS = session(submit(b"a", GAS), b"SHOW cells 1990\n")
+
+
+def rows_of(path):
+    """The rows of a store."""
+    with contextlib.closing(sqlite3.connect(path)) as connection:
+        return connection.execute("SELECT seq, id, body FROM accepted ORDER BY seq").fetchall()
+
+
+def make(path, *statements, rows=()):
+    """Makes a database by these statements, and puts rows into its table."""
+    with contextlib.closing(sqlite3.connect(path)) as connection, connection:
+        for statement in statements:
+            connection.execute(statement)
+        connection.executemany("INSERT INTO accepted VALUES (?, ?, ?)", rows)
+
+
+def without_room():
+    """Lets a program write files of at most 1 MiB, and go on where one would be longer."""
+    signal.signal(signal.SIGXFSZ, signal.SIG_IGN)
+    resource.setrlimit(resource.RLIMIT_FSIZE, (1 << 20, 1 << 20))
+
+
+class Stores(unittest.TestCase):
+    maxDiff = None
+
+    def setUp(self):
+        folder = tempfile.TemporaryDirectory()
+        self.addCleanup(folder.cleanup)
+        self.room = pathlib.Path(folder.name)
+        self.store = self.room / "book.db"
+
+    def run_with(self, given, *words, before=None):
+        """The status of a run and what it prints."""
+        words = [PROGRAM, "compile", *(words or ("--store", "book.db"))]
+        ran = subprocess.run(words, input=given, cwd=self.room, stdout=subprocess.PIPE, timeout=SECONDS,
+                             preexec_fn=before, check=False)
+        return ran.returncode, ran.stdout
+
+    def started(self):
+        """A run that waits for its script."""
+        return subprocess.Popen([PROGRAM, "compile", "--store", "book.db"], stdin=subprocess.PIPE,
+                                stdout=subprocess.PIPE, cwd=self.room)
+
+
+class Kept(Stores):
+    def test_accepted_in_one_run_is_repeated_in_the_next(self):
+        self.assertEqual(self.run_with(GAS_THEN_CELLS), (0, b"accepted 1\n" + CELLS))
+        self.assertEqual(self.run_with(GAS_THEN_CELLS), (0, b"repeated 1\n" + CELLS))
+        self.assertEqual(rows_of(self.store), [(1, "a", GAS)])
+        self.assertEqual(self.run_with(session(b"SHOW cells 1990\n"), "--store=book.db"), (0, CELLS))
+
+    def test_table_is_the_one_of_the_page(self):
+        self.run_with(session())
+        with contextlib.closing(sqlite3.connect(self.store)) as connection:
+            columns = connection.execute("PRAGMA table_info(accepted)").fetchall()
+            names = connection.execute("SELECT name FROM sqlite_master WHERE type = 'table'").fetchall()
+        self.assertEqual(names, [("accepted",)])
+        self.assertEqual([column[1:4] + column[5:] for column in columns], [
+            ("seq", "INTEGER", 0, 1), ("id", "TEXT", 1, 0), ("body", "BLOB", 1, 0)])
+
+    def test_refused_and_repeated_are_not_kept(self):
+        given = session(submit(b"a", GAS), submit(b"a", GAS), submit(b"a", POTENTIAL), submit(b"b", GAS),
+                        submit(b"c", POTENTIAL))
+        due = b"accepted 1\nrepeated 1\nrefused 2 IdReused 1\nrefused 9 Exists row 1\naccepted 2\n"
+        self.assertEqual(self.run_with(given), (0, due))
+        self.assertEqual(rows_of(self.store), [(1, "a", GAS), (2, "c", POTENTIAL)])
+
+    def test_a_script_that_is_cut_keeps_what_was_accepted(self):
+        given = submit(b"a", GAS) + submit(b"c", POTENTIAL)[:40]
+        self.assertEqual(self.run_with(given), (3, b"accepted 1\nnot a script: command 2\n"))
+        self.assertEqual(rows_of(self.store), [(1, "a", GAS)])
+
+    def test_country_entered_in_one_run_and_asked_in_a_later(self):
+        entered = b"".join(b"accepted %d\n" % number for number in range(1, len(files()) + 1))
+        self.assertEqual(self.run_with(script()), (0, entered))
+        shown = self.run_with(b"SHOW summary 2020\nEND\n")
+        due = (pathlib.Path(__file__).parents[1] / "country/summary-2020.csv").read_bytes()
+        self.assertEqual(shown, (0, b"table summary 2020 rows %d\n%b" % (due.count(b"\n"), due)))
+        again = self.run_with(script())
+        self.assertEqual(again, (0, entered.replace(b"accepted", b"repeated")))
+        self.assertEqual([row[1] for row in rows_of(self.store)], [path.stem for path in files()])
+
+    def test_a_store_that_sqlite3_made(self):
+        make(self.store, TABLE, rows=[(1, "a", GAS), (2, "c", POTENTIAL)])
+        given = session(submit(b"c", POTENTIAL), b"SHOW cells 1990\n")
+        self.assertEqual(self.run_with(given), (0, b"repeated 2\n" + CELLS))
+
+    def test_a_copy_by_sqlite3_is_a_store(self):
+        self.run_with(GAS_THEN_CELLS)
+        with contextlib.closing(sqlite3.connect(self.store)) as connection, \
+                contextlib.closing(sqlite3.connect(self.room / "copy.db")) as copy:
+            connection.backup(copy)
+        self.assertEqual(self.run_with(GAS_THEN_CELLS, "--store", "copy.db"), (0, b"repeated 1\n" + CELLS))
+
+    def test_both_files_are_a_copy(self):
+        self.run_with(GAS_THEN_CELLS)
+        for path in self.room.glob("book.db*"):
+            (self.room / path.name.replace("book", "copy")).write_bytes(path.read_bytes())
+        self.assertEqual(self.run_with(GAS_THEN_CELLS, "--store", "copy.db"), (0, b"repeated 1\n" + CELLS))
+
+    def test_a_run_that_is_killed(self):
+        bodies = [HEADER + b"enter,activity,,A%d,1990,1,,,t,\n" % number for number in range(200)]
+        commands = [submit(b"s%d" % number, body) for number, body in enumerate(bodies, 1)]
+        with self.started() as process:
+            process.stdin.write(b"".join(commands))
+            process.stdin.flush()
+            replies = [process.stdout.readline() for _ in range(20)]
+            process.kill()
+        self.assertEqual(replies, [b"accepted %d\n" % number for number in range(1, 21)])
+        status, printed = self.run_with(session(*commands))
+        words = [line.split() for line in printed.splitlines()]
+        self.assertEqual((status, [int(number) for _, number in words]), (0, list(range(1, 201))))
+        kept = [word for word, _ in words].index(b"accepted") if b"accepted" in printed else 200
+        self.assertGreaterEqual(kept, 20)
+        self.assertEqual({word for word, _ in words[:kept]}, {b"repeated"})
+        self.assertEqual({word for word, _ in words[kept:]} - {b"accepted"}, set())
+
+
+class Refused(Stores):
+    def test_words_that_are_no_command(self):
+        for words in (["--store"], ["--store", "s", "--store", "s"], ["--store", ".x"], ["--store", "-x"],
+                      ["--store", "a/b"], ["--store", "s" * 65], ["--store="], ["--workers", "0"],
+                      ["--workers", "65"], ["--keep", "s"]):
+            self.assertEqual(self.run_with(session(), *words), (2, b"bad command line\n"), words)
+        self.assertEqual(list(self.room.iterdir()), [])
+        self.assertEqual(self.run_with(session(), "--workers=1", "--store", "s" * 64), (0, b""))
+
+    def test_a_text_file(self):
+        self.store.write_bytes(GAS * 20)
+        self.assertEqual(self.run_with(GAS_THEN_CELLS), (6, b""))
+        self.assertEqual(self.store.read_bytes(), GAS * 20)
+
+    def test_a_folder(self):
+        self.store.mkdir()
+        self.assertEqual(self.run_with(GAS_THEN_CELLS), (6, b""))
+
+    @unittest.skipIf(os.geteuid() == 0, "root may write any file")
+    def test_a_file_that_may_not_be_written(self):
+        self.run_with(GAS_THEN_CELLS)
+        self.store.chmod(0o444)
+        self.assertEqual(self.run_with(GAS_THEN_CELLS), (6, b""))
+
+    def test_a_store_that_sqlite3_has(self):
+        self.run_with(GAS_THEN_CELLS)
+        with contextlib.closing(sqlite3.connect(self.store)) as connection:
+            connection.execute("BEGIN EXCLUSIVE")
+            self.assertEqual(self.run_with(GAS_THEN_CELLS), (6, b""))
+        self.assertEqual(self.run_with(GAS_THEN_CELLS), (0, b"repeated 1\n" + CELLS))
+
+    def test_a_store_that_another_run_has(self):
+        with self.started() as process:
+            process.stdin.write(submit(b"a", GAS))
+            process.stdin.flush()
+            self.assertEqual(process.stdout.readline(), b"accepted 1\n")
+            self.assertEqual(self.run_with(GAS_THEN_CELLS), (6, b""))
+            process.stdin.write(b"END\n")
+        self.assertEqual(process.returncode, 0)
+        self.assertEqual(rows_of(self.store), [(1, "a", GAS)])
+
+    def test_a_disk_without_room(self):
+        long = HEADER + b"enter,activity,,A,1990,1,,,t,%b\n" % (b"n" * (3 << 20))
+        given = session(submit(b"a", GAS), submit(b"long", long), submit(b"c", POTENTIAL))
+        self.assertEqual(self.run_with(given, before=without_room), (6, b"accepted 1\n"))
+        self.assertEqual(rows_of(self.store), [(1, "a", GAS)])
+        self.assertEqual(self.run_with(given), (0, b"repeated 1\naccepted 2\naccepted 3\n"))
+
+    def test_a_kept_row_that_is_refused(self):
+        for rows, due in (
+                ([(1, "a", GAS), (2, "b", b"")], b"kept row 2 refused 4 BadShape row 0\n"),
+                ([(1, "a", GAS), (2, "b", GAS)], b"kept row 2 refused 9 Exists row 1\n"),
+                ([(1, "a b", GAS)], b"kept row 1 refused 1 BadId\n")):
+            self.store.unlink(missing_ok=True)
+            make(self.store, TABLE, rows=rows)
+            self.assertEqual(self.run_with(GAS_THEN_CELLS), (9, due))
+            self.assertEqual(rows_of(self.store), rows)
+
+    def test_a_gap_in_the_numbers(self):
+        rows = [(1, "a", GAS), (3, "c", POTENTIAL)]
+        make(self.store, TABLE, rows=rows)
+        self.assertEqual(self.run_with(GAS_THEN_CELLS), (6, b""))
+        self.assertEqual(rows_of(self.store), rows)
+
+    def test_another_table_of_that_name(self):
+        make(self.store, "CREATE TABLE accepted(a, b, c)", rows=[("x", "y", "z")])
+        self.assertEqual(self.run_with(GAS_THEN_CELLS)[0], 6)
+        with contextlib.closing(sqlite3.connect(self.store)) as connection:
+            self.assertEqual(connection.execute("SELECT * FROM accepted").fetchall(), [("x", "y", "z")])
+
+
+if __name__ == "__main__":
+    unittest.main()
