@@ -254,7 +254,7 @@ def year_between(row):
     """The year between those of the rows above and below a row, where these are of the same name, or None."""
     above = next(row.sheet.rows_above(row.line), None)
     below = next(row.sheet.rows_below(row.line), None)
-    if above is None or below is None or not row.key[1:] or {above.key[1], below.key[1]} != {row.key[1]}:
+    if above is None or below is None or {above.key[:2], below.key[:2]} != {row.key[:2]}:
         return None
     first, last = (causes.year(other.field("year")).text for other in (above, below))
     if not (first.isdecimal() and last.isdecimal()) or int(last) - int(first) != 2:
