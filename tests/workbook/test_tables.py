@@ -197,7 +197,8 @@ class Programs(unittest.TestCase):
             program.chmod(0o755)
             words = [TOP / "workbook", "check", PLANTS, "--program", program]
             run = subprocess.Popen(words, cwd=TOP, text=True, stdout=subprocess.PIPE, stderr=subprocess.PIPE,
-                                   start_new_session=True)
+                                   start_new_session=True,
+                                   preexec_fn=lambda: signal.signal(signal.SIGINT, signal.SIG_DFL))
             while run.poll() is None and not (pathlib.Path(room) / "started").exists():
                 time.sleep(0.01)
             os.killpg(run.pid, signal.SIGINT)
