@@ -1,4 +1,5 @@
-pub mod Held
+mod Links
 mod Quiet
 mod Stored
 mod Whole
+pub mod Held

@@ -13,7 +13,8 @@ use Rattle.ghg_session.specs.Replies.{protocol}
 use Rattle.ghg_session.specs.Session.{Ends, Snapshot, beginning, end_status}
 use Rattle.ghg_session.specs.Writing.{stop_status}
 use Rattle.ghg_session.proofs.Whole.{ends_behind, ends_done, ends_spends, interrupted_begun, interrupted_runs_out, interrupted_short, interrupted_spends, interrupted_unfinished, interrupted_writes}
-use Rattle.ghg.specs.Run.{ActsOutside, ScriptRun, World, is_end, is_status, office_in}
+use Rattle.ghg.specs.Compile.{ScriptRun}
+use Rattle.ghg.specs.World.{ActsOutside, World, is_end, is_status, office_in}
 use Rattle.ghg.proofs.Held.{done_begun, sound_replies}
 
 -- ---- statuses
@@ -57,6 +58,14 @@ stop_is_no_end Memory e = cc
 stop_is_not_zero : (stop : Stop) → stop_status stop ≡ 0 → ⊥
 stop_is_not_zero stop e = let same : Some stop ≡ None = sym (stop_told stop) ∙ ap stop_of e in cc
 
+-- no session stops at the door
+pub stop_is_no_door : (stop : Stop) → stop_status stop ≡ 7 → ⊥
+stop_is_no_door stop e = let same : Some stop ≡ None = sym (stop_told stop) ∙ ap stop_of e in cc
+
+end_is_no_door : (end : End) → end_status end ≡ 7 → ⊥
+end_is_no_door Script e = cc
+end_is_no_door NoScript e = cc
+
 end_is_status : (end : End) → is_status (end_status end) ≡ true
 end_is_status Script = refl
 end_is_status NoScript = refl
@@ -93,11 +102,13 @@ script_ended before after end h e =
 
 pub ended_acts : (before after : World) (first last : State) (end : End)
     → Ends protocol (beginning (office_in before first)) (office_in after last) end
-    → before.shelf.faults ≤ after.shelf.faults → ActsOutside before after (end_status end)
-ended_acts before after first last end e counts = record {
+    → before.shelf.faults ≤ after.shelf.faults → before.door.faults ≤ after.door.faults
+    → ActsOutside before after (end_status end)
+ended_acts before after first last end e counts door = record {
   input = λ four. absurd (end_is_no_stop end Input four);
   output = λ five. absurd (end_is_no_stop end Output five);
   keeper = record { later = counts; rose = λ six. absurd (end_is_no_stop end Keeper six) };
+  door = record { later = door; rose = λ seven. absurd (end_is_no_door end seven) };
   known = end_is_status end;
   reads = (e.text, e.read);
   writes = (_, e.wrote);
@@ -150,13 +161,15 @@ StopsAtKeeper result = result ≡ Err Keeper
 
 pub interrupted_acts : (before after : World) (first last : State) (stop : Stop)
     → Interrupted protocol (beginning (office_in before first)) (office_in after last) stop
-    → IsCounted before.shelf.faults after.shelf.faults (StopsAtKeeper (Err stop)) → ActsOutside before after (stop_status stop)
-interrupted_acts before after first last stop i counted =
+    → IsCounted before.shelf.faults after.shelf.faults (StopsAtKeeper (Err stop))
+    → before.door.faults ≤ after.door.faults → ActsOutside before after (stop_status stop)
+interrupted_acts before after first last stop i counted door =
     let spends = interrupted_spends protocol (beginning (office_in before first)) (office_in after last) stop i in
     record {
       input = input_fails (office_in before first) (office_in after last) stop i;
       output = output_fails (office_in before first) (office_in after last) stop i;
       keeper = record { later = counted.later; rose = λ six. counted.rose (ap Err (one_stop stop Keeper six)) };
+      door = record { later = door; rose = λ seven. absurd (stop_is_no_door stop seven) };
       known = stop_is_status stop;
       reads = (spends.text, spends.read);
       writes = interrupted_writes protocol (beginning (office_in before first)) (office_in after last) stop i;

@@ -6,16 +6,17 @@
 #![tactic(auto)]
 
 ghost use Rattle.std.specs.Prelude.{◌≡◌, ◌<◌, true, IfErr, IfOk};
-ghost use Rattle.ghg.specs.Run.{is_status};
+ghost use Rattle.ghg.specs.World.{is_status};
 
 mod laws;
 mod opening;
 mod run;
+mod serving;
 #[cfg(test)]
 mod tests;
 
 use ghg_keeper::FileKeeper;
-use ghg_outer::{InputSource, OutputSink};
+use ghg_outer::{InputSource, OutputSink, TcpDoor};
 use ghg_session::Stop;
 use ghg_steps::Steps;
 use std::io::{BufReader, ErrorKind};
@@ -45,8 +46,17 @@ fn answer<L: Ledger>(rt: HostRuntime, blank: Blank) -> Result<u8, Stop>
     let mut input = InputSource::new(reader);
     let mut out = OutputSink::new(io::writer(&rt));
     let mut keeper = FileKeeper::new(&rt);
+    let mut door = TcpDoor::new(&rt);
     let mut steps = Steps::<L>::new(blank);
-    Ok(run::run(alloc, &words, &mut input, &mut out, &mut keeper, &mut steps))
+    Ok(run::run(
+        alloc,
+        &words,
+        &mut input,
+        &mut out,
+        &mut keeper,
+        &mut door,
+        &mut steps,
+    ))
 }
 
 // The words behind the program's name. There are none where one of them is not UTF-8, which is no command

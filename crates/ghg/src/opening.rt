@@ -1,7 +1,10 @@
 //! The office that a run with a store begins with.
 
 ghost use Rattle.std.specs.Prelude.{◌≡◌, ◌≢◌, ◌⊎◌, ◌+◌, true, IfErr, IfOk, IfSome, IsErrOf, IsOk};
-ghost use Rattle.ghg.specs.Run.{ActsOutside, Opens, ReportsRow, is_attached, kept_line, opening_status, world};
+ghost use Rattle.ghg.specs.Opening.{Opens, ReportsRow, kept_line, opening_status};
+ghost use Rattle.ghg.specs.Run.{is_attached};
+ghost use Rattle.ghg.specs.World.{ActsOutside, world};
+ghost use Rattle.ghg_outer.specs.Doors.{Register};
 ghost use Rattle.ghg_keeper.specs.Shelf.{Shelf};
 ghost use Rattle.ghg_office.specs.Keeping.{Lists};
 ghost use Rattle.ghg_office.specs.Laws.{IsInForce};
@@ -26,13 +29,13 @@ pub fn open_store<W: Sink, K: Keeper, L: Ledger>(
     keeper: &mut K,
     steps: &mut Steps<L>,
 ) -> Result<Office, u8>
-    // Nothing is read, whatever there is to read.
-    ensures opened { (input : Tape) → Opens
-        (world input (W.tape out.old) (K.shelf keeper.old) steps.old)
-        (world input (W.tape out.new) (K.shelf keeper.new) steps.new) result }
-    ensures outside { (input : Tape) → ActsOutside
-        (world input (W.tape out.old) (K.shelf keeper.old) steps.old)
-        (world input (W.tape out.new) (K.shelf keeper.new) steps.new) (opening_status result) }
+    // The input and the door are not touched, whatever they tell.
+    ensures opened { (input : Tape) (door : Register Tape) → Opens
+        (world input (W.tape out.old) (K.shelf keeper.old) door steps.old)
+        (world input (W.tape out.new) (K.shelf keeper.new) door steps.new) result }
+    ensures outside { (input : Tape) (door : Register Tape) → ActsOutside
+        (world input (W.tape out.old) (K.shelf keeper.old) door steps.old)
+        (world input (W.tape out.new) (K.shelf keeper.new) door steps.new) (opening_status result) }
     ensures words { IsErrOf result 2 → ⊥ }
     ensures in_force { IfOk result IsInForce }
     ensures same { IfOk result (λ office. Lists (K.shelf keeper.new) office.accepted) }

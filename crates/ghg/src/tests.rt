@@ -5,7 +5,7 @@ ghost use Rattle.std.specs.Prelude.{◌≡◌, ◌<◌};
 
 use crate::run::run;
 use ghg_keeper::{Keeper, KeptRow, MemoryKeeper};
-use ghg_outer::{MemorySink, MemorySource};
+use ghg_outer::{MemoryDoor, MemorySink, MemorySource};
 use ghg_steps::Steps;
 use std::alloc::{AllocError, Global};
 use std::marker::Brand;
@@ -73,8 +73,17 @@ fn check_with<L: Ledger>(
     let mut out = MemorySink::new(alloc, [case.failing_write].to_vec(alloc)?);
     let rows = kept_rows(alloc, case.kept)?;
     let mut keeper = MemoryKeeper::new(alloc, rows, [case.failing_keep].to_vec(alloc)?);
+    let mut door = MemoryDoor::new(alloc, Vec::new(alloc), Vec::new(alloc));
     let mut steps = Steps::<L>::new(blank);
-    let status = run(alloc, &words, &mut input, &mut out, &mut keeper, &mut steps);
+    let status = run(
+        alloc,
+        &words,
+        &mut input,
+        &mut out,
+        &mut keeper,
+        &mut door,
+        &mut steps,
+    );
     assert_eq!(rt; status, case.status);
     assert_eq!(rt; out.bytes(), case.output.as_bytes());
     assert!(rt; keeper.count() == Ok(case.rows));
@@ -102,6 +111,16 @@ fn words_and_faults(rt: HostRuntime) -> Result<(), Fail> {
         ("compile --store", 0, 0, 2, "bad command line\n"),
         ("compile --workers 0", 0, 0, 2, "bad command line\n"),
         ("compile --workers 65", 0, 0, 2, "bad command line\n"),
+        ("serve --port 8000", 0, 0, 2, "bad command line\n"),
+        (
+            "serve --port 8000 --connections 0",
+            0,
+            0,
+            2,
+            "bad command line\n",
+        ),
+        // No link is left to be given.
+        ("serve --port 8000 --connections 2", 1, 1, 7, ""),
         ("compile x", 0, 1, 5, ""),
         ("compile", 2, 0, 4, ""),
         ("compile --workers=1 --store s", 2, 0, 4, ""),

@@ -1,5 +1,4 @@
-use Rattle.std.proofs.Common.{ap}
-use Rattle.std.proofs.Common.{Err}
+use Rattle.std.proofs.Common.{ap, arith, Err}
 use Rattle.ghg_session.specs.declared.stop.Stop.TheVariants.{Keeper}
 use Rattle.ghg.proofs.Whole.{ended_acts, interrupted_acts, one_stop, script_ended, script_interrupted}
 use Rattle.ghg.proofs.run.answer.Goals as goal
@@ -12,8 +11,8 @@ returns-in-Ok-clause-script g c = (
 )
 
 pub returns-in-Ok-clause-outside : goal.returns-in-Ok-clause-outside
-returns-in-Ok-clause-outside g c =
-    rw c.status.ensures (ended_acts _ _ c.args.office c.answer_script.new.office _ c.in-Ok.ensures.session c.answer_script.ensures.counted.later)
+returns-in-Ok-clause-outside g c = λ door.
+    rw c.status.ensures (ended_acts _ _ c.args.office c.answer_script.new.office _ c.in-Ok.ensures.session c.answer_script.ensures.counted.later (omega arith))
 
 pub returns-clause-script : goal.returns-clause-script
 returns-clause-script g c = (
@@ -23,8 +22,8 @@ returns-clause-script g c = (
 )
 
 pub returns-clause-outside : goal.returns-clause-outside
-returns-clause-outside g c =
-    rw c.status-in-Err.ensures (interrupted_acts _ _ c.args.office c.answer_script.new.office _ c.in-Err.ensures.session c.in-Err.ensures.counted)
+returns-clause-outside g c = λ door.
+    rw c.status-in-Err.ensures (interrupted_acts _ _ c.args.office c.answer_script.new.office _ c.in-Err.ensures.session c.in-Err.ensures.counted (omega arith))
 
 pub returns-clause-store : goal.returns-clause-store
 returns-clause-store g c = λ six.
