@@ -1,2 +1,3 @@
 pub mod Rounded
 pub mod RootBounds
+pub mod Held

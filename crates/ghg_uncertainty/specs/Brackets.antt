@@ -5,7 +5,7 @@ use Rattle.ghg_roots.specs.Roots.{IsRootBracket}
 use Rattle.ghg_uncertainty.specs.declared.Share.{Share}
 use Rattle.ghg_uncertainty.specs.declared.TotalUncertainty.{TotalUncertainty}
 use Rattle.ghg_uncertainty.specs.declared.TotalUncertainty.TheVariants.{Bracket, Undefined}
-use Rattle.ghg_uncertainty.specs.Totals.{IsShare, IsTotal, most_rows, square}
+use Rattle.ghg_uncertainty.specs.Totals.{HoldsTotal, IsShare, IsTotal, most_rows, square}
 
 -- the greatest number up to a limit whose square is no more than n
 unfoldable pub root_up_to : (n most : ℕ) → ℕ
@@ -36,3 +36,8 @@ IsSmall Undefined = Unit {0}
 abbrev pub TotalsAreSmall : Type 0
 TotalsAreSmall = (rows : List Share) (total : TotalUncertainty) →
     length rows ≤ most_rows → All IsShare rows → IsTotal rows total → IsSmall total
+
+-- The uncertainty of a total holds its root: the spread is between the squares of both bounds times the
+-- magnitude of the sum.
+abbrev pub TotalsHoldRoots : Type 0
+TotalsHoldRoots = (rows : List Share) (total : TotalUncertainty) → IsTotal rows total → HoldsTotal rows total

@@ -11,7 +11,7 @@ ghost use Rattle.ghg_roots.specs.Roots.{IsRootBracket};
 ghost use Rattle.ghg_uncertainty.specs.Totals.{HoldsTotal, IsShare, IsTotal, largest_square_sum, largest_variance, most_rows, net, percentage_limit, spread, square_sum, variance};
 
 use ghg_roots::sqrt_bracket;
-pub use laws::{brackets_are_roots, totals_are_small};
+pub use laws::{brackets_are_roots, totals_are_small, totals_hold_roots};
 
 /// An amount of a sum, with the uncertainties of the two factors that it is the product of.
 #[derive(Clone, Copy, Debug, PartialEq, Eq, Drop)]
