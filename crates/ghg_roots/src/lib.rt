@@ -103,8 +103,8 @@ fn last_within(parts: u128, exponent: u32, guess: u128) -> u128
     low
 }
 
-// The first number of which so many powers, rounded down, reach a unit. The search goes by Newton's steps, from
-// a unit.
+// The first number of which so many powers, rounded down, reach a unit. The search goes by Newton's steps,
+// from a unit.
 fn first_reaching(parts: u128, exponent: u32) -> u128
     requires some_parts { (2 ≤ parts) × (parts ≤ most_parts) }
     requires positive { 1 ≤ exponent }

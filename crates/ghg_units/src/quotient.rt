@@ -7,7 +7,7 @@ ghost use Rattle.ghg_units.specs.Units.{IsRatioPart};
 
 use ghg_interval::{Interval, Over};
 
-// A number times a ratio, rounded outward.
+/// A number times a ratio, rounded outward.
 pub(crate) fn interval_of(parts: i128, over: u64, under: u64) -> Result<Interval, Over>
     requires over_in { IsRatioPart over }
     requires under_in { IsRatioPart under }
