@@ -9,8 +9,8 @@
 //! The forms in memory are proved to meet this. [`InputSource`], [`OutputSink`], [`TcpDoor`] and [`TcpLink`]
 //! are the trusted edge: what the process's own input, output and connections hold is known to no contract.
 //! It is proved that their count rose where they answer an error, and that they give and take the bytes of
-//! readers, writers and streams that tell them. They make a call again that a signal interrupted, which tests
-//! show for input and output.
+//! readers, writers and streams that tell them. They make a call again that a signal interrupted, and no such
+//! interruption is counted as an error.
 #![tactic(auto)]
 
 mod door;

@@ -3,6 +3,7 @@ ghost use Rattle.std.specs.Prelude.{◌≡◌, ◌≢◌, ◌<◌, ◌≤◌, fa
 ghost use Rattle.std.specs.Io.{ReadsAtMost, WritesAtMost};
 ghost use Rattle.std.specs.Io.KnownBytes.{ReadConsumes, WriteAppends};
 ghost use Rattle.std.specs.IoError.{error_kind};
+ghost use Rattle.ghg_outer.specs.Counts.{raised};
 ghost use Rattle.ghg_outer.specs.Tape.{Rose, Writes};
 
 use crate::{Failed, Sink, Source, Told, WriteError};
@@ -45,16 +46,16 @@ impl<R: Read + Drop> Source for InputSource<R> {
     fn read(&mut self, buf: &mut [u8]) -> Result<usize, Failed> {
         match read_again(&mut self.reader, buf) {
             Ok(count) => Ok(count),
-            Err(_) => {
-                self.faults = self.faults.saturating_add(1);
+            Err(error) => {
+                self.faults = count_error(self.faults, &error);
                 Err(Failed)
             }
         }
     }
 }
 
-// Reads as the reader does, and again where a signal interrupted that.
-// Where that was so 2^64 - 1 times, the call timed out.
+/// Reads as the reader does, and again where a signal interrupted that.
+/// Where that was so 2^64 - 1 times, the call timed out.
 pub(crate) fn read_again<R: Read>(reader: &mut R, buf: &mut [u8]) -> io::Result<usize>
     ensures bound { ReadsAtMost result buf.new }
     ensures bytes { ReadConsumes (R.remaining reader.old) (R.remaining reader.new) result buf.new }
@@ -67,6 +68,14 @@ pub(crate) fn read_again<R: Read>(reader: &mut R, buf: &mut [u8]) -> io::Result<
         }
     }
     Err(io::Error::from(ErrorKind::TimedOut))
+}
+
+/// Counts an error, which is none that a signal made by interrupting a call.
+pub(crate) fn count_error(faults: u64, _error: &io::Error) -> u64
+    requires { error_kind _error.now ≢ ErrorKind.Interrupted }
+    ensures { result ≡ raised faults }
+{
+    faults.saturating_add(1)
 }
 
 /// A writer of std, as standard output, with a count of its errors. Where the writer takes nothing of a
@@ -113,24 +122,27 @@ impl<W: Write + Drop> Sink for OutputSink<W> {
         ensures only { IfErr result (λ error. error ≡ WriteError.Failed) }
     {
         match write_again(&mut self.writer, piece) {
-            Ok(count) if count > 0 => Ok(count),
-            _ => {
-                self.faults = self.faults.saturating_add(1);
+            Ok(count) => Ok(count),
+            Err(error) => {
+                self.faults = count_error(self.faults, &error);
                 Err(WriteError::Failed)
             }
         }
     }
 }
 
-// Writes as the writer does, and again where a signal interrupted that.
-// Where that was so 2^64 - 1 times, the call timed out.
+/// Writes as the writer does, and again where a signal interrupted that. It is an error where the writer
+/// takes nothing of the piece.
+/// Where a signal interrupted it 2^64 - 1 times, the call timed out.
 pub(crate) fn write_again<W: Write>(writer: &mut W, piece: &[u8]) -> io::Result<usize>
+    ensures some { IfOk result (λ n. 0 < n) }
     ensures bound { WritesAtMost result piece.now }
     ensures bytes { WriteAppends (W.contents writer.old) (W.contents writer.new) result piece.now }
     ensures retried { IfErr result (λ error. error_kind error ≢ ErrorKind.Interrupted) }
 {
     for _ in 0..u64::MAX {
         match writer.write(piece) {
+            Ok(0) => return Err(io::Error::from(ErrorKind::WriteZero)),
             Err(error) if error.kind() == ErrorKind::Interrupted => {}
             other => return other,
         }

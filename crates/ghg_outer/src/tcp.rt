@@ -1,11 +1,12 @@
 // Connections over TCP, which are the trusted edge.
-ghost use Rattle.std.specs.Prelude.{◌≡◌, ◌<◌, ◌≤◌, ⊤, length, Some, IfOk, IfErr, IsOk, IsErr, OnErr, OnOk};
+ghost use Rattle.std.specs.Prelude.{◌≡◌, ◌≢◌, ◌<◌, ◌≤◌, length, Some, IfOk, IfErr, IsOk, IsErr, OnErr, OnOk};
 ghost use Rattle.std.specs.Io.{ReadsAtMost};
+ghost use Rattle.std.specs.IoError.{error_kind};
 ghost use Rattle.ghg_outer.specs.Counts.{IsCounted};
 ghost use Rattle.ghg_outer.specs.Doors.{IsKept, Opens};
 ghost use Rattle.ghg_outer.specs.Tape.{IsAtEnd, Reads, Rose, Writes};
 
-use crate::streams::{read_again, write_again};
+use crate::streams::{count_error, read_again, write_again};
 use crate::{Door, Failed, Sink, Source, Told, WriteError};
 use std::alloc::AllocError;
 use std::io;
@@ -31,14 +32,6 @@ impl<S: Drop> TcpLink<S> {
     {
         TcpLink { stream, faults: 0 }
     }
-
-    // Counts an error.
-    fn count_fault(&mut self)
-        ensures stream { self.new.stream ≡ self.old.stream }
-        ensures faults { IsCounted self.old.faults self.new.faults ⊤ }
-    {
-        self.faults = self.faults.saturating_add(1);
-    }
 }
 
 impl<S: Drop> Told for TcpLink<S> {
@@ -61,8 +54,8 @@ impl<S: Read + Drop> Source for TcpLink<S> {
     {
         match read_again(&mut self.stream, buf) {
             Ok(count) => Ok(count),
-            Err(_) => {
-                self.count_fault();
+            Err(error) => {
+                self.faults = count_error(self.faults, &error);
                 Err(Failed)
             }
         }
@@ -83,9 +76,9 @@ impl<S: Write + Drop> Sink for TcpLink<S> {
         ensures only { IfErr result (λ error. error ≡ WriteError.Failed) }
     {
         match write_again(&mut self.stream, piece) {
-            Ok(count) if count > 0 => Ok(count),
-            _ => {
-                self.count_fault();
+            Ok(count) => Ok(count),
+            Err(error) => {
+                self.faults = count_error(self.faults, &error);
                 Err(WriteError::Failed)
             }
         }
@@ -182,7 +175,9 @@ const FAREWELL: u64 = 1;
 
 // The next connection. One that a signal interrupted, or that its peer gave up, is passed over.
 // Where that was so 2^64 - 1 times, the call timed out.
-fn accept_again<L: OpenListener>(listener: &L) -> io::Result<L::Stream> {
+fn accept_again<L: OpenListener>(listener: &L) -> io::Result<L::Stream>
+    ensures retried { IfErr result (λ error. error_kind error ≢ ErrorKind.Interrupted) }
+{
     for _ in 0..u64::MAX {
         match listener.accept() {
             Ok((stream, _)) => return Ok(stream),
