@@ -36,6 +36,7 @@ impl<'a> StoreName<'a> {
         }
     }
 
+    /// The name as a text.
     pub fn as_str(&self) -> &str
         ensures text { result.now ≡ self.now }
         ensures name { IsTrue (is_store_name self.now) }
