@@ -1,5 +1,5 @@
 -- Whether all figures of a name are of a dimension, told by one of them.
-use Rattle.std.proofs.Common.{◌≡◌, Bool, true, false, not, ◌&&◌, ◌||◌, ◌==◌, List, [], ◌∷◌, Option, Some, None, is_some, if◌then◌else◌, refl, sym, ap, ◌∙◌, arith, eqb-true}
+use Rattle.std.proofs.Common.{◌≡◌, ◌⊎◌, inl, inr, Bool, true, false, not, ◌&&◌, ◌||◌, ◌==◌, List, [], ◌∷◌, Option, Some, None, is_some, if◌then◌else◌, refl, sym, ap, ◌∙◌, arith, eqb-true}
 use Rattle.std.specs.FinMap.{entries, get}
 use Rattle.std.specs.List.{cons_option, filter_map, list_all, list_any}
 use Rattle.std.specs.Option.{option_map_or}
@@ -10,14 +10,15 @@ use Rattle.ghg_units.specs.Units.{dim_of}
 use Rattle.ghg_definitions.specs.declared.record.Record.{Record}
 use Rattle.ghg_definitions.specs.declared.record.RecordKey.{RecordKey}
 use Rattle.ghg_definitions.specs.declared.record.RecordKey.TheVariants as key
-use Rattle.ghg_definitions.specs.Data.{Data, Name, as_figure, figure, year_of}
+use Rattle.ghg_definitions.specs.Data.{Data, Name, as_figure, figure, first_name, kind, year_of}
 use Rattle.ghg_definitions.specs.Rules.{activities, activity_figure, are_of, factor_figure, factors, has_dimension, is_alike, is_other_year}
 use Rattle.ghg_definitions.specs.Sound.{IsConsistent}
-use Rattle.ghg_definitions.proofs.Alike.{alike_back, alike_joined, both, first_so, held, met, not_so, one_dimension, other_alike, second_so, so_not}
+use Rattle.ghg_definitions.proofs.Alike.{alike_back, alike_joined, alike_parts, both, first_so, held, met, not_so, one_dimension, other_alike, second_so, so_not}
 use Rattle.ghg_definitions.proofs.Consistent.{figure_dated}
 use Rattle.ghg_definitions.proofs.Dims.{dim_same, same_dim-itself}
 use Rattle.ghg_definitions.proofs.Keys.{keys_same, keys_total}
 use Rattle.ghg_definitions.proofs.Members.{any_entry, entry_any}
+use Rattle.ghg_data.specs.Settling.{name_keeps}
 use Rattle.ghg_data.proofs.Faults.{not_true}
 
 abbrev Entry : Type 0
@@ -189,19 +190,39 @@ factors_none {m} is name d none = ap (are_of d) (factors_are m name) ∙ figures
 pub factors_some : {m : Data} → IsConsistent m → (name : Name) (d : Dim) (q : RecordKey) (f : Figure) → figure m q ≡ Some f → is_other_year (key.Factor name 0) q ≡ true → are_of d (factors m name) ≡ same_dim d (dim_of f.unit)
 factors_some {m} is name d q f e o = ap (are_of d) (factors_are m name) ∙ figures_some is (key.Factor name 0) refl d q f e o
 
--- each figure of the one has its like in the other, of the same dimension
+-- ---- figures in data after others
+
+-- one of another year of the name tells as well
+same_name : (n : Data) (k q : RecordKey) (f : Figure) → is_alike k q ≡ true → name_keeps n q f ≡ name_keeps n k f
+same_name n k q f a = by k q (alike_parts k q a)
+  where
+    by : (k q : RecordKey) → (kind k ≡ kind q) × (first_name k ≡ first_name q) → name_keeps n q f ≡ name_keeps n k f
+    by (key.Activity a y) (key.Activity b z) parts = ap (λ name. are_of (dim_of f.unit) (activities n name)) (sym parts.1)
+    by (key.Factor a y) (key.Factor b z) parts = ap (λ name. are_of (dim_of f.unit) (factors n name)) (sym parts.1)
+    by key.Span key.Span parts = refl
+    by (key.Line a) (key.Line b) parts = refl
+    by (key.Bind a p) (key.Bind b q) parts = refl
+    by (key.Uncert a) (key.Uncert b) parts = refl
+    by _ _ parts = absurd (omega (arith, parts.0))
+
+-- each figure of the one has its like in the other, of the same dimension, or its name has such figures there
 abbrev pub AreKept : Data → Data → Type 0
-AreKept m n = (q : RecordKey) (g : Figure) → figure m q ≡ Some g → (h : Figure) × (figure n q ≡ Some h) × (dim_of g.unit ≡ dim_of h.unit)
+AreKept m n = (q : RecordKey) (g : Figure) → figure m q ≡ Some g → ((h : Figure) × (figure n q ≡ Some h) × (dim_of g.unit ≡ dim_of h.unit)) ⊎ (name_keeps n q g ≡ true)
 
 module _ {m n : Data} (before : IsConsistent m) (now : IsConsistent n) (kept : AreKept m n) (d : Dim) (name : Name) where
-  figures_kept : (k : RecordKey) → year_of k ≡ 0 → are_of d (figures m k) ≡ true → are_of d (figures n k) ≡ true
-  figures_kept k unyeared all =
+  figures_kept : (k : RecordKey) → year_of k ≡ 0 → ((g : Figure) → name_keeps n k g ≡ true → are_of (dim_of g.unit) (figures n k) ≡ true) → are_of d (figures m k) ≡ true → are_of d (figures n k) ≡ true
+  figures_kept k unyeared seen all =
       let found = figures_found before k unyeared d all in
-      let here = kept found.0 found.1 found.2 in
-      figures_some now k unyeared d found.0 here.0 here.1 found.3 ∙ ap (same_dim d) (sym here.2) ∙ found.4
+      elim (kept found.0 found.1 found.2) [
+        | inl here ↦ figures_some now k unyeared d found.0 here.0 here.1 found.3 ∙ ap (same_dim d) (sym here.2) ∙ found.4
+        | inr there ↦ ap (λ e. are_of e (figures n k)) (dim_same d (dim_of found.1.unit) found.4)
+            ∙ seen found.1 (sym (same_name n k found.0 found.1 (other_alike k found.0 found.3)) ∙ there)
+      ]
 
   pub activities_kept : are_of d (activities m name) ≡ true → are_of d (activities n name) ≡ true
-  activities_kept all = ap (are_of d) (activities_are n name) ∙ figures_kept (key.Activity name 0) refl (sym (ap (are_of d) (activities_are m name)) ∙ all)
+  activities_kept all = ap (are_of d) (activities_are n name)
+      ∙ figures_kept (key.Activity name 0) refl (λ g h. sym (ap (are_of (dim_of g.unit)) (activities_are n name)) ∙ h) (sym (ap (are_of d) (activities_are m name)) ∙ all)
 
   pub factors_kept : are_of d (factors m name) ≡ true → are_of d (factors n name) ≡ true
-  factors_kept all = ap (are_of d) (factors_are n name) ∙ figures_kept (key.Factor name 0) refl (sym (ap (are_of d) (factors_are m name)) ∙ all)
+  factors_kept all = ap (are_of d) (factors_are n name)
+      ∙ figures_kept (key.Factor name 0) refl (λ g h. sym (ap (are_of (dim_of g.unit)) (factors_are n name)) ∙ h) (sym (ap (are_of d) (factors_are m name)) ∙ all)

@@ -1,5 +1,5 @@
 -- The names of the lines after edits: those of before and those of the keys, without the withdrawn, in order and each once.
-use Rattle.std.proofs.Common.{◌≡◌, zero, suc, nat_eq, ◌⊎◌, inl, inr, Bool, true, false, cond, not, List, [], ◌∷◌, ◌++◌, map, filter, Option, Some, None, is_some, refl, sym, ap, subst, ◌∙◌, Ordering, Less, Equal, Greater, is_eq, arith}
+use Rattle.std.proofs.Common.{◌≡◌, zero, suc, nat_eq, ◌⊎◌, inl, inr, Bool, true, false, cond, not, List, [], ◌∷◌, ◌++◌, map, filter, Option, Some, None, is_some, refl, sym, ap, ◌∙◌, Ordering, Less, Equal, Greater, is_eq, arith}
 use Rattle.std.specs.Cmp.{IsTotalOrder, eq_by_cmp_equiv}
 use Rattle.std.specs.Cmp.Lexicographic.{nat_list_cmp_total, pointwise, texts_ties}
 use Rattle.std.specs.FinMap.{find, get}
@@ -137,16 +137,3 @@ module _ (m : Data) (cs : List Change) where
       ∙ same_names (dedup (eq_by_cmp name_cmp) ys) (line_names (applied m cs)) (IsStrictlySortedBy-dedup total (λ x y. refl) ys up) (lines_sorted (applied m cs))
       (λ n i. let at = among_filter (stays cs) n Named (from_once _ ys moved n i) in present_named (applied m cs) n (named_then n at.0 at.1))
       (λ n i. let at = then_named n (named_present (applied m cs) n i) in kept_once _ ys moved n (filter_among (stays cs) n Named at.0 at.1))
-
-  -- where no line is changed, the names stay
-  pub names_stay : filter_map line_name (map (λ c. c.0) cs) ≡ [] → line_names m ≡ line_names (applied m cs)
-  names_stay none = same_names (line_names m) (line_names (applied m cs)) (lines_sorted m) (lines_sorted (applied m cs))
-      (λ n i. present_named (applied m cs) n (named_then n (among_left n (line_names m) _ i) (stay n)))
-      (λ n i. elim (among_either n (line_names m) _ (then_named n (named_present (applied m cs) n i)).0) [ inl before ↦ before | inr edited ↦ absurd (subst (IsAmong n) none edited) ])
-    where
-      stay : (n : Name) → stays cs n ≡ true
-      stay n = by (find key_cmp (key.Line n) cs) refl
-        where
-          by : (o : Option (Option Record)) → find key_cmp (key.Line n) cs ≡ o → not (is_taken o) ≡ true
-          by None e = refl
-          by (Some c) e = absurd (subst (IsAmong n) none (line_named n _ (found_change (key.Line n) cs c e)))

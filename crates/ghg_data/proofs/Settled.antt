@@ -1,5 +1,5 @@
 -- Where no change unsettles the data, what no change is about stays sound.
-use Rattle.std.proofs.Common.{◌≡◌, ◌⊎◌, inl, inr, ℕ, suc, ◌+◌, drop, slice_get, arith, Bool, true, false, cond, not, ◌||◌, List, [], ◌∷◌, ◌++◌, map, flat_map, fold, Option, Some, None, is_some, refl, sym, ap, ◌∙◌, subst, if◌then◌else◌}
+use Rattle.std.proofs.Common.{◌≡◌, ◌⊎◌, inl, inr, ℕ, suc, ◌+◌, drop, slice_get, arith, Bool, true, false, cond, not, ◌&&◌, ◌||◌, List, [], ◌∷◌, ◌++◌, map, flat_map, fold, Option, Some, None, is_some, refl, sym, ap, ◌∙◌, subst, if◌then◌else◌}
 use Rattle.std.specs.Ordering.{eq_by_cmp}
 use Rattle.std.specs.FinMap.{find as find_key, get}
 use Rattle.std.specs.List.{find, list_all}
@@ -29,7 +29,7 @@ use Rattle.ghg_definitions.proofs.Dims.{dim_same}
 use Rattle.ghg_definitions.proofs.Keys.{equal_by, keys_same}
 use Rattle.ghg_data.specs.Changes.{Change, applied}
 use Rattle.ghg_data.specs.Faults.{considered, is_fault, is_parameter_place, is_place, key_places, line_places, places_about, takes}
-use Rattle.ghg_data.specs.Settling.{keeps_dimension, unsettled_places, unsettles, unsettles_record}
+use Rattle.ghg_data.specs.Settling.{keeps_dimension, name_keeps, unsettled_places, unsettles, unsettles_record}
 use Rattle.ghg_data.proofs.Applied.{get-applied, over}
 use Rattle.ghg_data.proofs.Covered.{changed_or_kept, covered, left_behind, never_both, sound_before, sound_line, sound_takes}
 use Rattle.ghg_data.proofs.Faults.{IsAmong, among_flat, either, or_left, place_parameter, place_uncertain, takes_among, uncertain_place, unsound_found, with_equation}
@@ -46,60 +46,69 @@ same_change : (a b : Option Record) → Some a ≡ Some b → a ≡ b
 same_change a b e = cc
 
 -- a change that counts does not unsettle what its key had
-found_settled : (m : Data) (cs : List Change) (k : RecordKey) (c : Option Record) → unsettles m cs ≡ false → find_key key_cmp k cs ≡ Some c → unsettles_record (get m k) c ≡ false
-found_settled m [] k c s e = absurd (cc)
-found_settled m (d ∷ cs) k c s e = by (eq_by_cmp key_cmp k d.0) refl e (none_of (unsettles_record (get m d.0) d.1) _ s) (found_settled m cs k c)
+found_settled : (n m : Data) (cs : List Change) (k : RecordKey) (c : Option Record) → unsettles n m cs ≡ false → find_key key_cmp k cs ≡ Some c → unsettles_record n k (get m k) c ≡ false
+found_settled n m [] k c s e = absurd (cc)
+found_settled n m (d ∷ cs) k c s e = by (eq_by_cmp key_cmp k d.0) refl e (none_of (unsettles_record n d.0 (get m d.0) d.1) _ s) (found_settled n m cs k c)
   where
-    by : (b : Bool) → eq_by_cmp key_cmp k d.0 ≡ b → cond b (Some d.1) (find_key key_cmp k cs) ≡ Some c → (unsettles_record (get m d.0) d.1 ≡ false) × (unsettles m cs ≡ false) → (unsettles m cs ≡ false → find_key key_cmp k cs ≡ Some c → unsettles_record (get m k) c ≡ false) → unsettles_record (get m k) c ≡ false
-    by true is f parts rest = (λ i. unsettles_record (get m (keys_same k d.0 (equal_by _ is) i)) (sym (same_change d.1 c f) i)) ∙ parts.0
+    by : (b : Bool) → eq_by_cmp key_cmp k d.0 ≡ b → cond b (Some d.1) (find_key key_cmp k cs) ≡ Some c → (unsettles_record n d.0 (get m d.0) d.1 ≡ false) × (unsettles n m cs ≡ false)
+        → (unsettles n m cs ≡ false → find_key key_cmp k cs ≡ Some c → unsettles_record n k (get m k) c ≡ false) → unsettles_record n k (get m k) c ≡ false
+    by true is f parts rest = (λ i. unsettles_record n (keys_same k d.0 (equal_by _ is) i) (get m (keys_same k d.0 (equal_by _ is) i)) (sym (same_change d.1 c f) i)) ∙ parts.0
     by false is f parts rest = rest parts.1 f
 
-module _ (m : Data) (cs : List Change) (settled : unsettles m cs ≡ false) where
+module _ (m : Data) (cs : List Change) (settled : unsettles (applied m cs) m cs ≡ false) where
   -- a key has what it had, or what does not unsettle that
-  kept_or_settled : (k : RecordKey) → (get (applied m cs) k ≡ get m k) ⊎ (unsettles_record (get m k) (get (applied m cs) k) ≡ false)
+  kept_or_settled : (k : RecordKey) → (get (applied m cs) k ≡ get m k) ⊎ (unsettles_record (applied m cs) k (get m k) (get (applied m cs) k) ≡ false)
   kept_or_settled k = by (find_key key_cmp k cs) refl
     where
-      by : (o : Option (Option Record)) → find_key key_cmp k cs ≡ o → (get (applied m cs) k ≡ get m k) ⊎ (unsettles_record (get m k) (get (applied m cs) k) ≡ false)
+      by : (o : Option (Option Record)) → find_key key_cmp k cs ≡ o → (get (applied m cs) k ≡ get m k) ⊎ (unsettles_record (applied m cs) k (get m k) (get (applied m cs) k) ≡ false)
       by None e = inl (get-applied m cs k ∙ ap (λ o. over o (get m k)) e)
-      by (Some c) e = inr (ap (unsettles_record (get m k)) (get-applied m cs k ∙ ap (λ o. over o (get m k)) e) ∙ found_settled m cs k c settled e)
+      by (Some c) e = inr (ap (unsettles_record (applied m cs) k (get m k)) (get-applied m cs k ∙ ap (λ o. over o (get m k)) e) ∙ found_settled (applied m cs) m cs k c settled e)
 
-  line_settled : (o r : Option Record) (e : EqId) → as_line o ≡ Some e → unsettles_record o r ≡ false → ⊥
-  line_settled None r e h u = absurd (cc)
-  line_settled (Some (entry.Span s)) r e h u = absurd (cc)
-  line_settled (Some (entry.Activity f)) r e h u = absurd (cc)
-  line_settled (Some (entry.Factor f)) r e h u = absurd (cc)
-  line_settled (Some (entry.Line c q)) r e h u = absurd (cc)
-  line_settled (Some (entry.Bind b)) r e h u = absurd (cc)
-  line_settled (Some (entry.Uncert a f)) r e h u = absurd (cc)
+  line_settled : (k : RecordKey) (o r : Option Record) (e : EqId) → as_line o ≡ Some e → unsettles_record (applied m cs) k o r ≡ false → ⊥
+  line_settled k None r e h u = absurd (cc)
+  line_settled k (Some (entry.Span s)) r e h u = absurd (cc)
+  line_settled k (Some (entry.Activity f)) r e h u = absurd (cc)
+  line_settled k (Some (entry.Factor f)) r e h u = absurd (cc)
+  line_settled k (Some (entry.Line c q)) r e h u = absurd (cc)
+  line_settled k (Some (entry.Bind b)) r e h u = absurd (cc)
+  line_settled k (Some (entry.Uncert a f)) r e h u = absurd (cc)
 
   -- a line that was there has its equation
   pub line_kept : (l : Name) (e : EqId) → line m l ≡ Some e → get (applied m cs) (key.Line l) ≡ get m (key.Line l)
-  line_kept l e h = elim (kept_or_settled (key.Line l)) [ inl kept ↦ kept | inr u ↦ absurd (line_settled (get m (key.Line l)) _ e h u) ]
+  line_kept l e h = elim (kept_or_settled (key.Line l)) [ inl kept ↦ kept | inr u ↦ absurd (line_settled (key.Line l) (get m (key.Line l)) _ e h u) ]
 
-  like : (f : Figure) (o : Option Figure) → not (option_map_or (has_dimension (dim_of f.unit)) o false) ≡ false → (h : Figure) × (o ≡ Some h) × (dim_of f.unit ≡ dim_of h.unit)
-  like f None u = absurd (cc)
-  like f (Some h) u = (h, refl, dim_same _ _ (not_not _ u))
+  -- a figure that goes or changes its dimension leaves others of it under its name
+  like : (k : RecordKey) (f : Figure) (o : Option Figure) → not (option_map_or (has_dimension (dim_of f.unit)) o false) && not (name_keeps (applied m cs) k f) ≡ false
+      → ((h : Figure) × (o ≡ Some h) × (dim_of f.unit ≡ dim_of h.unit)) ⊎ (name_keeps (applied m cs) k f ≡ true)
+  like k f o u = by o (name_keeps (applied m cs) k f) refl u
     where
-      not_not : (b : Bool) → not b ≡ false → b ≡ true
-      not_not true e = refl
-      not_not false e = absurd (cc)
+      by : (o : Option Figure) (b : Bool) → name_keeps (applied m cs) k f ≡ b → not (option_map_or (has_dimension (dim_of f.unit)) o false) && not b ≡ false
+          → ((h : Figure) × (o ≡ Some h) × (dim_of f.unit ≡ dim_of h.unit)) ⊎ (name_keeps (applied m cs) k f ≡ true)
+      by o true e u = inr e
+      by None false e u = absurd (cc)
+      by (Some h) false e u = inl (h, refl, dim_same _ _ (stands (has_dimension (dim_of f.unit) h) u))
+        where
+          stands : (b : Bool) → not b && true ≡ false → b ≡ true
+          stands true e = refl
+          stands false e = absurd (cc)
 
   same_figure : (f g : Figure) → Some f ≡ Some g → f ≡ g
   same_figure f g e = cc
 
-  figure_settled : (o r : Option Record) (g : Figure) → as_figure o ≡ Some g → unsettles_record o r ≡ false → (h : Figure) × (as_figure r ≡ Some h) × (dim_of g.unit ≡ dim_of h.unit)
-  figure_settled None r g e u = absurd (cc)
-  figure_settled (Some (entry.Span s)) r g e u = absurd (cc)
-  figure_settled (Some (entry.Activity f)) r g e u = like g (as_figure r) (ap (λ (x : Figure). not (keeps_dimension x r)) (sym (same_figure f g e)) ∙ u)
-  figure_settled (Some (entry.Factor f)) r g e u = like g (as_figure r) (ap (λ (x : Figure). not (keeps_dimension x r)) (sym (same_figure f g e)) ∙ u)
-  figure_settled (Some (entry.Line c q)) r g e u = absurd (cc)
-  figure_settled (Some (entry.Bind b)) r g e u = absurd (cc)
-  figure_settled (Some (entry.Uncert a f)) r g e u = absurd (cc)
+  figure_settled : (k : RecordKey) (o r : Option Record) (g : Figure) → as_figure o ≡ Some g → unsettles_record (applied m cs) k o r ≡ false
+      → ((h : Figure) × (as_figure r ≡ Some h) × (dim_of g.unit ≡ dim_of h.unit)) ⊎ (name_keeps (applied m cs) k g ≡ true)
+  figure_settled k None r g e u = absurd (cc)
+  figure_settled k (Some (entry.Span s)) r g e u = absurd (cc)
+  figure_settled k (Some (entry.Activity f)) r g e u = like k g (as_figure r) (ap (λ (x : Figure). not (keeps_dimension x r) && not (name_keeps (applied m cs) k x)) (sym (same_figure f g e)) ∙ u)
+  figure_settled k (Some (entry.Factor f)) r g e u = like k g (as_figure r) (ap (λ (x : Figure). not (keeps_dimension x r) && not (name_keeps (applied m cs) k x)) (sym (same_figure f g e)) ∙ u)
+  figure_settled k (Some (entry.Line c q)) r g e u = absurd (cc)
+  figure_settled k (Some (entry.Bind b)) r g e u = absurd (cc)
+  figure_settled k (Some (entry.Uncert a f)) r g e u = absurd (cc)
 
   figures_stand : AreKept m (applied m cs)
   figures_stand q g e = elim (kept_or_settled q) [
-    | inl kept ↦ (g, ap as_figure kept ∙ e, refl)
-    | inr u ↦ figure_settled (get m q) (get (applied m cs) q) g e u
+    | inl kept ↦ inl (g, ap as_figure kept ∙ e, refl)
+    | inr u ↦ figure_settled q (get m q) (get (applied m cs) q) g e u
   ]
 
 -- ---- change by change
@@ -107,8 +116,8 @@ module _ (m : Data) (cs : List Change) (settled : unsettles m cs ≡ false) wher
 next : (i : ℕ) → suc i ≡ i + 1
 next i = omega arith
 
-pub unsettled_at : (m : Data) (cs : List Change) (i : ℕ) (c : Change) → slice_get cs i ≡ Some c → unsettles m (drop i cs) ≡ unsettles_record (get m c.0) c.1 || unsettles m (drop (i + 1) cs)
-unsettled_at m cs i c at = ap (unsettles m) (drop_at cs i c at) ∙ ap (λ j. unsettles_record (get m c.0) c.1 || unsettles m (drop j cs)) (next i)
+pub unsettled_at : (n m : Data) (cs : List Change) (i : ℕ) (c : Change) → slice_get cs i ≡ Some c → unsettles n m (drop i cs) ≡ unsettles_record n c.0 (get m c.0) c.1 || unsettles n m (drop (i + 1) cs)
+unsettled_at n m cs i c at = ap (unsettles n m) (drop_at cs i c at) ∙ ap (λ j. unsettles_record n c.0 (get m c.0) c.1 || unsettles n m (drop j cs)) (next i)
 
 -- ---- what stays sound
 
@@ -124,7 +133,7 @@ all_too : {A : Type 0} (f g : A → Bool) → ((x : A) → f x ≡ true → g x 
 all_too f g h [] e = refl
 all_too f g h (x ∷ xs) e = both _ _ (h x (first_so (f x) _ e)) (all_too f g h xs (second_so (f x) _ e))
 
-module _ (m : Data) (w : IsWorkbook m) (cs : List Change) (settled : unsettles m cs ≡ false) (is : IsConsistent (applied m cs)) where
+module _ (m : Data) (w : IsWorkbook m) (cs : List Change) (settled : unsettles (applied m cs) m cs ≡ false) (is : IsConsistent (applied m cs)) where
   line_too : (d : Dim) (l : Name) → is_line_of m d l ≡ true → is_line_of (applied m cs) d l ≡ true
   line_too d l h = by (line m l) refl h
     where
@@ -219,9 +228,9 @@ module _ (m : Data) (w : IsWorkbook m) (cs : List Change) (settled : unsettles m
 
 module _ (m : Data) (w : IsWorkbook m) (cs : List Change) (is : IsConsistent (applied m cs)) where
   all_looked_at : (p : Place) → is_fault (applied m cs) p ≡ true → IsAmong p (unsettled_places m cs ++ flat_map (key_places (applied m cs)) (map (λ d. d.0) cs))
-  all_looked_at p h = by (unsettles m cs) refl
+  all_looked_at p h = by (unsettles (applied m cs) m cs) refl
     where
-      by : (b : Bool) → unsettles m cs ≡ b → IsAmong p ((if b then flat_map (line_places m) (line_names m) else []) ++ flat_map (key_places (applied m cs)) (map (λ d. d.0) cs))
+      by : (b : Bool) → unsettles (applied m cs) m cs ≡ b → IsAmong p ((if b then flat_map (line_places m) (line_names m) else []) ++ flat_map (key_places (applied m cs)) (map (λ d. d.0) cs))
       by true e = covered m w cs p h
       by false e = by_keys m w cs e is p h
 

@@ -7,7 +7,7 @@ ghost use Rattle.std.specs.Str.{bytes_eq};
 ghost use Rattle.ghg_equations.specs.Table.{parameters};
 ghost use Rattle.ghg_units.specs.Parameter.{is_parameter};
 ghost use Rattle.ghg_definitions.specs.Data.{first_name, line, line_names};
-ghost use Rattle.ghg_definitions.specs.Rules.{activities, are_of, dim_of_output, factors, gives_decay, gives_dimension, is_bound, is_line_of, is_uncertainty, lesser_place, places_in, unsound_place};
+ghost use Rattle.ghg_definitions.specs.Rules.{dim_of_output, gives_decay, gives_dimension, is_bound, is_line_of, is_uncertainty, lesser_place, places_in, unsound_place};
 ghost use Rattle.ghg_definitions.specs.Sound.{IsConsistent, IsWorkbook};
 ghost use Rattle.ghg_data.specs.Changes.{applied};
 ghost use Rattle.ghg_data.specs.Faults.{considered, dim_of_place, is_fault, key_places, line_places, uncertainty_place};
@@ -16,35 +16,13 @@ ghost use Rattle.ghg_data.specs.Settling.{unsettled_places};
 use crate::draft::{Draft, equation_in};
 use crate::edits::Edits;
 use crate::holdings::Holdings;
+use crate::measures::{is_activity_of, is_factor_of};
 use crate::parameters::{name_of, params_of};
 use crate::unsettled::unsettles;
 use ghg_definitions::{Place, RecordKey};
 use ghg_equations::{Dim, EqId, Output, Param, equation};
 use ghg_units::{Binding, Name, ParamName};
 use std::cmp::Ordering;
-
-// In place of the year in a key that stands for all years.
-const NO_YEAR: u32 = 0;
-
-// The activity has records, all of the dimension.
-fn is_activity_of(draft: &Draft<'_>, dim: Dim, name: &Name) -> bool
-    ensures { result ≡ are_of dim (activities draft.now name.now) }
-{
-    match draft.other_year(&RecordKey::Activity(*name, NO_YEAR)) {
-        Some(figure) => dim == ghg_units::dim(figure.unit),
-        None => false,
-    }
-}
-
-// The factor has records, all of the dimension.
-fn is_factor_of(draft: &Draft<'_>, dim: Dim, name: &Name) -> bool
-    ensures { result ≡ are_of dim (factors draft.now name.now) }
-{
-    match draft.other_year(&RecordKey::Factor(*name, NO_YEAR)) {
-        Some(figure) => dim == ghg_units::dim(figure.unit),
-        None => false,
-    }
-}
 
 fn dim_of_output(output: Output) -> Dim
     ensures { result ≡ dim_of_output output }
@@ -248,10 +226,11 @@ fn consider_unsettled(
     holdings: &Holdings,
     edits: &Edits,
 )
+    requires { draft.now ≡ applied holdings.now.content edits.now }
     ensures { least.new ≡ fold (considered draft.now) least.old
         (unsettled_places holdings.now.content edits.now) }
 {
-    if unsettles(holdings, edits) {
+    if unsettles(draft, holdings, edits) {
         consider_lines(draft, least, holdings);
     }
 }

@@ -10,6 +10,7 @@ mod edits;
 mod holdings;
 mod limits;
 mod lookups;
+mod measures;
 mod names;
 mod parameters;
 mod plan;

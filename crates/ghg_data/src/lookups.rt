@@ -92,12 +92,18 @@ fn decay_of<R: Records>(records: &R, figure: Option<&Figure>) -> Input
     }
 }
 
-// The input of a value and its bounds.
+// The input of a value and its bounds. A figure without uncertainty is converted once.
 fn known(unit: Unit, value: Decimal, low: Decimal, high: Decimal) -> Input
     requires { IsAmountOf unit (Amount.Known value low high) }
     ensures { result ≡ input_of_amount unit (Amount.Known value low high) }
 {
     let point = interval(value, unit);
+    if low.scaled == high.scaled {
+        return Input::Known {
+            point,
+            range: point,
+        };
+    }
     let range = interval(low, unit).hull(&interval(high, unit));
     Input::Known { point, range }
 }

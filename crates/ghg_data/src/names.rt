@@ -1,14 +1,19 @@
 //! The names of lines, each once and in order.
 
-ghost use Rattle.std.specs.Prelude.{◌≡◌, ◌+◌, ◌≤◌, ◌++◌, IfOk, length, filter_map, vec_len, vec_capacity};
-ghost use Rattle.ghg_definitions.specs.Data.{Data, line_name, line_names};
+ghost use Rattle.std.specs.Prelude.{◌≡◌, ◌+◌, ◌≤◌, ◌<◌, ◌++◌, IfOk, length, filter_map, vec_len, vec_capacity};
+ghost use Rattle.std.specs.List.Sorted.{IsStrictlySortedBy};
+ghost use Rattle.ghg_definitions.specs.Data.{Data, line_name, line_names, name_cmp};
 ghost use Rattle.ghg_data.specs.Changes.{applied};
+ghost use Rattle.ghg_data.specs.Names.{names_after, with_name, without_name};
 
 use crate::edits::Edits;
 use crate::holdings::Holdings;
 use ghg_definitions::RecordKey;
 use ghg_units::Name;
 use std::alloc::{AllocError, Global};
+
+// For this many names it takes about as long to sort them as to put one more in its place.
+const NAMES_OF_A_SORT: usize = 16;
 
 /// The names of the lines once the edits are made, in order.
 pub(crate) fn lines_after(
@@ -25,19 +30,91 @@ pub(crate) fn lines_after(
     Ok(lines)
 }
 
-/// Makes the names of the lines those once the edits are made. It sorts them once, where an edit is of a
-/// line, and takes no memory.
+/// Makes the names of the lines those once the edits are made. A few are put in their places one after the
+/// other, and more are sorted together. It takes no memory.
 pub(crate) fn change_names(names: &mut Vec<Name>, edits: &Edits)
     requires { vec_len names.old + length edits.now ≤ vec_capacity names.old }
     ensures items { (m : Data) → names.old.items ≡ line_names m → names.new.items ≡ line_names
         (applied m edits.now) }
     ensures capacity { vec_capacity names.new ≡ vec_capacity names.old }
 {
-    let before = names.len();
-    add_lines(names, edits.keys());
-    if names.len() == before {
-        return;
+    if count_lines(edits.keys()) <= names.len() / NAMES_OF_A_SORT {
+        change_each(names, edits);
+    } else {
+        change_together(names, edits);
     }
+}
+
+// How many of the keys are about lines.
+fn count_lines(keys: &[RecordKey]) -> usize {
+    keys.iter()
+        .filter(|key| matches!(key, RecordKey::Line(_)))
+        .count()
+}
+
+// Makes the changes one after the other. Each moves the names behind it.
+fn change_each(names: &mut Vec<Name>, edits: &Edits)
+    requires { vec_len names.old + length edits.now ≤ vec_capacity names.old }
+    ensures items { (m : Data) → names.old.items ≡ line_names m → names.new.items ≡ line_names
+        (applied m edits.now) }
+    ensures capacity { vec_capacity names.new ≡ vec_capacity names.old }
+{
+    let mut left = edits.len();
+    while left > 0 {
+        left -= 1;
+        let (key, change) = edits.at(left);
+        change_name(names, key, change.is_some());
+    }
+}
+
+// Makes the names those of the lines once the key has a record, or has none.
+fn change_name(names: &mut Vec<Name>, key: &RecordKey, present: bool)
+    requires { vec_len names.old < vec_capacity names.old }
+    ensures items { IsStrictlySortedBy name_cmp names.old.items → names.new.items ≡ names_after key.now
+        present names.old.items }
+    ensures len { vec_len names.new ≤ vec_len names.old + 1 }
+    ensures capacity { vec_capacity names.new ≡ vec_capacity names.old }
+{
+    if let RecordKey::Line(name) = key {
+        if present {
+            put_name(names, name);
+        } else {
+            take_name(names, name);
+        }
+    }
+}
+
+fn put_name(names: &mut Vec<Name>, name: &Name)
+    requires { vec_len names.old < vec_capacity names.old }
+    ensures items { IsStrictlySortedBy name_cmp names.old.items → names.new.items ≡ with_name name.now
+        names.old.items }
+    ensures len { vec_len names.new ≤ vec_len names.old + 1 }
+    ensures capacity { vec_capacity names.new ≡ vec_capacity names.old }
+{
+    if let Err(place) = names.binary_search(name) {
+        names.insert(place, *name).unwrap();
+    }
+}
+
+fn take_name(names: &mut Vec<Name>, name: &Name)
+    ensures items { IsStrictlySortedBy name_cmp names.old.items → names.new.items ≡ without_name name.now
+        names.old.items }
+    ensures len { vec_len names.new ≤ vec_len names.old }
+    ensures capacity { vec_capacity names.new ≡ vec_capacity names.old }
+{
+    if let Ok(place) = names.binary_search(name) {
+        names.remove(place);
+    }
+}
+
+// Makes all changes, and sorts the names once.
+fn change_together(names: &mut Vec<Name>, edits: &Edits)
+    requires { vec_len names.old + length edits.now ≤ vec_capacity names.old }
+    ensures items { (m : Data) → names.old.items ≡ line_names m → names.new.items ≡ line_names
+        (applied m edits.now) }
+    ensures capacity { vec_capacity names.new ≡ vec_capacity names.old }
+{
+    add_lines(names, edits.keys());
     names.retain(|name| !edits.withdraws_line(name));
     names.sort_unstable();
     names.dedup();

@@ -1,7 +1,7 @@
 use Rattle.std.proofs.Common.{◌∙◌, sym, ap}
 use Rattle.ghg_equations.specs.Quantity.{same_dim}
 use Rattle.ghg_data.proofs.Figures.{factors_none, factors_some}
-use Rattle.ghg_data.proofs.bindings.is_factor_of.Goals as goal
+use Rattle.ghg_data.proofs.measures.is_factor_of.Goals as goal
 
 pub returns-in-Some : goal.returns-in-Some
 returns-in-Some c =
