@@ -37,7 +37,7 @@ module _ (old new : Data) where
       record { node = node; differs = inr (λ h. true_not_false (sym ((formula_decides _ _).1 h) ∙ is)) }
   changed_by n true true was is node e = absurd (cc)
 
-  is_so : (n : Node) → is_changed old new n ≡ true → IsChanged old new n
+  pub is_so : (n : Node) → is_changed old new n ≡ true → IsChanged old new n
   is_so n e = changed_by n _ _ refl refl (first_so (is_node new n) _ e) (second_so (is_node new n) _ e)
 
   unchanged_by : (n : Node) (before same : Bool) → is_node old n ≡ before
@@ -50,7 +50,7 @@ module _ (old new : Data) where
     | inr apart ↦ absurd (apart ((formula_decides _ _).0 is))
   ]
 
-  so_is : (n : Node) → IsChanged old new n → is_changed old new n ≡ true
+  pub so_is : (n : Node) → IsChanged old new n → is_changed old new n ≡ true
   so_is n c = both _ _ c.node (unchanged_by n _ _ refl refl c)
 
   -- what is not changed was a node, with the same formula
@@ -91,7 +91,7 @@ module _ (old new : Data) where
   pub affected_is_node : (n : Node) → IsAffected old new n → is_node new n ≡ true
   affected_is_node n a = ends_node a.first a.others n a.changed.node a.leads
 
-  sound : (d : ℕ) (n : Node) → affected_within old new d n ≡ true → IsAffected old new n
+  pub sound : (d : ℕ) (n : Node) → affected_within old new d n ≡ true → IsAffected old new n
   unfolding affected_within
   sound zero n e = itself n (is_so n e)
   sound (suc d) n e = elim (either (is_changed old new n) _ e) [
@@ -136,7 +136,7 @@ module _ (old new : Data) where
   abbrev Within : ℕ → Node → Node → Type 0
   Within d n k = IsChanged old new k → affected_within old new d n ≡ true
 
-  complete : (n : Node) → IsAffected old new n → affected_within old new (length (nodes new)) n ≡ true
+  pub complete : (n : Node) → IsAffected old new n → affected_within old new (length (nodes new)) n ≡ true
   complete n a = elim (backwards a.first a.others n a.leads) [
     | inl e ↦ begins (length (nodes new)) n (subst (IsChanged old new) (sym e) a.changed)
     | inr l ↦ within Down decide_node Within

@@ -73,7 +73,7 @@ once_years_of (Some s) = once_years s.first _
 not_less : (o : Ordering) → o ≡ Equal → o ≡ Less → ⊥
 not_less o e f = cc
 
-once_names : (names : List Name) → IsStrictlySortedBy name_cmp names → Once names
+pub once_names : (names : List Name) → IsStrictlySortedBy name_cmp names → Once names
 unfolding IsStrictlySortedBy
 once_names [] h = tt
 once_names (x ∷ names) h = (

@@ -1,5 +1,6 @@
 -- The parameters of a line's equation, as the code has them and as the table names them.
-use Rattle.std.proofs.Common.{◌≡◌, ℕ, zero, suc, ◌<◌, length, get_or, inl, inr, arith, List, [], ◌∷◌, ◌++◌, map, flat_map, Some, refl, sym, ap, ◌∙◌, subst}
+use Rattle.std.proofs.Common.{◌≡◌, ℕ, zero, suc, ◌<◌, length, get_or, inl, inr, arith, Bool, ◌||◌, List, [], ◌∷◌, ◌++◌, map, flat_map, Some, refl, sym, ap, ◌∙◌, subst}
+use Rattle.std.specs.List.{list_any}
 use Rattle.std.specs.Option.{option_map_or}
 use Rattle.ghg_cell.specs.declared.input.Input.{Input}
 use Rattle.ghg_equations.specs.declared.eq_id.EqId.{EqId}
@@ -45,7 +46,7 @@ slots_at m first year l ps id at all =
     ∙ ap (λ qs. map slot_of (map (map_operand (given m)) (map (λ (q : Quantity). bound_to m first year (binding m l q.name)) qs))) all
     ∙ ap (λ o. slots_of (map_formula (given m) (line_formula m first l year o))) at
 
-at_place : {A : Type 0} (xs : List A) (i : ℕ) (d : A) → i < length xs → IsListed (get_or xs i d) xs
+pub at_place : {A : Type 0} (xs : List A) (i : ℕ) (d : A) → i < length xs → IsListed (get_or xs i d) xs
 at_place [] i d h = absurd (omega arith)
 at_place (x ∷ xs) zero d h = inl refl
 at_place (x ∷ xs) (suc i) d h = inr (at_place xs i d (omega arith))
@@ -53,3 +54,7 @@ at_place (x ∷ xs) (suc i) d h = inr (at_place xs i d (omega arith))
 -- what a line takes at one of the parameters
 pub param_present : (m : Data) (l : Name) (ps : List Param) (lines : List Name) → ((k : Name) → IsListed k (flat_map (λ (p : Param). taken_by (binding m l p.name.now)) ps) → IsListed k lines) → (i : ℕ) (d : Param) → i < length ps → (names : List Name) → names ≡ taken_by (binding m l (get_or ps i d).name.now) → (k : Name) → IsListed k names → IsListed k lines
 param_present m l ps lines present i d h names e k j = present k (listed_flat (λ (p : Param). taken_by (binding m l p.name.now)) (get_or ps i d) k ps (at_place ps i d h) (subst (IsListed k) e j))
+
+pub any_named : (f : Name → Bool) (ps : List Param) → list_any (λ (q : Quantity). f q.name) (map quantity ps) ≡ list_any (λ (p : Param). f p.name.now) ps
+any_named f [] = refl
+any_named f (p ∷ ps) = ap (λ b. f p.name.now || b) (any_named f ps)

@@ -6,3 +6,14 @@ pub mod Ordered
 pub mod Named
 pub mod Numbering
 pub mod EquationParameters
+pub mod Reaching
+pub mod Bindings
+pub mod Marking
+pub mod YearParts
+pub mod Quiet
+pub mod YearNodes
+pub mod Corrected
+pub mod InTurn
+pub mod Idle
+pub mod Selecting
+pub mod Falling

@@ -38,7 +38,7 @@ found_name names name (Ok other) place e h = subst (λ k. name_at names k ≡ na
     same e = cc
 found_name names name (Err other) place e h = absurd (cc)
 
-take_next : {A : Type 0} (xs : List A) (k : ℕ) (x : A) → k < length xs → x ≡ get_or xs k x → take (k + 1) xs ≡ take k xs ++ x ∷ []
+pub take_next : {A : Type 0} (xs : List A) (k : ℕ) (x : A) → k < length xs → x ≡ get_or xs k x → take (k + 1) xs ≡ take k xs ++ x ∷ []
 take_next xs k x h e = take_more xs k x h ∙ ap (λ y. take k xs ++ y ∷ []) (sym e)
 
 -- a number more

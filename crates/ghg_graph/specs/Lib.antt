@@ -7,3 +7,7 @@ pub mod Refusal
 pub mod Numbers
 pub mod Operands
 pub mod Slots
+pub mod Corrections
+pub mod Reached
+pub mod Selections
+pub mod Falling

@@ -41,7 +41,7 @@ pub fn potential<R: Records>(records: &R, line: &Name, year: u32) -> Input
 }
 
 // The gas that a line emits; nothing exactly where it is not present, or gives something else.
-fn line_gas<R: Records>(records: &R, line: &Name) -> Option<Gas>
+pub(crate) fn line_gas<R: Records>(records: &R, line: &Name) -> Option<Gas>
     ensures { result ≡ line_gas (R.content records.now) line.now }
 {
     equation(equation_of(records, line)?).output.gas()

@@ -1,0 +1,87 @@
+-- What a correction of figures alone leaves as it was.
+use Rattle.std.proofs.Common.{◌≡◌, inl, inr, true, ◌&&◌, List, [], ◌∷◌, map, is_some, refl, sym, ap, ◌∙◌, subst}
+use Rattle.std.specs.FinMap.{get}
+use Rattle.std.specs.List.{Contains, list_all}
+use Rattle.ghg_units.specs.declared.node.Node.{Node}
+use Rattle.ghg_definitions.specs.declared.record.RecordKey.{RecordKey}
+use Rattle.ghg_definitions.specs.declared.record.RecordKey.TheVariants as key
+use Rattle.ghg_definitions.specs.Data.{Data, Name, as_binding, as_line, line}
+use Rattle.ghg_definitions.specs.Listed.{IsListed}
+use Rattle.ghg_definitions.specs.Rings.{Takes, TakesBinding}
+use Rattle.ghg_definitions.proofs.Alike.{first_so, second_so}
+use Rattle.ghg_definitions.proofs.Listed.{contained}
+use Rattle.ghg_affected.specs.Figures.{DifferInFigures, is_figure_key}
+use Rattle.ghg_affected.specs.Patches.{IsPatch}
+use Rattle.ghg_affected.proofs.Bools.{true_not_false}
+use Rattle.ghg_data.specs.Changes.{Change, applied}
+use Rattle.ghg_data.proofs.Covered.{changed_or_kept}
+use Rattle.ghg_data.proofs.Faults.{IsAmong}
+use Rattle.ghg_graph.specs.Corrections.{ListsAffected, are_of_figures}
+use Rattle.ghg_graph.specs.Ordering.{IsBehind, IsLineOrder}
+
+among : (k : RecordKey) (ks : List RecordKey) → IsAmong k ks → IsListed k ks
+among k [] i = i
+among k (q ∷ ks) (inl e) = inl e
+among k (q ∷ ks) (inr i) = inr (among k ks i)
+
+pub all_keys : (cs : List Change) → list_all is_figure_key (map (λ c. c.0) cs) ≡ are_of_figures cs
+all_keys [] = refl
+all_keys (c ∷ cs) = ap (λ b. is_figure_key c.0 && b) (all_keys cs)
+
+all_figures : (cs : List Change) → are_of_figures cs ≡ true → (k : RecordKey) → IsListed k (map (λ c. c.0) cs)
+    → is_figure_key k ≡ true
+all_figures [] e k i = absurd i
+all_figures (c ∷ cs) e k (inl same) = ap is_figure_key same ∙ first_so (is_figure_key c.0) _ e
+all_figures (c ∷ cs) e k (inr i) = all_figures cs (second_so (is_figure_key c.0) _ e) k i
+
+-- all other records are kept
+pub kept_record : (m : Data) (cs : List Change) (ks : List RecordKey) → ks ≡ map (λ c. c.0) cs
+    → (k : RecordKey) → (Contains ks k → ⊥) → get m k ≡ get (applied m cs) k
+kept_record m cs ks all k off = elim (changed_or_kept m cs k) [
+  | inl i ↦ absurd (off (contained ks k (subst (IsListed k) (sym all) (among k _ i))))
+  | inr e ↦ sym e
+]
+
+pub differ_in_figures : (m : Data) (cs : List Change) → are_of_figures cs ≡ true
+    → DifferInFigures m (applied m cs)
+differ_in_figures m cs e = record {
+  others = λ k off. elim (changed_or_kept m cs k) [
+    | inl i ↦ absurd (true_not_false (sym (all_figures cs e k (among k _ i)) ∙ off))
+    | inr same ↦ sym same
+  ];
+}
+
+-- ---- orders
+
+module _ (old new : Data) (differ : DifferInFigures old new) where
+  same_line : (name : Name) → line old name ≡ line new name
+  same_line name = ap as_line (differ.others (key.Line name) refl)
+
+  takes_as_before : (k name : Name) → Takes new k name → Takes old k name
+  takes_as_before k name t = record {
+    present = ap is_some (same_line k) ∙ t.present;
+    parameter = t.parameter;
+    bound = subst (λ o. TakesBinding (as_binding o) name)
+        (sym (differ.others (key.Bind k t.parameter) refl)) t.bound;
+  }
+
+  behind_still : (done names : List Name) → IsBehind old done names → IsBehind new done names
+  behind_still done [] behind = tt
+  behind_still done (name ∷ names) behind = (
+    sym (ap is_some (same_line name)) ∙ behind.0,
+    behind.1,
+    λ k t. behind.2 k (takes_as_before name k t),
+    behind_still (name ∷ done) names behind.3,
+  )
+
+  -- lines in order stay in order
+  pub same_order : (names : List Name) → IsLineOrder old names → IsLineOrder new names
+  same_order names order = record {
+    behind = behind_still [] names order.behind;
+    complete = λ name is. order.complete name (ap is_some (same_line name) ∙ is);
+  }
+
+-- ---- patches
+
+pub lists_patch : {old new : Data} (ns : List Node) → ListsAffected old new ns → IsPatch old new ns
+lists_patch ns lists = record { in_turn = lists.in_turn; complete = lists.complete }
