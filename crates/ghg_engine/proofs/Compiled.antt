@@ -1,92 +1,74 @@
--- What an evaluation in order has at its end is the compilation, or the node that is over.
-use Rattle.std.proofs.Common.{◌≡◌, ◌≢◌, ℕ, ◌≤◌, Bool, true, false, List, [], ◌∷◌, ◌++◌, length, take, fold, Option, Some, None, refl, sym, ap, ◌∙◌, subst, Ordering, Greater}
-use Rattle.std.specs.Ordering.{is_gt}
-use Rattle.std.specs.FinMap.{empty, get, insert}
-use Rattle.std.proofs.lemmas.List.{take_all}
-use Rattle.std.proofs.lemmas.List.Sums.{fold-append}
+-- What an evaluation of nodes in turn has at its end is the compilation, or the node that is over.
+use Rattle.std.proofs.Common.{◌≡◌, List, [], Some, None, sym, ap, ◌∙◌, subst}
+use Rattle.std.proofs.Math.Path.{fun_ext}
+use Rattle.std.specs.FinMap.{empty, get, get-empty}
 use Rattle.ghg_units.specs.declared.node.Node.{Node}
+use Rattle.ghg_affected.specs.Patches.{IsKept, IsPatch}
+use Rattle.ghg_affected.proofs.Affected.{affected_is_node}
+use Rattle.ghg_affected.proofs.Patched.{patches_find_overflows}
+use Rattle.ghg_definitions.specs.declared.record.Record.{Record}
 use Rattle.ghg_definitions.specs.Compilation.{compilation, overflow, sheet_of}
-use Rattle.ghg_definitions.specs.Data.{Data}
-use Rattle.ghg_definitions.specs.Nodes.{least_node}
+use Rattle.ghg_definitions.specs.Data.{Data, key_cmp}
+use Rattle.ghg_definitions.specs.Formulas.{Outcome}
+use Rattle.ghg_definitions.specs.Nodes.{node_cmp}
 use Rattle.ghg_definitions.specs.Rings.{IsAcyclic}
 use Rattle.ghg_definitions.specs.Sound.{IsWorkbook}
-use Rattle.ghg_definitions.specs.Trials.{Outcomes, breaks}
-use Rattle.ghg_definitions.specs.Listed.{IsListed}
+use Rattle.ghg_definitions.specs.Trials.{Outcomes}
 use Rattle.ghg_definitions.proofs.Exactness.{compilations_contain}
-use Rattle.ghg_definitions.proofs.NodeOrder.{IsLeastIn, least_in}
-use Rattle.ghg_definitions.proofs.OneTrial.{least_break_found, no_break_found, overflows_break, trial_is_compilation}
-use Rattle.ghg_engine.specs.Breaking.{least_with}
-use Rattle.ghg_engine.specs.declared.evaluated.Evaluated.{Evaluated}
-use Rattle.ghg_engine.specs.Evaluation.{IsEvaluatedAt}
-use Rattle.ghg_engine.specs.Orders.{Cells, IsOrder, breaks_at, with_cell}
-use Rattle.ghg_engine.specs.Proposals.{IsCompiled}
-use Rattle.ghg_engine.proofs.InOrder.{broken_listed, gives_trial, listed_breaks}
-use Rattle.ghg_engine.proofs.Progress.{broken_with, progress, start, step}
+use Rattle.ghg_definitions.proofs.OneTrial.{overflows_break}
+use Rattle.ghg_data.proofs.Empty.{is_acyclic, is_workbook}
+use Rattle.ghg_engine.specs.Cells.{CellsOf, found_in}
+use Rattle.ghg_engine.specs.Evaluation.{IsEvaluatedOver, in_turn_over}
+use Rattle.ghg_engine.specs.Orders.{IsOrder}
+use Rattle.ghg_engine.specs.Compiled.{IsCompiled}
+use Rattle.ghg_engine.proofs.InOrder.{in_turn}
+use Rattle.ghg_engine.proofs.Nothing.{nothing_found, nothing_over}
+use Rattle.ghg_engine.proofs.Turns.{nothing_kept}
 
--- the least of those that break, with one more
-pub least_more : (broken : List Node) (b : Bool) (n : Node) → least_node (broken_with broken b n) ≡ least_with (least_node broken) b n
-least_more broken true n = refl
-least_more broken false n = refl
+module _ (m : Data) (workbook : IsWorkbook m) (acyclic : IsAcyclic m) where
+  pub is_compiled : overflow m ≡ None → (outcomes : Outcomes) → outcomes ≡ compilation m → IsCompiled m outcomes
+  is_compiled none outcomes is = record {
+    acyclic = acyclic;
+    outcomes_are = is;
+    fits = overflows_break m acyclic none;
+    none_over = none;
+    contained = compilations_contain m workbook acyclic;
+  }
 
--- what the code keeps of the progress
-pub record IsSoFar (m : Data) (done : List Node) (cells : Cells) (least : Option Node) : Type 0 where
-  pub cells_are : (fold (step (sheet_of m)) start done).cells ≡ cells
-  pub least_is : least_node (fold (step (sheet_of m)) start done).broken ≡ least
+  -- the evaluation of these nodes over the outcomes gives the compilation
+  module _ (outcomes : Outcomes) (ns : List Node) (ends : in_turn_over m outcomes ns ≡ record { outcomes = compilation m; least = overflow m }) where
+    pub ends_compiled : (fresh : CellsOf) → IsEvaluatedOver m outcomes ns fresh → IsCompiled m (found_in fresh outcomes)
+    ends_compiled fresh is = is_compiled (sym (ap (λ p. p.least) ends) ∙ is.none) (found_in fresh outcomes) (sym is.found ∙ ap (λ p. p.outcomes) ends)
 
-pub nothing_so_far : (m : Data) → IsSoFar m [] empty None
-nothing_so_far m = record { cells_are = refl; least_is = refl }
+    pub ends_over : (n : Node) → (in_turn_over m outcomes ns).least ≡ Some n → overflow m ≡ Some n
+    ends_over n e = sym (ap (λ p. p.least) ends) ∙ e
 
-pub one_so_far : (m : Data) (done : List Node) (cells : Cells) (least : Option Node) (n : Node) (e : Evaluated) →
-    IsSoFar m done cells least → IsEvaluatedAt (sheet_of m) cells n e → IsSoFar m (done ++ n ∷ []) (insert cells n e.outcome) (least_with least e.breaks n)
-one_so_far m done cells least n e held at = record {
-  cells_are = rw fold-append (ap (λ c. with_cell (sheet_of m) c n) held.cells_are ∙ ap (insert cells n) (sym at.outcome));
-  least_is = rw fold-append (
-      least_more _ _ n
-      ∙ ap (λ c. least_with (least_node (fold (step (sheet_of m)) start done).broken) (breaks_at (sheet_of m) c n) n) held.cells_are
-      ∙ ap (λ b. least_with (least_node (fold (step (sheet_of m)) start done).broken) b n) (sym at.breaks)
-      ∙ ap (λ o. least_with o e.breaks n) held.least_is);
-}
-
-module _ (m : Data) (acyclic : IsAcyclic m) (ns : List Node) (order : IsOrder (sheet_of m) ns) where
-  compiled : get (progress (sheet_of m) ns).cells ≡ compilation m
-  compiled = trial_is_compilation m acyclic (get (progress (sheet_of m) ns).cells) (gives_trial (sheet_of m) ns order)
-
-  abbrev breaks_in : Outcomes → Node → Type 0
-  breaks_in outcomes n = breaks (sheet_of m) outcomes n ≡ true
-
-  listed_in : (n : Node) → breaks_in (compilation m) n → IsListed n (progress (sheet_of m) ns).broken
-  listed_in n b = broken_listed (sheet_of m) ns order n (subst (λ outcomes. breaks_in outcomes n) (sym compiled) b)
-
-  none_over : IsLeastIn (progress (sheet_of m) ns).broken None → overflow m ≡ None
-  none_over none = no_break_found m (λ n b. none n (listed_in n b))
-
-  least_over : (n : Node) → IsLeastIn (progress (sheet_of m) ns).broken (Some n) → overflow m ≡ Some n
-  least_over n least = least_break_found m n (record {
-    first = subst (λ outcomes. breaks_in outcomes n) compiled (listed_breaks (sheet_of m) ns order n least.0);
-    least = λ k b. not_greater _ (least.1 k (listed_in k b));
-  })
-    where
-      not_greater : (o : Ordering) → is_gt o ≡ false → o ≢ Greater
-      not_greater o h e = cc
-
-  module _ (i : ℕ) (over : length ns ≤ i) (cells : Cells) (least : Option Node) (so_far : IsSoFar m (take i ns) cells least) where
-    whole : take i ns ≡ ns
-    whole = take_all i ns over
-
-    broken_are : IsLeastIn (progress (sheet_of m) ns).broken least
-    broken_are = subst (IsLeastIn (progress (sheet_of m) ns).broken) (ap (λ xs. least_node (progress (sheet_of m) xs).broken) (sym whole) ∙ so_far.least_is) (least_in (progress (sheet_of m) ns).broken)
-
-    fits_by : least ≡ None → overflow m ≡ None
-    fits_by none = none_over (subst (IsLeastIn (progress (sheet_of m) ns).broken) none broken_are)
-
-    pub ends_compiled : IsWorkbook m → least ≡ None → IsCompiled m cells
-    ends_compiled workbook none = record {
-      acyclic = acyclic;
-      cells = ap get (sym so_far.cells_are ∙ ap (λ xs. (progress (sheet_of m) xs).cells) whole) ∙ compiled;
-      fits = overflows_break m acyclic (fits_by none);
-      none_over = fits_by none;
-      contained = compilations_contain m workbook acyclic;
+  -- so does that of all nodes over none: all are affected where there was no record
+  module _ (ns : List Node) (order : IsOrder (sheet_of m) ns) where
+    patch : IsPatch (empty {X = Record} {R = key_cmp}) m ns
+    patch = record {
+      in_turn = in_turn (sheet_of m) [] ns order.in_order;
+      complete = λ n a. order.complete n (affected_is_node empty m n a);
     }
 
-    pub ends_over : (n : Node) → least ≡ Some n → overflow m ≡ Some n
-    ends_over n e = least_over n (subst (IsLeastIn (progress (sheet_of m) ns).broken) e broken_are)
+    kept : IsKept (empty {X = Record} {R = key_cmp}) m ns (get (empty {X = Outcome} {R = node_cmp}))
+    kept = record {
+      kept = λ n node off. absurd (off (order.complete n node));
+      nowhere_else = λ n none. get-empty node_cmp n;
+    }
+
+    pub whole_ends : in_turn_over m (get (empty {X = Outcome} {R = node_cmp})) ns ≡ record { outcomes = compilation m; least = overflow m }
+    whole_ends = patches_find_overflows empty m workbook is_acyclic acyclic nothing_over ns patch (get empty) kept
+
+    pub whole_compiled : (kept_cells fresh : CellsOf) → kept_cells ≡ empty → IsEvaluatedOver m (get kept_cells) ns fresh → IsCompiled m (get fresh)
+    whole_compiled kept_cells fresh none is =
+        subst (IsCompiled m) (nothing_kept fresh)
+        (ends_compiled (get empty) ns whole_ends fresh (subst (λ c. IsEvaluatedOver m (get c) ns fresh) none is))
+
+    pub whole_over : (kept_cells : CellsOf) → kept_cells ≡ empty → (n : Node) → (in_turn_over m (get kept_cells) ns).least ≡ Some n → overflow m ≡ Some n
+    whole_over kept_cells none n e = ends_over (get empty) ns whole_ends n (subst (λ c. (in_turn_over m (get c) ns).least ≡ Some n) none e)
+
+pub nothing_compiled : (m : Data) (cells : CellsOf) → m ≡ empty → cells ≡ empty → IsCompiled m (get cells)
+nothing_compiled m cells e f =
+    subst (λ x. IsCompiled x (get cells)) (sym e) (subst (λ c. IsCompiled (empty {X = Record} {R = key_cmp}) (get c)) (sym f)
+    (is_compiled (empty {X = Record} {R = key_cmp}) is_workbook is_acyclic nothing_over (get empty) (fun_ext (λ n. get-empty node_cmp n ∙ sym (nothing_found n)))))

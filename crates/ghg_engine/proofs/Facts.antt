@@ -56,7 +56,7 @@ few_lines m e = by _ (nat_lt most_lines (length (line_names m))) refl e
     by rest true t f = absurd (cc)
     by rest false t f = ltb-false most_lines (length (line_names m)) t
 
-fewer : {A : Type 0} (p : A → Bool) (xs : List A) → length (filter p xs) ≤ length xs
+pub fewer : {A : Type 0} (p : A → Bool) (xs : List A) → length (filter p xs) ≤ length xs
 fewer p [] = omega arith
 fewer p (x ∷ xs) = by (p x) (fewer p xs)
   where

@@ -1,7 +1,6 @@
 -- Outcomes that are gathered, of which one may be over.
 use Rattle.std.proofs.Common.{◌≡◌, ℕ, Bool, true, false, not, ◌&&◌, ◌||◌, List, [], ◌∷◌, ◌++◌, map, flat_map, Option, Some, None, Result, Ok, Err, is_err, refl, sym, ap, ap₂, ◌∙◌, subst, arith, length-append}
 use Rattle.std.specs.List.{list_any}
-use Rattle.std.specs.FinMap.{get}
 use Rattle.std.proofs.lemmas.List.{map-append}
 use Rattle.std.proofs.lemmas.List.Folds.{list_any-append}
 use Rattle.ghg_cell.specs.declared.input.Input.{Input}
@@ -12,10 +11,10 @@ use Rattle.ghg_interval.specs.declared.Over.{Over}
 use Rattle.ghg_units.specs.declared.node.Node.{Node}
 use Rattle.ghg_definitions.specs.Data.{Name}
 use Rattle.ghg_definitions.specs.Formulas.{Computed, Formula, Given, Operand, Outcome, Summed, SumOf, ValueOf, gather, inputs, map_formula, map_operand, nodes_in, operand_outcome, outcome_of}
-use Rattle.ghg_definitions.specs.Trials.{Sheet, is_over, or_blank}
+use Rattle.ghg_definitions.specs.Trials.{Outcomes, Sheet, is_over, or_blank}
 use Rattle.ghg_engine.specs.declared.evaluated.Evaluated.{Evaluated}
 use Rattle.ghg_engine.specs.Evaluation.{IsEvaluatedAt, IsEvaluatedSum}
-use Rattle.ghg_engine.specs.Orders.{Cells, is_over_in, outcome_in}
+use Rattle.ghg_engine.specs.Cells.{outcome_in}
 use Rattle.ghg_engine.specs.declared.parts.Part.{Part}
 use Rattle.ghg_engine.specs.Parts.{AreParts, node_for, nodes_for}
 
@@ -69,40 +68,40 @@ gathered_behind (Ok x ∷ xs) ys o e = by (gather xs) (λ p is. gathered_behind 
 pub gather_stops : (xs ys : List Outcome) (ps : List Input) (x : Outcome) → gather xs ≡ Ok ps → x ≡ Err (record {}) → gather ((xs ++ x ∷ []) ++ ys) ≡ Err (record {})
 gather_stops xs ys ps x e is = gathered_behind (xs ++ x ∷ []) ys (record {}) (gather_more xs ps x e ∙ ap (λ y. then y (λ p. Ok (ps ++ p ∷ []))) is)
 
-module _ (cells : Cells) where
-  gather_over : (ns : List Node) → is_err (gather (map (outcome_in cells) ns)) ≡ list_any (is_over_in cells) ns
+module _ (cells : Outcomes) where
+  gather_over : (ns : List Node) → is_err (gather (map (outcome_in cells) ns)) ≡ list_any (λ k. is_over (cells k)) ns
   gather_over [] = refl
-  gather_over (n ∷ ns) = gather_first (outcome_in cells n) (map (outcome_in cells) ns) ∙ ap₂ (λ a b. a || b) (over_at (get cells n)) (gather_over ns)
+  gather_over (n ∷ ns) = gather_first (outcome_in cells n) (map (outcome_in cells) ns) ∙ ap₂ (λ a b. a || b) (over_at (cells n)) (gather_over ns)
 
   or_false : (b : Bool) → b ≡ (b || false)
   or_false true = refl
   or_false false = refl
 
   module _ {S : Type 0} (given : S → Input) where
-    operand_over : (a : Operand S) → is_err (operand_outcome (outcome_in cells) (map_operand given a)) ≡ list_any (is_over_in cells) (nodes_in a)
+    operand_over : (a : Operand S) → is_err (operand_outcome (outcome_in cells) (map_operand given a)) ≡ list_any (λ k. is_over (cells k)) (nodes_in a)
     operand_over (Given x) = refl
-    operand_over (ValueOf n) = over_at (get cells n) ∙ or_false (is_over_in cells n)
+    operand_over (ValueOf n) = over_at (cells n) ∙ or_false (is_over (cells n))
     operand_over (SumOf ns) = then_ok sum_input (gather (map (outcome_in cells) ns)) ∙ gather_over ns
 
     abbrev operand_outcomes : List (Operand S) → List Outcome
     operand_outcomes operands = map (operand_outcome (outcome_in cells)) (map (map_operand given) operands)
 
-    operands_over : (operands : List (Operand S)) → is_err (gather (operand_outcomes operands)) ≡ list_any (is_over_in cells) (flat_map nodes_in operands)
+    operands_over : (operands : List (Operand S)) → is_err (gather (operand_outcomes operands)) ≡ list_any (λ k. is_over (cells k)) (flat_map nodes_in operands)
     operands_over [] = refl
     operands_over (a ∷ operands) =
         gather_first (operand_outcome (outcome_in cells) (map_operand given a)) (operand_outcomes operands)
         ∙ ap₂ (λ a b. a || b) (operand_over a) (operands_over operands)
-        ∙ sym (list_any-append (is_over_in cells) (nodes_in a) (flat_map nodes_in operands))
+        ∙ sym (list_any-append (λ k. is_over (cells k)) (nodes_in a) (flat_map nodes_in operands))
 
   -- ---- what is evaluated
 
   module _ {S : Type 0} (sheet : Sheet S) (n : Node) where
-    evaluated_by : (φ : Formula S) → sheet.formula n ≡ φ → (e : Evaluated) → e.outcome ≡ outcome_of (outcome_in cells) (map_formula sheet.given φ) → e.breaks ≡ (is_over (Some e.outcome) && not (list_any (is_over_in cells) (inputs φ))) → IsEvaluatedAt sheet cells n e
+    evaluated_by : (φ : Formula S) → sheet.formula n ≡ φ → (e : Evaluated) → e.outcome ≡ outcome_of (outcome_in cells) (map_formula sheet.given φ) → e.breaks ≡ (is_over (Some e.outcome) && not (list_any (λ k. is_over (cells k)) (inputs φ))) → IsEvaluatedAt sheet cells n e
     evaluated_by φ is e o b =
         let same = o ∙ ap (λ ψ. outcome_of (outcome_in cells) (map_formula sheet.given ψ)) (sym is) in
         record {
           outcome = same;
-          breaks = b ∙ ap₂ (λ x ks. is_over (Some x) && not (list_any (is_over_in cells) ks)) same (ap inputs (sym is));
+          breaks = b ∙ ap₂ (λ x ks. is_over (Some x) && not (list_any (λ k. is_over (cells k)) ks)) same (ap inputs (sym is));
         }
 
     pub computed_evaluated : (id : EqId) (operands : List (Operand S)) → sheet.formula n ≡ Computed id operands → (e : Evaluated) → e.outcome ≡ then (gather (operand_outcomes sheet.given operands)) (equation_outcome id) →

@@ -2,7 +2,6 @@
 use Rattle.std.proofs.Common.{◌≡◌, ℕ, zero, suc, ◌≤◌, Bool, true, false, cond, ◌||◌, List, [], ◌∷◌, ◌++◌, filter, if◌then◌else◌, Option, Some, None, Result, Ok, Err, OnOk, Vec, Global, vec_len, refl, sym, ap, ◌∙◌, subst, arith}
 use Rattle.std.specs.Option.{UnwrapsOrElse, option_map_or}
 use Rattle.std.specs.BTreeMap.{is_at}
-use Rattle.std.specs.Map.{lookup}
 use Rattle.std.proofs.lemmas.List.{append-nil}
 use Rattle.std.proofs.lemmas.Map.Text.{is_eq-slice_cmp}
 use Rattle.std.proofs.lemmas.List.Elements.{filter-append}
@@ -134,11 +133,8 @@ pushed old new before now at a c name is same unwraps items = by (is_same a c) r
 
 -- ---- where nothing is put
 
-pub nothing_grouped : (m : Data) (groups : Groups) → groups.by_category.entries ≡ [] → groups.gross.items ≡ [] → IsGroupedSoFar m [] groups
-nothing_grouped m groups e g = record {
-  so_far = λ c. ap (λ es. names_in (lookup (is_at (code_order c)) es)) e;
-  gross_so_far = g;
-}
+pub nothing_grouped : (m : Data) (groups : Groups) → ((c : Category) → group_of groups c ≡ []) → groups.gross.items ≡ [] → IsGroupedSoFar m [] groups
+nothing_grouped m groups e g = record { so_far = e; gross_so_far = g }
 
 pub on_ok : {A E P Q : Type 0} (r : Result A E) → (P → Q) → OnOk r P → OnOk r Q
 on_ok (Ok x) f p = f p

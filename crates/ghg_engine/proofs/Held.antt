@@ -13,11 +13,11 @@ use Rattle.ghg_units.specs.declared.node.Node.{Node}
 use Rattle.ghg_equations.specs.declared.eq_id.EqId.{EqId}
 use Rattle.ghg_definitions.specs.Formulas.{Outcome, gather}
 use Rattle.ghg_definitions.specs.Lookups.{zero_input}
+use Rattle.ghg_definitions.specs.Trials.{Outcomes}
 use Rattle.ghg_definitions.proofs.Alike.{first_so, second_so}
 use Rattle.ghg_engine.specs.declared.arguments.Arguments.{Arguments}
 use Rattle.ghg_engine.specs.declared.arguments.Taken.{Taken}
 use Rattle.ghg_engine.specs.Arguments.{IsHeld, IsTaken, sum_outcome}
-use Rattle.ghg_engine.specs.Orders.{Cells}
 use Rattle.ghg_engine.specs.Parts.{AreParts}
 use Rattle.ghg_engine.proofs.Gathered.{gather_more}
 use Rattle.ghg_engine.proofs.Limits.{beyond_outcome, blank_outcome, is_beyond, limited_outcome}
@@ -74,7 +74,7 @@ one_held outcomes old new x t held taken inputs fit blank = record {
 
 -- ---- a sum that is taken
 
-sum_is : (cells : Cells) (ns : List Node) (parts : List Input) → AreParts cells ns parts true → sum_outcome cells ns ≡ Ok (sum_input parts)
+sum_is : (cells : Outcomes) (ns : List Node) (parts : List Input) → AreParts cells ns parts true → sum_outcome cells ns ≡ Ok (sum_input parts)
 sum_is cells ns parts are = ap (λ r. then r (λ xs. Ok (sum_input xs))) are.gathered
 
 is_ok : {x y : Input} → ◌≡◌ {A = Outcome} (Ok x) (Ok y) → x ≡ y
@@ -106,10 +106,10 @@ beyond_is parts o e = by (all_known parts) e
     by None f = absurd (cc)
     by (Some xs) f = passing (sum_all xs) _ refl f
 
-pub sum_taken : (cells : Cells) (ns : List Node) (parts : List Input) (i : Input) (t : Taken) → AreParts cells ns parts true → sum_within parts ≡ Ok i → IsTaken (Ok i) t → IsTaken (sum_outcome cells ns) t
+pub sum_taken : (cells : Outcomes) (ns : List Node) (parts : List Input) (i : Input) (t : Taken) → AreParts cells ns parts true → sum_within parts ≡ Ok i → IsTaken (Ok i) t → IsTaken (sum_outcome cells ns) t
 sum_taken cells ns parts i t are is taken = subst (λ x. IsTaken x t) (sym (sum_is cells ns parts are ∙ ap (λ j. Ok j) (within_is parts i is))) taken
 
-pub sum_beyond : (cells : Cells) (ns : List Node) (parts : List Input) (o : Over) (t : Taken) → AreParts cells ns parts true → sum_within parts ≡ Err o → t.fits ≡ false → t.input ≡ zero_input → IsTaken (sum_outcome cells ns) t
+pub sum_beyond : (cells : Outcomes) (ns : List Node) (parts : List Input) (o : Over) (t : Taken) → AreParts cells ns parts true → sum_within parts ≡ Err o → t.fits ≡ false → t.input ≡ zero_input → IsTaken (sum_outcome cells ns) t
 sum_beyond cells ns parts o t are is fits zero = record {
   found = sum_input parts;
   outcome = sum_is cells ns parts are;

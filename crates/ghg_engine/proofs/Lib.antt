@@ -1,7 +1,9 @@
 pub mod NodeKeys
-pub mod Progress
 pub mod InOrder
 pub mod Counted
+pub mod Turns
+pub mod Overwritten
+pub mod Nothing
 pub mod Compiled
 pub mod Arranged
 pub mod Gathered
@@ -11,4 +13,6 @@ pub mod Facts
 pub mod LineOutcomes
 pub mod Grouped
 pub mod ByYear
-pub mod Nothing
+pub mod Layouts
+pub mod Patched
+pub mod Answered

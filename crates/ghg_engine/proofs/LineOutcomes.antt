@@ -12,17 +12,17 @@ use Rattle.ghg_definitions.specs.Compilation.{bound_to, first_year, line_formula
 use Rattle.ghg_definitions.specs.Data.{Data, Name, binding, line, span}
 use Rattle.ghg_definitions.specs.Formulas.{Operand, Outcome, gather, map_operand, operand_outcome}
 use Rattle.ghg_definitions.specs.Lookups.{Source, given}
-use Rattle.ghg_definitions.specs.Trials.{is_over}
+use Rattle.ghg_definitions.specs.Trials.{Outcomes, is_over}
 use Rattle.ghg_engine.specs.Arguments.{IsHeld, IsTaken, named_outcome, param_outcomes, parameter_outcomes}
 use Rattle.ghg_engine.specs.declared.evaluated.Evaluated.{Evaluated}
 use Rattle.ghg_engine.specs.Evaluation.{IsEvaluatedAt}
-use Rattle.ghg_engine.specs.Orders.{Cells, outcome_in}
+use Rattle.ghg_engine.specs.Cells.{outcome_in}
 use Rattle.ghg_engine.specs.declared.arguments.Arguments.{Arguments}
 use Rattle.ghg_engine.specs.declared.arguments.Taken.{Taken}
 use Rattle.ghg_engine.proofs.Gathered.{computed_evaluated, gather_stops}
 use Rattle.ghg_engine.proofs.Held.{one_held}
 
-module _ (m : Data) (cells : Cells) (name : Name) (year : ℕ) where
+module _ (m : Data) (cells : Outcomes) (name : Name) (year : ℕ) where
   abbrev operand : Quantity → Operand Source
   operand q = bound_to m (first_year (span m)) year (binding m name q.name)
 

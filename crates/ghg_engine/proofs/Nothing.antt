@@ -1,41 +1,41 @@
 -- Without records nothing is over.
-use Rattle.std.proofs.Common.{◌≡◌, Bool, true, false, [], ◌∷◌, is_some, None, refl, sym, ap, ◌∙◌, subst, arith}
+use Rattle.std.proofs.Common.{◌≡◌, Bool, true, false, ◌&&◌, is_some, None, refl, sym, ap, ◌∙◌}
 use Rattle.std.specs.FinMap.{empty, get-empty}
+use Rattle.ghg_units.specs.declared.node.Node.{Node}
+use Rattle.ghg_units.specs.declared.node.Node.TheVariants as node
 use Rattle.ghg_definitions.specs.declared.record.Record.{Record}
 use Rattle.ghg_definitions.specs.declared.record.RecordKey.TheVariants as key
-use Rattle.ghg_definitions.specs.Data.{Data, Name, as_line, as_span, key_cmp, line}
-use Rattle.ghg_definitions.specs.Rings.{IsAcyclic}
-use Rattle.ghg_data.proofs.Empty.{is_workbook}
-use Rattle.ghg_graph.specs.Ordering.{IsLineOrder}
-use Rattle.ghg_engine.specs.Orders.{Cells}
-use Rattle.ghg_engine.specs.Proposals.{IsCompiled}
-use Rattle.ghg_engine.proofs.ByYear.{no_years}
-use Rattle.ghg_engine.proofs.Compiled.{ends_compiled, nothing_so_far}
+use Rattle.ghg_definitions.specs.Compilation.{compilation, emits, is_in_tree, is_node, is_year_of, overflow}
+use Rattle.ghg_definitions.specs.Data.{Data, as_span, key_cmp, line, span}
+use Rattle.ghg_definitions.specs.Trials.{is_over}
+use Rattle.ghg_definitions.proofs.Alike.{first_so}
+use Rattle.ghg_definitions.proofs.OneTrial.{compilation_trial, no_break_found}
+use Rattle.ghg_data.proofs.Empty.{is_acyclic}
 
 no_records : Data
 no_records = empty {X = Record} {R = key_cmp}
 
-no_cells : Cells
-no_cells = empty
+no_year : (b : Bool) (year : _) → (b && is_year_of (span (empty {X = Record} {R = key_cmp})) year) ≡ false
+no_year b year = ap (λ r. b && is_year_of (as_span r) year) (get-empty key_cmp key.Span) ∙ and_false b
+  where
+    and_false : (c : Bool) → (c && false) ≡ false
+    and_false true = refl
+    and_false false = refl
 
-no_line : (k : Name) → is_some (line (empty {X = Record} {R = key_cmp}) k) ≡ true → ⊥
-no_line k e = clash (sym e ∙ ap (λ r. is_some (as_line r)) (get-empty key_cmp (key.Line k)))
+no_node : (n : Node) → is_node (empty {X = Record} {R = key_cmp}) n ≡ false
+no_node (node.Line name year) = no_year (is_some (line (empty {X = Record} {R = key_cmp}) name)) year
+no_node (node.Equiv name year) = no_year (emits (empty {X = Record} {R = key_cmp}) name) year
+no_node (node.Total c year) = no_year (is_in_tree c) year
+no_node (node.Gross year) = no_year true year
+
+no_outcome : (n : Node) → compilation (empty {X = Record} {R = key_cmp}) n ≡ None
+no_outcome n = (compilation_trial (empty {X = Record} {R = key_cmp}) is_acyclic).nowhere_else n (no_node n)
+
+pub nothing_over : overflow (empty {X = Record} {R = key_cmp}) ≡ None
+nothing_over = no_break_found (empty {X = Record} {R = key_cmp}) (λ n b. clash (sym (first_so (is_over (compilation (empty {X = Record} {R = key_cmp}) n)) _ b) ∙ ap is_over (no_outcome n)))
   where
     clash : ◌≡◌ {A = Bool} true false → ⊥
     clash f = cc
 
-no_ring : IsAcyclic (empty {X = Record} {R = key_cmp})
-no_ring [] h = h
-no_ring (k ∷ []) h = no_line k h.present
-no_ring (k ∷ name ∷ names) h = no_line k h.0.present
-
-no_lines : IsLineOrder (empty {X = Record} {R = key_cmp}) []
-no_lines = record { behind = tt; complete = λ name e. absurd (no_line name e) }
-
-nothing : IsCompiled no_records no_cells
-unfolding no_records no_cells
-nothing = ends_compiled (empty {X = Record} {R = key_cmp}) no_ring [] (no_years (empty {X = Record} {R = key_cmp}) is_workbook [] no_lines (ap as_span (get-empty key_cmp key.Span))) 0 (omega arith) empty None (nothing_so_far _) is_workbook refl
-
-pub nothing_compiled : (m : Data) (cells : Cells) → m ≡ empty → cells ≡ empty → IsCompiled m cells
-unfolding no_records no_cells
-nothing_compiled m cells e f = subst (λ x. IsCompiled x cells) (sym e) (subst (λ c. IsCompiled (empty {X = Record} {R = key_cmp}) c) (sym f) nothing)
+pub nothing_found : (n : Node) → compilation (empty {X = Record} {R = key_cmp}) n ≡ None
+nothing_found n = no_outcome n

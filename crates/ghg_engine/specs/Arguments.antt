@@ -13,25 +13,26 @@ use Rattle.ghg_definitions.specs.Formulas.{Outcome, SumOf, gather, map_operand, 
 use Rattle.ghg_definitions.specs.Lookups.{given, zero_input}
 use Rattle.ghg_engine.specs.declared.arguments.Arguments.{Arguments}
 use Rattle.ghg_engine.specs.declared.arguments.Taken.{Taken}
-use Rattle.ghg_engine.specs.Orders.{Cells, outcome_in}
+use Rattle.ghg_definitions.specs.Trials.{Outcomes}
+use Rattle.ghg_engine.specs.Cells.{outcome_in}
 
 -- ---- outcomes
 
 -- what the sum of nodes gives
-abbrev pub sum_outcome : Cells → List Node → Outcome
-sum_outcome cells ns = operand_outcome (outcome_in cells) (SumOf ns)
+abbrev pub sum_outcome : Outcomes → List Node → Outcome
+sum_outcome outcomes ns = operand_outcome (outcome_in outcomes) (SumOf ns)
 
 -- what a parameter of a line gives in a year
-abbrev pub named_outcome : Data → Cells → Name → ℕ → Name → Outcome
-named_outcome m cells line year parameter = operand_outcome (outcome_in cells)
+abbrev pub named_outcome : Data → Outcomes → Name → ℕ → Name → Outcome
+named_outcome m outcomes line year parameter = operand_outcome (outcome_in outcomes)
     (map_operand (given m) (bound_to m (first_year (span m)) year (binding m line parameter)))
 
-abbrev pub parameter_outcomes : Data → Cells → Name → ℕ → List Quantity → List Outcome
-parameter_outcomes m cells line year qs = map (λ q. named_outcome m cells line year q.name) qs
+abbrev pub parameter_outcomes : Data → Outcomes → Name → ℕ → List Quantity → List Outcome
+parameter_outcomes m outcomes line year qs = map (λ q. named_outcome m outcomes line year q.name) qs
 
 -- the same, of parameters as the code has them
-abbrev pub param_outcomes : Data → Cells → Name → ℕ → List Param → List Outcome
-param_outcomes m cells line year ps = map (λ p. named_outcome m cells line year p.name.now) ps
+abbrev pub param_outcomes : Data → Outcomes → Name → ℕ → List Param → List Outcome
+param_outcomes m outcomes line year ps = map (λ p. named_outcome m outcomes line year p.name.now) ps
 
 -- ---- what is taken
 

@@ -1,7 +1,11 @@
+pub mod Cells
+pub mod Overlays
+pub mod Compiled
 pub mod Orders
 pub mod Breaking
 pub mod Years
 pub mod Grouping
+pub mod Layouts
 pub mod Parts
 pub mod Arguments
 pub mod Evaluation

@@ -1,50 +1,39 @@
 -- What is proposed, and what is not.
-use Rattle.std.specs.Prelude.{◌≡◌, ⊤, List, None, refl}
-use Rattle.std.specs.Coded.{Coded, code_by, coded×, coded_list, coded_option}
-use Rattle.std.specs.FinMap.{code, get}
+use Rattle.std.specs.Prelude.{◌≡◌, ⊤, true, List}
+use Rattle.std.specs.FinMap.{get}
 use Rattle.ghg_units.specs.declared.node.Node.{Node}
-use Rattle.ghg_definitions.specs.declared.record.Record.{Record}
-use Rattle.ghg_definitions.specs.declared.record.RecordKey.{RecordKey}
-use Rattle.ghg_definitions.specs.Compilation.{compilation, overflow, sheet_of}
+use Rattle.ghg_definitions.specs.Compilation.{compilation}
 use Rattle.ghg_definitions.specs.Data.{Data}
-use Rattle.ghg_definitions.specs.Formulas.{Outcome}
-use Rattle.ghg_definitions.specs.Trials.{IsCompilation}
 use Rattle.ghg_definitions.specs.Rings.{IsAcyclic}
 use Rattle.ghg_data.specs.Changes.{Change, applied}
 use Rattle.ghg_data.specs.Shelf.{IsPlanned, Shelf}
-use Rattle.ghg_definitions.specs.Containment.{HoldsExactValues}
+use Rattle.ghg_engine.specs.declared.proposal.Made.{Made}
+use Rattle.ghg_engine.specs.declared.proposal.Made.TheVariants as made
+use Rattle.ghg_engine.specs.declared.proposal.Proposal.{Proposal}
 use Rattle.ghg_engine.specs.declared.refusal.EngineRefusal.{EngineRefusal}
 use Rattle.ghg_engine.specs.declared.refusal.EngineRefusal.TheVariants as refusal
-use Rattle.ghg_engine.specs.Orders.{Cells}
-
--- edits, and the cells of what they lead to
-pub record Proposed : Type 0 where
-  pub edits : List Change
-  pub cells : Cells
-
-abbrev pub proposed_code : Coded RecordKey → Coded Record → Coded Node → Coded Outcome → Coded Proposed
-proposed_code key entry node outcome =
-    code_by (List Change × Cells) (coded× (coded_list (coded× key (coded_option entry))) (code node outcome))
-    (λ p. (p.edits, p.cells)) (λ p. record { edits = p.0; cells = p.1 }) (λ _. refl)
+use Rattle.ghg_engine.specs.Cells.{found_in}
+use Rattle.ghg_engine.specs.Compiled.{IsCompiled}
+use Rattle.ghg_graph.specs.Corrections.{are_of_figures}
+use Rattle.ghg_engine.specs.Layouts.{IsLayout}
 
 -- the edits were planned on the book as it stands, and leave no ring
 pub record IsArranged (shelf : Shelf) (edits : List Change) : Type 0 where
   pub planned : IsPlanned shelf edits
   pub acyclic : IsAcyclic (applied shelf.content edits)
 
--- the cells are the compilation of the data, in which nothing is over and each known node holds its exact
--- value
-pub record IsCompiled (m : Data) (found : Cells) : Type 0 where
-  pub acyclic : IsAcyclic m
-  pub cells : get found ≡ compilation m
-  pub fits : IsCompilation (sheet_of m) (compilation m)
-  pub none_over : overflow m ≡ None
-  pub contained : HoldsExactValues m
+-- the cells are those that the edits lead to: all of them, or, where the edits are of figures alone, some
+-- over which the compilation of the data is the one that the edits lead to
+abbrev pub IsMade : Data → List Change → Made → Type 0
+IsMade m edits (made.Whole cells layout) =
+    IsCompiled (applied m edits) (get cells) × IsLayout (applied m edits) layout
+IsMade m edits (made.Patch fresh) =
+    (are_of_figures edits ≡ true) × IsCompiled (applied m edits) (found_in fresh (compilation m))
 
 -- the edits were planned on the book as it stands, and the cells are those that they lead to
-pub record IsProposed (shelf : Shelf) (proposed : Proposed) : Type 0 where
-  pub planned : IsPlanned shelf proposed.edits
-  pub compiled : IsCompiled (applied shelf.content proposed.edits) proposed.cells
+pub record IsProposed (shelf : Shelf) (proposal : Proposal) : Type 0 where
+  pub planned : IsPlanned shelf proposal.edits
+  pub made : IsMade shelf.content proposal.edits proposal.made
 
 -- P of the node that is over, if one is
 abbrev pub IfOverflow : (Node → Type 0) → EngineRefusal → Type 0

@@ -14,11 +14,12 @@ ghost use Rattle.ghg_definitions.specs.Lookups.{zero_input};
 ghost use Rattle.ghg_definitions.specs.Rules.{most_lines};
 ghost use Rattle.ghg_graph.specs.Operands.{operand_of};
 ghost use Rattle.ghg_engine.specs.Arguments.{AreGathered, IsArgument, IsHeld, IsTaken, param_outcomes, parameter_outcomes, sum_outcome};
-ghost use Rattle.ghg_engine.specs.Orders.{outcome_in};
+ghost use Rattle.ghg_engine.specs.Cells.{outcome_in};
+ghost use Rattle.ghg_engine.specs.Overlays.{outcomes_of};
 ghost use Rattle.ghg_engine.specs.Parts.{nodes_for};
 
-use crate::cells::Cells;
 use crate::equations::evaluate;
+use crate::overlay::Overlay;
 use crate::parts::{Part, gather_parts};
 use ghg_cell::{Input, Ticket, Value, sum};
 use ghg_data::{Records, input_of_key, params_of};
@@ -80,7 +81,9 @@ pub(crate) struct Arguments {
 
 impl Arguments {
     /// No arguments. It takes no memory.
-    pub(crate) fn new(alloc: Global) -> Arguments {
+    pub(crate) fn new(alloc: Global) -> Arguments
+        ensures { IsHeld [] result }
+    {
         Arguments {
             inputs: Vec::new(alloc),
             fit: true,
@@ -94,7 +97,7 @@ impl Arguments {
     pub(crate) fn gather<R: Records>(
         &mut self,
         records: &R,
-        cells: &Cells,
+        cells: &Overlay<'_>,
         first: u32,
         line: &Name,
         id: EqId,
@@ -103,7 +106,8 @@ impl Arguments {
         requires workbook { IsWorkbook (R.content records.now) }
         requires first { first ≡ first_year (span (R.content records.now)) }
         ensures { IfOk result (AreGathered
-            (parameter_outcomes (R.content records.now) cells.now line.now year (parameters id)) self.new) }
+            (parameter_outcomes (R.content records.now) (outcomes_of cells.now) line.now year (parameters id))
+            self.new) }
     {
         self.inputs.clear();
         self.fit = true;
@@ -115,7 +119,7 @@ impl Arguments {
     fn gather_params<R: Records>(
         &mut self,
         records: &R,
-        cells: &Cells,
+        cells: &Overlay<'_>,
         first: u32,
         line: &Name,
         params: &[Param],
@@ -128,7 +132,8 @@ impl Arguments {
         requires fit { self.old.fit ≡ true }
         requires blank { self.old.blank ≡ false }
         ensures { IfOk result (AreGathered
-            (param_outcomes (R.content records.now) cells.now line.now year params.now) self.new) }
+            (param_outcomes (R.content records.now) (outcomes_of cells.now) line.now year params.now)
+            self.new) }
     {
         for param in params {
             let operand = bound_operand(records, first, records.bound(line, param), year);
@@ -170,12 +175,13 @@ impl Arguments {
 
 // What a parameter takes; nothing where that is over.
 fn argument(
-    cells: &Cells,
+    cells: &Overlay<'_>,
     operand: &Operand<'_>,
     parts: &mut Vec<Input>,
 ) -> Result<Option<Taken>, AllocError>
     requires { length (nodes_in (operand_of operand.now)) ≤ most_lines }
-    ensures { IfOk result (IsArgument (operand_outcome (outcome_in cells.now) (operand_of operand.now))) }
+    ensures { IfOk result (IsArgument
+        (operand_outcome (outcome_in (outcomes_of cells.now)) (operand_of operand.now))) }
 {
     match operand {
         Operand::Given(input) => Ok(Some(Taken::of(*input))),
@@ -186,13 +192,14 @@ fn argument(
 
 // The sum of lines' values.
 fn sum_of(
-    cells: &Cells,
+    cells: &Overlay<'_>,
     names: &[Name],
     year: u32,
     parts: &mut Vec<Input>,
 ) -> Result<Option<Taken>, AllocError>
     requires { length names.now ≤ most_lines }
-    ensures { IfOk result (IsArgument (sum_outcome cells.now (nodes_for Part.Line names.now year))) }
+    ensures { IfOk result (IsArgument
+        (sum_outcome (outcomes_of cells.now) (nodes_for Part.Line names.now year))) }
 {
     if !gather_parts(cells, Part::Line, names, year, parts)? {
         return Ok(None);

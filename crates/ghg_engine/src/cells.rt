@@ -1,10 +1,11 @@
 //! Cells: the outcome of each node so far.
 
-ghost use Rattle.std.specs.Prelude.{◌≡◌, OnOk, option_copied};
+ghost use Rattle.std.specs.Prelude.{◌≡◌, is_some, true, OnOk, option_copied};
 ghost use Rattle.std.specs.FinMap as finite;
-ghost use Rattle.ghg_engine.specs.Orders.{outcome_in};
+ghost use Rattle.ghg_units.specs.declared.node.Node.{Node};
+ghost use Rattle.ghg_engine.specs.Cells.{found_in};
 
-use ghg_cell::{Input, Value};
+use ghg_cell::Value;
 use ghg_interval::Over;
 use ghg_units::Node;
 use std::alloc::{AllocError, Global};
@@ -20,7 +21,7 @@ pub(crate) struct Cells {
 impl Model for Cells {
     ghost use Rattle.std.specs.Coded.{codes};
     ghost use Rattle.std.specs.FinMap.{code, from_entries};
-    ghost use Rattle.ghg_engine.specs.Orders.{Cells as CellsOf};
+    ghost use Rattle.ghg_engine.specs.Cells.{CellsOf};
 
     ghost Value = { CellsOf };
 
@@ -46,17 +47,6 @@ impl Cells {
         self.map.get(node)
     }
 
-    /// The outcome of a node, which is blank where it has no cell.
-    pub(crate) fn outcome(&self, node: &Node) -> Result<Input, Over>
-        ensures { result ≡ outcome_in self.now node.now }
-    {
-        match self.get(node) {
-            Some(Ok(value)) => Ok(*value.input()),
-            Some(Err(Over)) => Err(Over),
-            None => Ok(Input::Blank),
-        }
-    }
-
     /// Gives a node its outcome.
     pub(crate) fn insert(
         &mut self,
@@ -67,5 +57,26 @@ impl Cells {
     {
         self.map.insert(*node, outcome)?;
         Ok(())
+    }
+
+    /// Gives nodes that have cells the outcomes that others have for them. It has no error to answer.
+    pub(crate) fn overwrite(&mut self, fresh: Cells)
+        requires { (n : Node) → is_some (finite.get fresh n) ≡ true → is_some (finite.get self.old n) ≡ true }
+        ensures { finite.get self.new ≡ found_in fresh (finite.get self.old) }
+    {
+        let mut fresh = fresh;
+        while let Some((node, outcome)) = fresh.map.pop_first() {
+            self.put(&node, outcome);
+        }
+    }
+
+    // Gives a node that has a cell another outcome.
+    fn put(&mut self, node: &Node, outcome: Result<Value, Over>)
+        ensures { is_some (finite.get self.old node.now) ≡ true → self.new ≡ finite.insert
+            self.old node.now outcome }
+    {
+        if let Some(cell) = self.map.get_mut(node) {
+            *cell = outcome;
+        }
     }
 }

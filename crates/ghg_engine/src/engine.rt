@@ -1,6 +1,6 @@
 //! A book with its cells.
 
-ghost use Rattle.std.specs.Prelude.{◌≡◌, ◌≤◌, ◌+◌, length, Ok, Err, Some, IfOk, MatchResult, option_copied};
+ghost use Rattle.std.specs.Prelude.{◌≡◌, ◌≤◌, ◌+◌, length, true, Ok, Err, Some, IfOk, MatchResult, option_copied};
 ghost use Rattle.std.specs.FinMap as finite;
 ghost use Rattle.std.specs.List.{AllByRecursion};
 ghost use Rattle.ghg_units.specs.WellFormed.{IsWellFormed};
@@ -9,16 +9,20 @@ ghost use Rattle.ghg_definitions.specs.Containment.{HoldsExactValues};
 ghost use Rattle.ghg_definitions.specs.Rows.{after};
 ghost use Rattle.ghg_definitions.specs.Rules.{arranged};
 ghost use Rattle.ghg_definitions.specs.Trials.{IsCompilation, value_of};
-ghost use Rattle.ghg_data.specs.Changes.{applied};
+ghost use Rattle.ghg_data.specs.Changes.{AreOfRows, applied};
 ghost use Rattle.ghg_data.specs.Refusal.{IfRule};
-ghost use Rattle.ghg_engine.specs.Proposals.{IfOverflow, IsArranged, IsProposed};
+ghost use Rattle.ghg_affected.specs.Affected.{affected_nodes};
+ghost use Rattle.ghg_graph.specs.Corrections.{are_of_figures};
+ghost use Rattle.ghg_engine.specs.Proposals.{IfOverflow, IsArranged, IsMade, IsProposed};
 
 use crate::cells::Cells;
-use crate::evaluation::compile;
+use crate::evaluation::{compile, evaluate_all};
+use crate::layout::Layout;
+use crate::proposal::{Made, Proposal};
 use crate::refusal::EngineRefusal;
-use ghg_cell::Value;
+use ghg_cell::{Value, take};
 use ghg_data::{Book, Edits, PlanRefusal, after};
-use ghg_graph::{CycleRefusal, check_acyclic};
+use ghg_graph::{CycleRefusal, affected_by_figures, are_of_figures, check_acyclic};
 use ghg_steps::Steps;
 use ghg_units::{Node, Row, Rule};
 use std::alloc::Global;
@@ -31,12 +35,15 @@ use std::sync::ledger::Ledger;
 pub struct Engine {
     book: Book,
     cells: Cells,
+    layout: Layout,
 }
 
 impl Model for Engine {
     ghost use Rattle.std.specs.Coded.{codes};
+    ghost use Rattle.std.specs.FinMap.{get};
     ghost use Rattle.ghg_data.specs.Shelf.{Shelf, shelf_code};
-    ghost use Rattle.ghg_engine.specs.Proposals.{IsCompiled};
+    ghost use Rattle.ghg_engine.specs.Compiled.{IsCompiled};
+    ghost use Rattle.ghg_engine.specs.Layouts.{IsLayout};
 
     ghost Value = { Shelf };
 
@@ -44,26 +51,7 @@ impl Model for Engine {
 
     ghost view = { λ e. e.book };
 
-    ghost invariant = { λ e. IsCompiled e.book.content e.cells };
-}
-
-/// Edits, and the cells that the book will have with them. Contracts see the two.
-#[derive(Drop)]
-pub struct Proposal {
-    edits: Edits,
-    cells: Cells,
-}
-
-impl Model for Proposal {
-    ghost use Rattle.std.specs.Coded.{codes};
-    ghost use Rattle.ghg_engine.specs.Proposals.{Proposed, proposed_code};
-
-    ghost Value = { Proposed };
-
-    ghost coded = { proposed_code (Prim.hlevel codes) (Prim.hlevel codes) (Prim.hlevel codes)
-        (Prim.hlevel codes) };
-
-    ghost view = { λ p. record { edits = p.edits; cells = p.cells } };
+    ghost invariant = { λ e. IsCompiled e.book.content (get e.cells) × IsLayout e.book.content e.layout };
 }
 
 impl ghg_graph::Cells for Engine {
@@ -89,6 +77,7 @@ impl Engine {
         Engine {
             book: Book::new(alloc),
             cells: Cells::new(alloc),
+            layout: Layout::new(alloc),
         }
     }
 
@@ -98,7 +87,8 @@ impl Engine {
     /// `rest` is the rule that stopped the reading of the rows, and `kept_bytes` how many bytes all kept
     /// bodies have with this one. The first rule that is broken is answered: that of the first row that
     /// breaks one on units or presence, `rest`, the least unsound binding, the first limit, and the least
-    /// line on a ring. The records stay with every answer.
+    /// line on a ring. Each key of the edits is that of some row, and there are no more edits than rows. The
+    /// records stay with every answer. Edits of figures alone make no ring, so for them none is searched.
     pub fn plan(
         &mut self,
         alloc: Global,
@@ -114,12 +104,16 @@ impl Engine {
             (IfRule (λ rule. arranged self.old.content rows.now rest kept_bytes ≡ Err rule)) }
         ensures after { IfOk result (λ edits. applied self.old.content edits ≡ after
             self.old.content rows.now) }
+        ensures few { IfOk result (AreOfRows rows.now) }
         ensures ready { IfOk result (IsArranged self.new) }
     {
         let edits = match self.book.plan(alloc, rows, rest, kept_bytes) {
             Ok(edits) => edits,
             Err(refusal) => return Err(refusal),
         };
+        if are_of_figures(&edits) {
+            return Ok(edits);
+        }
         match check_acyclic(alloc, &after(&self.book, &edits)) {
             Ok(()) => Ok(edits),
             Err(CycleRefusal::Ring(ring)) => Err(PlanRefusal::Rule(Rule::Cycle(ring.least()))),
@@ -128,7 +122,8 @@ impl Engine {
     }
 
     /// The compilation of the book with edits that were planned on it as it stands; or the least node that is
-    /// beyond the limits, while none of its inputs is. It spends at most one step for each node.
+    /// beyond the limits, while none of its inputs is. It spends at most one step for each node; for edits of
+    /// figures alone, at most one for each node that they affect.
     pub fn propose<L: Ledger>(
         &self,
         alloc: Global,
@@ -137,22 +132,80 @@ impl Engine {
     ) -> Result<Proposal, EngineRefusal>
         requires { IsArranged self.now edits }
         ensures steps { steps.new ≤ steps.old + length (nodes (applied self.now.content edits)) }
+        ensures figures { are_of_figures edits ≡ true → steps.new ≤ steps.old + length
+            (affected_nodes self.now.content (applied self.now.content edits)) }
         ensures proposed { MatchResult result (λ p. (p.edits ≡ edits) × IsProposed self.now p)
             (IfOverflow (λ n. overflow (applied self.now.content edits) ≡ Some n)) }
         ensures contained { IfOk result (λ p. HoldsExactValues (applied self.now.content p.edits)) }
     {
-        let cells = compile(alloc, &after(&self.book, &edits), steps)?;
-        Ok(Proposal { edits, cells })
+        let made = if are_of_figures(&edits) {
+            self.patch(alloc, &edits, steps)?
+        } else {
+            self.whole(alloc, &edits, steps)?
+        };
+        Ok(Proposal { edits, made })
     }
 
-    /// Makes the edits of a proposal that was made on this engine as it stands. It takes no memory.
+    // All cells that edits lead to.
+    fn whole<L: Ledger>(
+        &self,
+        alloc: Global,
+        edits: &Edits,
+        steps: &mut Steps<L>,
+    ) -> Result<Made, EngineRefusal>
+        requires { IsArranged self.now edits.now }
+        ensures steps { steps.new ≤ steps.old + length (nodes (applied self.now.content edits.now)) }
+        ensures made { MatchResult result (IsMade self.now.content edits.now)
+            (IfOverflow (λ n. overflow (applied self.now.content edits.now) ≡ Some n)) }
+    {
+        let records = after(&self.book, edits);
+        let layout = Layout::of(alloc, &records)?;
+        let cells = compile(alloc, &records, &layout, steps)?;
+        Ok(Made::Whole(cells, layout))
+    }
+
+    // The cells of the nodes that edits of figures affect. The layout stays right.
+    fn patch<L: Ledger>(
+        &self,
+        alloc: Global,
+        edits: &Edits,
+        steps: &mut Steps<L>,
+    ) -> Result<Made, EngineRefusal>
+        requires arranged { IsArranged self.now edits.now }
+        requires figures { are_of_figures edits.now ≡ true }
+        ensures steps { steps.new ≤ steps.old + length (affected_nodes self.now.content
+            (applied self.now.content edits.now)) }
+        ensures made { MatchResult result (IsMade self.now.content edits.now)
+            (IfOverflow (λ n. overflow (applied self.now.content edits.now) ≡ Some n)) }
+    {
+        let Layout {
+            lines,
+            emitters,
+            groups,
+        } = &self.layout;
+        let nodes = affected_by_figures(alloc, &self.book, edits, lines, emitters)?;
+        let permits = take(nodes.len() as u64, steps);
+        let records = after(&self.book, edits);
+        match evaluate_all(alloc, &records, groups, &self.cells, &nodes, permits) {
+            Ok(fresh) => Ok(Made::Patch(fresh)),
+            Err(refusal) => Err(refusal),
+        }
+    }
+
+    /// Makes the edits of a proposal that was made on this engine as it stands. It has no error to answer.
     pub fn accept(&mut self, proposal: Proposal)
         requires { IsProposed self.old proposal }
         ensures made { self.new.content ≡ applied self.old.content proposal.edits }
         ensures contained { HoldsExactValues self.new.content }
     {
-        let Proposal { edits, cells } = proposal;
+        let Proposal { edits, made } = proposal;
         self.book.commit(edits);
-        self.cells = cells;
+        match made {
+            Made::Whole(cells, layout) => {
+                self.cells = cells;
+                self.layout = layout;
+            }
+            Made::Patch(fresh) => self.cells.overwrite(fresh),
+        }
     }
 }

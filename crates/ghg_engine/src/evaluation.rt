@@ -1,5 +1,6 @@
-//! The evaluation of all nodes, each once and behind its inputs.
+//! The evaluation of nodes, each once and behind its inputs: of all, or of those that a correction affects.
 
+ghost use Rattle.std.specs.FinMap.{get};
 ghost use Rattle.std.specs.Prelude.{◌≡◌, ◌≤◌, ◌+◌, IfOk, MatchResult, Some, length};
 ghost use Rattle.ghg_definitions.specs.Compilation.{first_year, nodes, overflow, sheet_of};
 ghost use Rattle.ghg_definitions.specs.Data.{span};
@@ -8,22 +9,26 @@ ghost use Rattle.ghg_definitions.specs.Rings.{IsAcyclic};
 ghost use Rattle.ghg_definitions.specs.Sound.{IsWorkbook};
 ghost use Rattle.ghg_definitions.specs.Rules.{most_lines};
 ghost use Rattle.ghg_engine.specs.Breaking.{least_with};
-ghost use Rattle.ghg_engine.specs.Evaluation.{IsEvaluatedAt, IsEvaluatedSum};
+ghost use Rattle.ghg_engine.specs.Compiled.{IsCompiled};
+ghost use Rattle.ghg_engine.specs.Evaluation.{IsEvaluatedAt, IsEvaluatedOver, IsEvaluatedSum, in_turn_over};
 ghost use Rattle.ghg_engine.specs.Grouping.{IsGrouping};
-ghost use Rattle.ghg_engine.specs.Orders.{IsOrder};
+ghost use Rattle.ghg_engine.specs.Layouts.{IsLayout};
+ghost use Rattle.ghg_engine.specs.Overlays.{outcomes_of};
 ghost use Rattle.ghg_engine.specs.Parts.{nodes_for};
-ghost use Rattle.ghg_engine.specs.Proposals.{IfOverflow, IsCompiled};
+ghost use Rattle.ghg_engine.specs.Proposals.{IfOverflow};
 
 use crate::arguments::Arguments;
 use crate::cells::Cells;
 use crate::evaluated::Evaluated;
 use crate::groups::Groups;
-use crate::order::{acyclic_order, order};
+use crate::layout::Layout;
+use crate::order::order;
+use crate::overlay::Overlay;
 use crate::parts::{Part, gather_parts};
 use crate::refusal::EngineRefusal;
 use ghg_cell::{Input, Permits, Ticket, equiv, take, total};
 use ghg_data::Records;
-use ghg_graph::{emitters, first_year, potential};
+use ghg_graph::{first_year, potential};
 use ghg_interval::Over;
 use ghg_steps::Steps;
 use ghg_units::{Name, Node};
@@ -36,42 +41,42 @@ use std::sync::ledger::Ledger;
 pub(crate) fn compile<R: Records, L: Ledger>(
     alloc: Global,
     records: &R,
+    layout: &Layout,
     steps: &mut Steps<L>,
 ) -> Result<Cells, EngineRefusal>
-    requires { IsAcyclic (R.content records.now) }
-    ensures compiled { MatchResult result (IsCompiled (R.content records.now))
+    requires workbook { IsWorkbook (R.content records.now) }
+    requires acyclic { IsAcyclic (R.content records.now) }
+    requires layout { IsLayout (R.content records.now) layout.now }
+    ensures compiled { MatchResult result (λ cells. IsCompiled (R.content records.now) (get cells))
         (IfOverflow (λ n. overflow (R.content records.now) ≡ Some n)) }
     ensures steps { steps.new ≤ steps.old + length (nodes (R.content records.now)) }
 {
-    let names = records.lines(alloc)?;
-    let emitters = emitters(alloc, records, &names)?;
-    let groups = Groups::of(alloc, records, &emitters)?;
-    let lines = acyclic_order(alloc, records)?;
-    let nodes = order(alloc, records, &lines, &emitters)?;
+    let nodes = order(alloc, records, &layout.lines, &layout.emitters)?;
     let permits = take(nodes.len() as u64, steps);
-    evaluate_all(alloc, records, &groups, &nodes, permits)
+    let none = Cells::new(alloc);
+    evaluate_all(alloc, records, &layout.groups, &none, &nodes, permits)
 }
 
-// The cells of nodes, each evaluated in its turn.
-fn evaluate_all<R: Records>(
+/// The cells of nodes, each evaluated in its turn over the others and over cells that are kept; or the least
+/// of them that is over while none of its inputs is.
+pub(crate) fn evaluate_all<R: Records>(
     alloc: Global,
     records: &R,
     groups: &Groups,
+    kept: &Cells,
     nodes: &[Node],
     permits: Permits,
 ) -> Result<Cells, EngineRefusal>
     requires workbook { IsWorkbook (R.content records.now) }
-    requires acyclic { IsAcyclic (R.content records.now) }
-    requires order { IsOrder (sheet_of (R.content records.now)) nodes.now }
     requires groups { IsGrouping (R.content records.now) groups.now }
     requires paid { permits ≡ length nodes.now }
-    ensures { MatchResult result (IsCompiled (R.content records.now))
-        (IfOverflow (λ n. overflow (R.content records.now) ≡ Some n)) }
+    ensures { MatchResult result (IsEvaluatedOver (R.content records.now) (get kept.now) nodes.now)
+        (IfOverflow (λ n. (in_turn_over (R.content records.now) (get kept.now) nodes.now).least ≡ Some n)) }
 {
     let first = first_year(records);
     let mut permits = permits;
     let mut buffers = Buffers::new(alloc);
-    let mut cells = Cells::new(alloc);
+    let mut cells = Overlay::over(alloc, kept);
     let mut least = None;
     for node in nodes {
         let ticket = permits.ticket().unwrap();
@@ -80,12 +85,12 @@ fn evaluate_all<R: Records>(
         cells.insert(node, evaluated.outcome)?;
     }
     match least {
-        None => Ok(cells),
+        None => Ok(cells.into_fresh()),
         Some(node) => Err(EngineRefusal::Overflow(node)),
     }
 }
 
-// What the evaluations of all nodes share.
+// What the evaluations of nodes share.
 #[derive(Drop)]
 struct Buffers {
     arguments: Arguments,
@@ -125,7 +130,7 @@ fn lesser(node: &Node, least: &Option<Node>) -> Node
 fn evaluate<R: Records>(
     records: &R,
     groups: &Groups,
-    cells: &Cells,
+    cells: &Overlay<'_>,
     first: u32,
     node: &Node,
     ticket: Ticket,
@@ -134,7 +139,8 @@ fn evaluate<R: Records>(
     requires workbook { IsWorkbook (R.content records.now) }
     requires groups { IsGrouping (R.content records.now) groups.now }
     requires first { first ≡ first_year (span (R.content records.now)) }
-    ensures { IfOk result (IsEvaluatedAt (sheet_of (R.content records.now)) cells.now node.now) }
+    ensures { IfOk result (IsEvaluatedAt (sheet_of (R.content records.now)) (outcomes_of cells.now)
+        node.now) }
 {
     match node {
         Node::Line(name, year) => {
@@ -158,7 +164,7 @@ fn evaluate<R: Records>(
 // Evaluates a line's equation over what its parameters take.
 fn line<R: Records>(
     records: &R,
-    cells: &Cells,
+    cells: &Overlay<'_>,
     first: u32,
     name: &Name,
     year: u32,
@@ -167,7 +173,7 @@ fn line<R: Records>(
 ) -> Result<Evaluated, AllocError>
     requires workbook { IsWorkbook (R.content records.now) }
     requires first { first ≡ first_year (span (R.content records.now)) }
-    ensures { IfOk result (IsEvaluatedAt (sheet_of (R.content records.now)) cells.now
+    ensures { IfOk result (IsEvaluatedAt (sheet_of (R.content records.now)) (outcomes_of cells.now)
         (Node.Line name.now year)) }
 {
     let Some((_, id)) = records.line(name) else {
@@ -183,12 +189,13 @@ fn line<R: Records>(
 // Evaluates the equivalent of a line.
 fn equivalent<R: Records>(
     records: &R,
-    cells: &Cells,
+    cells: &Overlay<'_>,
     name: &Name,
     year: u32,
     ticket: Ticket,
 ) -> Evaluated
-    ensures { IsEvaluatedAt (sheet_of (R.content records.now)) cells.now (Node.Equiv name.now year) result }
+    ensures { IsEvaluatedAt (sheet_of (R.content records.now)) (outcomes_of cells.now)
+        (Node.Equiv name.now year) result }
 {
     match cells.outcome(&Node::Line(*name, year)) {
         Ok(value) => Evaluated::of(equiv(ticket, &value, &potential(records, name, year))),
@@ -198,14 +205,15 @@ fn equivalent<R: Records>(
 
 // Evaluates the sum of the equivalents of lines in a year.
 fn sum(
-    cells: &Cells,
+    cells: &Overlay<'_>,
     names: &[Name],
     year: u32,
     ticket: Ticket,
     parts: &mut Vec<Input>,
 ) -> Result<Evaluated, AllocError>
     requires { length names.now ≤ most_lines }
-    ensures { IfOk result (IsEvaluatedSum cells.now (nodes_for Part.Equivalent names.now year)) }
+    ensures { IfOk result (IsEvaluatedSum (outcomes_of cells.now)
+        (nodes_for Part.Equivalent names.now year)) }
 {
     if gather_parts(cells, Part::Equivalent, names, year, parts)? {
         Ok(Evaluated::of(total(ticket, parts)))

@@ -22,6 +22,17 @@ pub(crate) struct Groups {
 }
 
 impl Groups {
+    /// No groups. It takes no memory.
+    pub(crate) fn new(alloc: Global) -> Groups
+        ensures categories { (c : Category) → group_of result c ≡ [] }
+        ensures gross { result.gross.items ≡ [] }
+    {
+        Groups {
+            by_category: BTreeMap::new(alloc),
+            gross: Vec::new(alloc),
+        }
+    }
+
     /// The groups of the lines that emit a gas.
     pub(crate) fn of<R: Records>(
         alloc: Global,
@@ -31,10 +42,7 @@ impl Groups {
         requires { emitters.now ≡ gas_lines (R.content records.now) }
         ensures { IfOk result (IsGrouping (R.content records.now)) }
     {
-        let mut groups = Groups {
-            by_category: BTreeMap::new(alloc),
-            gross: Vec::new(alloc),
-        };
+        let mut groups = Groups::new(alloc);
         for name in emitters {
             if let Some((category, _)) = records.line(name) {
                 groups.put(category, name)?;

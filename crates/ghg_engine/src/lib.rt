@@ -8,9 +8,13 @@ mod equations;
 mod evaluated;
 mod evaluation;
 mod groups;
+mod layout;
 mod order;
+mod overlay;
 mod parts;
+mod proposal;
 mod refusal;
 
-pub use engine::{Engine, Proposal};
+pub use engine::Engine;
+pub use proposal::Proposal;
 pub use refusal::EngineRefusal;

@@ -1,4 +1,4 @@
-//! The order in which nodes are evaluated.
+//! The order in which all nodes are evaluated.
 
 ghost use Rattle.std.specs.Prelude.{◌≡◌, ◌++◌, IfOk, OnOk, map};
 ghost use Rattle.std.specs.List.Sorted.{IsStrictlySortedBy};

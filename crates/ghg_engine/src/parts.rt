@@ -1,9 +1,10 @@
 //! The parts of sums.
 
 ghost use Rattle.std.specs.Prelude.{◌≡◌, IfOk};
+ghost use Rattle.ghg_engine.specs.Overlays.{outcomes_of};
 ghost use Rattle.ghg_engine.specs.Parts.{AreParts, node_for, nodes_for};
 
-use crate::cells::Cells;
+use crate::overlay::Overlay;
 use ghg_cell::Input;
 use ghg_interval::Over;
 use ghg_units::{Name, Node};
@@ -32,13 +33,13 @@ impl Part {
 /// Gathers what is added of lines in a year, in a buffer that all sums share. Answers whether none of it is
 /// over.
 pub(crate) fn gather_parts(
-    cells: &Cells,
+    cells: &Overlay<'_>,
     part: Part,
     names: &[Name],
     year: u32,
     parts: &mut Vec<Input>,
 ) -> Result<bool, AllocError>
-    ensures { IfOk result (AreParts cells.now (nodes_for part names.now year) parts.new.items) }
+    ensures { IfOk result (AreParts (outcomes_of cells.now) (nodes_for part names.now year) parts.new.items) }
 {
     parts.clear();
     for name in names {

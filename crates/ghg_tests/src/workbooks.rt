@@ -461,6 +461,38 @@ fn nodes_have_their_values(rt: HostRuntime) {
     }
 }
 
+// The boiler takes 1000 TJ in place of 500, so it emits 56.1 Gg in place of 28.05; all fuel is then 2100 TJ.
+#[test]
+fn a_correction_changes_what_it_affects(rt: HostRuntime) {
+    let mut engine = Engine::new(rt.alloc());
+    for rows in [
+        PLANT,
+        THREE_LINES,
+        "correct,activity,,FUEL.TJ,1990,1000,,,TJ,\n",
+    ] {
+        let read = read(&rt, rt.alloc(), rows);
+        check(
+            &rt,
+            accept(rt.alloc(), &mut engine, &read.rows).is_ok(),
+            rows,
+        );
+    }
+    for (node, want) in [
+        (Node::Line(name(&rt, "BOILER"), 1990), "56.1,54.3,58.3"),
+        (Node::Total(Category::C1A, 1990), "112.2,108.6,233.2"),
+        (
+            Node::Total(Category::National, 1990),
+            "117.81,114.03,244.86",
+        ),
+        (Node::Gross(1990), "112.2,108.6,233.2"),
+        // not affected
+        (Node::Total(Category::C1A1a, 1990), "56.1,54.3,116.6"),
+        (Node::Gross(1991), "112.2,108.6,233.2"),
+    ] {
+        check(&rt, has_value(&engine, node, want), want);
+    }
+}
+
 const GREAT_PLANT: &str = "enter,span,,,1990,1991,1990,,,\nenter,line,1A1a,ELEC.GAS,,Q10,,,,\n\
     enter,bind,ELEC.GAS,FC,,activity,GAS.TJ,,,\nenter,bind,ELEC.GAS,EF,,factor,GAS.EF,,,\n\
     enter,activity,,GAS.TJ,1990,10000000,,,TJ,\nenter,factor,,GAS.EF,1990,100000,,,kg/TJ,\n\

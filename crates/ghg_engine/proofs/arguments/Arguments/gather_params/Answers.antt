@@ -12,8 +12,9 @@ use Rattle.ghg_definitions.specs.Compilation.{bound_to}
 use Rattle.ghg_definitions.specs.Formulas.{Operand, gather, map_operand, nodes_in, operand_outcome}
 use Rattle.ghg_definitions.specs.Lookups.{given}
 use Rattle.ghg_definitions.specs.Rules.{most_lines}
+use Rattle.ghg_engine.specs.Overlays.{outcomes_of}
 use Rattle.ghg_engine.specs.Arguments.{IsArgument, IsHeld, IsTaken, param_outcomes}
-use Rattle.ghg_engine.specs.Orders.{outcome_in}
+use Rattle.ghg_engine.specs.Cells.{outcome_in}
 use Rattle.ghg_engine.proofs.Facts.{bound_is, few_taken}
 use Rattle.ghg_engine.proofs.Held.{nothing_held}
 use Rattle.ghg_engine.proofs.LineOutcomes.{param_held, param_over}
@@ -49,10 +50,10 @@ returns-in_default g c =
     let params = c.args.params.now in
     let i = c.loop-param.param-index in
     let p = get_or params i none in
-    let named = ap (operand_outcome (outcome_in c.args.cells.now)) (c.bound_operand-operand.ensures.operand ∙ ap₂ (λ f b. map_operand (given m) (bound_to m f c.args.year b)) c.requires.first c.bound.ensures) in
+    let named = ap (operand_outcome (outcome_in (outcomes_of c.args.cells.now))) (c.bound_operand-operand.ensures.operand ∙ ap₂ (λ f b. map_operand (given m) (bound_to m f c.args.year b)) c.requires.first c.bound.ensures) in
     let over = sym named ∙ subst (IsArgument _) c.in_default.is c.in_ok-taken.ensures in
-    subst (λ ps. gather (param_outcomes m c.args.cells.now c.args.line.now c.args.year ps) ≡ Err (record {})) (ap (λ ps. ps ++ drop (i + 1) params) (sym (take_more params i none c.loop-param-test.true)) ∙ take-append-drop (i + 1) params)
-    (param_over m c.args.cells.now c.args.line.now c.args.year (take i params) p (drop (i + 1) params) c.loop-param.self c.loop-param.invariant over)
+    subst (λ ps. gather (param_outcomes m (outcomes_of c.args.cells.now) c.args.line.now c.args.year ps) ≡ Err (record {})) (ap (λ ps. ps ++ drop (i + 1) params) (sym (take_more params i none c.loop-param-test.true)) ∙ take-append-drop (i + 1) params)
+    (param_over m (outcomes_of c.args.cells.now) c.args.line.now c.args.year (take i params) p (drop (i + 1) params) c.loop-param.self c.loop-param.invariant over)
 
 pub loop-param-preserved : goal.loop-param-preserved
 unfolding none
@@ -61,10 +62,10 @@ loop-param-preserved g c =
     let params = c.args.params.now in
     let i = c.loop-param.param-index in
     let p = get_or params i none in
-    let named = ap (operand_outcome (outcome_in c.args.cells.now)) (c.bound_operand-operand.ensures.operand ∙ ap₂ (λ f b. map_operand (given m) (bound_to m f c.args.year b)) c.requires.first c.bound.ensures) in
+    let named = ap (operand_outcome (outcome_in (outcomes_of c.args.cells.now))) (c.bound_operand-operand.ensures.operand ∙ ap₂ (λ f b. map_operand (given m) (bound_to m f c.args.year b)) c.requires.first c.bound.ensures) in
     let taken = subst (λ x. IsTaken x c.in-Some.taken) named (subst (IsArgument _) c.in-Some.is c.in_ok-taken.ensures) in
     rw (take_more params i none c.loop-param-test.true)
-    (param_held m c.args.cells.now c.args.line.now c.args.year (take i params) p c.loop-param.self c.push.new.self c.in-Some.taken c.loop-param.invariant taken c.in_ok-push.ensures.inputs c.in_ok-push.ensures.fit c.in_ok-push.ensures.blank)
+    (param_held m (outcomes_of c.args.cells.now) c.args.line.now c.args.year (take i params) p c.loop-param.self c.push.new.self c.in-Some.taken c.loop-param.invariant taken c.in_ok-push.ensures.inputs c.in_ok-push.ensures.fit c.in_ok-push.ensures.blank)
 
 pub returns : goal.returns
-returns g c = subst (λ ps. IsHeld (param_outcomes (g.R.Records.content c.args.records.now) c.args.cells.now c.args.line.now c.args.year ps) c.loop-param.self) (take_all c.loop-param.param-index c.args.params.now c.loop-param-test.false) c.loop-param.invariant
+returns g c = subst (λ ps. IsHeld (param_outcomes (g.R.Records.content c.args.records.now) (outcomes_of c.args.cells.now) c.args.line.now c.args.year ps) c.loop-param.self) (take_all c.loop-param.param-index c.args.params.now c.loop-param-test.false) c.loop-param.invariant

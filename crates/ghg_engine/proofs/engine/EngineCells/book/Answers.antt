@@ -8,4 +8,4 @@ abbrev IsFit : Data → Type 0
 IsFit m = IsCompilation (sheet_of m) (compilation m)
 
 pub returns-clause-compiled : goal.returns-clause-compiled
-returns-clause-compiled c = subst IsFit (ap (λ s. s.content) c.self.view_is) c.self.invariant.fits
+returns-clause-compiled c = subst IsFit (ap (λ s. s.content) c.self.view_is) c.self.invariant.0.fits

@@ -9,13 +9,13 @@ abbrev IsFit : Data → Type 0
 IsFit m = IsCompilation (sheet_of m) (compilation m)
 
 pub returns-in-Some-Ok-clause-compiled : goal.returns-in-Some-Ok-clause-compiled
-returns-in-Some-Ok-clause-compiled c = subst IsFit (ap (λ s. s.content) c.self.view_is) c.self.invariant.fits
+returns-in-Some-Ok-clause-compiled c = subst IsFit (ap (λ s. s.content) c.self.view_is) c.self.invariant.0.fits
 
 pub returns-in_default-clause-compiled : goal.returns-in_default-clause-compiled
-returns-in_default-clause-compiled c = subst IsFit (ap (λ s. s.content) c.self.view_is) c.self.invariant.fits
+returns-in_default-clause-compiled c = subst IsFit (ap (λ s. s.content) c.self.view_is) c.self.invariant.0.fits
 
 pub returns-in-Some-Ok-clause-contained : goal.returns-in-Some-Ok-clause-contained
-returns-in-Some-Ok-clause-contained c = subst HoldsExactValues (ap (λ s. s.content) c.self.view_is) c.self.invariant.contained
+returns-in-Some-Ok-clause-contained c = subst HoldsExactValues (ap (λ s. s.content) c.self.view_is) c.self.invariant.0.contained
 
 pub returns-in_default-clause-contained : goal.returns-in_default-clause-contained
-returns-in_default-clause-contained c = subst HoldsExactValues (ap (λ s. s.content) c.self.view_is) c.self.invariant.contained
+returns-in_default-clause-contained c = subst HoldsExactValues (ap (λ s. s.content) c.self.view_is) c.self.invariant.0.contained

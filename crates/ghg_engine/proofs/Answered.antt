@@ -1,0 +1,25 @@
+-- What is known of a proposal or of a refusal leads to more.
+use Rattle.std.proofs.Common.{List, Result, Ok, Err}
+use Rattle.std.specs.Prelude.{MatchResult}
+use Rattle.ghg_units.specs.declared.node.Node.{Node}
+use Rattle.ghg_definitions.specs.Containment.{HoldsExactValues}
+use Rattle.ghg_definitions.specs.Data.{Data}
+use Rattle.ghg_data.specs.Changes.{Change, applied}
+use Rattle.ghg_engine.specs.declared.proposal.Made.{Made}
+use Rattle.ghg_engine.specs.declared.proposal.Made.TheVariants as made
+use Rattle.ghg_engine.specs.declared.refusal.EngineRefusal.{EngineRefusal}
+use Rattle.ghg_engine.specs.declared.refusal.EngineRefusal.TheVariants as refusal
+use Rattle.ghg_engine.specs.Proposals.{IfOverflow, IsMade}
+
+pub if_over : (P Q : Node → Type 0) → ((n : Node) → P n → Q n) → (r : EngineRefusal) → IfOverflow P r → IfOverflow Q r
+if_over P Q f (refusal.Overflow n) h = f n h
+if_over P Q f refusal.Memory h = tt
+
+pub answered : {A : Type 0} (r : Result A EngineRefusal) (P Q : A → Type 0) (S T : Node → Type 0) → ((x : A) → P x → Q x) → ((n : Node) → S n → T n) → MatchResult r P (IfOverflow S) → MatchResult r Q (IfOverflow T)
+answered (Ok x) P Q S T f h a = f x a
+answered (Err e) P Q S T f h a = if_over S T h e a
+
+-- what is made holds the exact values
+pub made_contained : (m : Data) (edits : List Change) (x : Made) → IsMade m edits x → HoldsExactValues (applied m edits)
+made_contained m edits (made.Whole cells layout) is = is.0.contained
+made_contained m edits (made.Patch fresh) is = is.1.contained

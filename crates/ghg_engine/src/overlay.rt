@@ -1,0 +1,73 @@
+//! Fresh cells over cells that are kept.
+
+ghost use Rattle.std.specs.Prelude.{◌≡◌, OnOk, option_copied};
+ghost use Rattle.std.specs.FinMap as finite;
+ghost use Rattle.ghg_engine.specs.Cells.{outcome_in, with_outcome};
+ghost use Rattle.ghg_engine.specs.Overlays.{outcomes_of};
+
+use crate::cells::Cells;
+use ghg_cell::{Input, Value};
+use ghg_interval::Over;
+use ghg_units::Node;
+use std::alloc::{AllocError, Global};
+
+/// Cells of nodes that are evaluated anew, in front of cells that are kept.
+#[derive(Drop)]
+pub(crate) struct Overlay<'a> {
+    fresh: Cells,
+    kept: &'a Cells,
+}
+
+impl<'a> Overlay<'a> {
+    /// No fresh cells yet. It takes no memory.
+    pub(crate) fn over(alloc: Global, kept: &'a Cells) -> Overlay<'a>
+        ensures fresh { result.fresh ≡ finite.empty }
+        ensures kept { result.kept.now ≡ kept.now }
+    {
+        Overlay {
+            fresh: Cells::new(alloc),
+            kept,
+        }
+    }
+
+    /// The outcome of a node, which is blank where it has no cell.
+    pub(crate) fn outcome(&self, node: &Node) -> Result<Input, Over>
+        ensures { result ≡ outcome_in (outcomes_of self.now) node.now }
+    {
+        match self.get(node) {
+            Some(Ok(value)) => Ok(*value.input()),
+            Some(Err(Over)) => Err(Over),
+            None => Ok(Input::Blank),
+        }
+    }
+
+    // The outcome of a node, where it has a cell.
+    fn get(&self, node: &Node) -> Option<&Result<Value, Over>>
+        ensures { option_copied result ≡ outcomes_of self.now node.now }
+    {
+        match self.fresh.get(node) {
+            Some(outcome) => Some(outcome),
+            None => self.kept.get(node),
+        }
+    }
+
+    /// Gives a node its outcome.
+    pub(crate) fn insert(
+        &mut self,
+        node: &Node,
+        outcome: Result<Value, Over>,
+    ) -> Result<(), AllocError>
+        ensures outcomes { OnOk result (outcomes_of self.new ≡ with_outcome
+            (outcomes_of self.old) node.now outcome) }
+        ensures kept { OnOk result (self.new.kept.now ≡ self.old.kept.now) }
+    {
+        self.fresh.insert(node, outcome)
+    }
+
+    /// The fresh cells.
+    pub(crate) fn into_fresh(self) -> Cells
+        ensures { result ≡ self.entry.fresh }
+    {
+        self.fresh
+    }
+}
