@@ -1,9 +1,11 @@
 -- The table of the kept submissions.
-use Rattle.std.specs.Prelude.{true, false, [], ◌∷◌, Some, codes, ℕ, List, Bool}
+use Rattle.std.specs.Prelude.{true, false, ◌&&◌, ◌==◌, [], ◌∷◌, Some, codes, ℕ, List, Bool}
+use Rattle.std.specs.List.{list_any}
 use Rattle.sqlite.specs.Collation.TheVariants.{Binary}
 use Rattle.sqlite_value.specs.Keys.{plain}
 use Rattle.sqlite.specs.declared.types.Value.TheVariants.{Null}
 use Rattle.sqlite_schema.specs.declared.schema.Column.{Column}
+use Rattle.sqlite_schema.specs.Names.{same_name, is_key}
 use Rattle.sqlite.specs.Table.{Table}
 use Rattle.sqlite.specs.Schema.{Schema}
 use Rattle.sqlite.specs.Kind.{Kind}
@@ -49,3 +51,45 @@ no_schema = record { tables = []; indexes = []; views = [] }
 -- the table and its automatic index, in a store that had no object
 abbrev pub accepted_schema : Schema
 accepted_schema = created no_schema accepted
+
+-- ---- whether a store has it
+
+abbrev pub is_integer : Kind → Bool
+is_integer Integer = true
+is_integer _ = false
+
+abbrev pub is_text : Kind → Bool
+is_text Text = true
+is_text _ = false
+
+abbrev pub is_any : Kind → Bool
+is_any Any = true
+is_any _ = false
+
+-- the columns by their names and types; each row has an id and a body
+abbrev pub is_seq : Column → Bool
+is_seq column = same_name column.name (codes "seq") && is_integer column.kind
+
+abbrev pub is_id : Column → Bool
+is_id column = same_name column.name (codes "id") && is_text column.kind && column.not_null
+
+abbrev pub is_body : Column → Bool
+is_body column = same_name column.name (codes "body") && is_any column.kind && column.not_null
+
+abbrev pub are_kept_columns : List Column → Bool
+are_kept_columns (seq ∷ id ∷ body ∷ []) = is_seq seq && is_id id && is_body body
+are_kept_columns _ = false
+
+-- no id stands twice, and nothing else must be unique
+abbrev pub has_unique_id : List (List ℕ) → Bool
+has_unique_id ((place ∷ []) ∷ []) = place == 2
+has_unique_id _ = false
+
+-- the table of kept submissions, with the first column as its primary key
+abbrev pub is_kept_table : Table → Bool
+is_kept_table table =
+    same_name table.name (codes "accepted") && are_kept_columns table.columns && is_key table.key 0
+    && has_unique_id table.uniques
+
+abbrev pub has_kept_table : Schema → Bool
+has_kept_table schema = list_any is_kept_table schema.tables

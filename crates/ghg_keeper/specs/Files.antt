@@ -1,7 +1,8 @@
 -- What a keeper over a database file shows.
-use Rattle.std.specs.Prelude.{[], None, Result, IsErrOf, IsSomeAnd, MatchOption}
+use Rattle.std.specs.Prelude.{[], None, Result, ⊤, IsErrOf, IsSomeAnd, MatchOption}
 use Rattle.sqlite.specs.Files.{over_files}
-use Rattle.ghg_keeper.specs.Databases.{kept_shelf}
+use Rattle.sqlite.specs.State.{State}
+use Rattle.ghg_keeper.specs.Databases.{database, kept_shelf}
 use Rattle.ghg_keeper.specs.declared.file.FileKeeper.{FileKeeper}
 use Rattle.ghg_keeper.specs.declared.keeper.KeepError.{KeepError}
 use Rattle.ghg_keeper.specs.declared.keeper.KeepError.TheVariants.{Failed}
@@ -17,3 +18,12 @@ abbrev pub IsPassed : {A : Type 0} → FileKeeper → FileKeeper → Result A Ke
     → Type 0
 IsPassed before after result does = MatchOption before.store (IsErrOf result Failed)
     (λ old. IsSomeAnd after.store (λ new. does (kept_shelf over_files old) (kept_shelf over_files new)))
+
+-- this holds of the database in use
+abbrev pub IsStored : FileKeeper → (State → Type 0) → Type 0
+IsStored keeper holds = IsSomeAnd keeper.store (λ store. holds (database over_files store))
+
+-- this holds of the database in use, before and after a call, where one was in use
+abbrev pub IsHandedOn : FileKeeper → FileKeeper → (State → State → Type 0) → Type 0
+IsHandedOn before after does = MatchOption before.store ⊤
+    (λ old. IsStored after (λ new. does (database over_files old) new))

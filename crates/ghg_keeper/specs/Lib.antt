@@ -1,7 +1,9 @@
 pub mod Accepted
 pub mod Databases
+pub mod Errors
 pub mod Files
 pub mod Forms
 pub mod Id
 pub mod Listed
 pub mod Shelf
+pub mod Texts

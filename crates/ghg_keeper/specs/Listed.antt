@@ -1,5 +1,6 @@
 -- The kept rows as the table has them.
-use Rattle.std.specs.Prelude.{◌≡◌, ◌⊎◌, ℕ, ◌+◌, pos, false, length, ◌==◌, if◌then◌else◌, List, [], ◌∷◌, ◌++◌, map, None, ⊤, IsTrue}
+use Rattle.std.specs.Prelude.{◌≡◌, ◌⊎◌, ℕ, ◌+◌, pos, false, length, ◌==◌, if◌then◌else◌, List, [], ◌∷◌, ◌++◌, map, None, Result, ⊤, IsErr, IsTrue}
+use Rattle.sqlite_disk.specs.Disk.{MoreFaults}
 use Rattle.sqlite.specs.declared.types.Value.TheVariants.{Null, Int, Text, Blob}
 use Rattle.sqlite.specs.Order.{Row, column, bytes}
 use Rattle.sqlite.specs.Tree.{Trees, rowid}
@@ -87,11 +88,17 @@ IsBeforeOrAfter now id body db =
     let rows = now.trees accepted_tree in
     HoldsRows now rows db ⊎ HoldsRows now (rows ++ stored (length rows + 1) id body ∷ []) db
 
--- a crash at the end of the insert, with any answer, leaves the rows as they were, or with the new one
-abbrev pub SurvivesInsert : State → State → List ℕ → List ℕ → Type 0
-SurvivesInsert old new id body =
-    TellsRows old → HasCleanDisk new → (db : Trees) → new.may_leave db → IsBeforeOrAfter old.now id body db
+-- the trees as they were or, where there was no table, with the table and no row
+abbrev pub IsAsBeforeOrMade : Database → Trees → Type 0
+IsAsBeforeOrMade now db = (db ≡ now.trees) ⊎ ((now.schema ≡ no_schema) × (db accepted_tree ≡ []))
 
--- each crash leaves the rows that are told
-abbrev pub IsDurable : State → Type 0
-IsDurable s = TellsRows s → (db : Trees) → s.may_leave db → db ≡ s.now.trees
+-- What is safe after a call of the database. A crash at the end of the call may leave what `Leaves` says.
+pub record IsSafe {A E : Type 0} (old new : State) (result : Result A E) (Leaves : Trees → Type 0)
+    : Type 0 where
+  -- over a clean store the rows stay told, unless the call failed because the disk failed or refused
+  pub told : TellsRows old → HasCleanDisk new
+      → TellsRows new ⊎ (IsErr result × MoreFaults old.faults new.faults)
+  -- with any answer
+  pub crash : TellsRows old → HasCleanDisk new → (db : Trees) → new.may_leave db → Leaves db
+  -- while the rows are told each crash leaves them all
+  pub durable : TellsRows new → (db : Trees) → new.may_leave db → db ≡ new.now.trees

@@ -1,11 +1,18 @@
 // The keeper of the program, over a database file.
-ghost use Rattle.std.specs.Prelude.{◌≡◌, ◌-◌, ◌≤◌, length, slice_get, codes, Some, IsSome, IsTrue, IfOk, IsErr, IsErrOf, OnOk, OnErr};
+ghost use Rattle.std.specs.Prelude.{◌≡◌, ◌⊎◌, ◌-◌, ◌≤◌, ◌^◌, pos, [], ◌∷◌, length, slice_get, codes, Some, IsTrue, IfOk, IsErrOf, OnOk, OnErr};
+ghost use Rattle.sqlite.specs.declared.types.Value.TheVariants.{Int, Text, Blob};
+ghost use Rattle.sqlite.specs.Files.{over_files};
 ghost use Rattle.ghg_outer.specs.Counts.{IsCounted};
+ghost use Rattle.ghg_keeper.specs.Accepted.{has_kept_table};
+ghost use Rattle.ghg_keeper.specs.Databases.{database};
+ghost use Rattle.ghg_keeper.specs.Errors.{HasCause, IsCount, IsKept, Refuses, RefusesRow};
 ghost use Rattle.ghg_keeper.specs.Id.{is_id};
+ghost use Rattle.ghg_keeper.specs.Listed.{IsBeforeOrAfter, IsSafe};
 ghost use Rattle.ghg_keeper.specs.Shelf.{Adds, CountsFaults, Keeps};
+ghost use Rattle.ghg_keeper.specs.Texts.{count_text, insert_text, row_text};
 
 use crate::{KeepError, Keeper, KeptRow, SqlKeeper};
-use sqlite::{Connection, Error, ErrorCode, File, FileStore};
+use sqlite::{Connection, File, FileStore};
 use std::rt::HostRuntime;
 
 /// Rows in the table of a database file, which `attach` opens, or makes where there is none. That call and
@@ -14,12 +21,13 @@ use std::rt::HostRuntime;
 /// It is part of the trusted edge and tells nothing of its rows. It is proved what each call does with the
 /// store in use. A file that does not open for another cause than memory, and a call before `attach`, fail
 /// and are counted: a folder, a file that is no database or that this process may not write, and a database
-/// that another process has open.
+/// that another process has open. Want of memory at the open is told as such, and not counted. A file whose
+/// table of that name is another one fails too, and no store of it is in use.
 ///
 /// The file has its log beside it, named as the file with `-wal` behind that, and the two are one store. A
-/// row that was acknowledged has been synced. It outlives a crash where the disk has what a sync acknowledged,
-/// where each byte of a write that is cut off is the old or the new one and no other byte changes, and where
-/// nobody else writes the two files.
+/// row that was acknowledged has been synced. It outlives a crash where the disk has what a sync
+/// acknowledged, where each byte of a write that is cut off is the old or the new one and no other byte
+/// changes, and where nobody else writes the two files.
 #[derive(Drop)]
 pub struct FileKeeper<'a> {
     rt: &'a HostRuntime,
@@ -60,15 +68,16 @@ impl<'a> FileKeeper<'a> {
 }
 
 impl Keeper for FileKeeper<'_> {
-    ghost use Rattle.ghg_keeper.specs.Files.{IsPassed, file_shelf};
+    ghost use Rattle.ghg_keeper.specs.Files.{IsHandedOn, IsPassed, IsStored, file_shelf};
 
     ghost shelf = { file_shelf };
 
     fn attach(&mut self, name: &str) -> Result<(), KeepError>
-        ensures used { OnOk result (IsSome self.new.store) }
+        // The store in use has the table.
+        ensures used { OnOk result (IsStored self.new (λ now. IsTrue (has_kept_table now.now.schema))) }
         ensures err { OnErr result (self.new.store ≡ self.old.store) }
         // This is the name of a store in memory, and of no file.
-        ensures memory { name.now ≡ codes ":memory:" → IsErr result }
+        ensures memory { name.now ≡ codes ":memory:" → IsErrOf result KeepError.Failed }
         ensures faults { CountsFaults (file_shelf self.old) (file_shelf self.new) result }
     {
         match opened(self.rt, name) {
@@ -83,6 +92,9 @@ impl Keeper for FileKeeper<'_> {
     fn count(&mut self) -> Result<u64, KeepError>
         ensures passed { IsPassed self.old self.new result (λ before after.
             (after.tells → IfOk result (λ n. n ≡ length before.rows)) × Keeps before after) }
+        ensures handed_on { IsHandedOn self.old self.new (λ old new.
+            IsSafe old new result (λ db. db ≡ old.now.trees)
+            × HasCause result (IsTrue old.in_transaction) (RefusesRow count_text [] old new IsCount)) }
         ensures faults { CountsFaults (file_shelf self.old) (file_shelf self.new) result }
     {
         let Some(store) = &mut self.store else {
@@ -97,6 +109,10 @@ impl Keeper for FileKeeper<'_> {
         ensures passed { IsPassed self.old self.new result (λ before after.
             (after.tells → IfOk result (λ row. slice_get before.rows (seq - 1) ≡ Some row))
             × Keeps before after) }
+        ensures handed_on { IsHandedOn self.old self.new (λ old new.
+            IsSafe old new result (λ db. db ≡ old.now.trees)
+            × HasCause result (IsTrue old.in_transaction ⊎ (2 ^ 63 ≤ seq))
+            (RefusesRow row_text (Int (pos seq) ∷ []) old new IsKept)) }
         ensures faults { CountsFaults (file_shelf self.old) (file_shelf self.new) result }
     {
         let Some(store) = &mut self.store else {
@@ -112,6 +128,10 @@ impl Keeper for FileKeeper<'_> {
             OnOk result (Adds before after (record { id = id.now; body = body.now }))
             × (after.tells → IfOk result (λ seq. seq ≡ length after.rows))
             × OnErr result (Keeps before after)) }
+        ensures handed_on { IsHandedOn self.old self.new (λ old new.
+            IsSafe old new result (IsBeforeOrAfter old.now id.now body.now)
+            × HasCause result (IsTrue old.in_transaction)
+            (Refuses insert_text (Text id.now ∷ Blob body.now ∷ []) old new)) }
         ensures faults { CountsFaults (file_shelf self.old) (file_shelf self.new) result }
     {
         let Some(store) = &mut self.store else {
@@ -124,12 +144,13 @@ impl Keeper for FileKeeper<'_> {
 
 // A keeper over the database file of this name, which has its table.
 fn opened(rt: &HostRuntime, name: &str) -> Result<SqlKeeper<FileStore<File>>, KeepError>
-    ensures memory { name.now ≡ codes ":memory:" → IsErr result }
+    ensures memory { name.now ≡ codes ":memory:" → IsErrOf result KeepError.Failed }
+    ensures table { IfOk result
+        (λ keeper. IsTrue (has_kept_table (database over_files keeper).now.schema)) }
 {
     let connection = match Connection::open(rt, name) {
         Ok(connection) => connection,
-        Err(Error::SqliteFailure(ErrorCode::OutOfMemory)) => return Err(KeepError::Memory),
-        Err(_) => return Err(KeepError::Failed),
+        Err(error) => return Err(KeepError::from(error)),
     };
     let mut store = SqlKeeper::over(connection);
     store.attach(name)?;

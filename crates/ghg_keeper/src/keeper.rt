@@ -3,14 +3,18 @@ ghost use Rattle.ghg_keeper.specs.Id.{is_id};
 ghost use Rattle.ghg_keeper.specs.Shelf.{Shelf, Adds, CountsFaults, Keeps, KeepsRows};
 
 use crate::KeptRow;
+use sqlite::{Error, ErrorCode};
 use std::alloc::AllocError;
+
+/// The most bytes of the id of a submission.
+pub const MAX_ID_LEN: usize = 40;
 
 /// Why a call of a keeper has no answer.
 #[derive(Clone, Copy, Debug, PartialEq, Eq, Drop)]
 pub enum KeepError {
-    /// The store failed, and the keeper's count of faults rose.
+    /// The store failed for another cause than memory, and the keeper's count of faults rose.
     Failed,
-    /// Memory ran out.
+    /// Memory ran out. It is not counted.
     Memory,
 }
 
@@ -22,6 +26,20 @@ impl From<AllocError> for KeepError {
 
     fn from(_: AllocError) -> KeepError {
         KeepError::Memory
+    }
+}
+
+impl From<Error> for KeepError {
+    ghost use Rattle.std.specs.Prelude.{◌≡◌};
+    ghost use Rattle.ghg_keeper.specs.Errors.{keep_error};
+
+    ghost from_gives = { λ error kept. kept ≡ keep_error error };
+
+    fn from(error: Error) -> KeepError {
+        match error {
+            Error::SqliteFailure(ErrorCode::OutOfMemory) => KeepError::Memory,
+            _ => KeepError::Failed,
+        }
     }
 }
 

@@ -8,9 +8,10 @@ mod row;
 mod sql;
 mod statements;
 mod steady;
+mod table;
 
 pub use file::FileKeeper;
-pub use keeper::{KeepError, Keeper};
+pub use keeper::{KeepError, Keeper, MAX_ID_LEN};
 pub use memory::MemoryKeeper;
 pub use row::KeptRow;
 pub use sql::SqlKeeper;

@@ -1,14 +1,18 @@
-ghost use Rattle.std.specs.Prelude.{◌≡◌, ◌-◌, ◌≤◌, length, slice_get, Some, IsTrue, IfOk, OnOk, OnErr};
-ghost use Rattle.ghg_outer.specs.Counts.{IsCounted};
+ghost use Rattle.std.specs.Prelude.{◌≡◌, ◌⊎◌, ◌-◌, ◌≤◌, ◌^◌, pos, [], ◌∷◌, length, slice_get, Some, IsTrue, IfOk, IsErrOf, OnOk, OnErr};
+ghost use Rattle.sqlite.specs.declared.types.Value.TheVariants.{Int, Text, Blob};
 ghost use Rattle.sqlite.specs.State.{HasCleanDisk};
+ghost use Rattle.ghg_outer.specs.Counts.{IsCounted};
 ghost use Rattle.ghg_keeper.specs.Id.{is_id};
 ghost use Rattle.ghg_keeper.specs.Shelf.{Adds, CountsFaults, Keeps, KeepsRows};
-ghost use Rattle.ghg_keeper.specs.Accepted.{accepted_schema};
-ghost use Rattle.ghg_keeper.specs.Listed.{SurvivesInsert, IsDurable};
+ghost use Rattle.ghg_keeper.specs.Accepted.{accepted_schema, has_kept_table};
+ghost use Rattle.ghg_keeper.specs.Errors.{HasAnother, HasCause, IsCount, IsKept, Refuses, RefusesRow, told_of};
+ghost use Rattle.ghg_keeper.specs.Listed.{IsAsBeforeOrMade, IsBeforeOrAfter, IsSafe};
+ghost use Rattle.ghg_keeper.specs.Texts.{count_text, create_text, insert_text, row_text};
 
-use crate::statements::{count_rows, insert_row, kept_row, make_table, read_row};
+use crate::statements::{MOST, count_rows, insert_row, kept_count, kept_row, make_table, read_row};
+use crate::table::has_kept_table;
 use crate::{KeepError, Keeper, KeptRow};
-use sqlite::{Alter, Connection, Error, ErrorCode};
+use sqlite::{Alter, Connection, Error};
 
 /// Rows in the table `accepted(seq INTEGER PRIMARY KEY, id TEXT UNIQUE NOT NULL, body BLOB NOT NULL)` of a
 /// database, over any store: a file or memory.
@@ -21,9 +25,6 @@ pub struct SqlKeeper<S: Alter> {
     connection: Connection<S>,
     faults: u64,
 }
-
-// The greatest number of a row, and the greatest count that SQL tells.
-const MOST: u64 = 9_223_372_036_854_775_807;
 
 impl<S: Alter> SqlKeeper<S> {
     ghost use Rattle.ghg_keeper.specs.Databases.{held, kept_shelf};
@@ -60,14 +61,18 @@ impl<S: Alter> SqlKeeper<S> {
         KeepError::Failed
     }
 
-    // What is told of an error. All but want of memory is counted.
-    fn refused(&mut self, error: Error) -> KeepError
+    // What is told of the answer of a statement. An error is counted, but for want of memory.
+    fn told<T>(&mut self, answer: Result<T, Error>) -> Result<T, KeepError>
+        ensures answer { result ≡ told_of answer }
         ensures same { self.new.connection ≡ self.old.connection }
-        ensures faults { IsCounted self.old.faults self.new.faults (result ≡ KeepError.Failed) }
+        ensures faults { IsCounted self.old.faults self.new.faults (IsErrOf result KeepError.Failed) }
     {
-        match error {
-            Error::SqliteFailure(ErrorCode::OutOfMemory) => KeepError::Memory,
-            _ => self.fault(),
+        match answer {
+            Ok(value) => Ok(value),
+            Err(error) => Err(match KeepError::from(error) {
+                KeepError::Memory => KeepError::Memory,
+                KeepError::Failed => self.fault(),
+            }),
         }
     }
 }
@@ -77,37 +82,51 @@ impl<S: Alter> Keeper for SqlKeeper<S> {
 
     ghost shelf = { kept_shelf S.Store };
 
-    /// Makes the table where the store has none, and does not look at the name.
+    /// Makes the table where the store has none, and does not look at the name. A store whose table of that
+    /// name is another one is refused, and stays as it is.
     fn attach(&mut self, name: &str) -> Result<(), KeepError>
         ensures rows { KeepsRows (kept_shelf S.Store self.old) (kept_shelf S.Store self.new) }
         ensures faults { CountsFaults (kept_shelf S.Store self.old) (kept_shelf S.Store self.new) result }
         // Over a clean store the table is there once that is acknowledged.
         ensures made { (kept_shelf S.Store self.old).tells → HasCleanDisk (database S.Store self.new)
             → OnOk result ((database S.Store self.new).now.schema ≡ accepted_schema) }
+        // Over any store there is a table of that name, and with the columns of kept submissions.
+        ensures table { OnOk result (IsTrue (has_kept_table (database S.Store self.new).now.schema)) }
+        ensures safe { IsSafe (database S.Store self.old) (database S.Store self.new) result
+            (IsAsBeforeOrMade (database S.Store self.old).now) }
+        ensures cause { HasCause result
+            (IsTrue (database S.Store self.old).in_transaction
+            ⊎ HasAnother (database S.Store self.old) (database S.Store self.new))
+            (Refuses create_text [] (database S.Store self.old) (database S.Store self.new)) }
     {
         let _ = name;
         if !self.connection.is_autocommit() {
             return Err(self.fault());
         }
-        match make_table(&mut self.connection) {
-            Ok(_) => Ok(()),
-            Err(error) => Err(self.refused(error)),
+        let made = make_table(&mut self.connection);
+        match self.told(made) {
+            Ok(_) if has_kept_table(self.connection.schema()) => Ok(()),
+            Ok(_) => Err(self.fault()),
+            Err(why) => Err(why),
         }
     }
 
-    fn count(&mut self) -> Result<u64, KeepError> {
+    fn count(&mut self) -> Result<u64, KeepError>
+        ensures count { (kept_shelf S.Store self.new).tells
+            → IfOk result (λ n. n ≡ length (kept_shelf S.Store self.old).rows) }
+        ensures keeps { Keeps (kept_shelf S.Store self.old) (kept_shelf S.Store self.new) }
+        ensures faults { CountsFaults (kept_shelf S.Store self.old) (kept_shelf S.Store self.new) result }
+        ensures safe { IsSafe (database S.Store self.old) (database S.Store self.new) result
+            (λ db. db ≡ (database S.Store self.old).now.trees) }
+        ensures cause { HasCause result (IsTrue (database S.Store self.old).in_transaction)
+            (RefusesRow count_text [] (database S.Store self.old) (database S.Store self.new) IsCount) }
+    {
         if !self.connection.is_autocommit() {
             return Err(self.fault());
         }
-        let row = match count_rows(&mut self.connection) {
-            Ok(row) => row,
-            Err(error) => return Err(self.refused(error)),
-        };
-        let count: Result<u64, Error> = row.get(0);
-        match count {
-            Ok(n) if n < MOST => Ok(n),
-            Ok(_) => Err(self.fault()),
-            Err(error) => Err(self.refused(error)),
+        match count_rows(&mut self.connection) {
+            Ok(row) => self.told(kept_count(&row)),
+            Err(error) => self.told(Err(error)),
         }
     }
 
@@ -118,17 +137,22 @@ impl<S: Alter> Keeper for SqlKeeper<S> {
             slice_get (kept_shelf S.Store self.old).rows (seq - 1) ≡ Some row) }
         ensures keeps { Keeps (kept_shelf S.Store self.old) (kept_shelf S.Store self.new) }
         ensures faults { CountsFaults (kept_shelf S.Store self.old) (kept_shelf S.Store self.new) result }
+        ensures safe { IsSafe (database S.Store self.old) (database S.Store self.new) result
+            (λ db. db ≡ (database S.Store self.old).now.trees) }
+        ensures cause { HasCause result
+            (IsTrue (database S.Store self.old).in_transaction ⊎ (2 ^ 63 ≤ seq))
+            (RefusesRow row_text (Int (pos seq) ∷ []) (database S.Store self.old)
+            (database S.Store self.new) IsKept) }
     {
         if seq > MOST || !self.connection.is_autocommit() {
             return Err(self.fault());
         }
-        let row = match read_row(&mut self.connection, seq) {
-            Ok(row) => row,
-            Err(error) => return Err(self.refused(error)),
-        };
-        match kept_row(&row) {
-            Ok(kept) => Ok(kept),
-            Err(error) => Err(self.refused(error)),
+        match read_row(&mut self.connection, seq) {
+            Ok(row) => match kept_row(&row) {
+                Ok(kept) => Ok(kept),
+                Err(error) => self.told(Err(error)),
+            },
+            Err(error) => self.told(Err(error)),
         }
     }
 
@@ -140,14 +164,12 @@ impl<S: Alter> Keeper for SqlKeeper<S> {
             → IfOk result (λ seq. seq ≡ length (kept_shelf S.Store self.new).rows) }
         ensures err { OnErr result (Keeps (kept_shelf S.Store self.old) (kept_shelf S.Store self.new)) }
         ensures faults { CountsFaults (kept_shelf S.Store self.old) (kept_shelf S.Store self.new) result }
-        // Over a clean store a row that is acknowledged leaves the rows told.
-        ensures told { (kept_shelf S.Store self.old).tells → HasCleanDisk (database S.Store self.new)
-            → OnOk result (kept_shelf S.Store self.new).tells }
         // A crash at the end of the call, with any answer, leaves the rows as they were, or with the new one.
-        ensures crash { SurvivesInsert (database S.Store self.old) (database S.Store self.new)
-            id.now body.now }
-        // Once the call has answered, each crash leaves the rows that are told.
-        ensures durable { IsDurable (database S.Store self.new) }
+        ensures safe { IsSafe (database S.Store self.old) (database S.Store self.new) result
+            (IsBeforeOrAfter (database S.Store self.old).now id.now body.now) }
+        ensures cause { HasCause result (IsTrue (database S.Store self.old).in_transaction)
+            (Refuses insert_text (Text id.now ∷ Blob body.now ∷ []) (database S.Store self.old)
+            (database S.Store self.new)) }
     {
         let Ok(id) = std::str::from_utf8(id) else {
             return Err(self.fault());
@@ -157,7 +179,7 @@ impl<S: Alter> Keeper for SqlKeeper<S> {
         }
         match insert_row(&mut self.connection, id, body) {
             Ok(_) => Ok(self.connection.last_insert_rowid().unsigned_abs()),
-            Err(error) => Err(self.refused(error)),
+            Err(error) => self.told(Err(error)),
         }
     }
 }

@@ -1,16 +1,21 @@
 // The statements of the keeper, each a function of its own with one call of the database.
-ghost use Rattle.std.specs.Prelude.{◌≡◌, ◌+◌, ◌-◌, ◌<◌, ◌≤◌, ◌^◌, [], ◌∷◌, length, slice_get, Some, IfOk, OnOk, OnErr};
+ghost use Rattle.std.specs.Prelude.{◌≡◌, ◌≢◌, ◌+◌, ◌-◌, ◌<◌, ◌≤◌, ◌^◌, pos, [], ◌∷◌, length, slice_get, Some, IfOk, IfErr, OnOk, OnErr};
 ghost use Rattle.sqlite_sql.specs.Aggregate.{count};
 ghost use Rattle.sqlite.specs.Order.{column};
-ghost use Rattle.sqlite.specs.declared.types.Value.TheVariants.{Text as Words, Blob};
-ghost use Rattle.sqlite.specs.State.{HasCleanDisk};
+ghost use Rattle.sqlite.specs.declared.types.Value.TheVariants.{Int, Text as Words, Blob};
+ghost use Rattle.sqlite.specs.State.{HasCleanDisk, Executes, QueriesRow};
 ghost use Rattle.sqlite.specs.Held.{state};
 ghost use Rattle.ghg_keeper.specs.Accepted.{accepted_schema};
-ghost use Rattle.ghg_keeper.specs.Listed.{TellsRows, IsAtRest, Stays, KeepsTable, Appends, SurvivesInsert, IsDurable, table_rows};
+ghost use Rattle.ghg_keeper.specs.Errors.{IsCount, IsKept};
+ghost use Rattle.ghg_keeper.specs.Listed.{TellsRows, IsAtRest, Stays, KeepsTable, Appends, IsSafe, IsAsBeforeOrMade, IsBeforeOrAfter, table_rows};
+ghost use Rattle.ghg_keeper.specs.Texts.{count_text, create_text, insert_text, row_text};
 
 use crate::KeptRow;
 use ghg_units::Text;
-use sqlite::{Alter, Connection, Error, Row, params};
+use sqlite::{Alter, Connection, Error, ErrorCode, Row, params};
+
+/// The greatest number of a row, and the greatest count that SQL tells.
+pub(crate) const MOST: u64 = 9_223_372_036_854_775_807;
 
 /// Makes the table where the store has none.
 pub(crate) fn make_table<S: Alter>(connection: &mut Connection<S>) -> Result<usize, Error>
@@ -19,6 +24,10 @@ pub(crate) fn make_table<S: Alter>(connection: &mut Connection<S>) -> Result<usi
     // Over a clean store the table is there once that is acknowledged.
     ensures made { TellsRows (state S.Store connection.old) → HasCleanDisk (state S.Store connection.new)
         → OnOk result ((state S.Store connection.new).now.schema ≡ accepted_schema) }
+    ensures safe { IsSafe (state S.Store connection.old) (state S.Store connection.new) result
+        (IsAsBeforeOrMade (state S.Store connection.old).now) }
+    ensures runs { HasCleanDisk (state S.Store connection.new)
+        → Executes create_text [] (state S.Store connection.old) (state S.Store connection.new) result }
 {
     connection.execute(
         "CREATE TABLE IF NOT EXISTS accepted(\
@@ -33,6 +42,10 @@ pub(crate) fn count_rows<S: Alter>(connection: &mut Connection<S>) -> Result<Row
     ensures stays { Stays (state S.Store connection.old) (state S.Store connection.new) }
     ensures count { TellsRows (state S.Store connection.new)
         → IfOk result (λ row. row ≡ count (length (table_rows (state S.Store connection.old).now)) ∷ []) }
+    ensures safe { IsSafe (state S.Store connection.old) (state S.Store connection.new) result
+        (λ db. db ≡ (state S.Store connection.old).now.trees) }
+    ensures reads { HasCleanDisk (state S.Store connection.new)
+        → QueriesRow count_text [] (state S.Store connection.old) (state S.Store connection.new) result }
 {
     connection.query_row("SELECT count(*) FROM accepted", &[])
 }
@@ -46,6 +59,11 @@ pub(crate) fn read_row<S: Alter>(connection: &mut Connection<S>, seq: u64) -> Re
     ensures row { TellsRows (state S.Store connection.new) → IfOk result (λ row. (r : _)
         × (slice_get (table_rows (state S.Store connection.old).now) (seq - 1) ≡ Some r)
         × (row ≡ column r 2 ∷ column r 3 ∷ [])) }
+    ensures safe { IsSafe (state S.Store connection.old) (state S.Store connection.new) result
+        (λ db. db ≡ (state S.Store connection.old).now.trees) }
+    ensures reads { HasCleanDisk (state S.Store connection.new)
+        → QueriesRow row_text (Int (pos seq) ∷ []) (state S.Store connection.old)
+        (state S.Store connection.new) result }
 {
     connection.query_row(
         "SELECT id, body FROM accepted WHERE seq = ?1",
@@ -63,11 +81,11 @@ pub(crate) fn insert_row<S: Alter>(
     ensures appends { TellsRows (state S.Store connection.new) → OnOk result
         (Appends (state S.Store connection.old) (state S.Store connection.new) id.now body.now) }
     ensures refused { OnErr result (Stays (state S.Store connection.old) (state S.Store connection.new)) }
-    ensures told { TellsRows (state S.Store connection.old) → HasCleanDisk (state S.Store connection.new)
-        → OnOk result (TellsRows (state S.Store connection.new)) }
-    ensures crash { SurvivesInsert (state S.Store connection.old) (state S.Store connection.new)
-        id.now body.now }
-    ensures durable { IsDurable (state S.Store connection.new) }
+    ensures safe { IsSafe (state S.Store connection.old) (state S.Store connection.new) result
+        (IsBeforeOrAfter (state S.Store connection.old).now id.now body.now) }
+    ensures runs { HasCleanDisk (state S.Store connection.new)
+        → Executes insert_text (Words id.now ∷ Blob body.now ∷ []) (state S.Store connection.old)
+        (state S.Store connection.new) result }
 {
     connection.execute(
         "INSERT INTO accepted(id, body) VALUES (?1, ?2)",
@@ -75,10 +93,24 @@ pub(crate) fn insert_row<S: Alter>(
     )
 }
 
+/// The count that a query showed.
+pub(crate) fn kept_count(row: &Row) -> Result<u64, Error>
+    ensures count { IfOk result (λ n. (n < 2 ^ 63 - 1) × (column row.now 0 ≡ Int (pos n))) }
+    ensures none { IfErr result (λ e. e ≢ Error.SqliteFailure ErrorCode.OutOfMemory → ¬ IsCount row.now) }
+{
+    let count: u64 = row.get(0)?;
+    if count < MOST {
+        Ok(count)
+    } else {
+        Err(Error::IntegralValueOutOfRange(0))
+    }
+}
+
 /// The kept row that a query showed.
 pub(crate) fn kept_row(row: &Row) -> Result<KeptRow, Error>
     ensures id { IfOk result (λ kept. column row.now 0 ≡ Words kept.id) }
     ensures body { IfOk result (λ kept. column row.now 1 ≡ Blob kept.body) }
+    ensures none { IfErr result (λ e. e ≢ Error.SqliteFailure ErrorCode.OutOfMemory → ¬ IsKept row.now) }
 {
     let id: String = row.get(0)?;
     let body: Vec<u8> = row.get(1)?;

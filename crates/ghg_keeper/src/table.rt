@@ -1,0 +1,65 @@
+//! Whether a store has the table of kept submissions.
+ghost use Rattle.std.specs.Prelude.{◌≡◌};
+ghost use Rattle.ghg_keeper.specs.Accepted.{are_kept_columns, has_kept_table, has_unique_id, is_body, is_id, is_kept_table, is_seq};
+
+use sqlite_items::Items;
+use sqlite_schema::names::same_name;
+use sqlite_schema::schema::{Column, Kind, Schema, Table};
+
+/// Whether there is a table of that name with the columns of kept submissions.
+pub(crate) fn has_kept_table(schema: &Schema) -> bool
+    ensures { result ≡ has_kept_table schema.now }
+{
+    let tables = schema.tables.as_slice();
+    tables.iter().any(|table| is_kept_table(table))
+}
+
+fn is_kept_table(table: &Table) -> bool
+    ensures { result ≡ is_kept_table table.now }
+{
+    same_name(table.name.as_slice(), b"accepted")
+        && are_kept_columns(table.columns.as_slice())
+        && matches!(table.key, Some(0))
+        && has_unique_id(table.uniques.as_slice())
+}
+
+fn are_kept_columns(columns: &[Column]) -> bool
+    ensures { result ≡ are_kept_columns columns.now }
+{
+    match columns {
+        [seq, id, body] => is_seq(seq) && is_id(id) && is_body(body),
+        _ => false,
+    }
+}
+
+fn is_seq(column: &Column) -> bool
+    ensures { result ≡ is_seq column.now }
+{
+    same_name(column.name.as_slice(), b"seq") && matches!(column.kind, Kind::Integer)
+}
+
+fn is_id(column: &Column) -> bool
+    ensures { result ≡ is_id column.now }
+{
+    same_name(column.name.as_slice(), b"id") && matches!(column.kind, Kind::Text) && column.not_null
+}
+
+fn is_body(column: &Column) -> bool
+    ensures { result ≡ is_body column.now }
+{
+    same_name(column.name.as_slice(), b"body")
+        && matches!(column.kind, Kind::Any)
+        && column.not_null
+}
+
+fn has_unique_id(uniques: &[Items<usize>]) -> bool
+    ensures { result ≡ has_unique_id uniques.now }
+{
+    match uniques {
+        [places] => match places.as_slice() {
+            [place] => *place == 2,
+            _ => false,
+        },
+        _ => false,
+    }
+}
