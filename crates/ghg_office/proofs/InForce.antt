@@ -1,6 +1,5 @@
 -- The data in force break no rule, and the bounds that are printed of them hold.
 use Rattle.std.proofs.Common.{◌≡◌, ◌+◌, ◌∙◌, ℕ, Bool, true, false, if◌then◌else◌, List, [], ◌∷◌, length, Option, Some, None, Result, Ok, Err, inl, inr, refl, sym, ap, subst, lit≤}
-use Rattle.std.specs.FinMap.{empty}
 use Rattle.ghg_data.proofs.Empty.{is_acyclic, is_workbook}
 use Rattle.ghg_definitions.specs.Compilation.{compilation, is_year_of, overflow}
 use Rattle.ghg_definitions.specs.Data.{Data, span}
@@ -8,7 +7,7 @@ use Rattle.ghg_definitions.specs.Rules.{accepted, arranged}
 use Rattle.ghg_definitions.specs.Rings.{IsAcyclic}
 use Rattle.ghg_definitions.specs.Sound.{IsWorkbook}
 use Rattle.ghg_definitions.proofs.Rings.{arranged_keeps}
-use Rattle.ghg_engine.proofs.Nothing.{nothing_compiled}
+use Rattle.ghg_engine.proofs.Nothing.{nothing_over}
 use Rattle.ghg_import.specs.Reading.{reading_of}
 use Rattle.ghg_import.proofs.Formed.{all_formed}
 use Rattle.ghg_tables.specs.declared.table.Table.{Table}
@@ -70,7 +69,7 @@ pub record Stays : Type 0 where
 
 pub states_stay : Stays
 states_stay = record {
-  first = record { workbook = is_workbook; acyclic = is_acyclic; fits = (nothing_compiled start.content empty refl refl).none_over; kept = lit≤ tt };
+  first = record { workbook = is_workbook; acyclic = is_acyclic; fits = nothing_over; kept = lit≤ tt };
   later = λ s id body h. submitted_stays s id body h;
 }
 

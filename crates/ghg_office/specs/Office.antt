@@ -1,12 +1,16 @@
 -- The office: the data in force, the submissions that it accepted, and what it answers.
-use Rattle.std.specs.Prelude.{◌≡◌, ℕ, ◌≤◌, true, ◌+◌, nat_lt, if◌then◌else◌, List, [], ◌∷◌, ◌++◌, length, Option, Some, None, Result, Ok, Err, refl}
+use Rattle.std.specs.Prelude.{◌≡◌, ℕ, ◌≤◌, Bool, true, ◌+◌, nat_lt, if◌then◌else◌, List, [], ◌∷◌, ◌++◌, length, Option, Some, None, Result, Ok, Err, refl}
 use Rattle.std.specs.Str.{bytes_eq}
 use Rattle.std.specs.Coded.{Coded, code_by, coded×, coded_list}
 use Rattle.std.specs.FinMap.{code, empty}
+use Rattle.std.specs.List.{list_all}
+use Rattle.ghg_affected.specs.Affected.{affected_nodes}
+use Rattle.ghg_affected.specs.Figures.{is_figure_key}
 use Rattle.ghg_definitions.specs.declared.record.Record.{Record}
 use Rattle.ghg_definitions.specs.declared.record.RecordKey.{RecordKey}
 use Rattle.ghg_definitions.specs.Compilation.{compilation, is_year_of, nodes}
 use Rattle.ghg_definitions.specs.Data.{Data, span}
+use Rattle.ghg_definitions.specs.Rows.{key_of}
 use Rattle.ghg_definitions.specs.Rules.{accepted, arranged}
 use Rattle.ghg_import.specs.Body.{max_body}
 use Rattle.ghg_import.specs.Reading.{Reading, reading_of}
@@ -18,6 +22,8 @@ use Rattle.ghg_office.specs.declared.reply.Reply.TheVariants.{Accepted, Repeated
 use Rattle.ghg_tables.specs.declared.table.Table.{Table}
 use Rattle.ghg_tables.specs.Names.{table_in}
 use Rattle.ghg_tables.specs.Tables.{table_text}
+use Rattle.ghg_units.specs.declared.node.Node.{Node}
+use Rattle.ghg_units.specs.declared.row.Row.{Row}
 use Rattle.ghg_units.specs.declared.rule.Rule.{Rule}
 use Rattle.ghg_units.specs.declared.rule.Rule.TheVariants.{BadId, IdReused, BodyTooLong}
 
@@ -86,21 +92,32 @@ submitted s id body = if is_id id then once s id body (kept_from 1 id s.accepted
 
 -- ---- how many evaluations a submission asks for
 
--- those of all nodes of the data with its rows, where no rule but that on overflows may be broken
-abbrev pub evaluations_of : Result Data Rule → ℕ
-evaluations_of (Err rule) = 0
-evaluations_of (Ok m) = length (nodes m)
+-- each row is about an activity, a factor or uncertainties
+abbrev pub are_rows_of_figures : List Row → Bool
+are_rows_of_figures rows = list_all (λ row. is_figure_key (key_of row.form)) rows
+
+-- The nodes that are evaluated where rows lead from old data to new ones: the affected nodes, where the rows
+-- are of figures alone, else all nodes of the new data.
+abbrev pub nodes_to_evaluate : Data → List Row → Data → List Node
+nodes_to_evaluate old rows new = if are_rows_of_figures rows then affected_nodes old new else nodes new
+
+-- the evaluations of these, where no rule but that on overflows may be broken
+abbrev pub evaluations_of_rows : Data → List Row → Result Data Rule → ℕ
+evaluations_of_rows old rows (Err rule) = 0
+evaluations_of_rows old rows (Ok new) = length (nodes_to_evaluate old rows new)
 
 -- the data with the rows of a body that is submitted in a state, before they are compiled
 abbrev pub arranged_by : State → List ℕ → Result Data Rule
 arranged_by s body =
     arranged s.content (reading_of body).rows (reading_of body).rest (kept_bytes s.accepted + length body)
 
+-- of a body that is submitted in a state
+abbrev pub evaluations_by : State → List ℕ → ℕ
+evaluations_by s body = evaluations_of_rows s.content (reading_of body).rows (arranged_by s body)
+
 -- of a submission with an id that is not kept
 abbrev pub new_evaluations : State → List ℕ → ℕ
-new_evaluations s body =
-    if nat_lt max_body (length body) then 0
-    else evaluations_of (arranged_by s body)
+new_evaluations s body = if nat_lt max_body (length body) then 0 else evaluations_by s body
 
 -- a repeat asks for none, and neither does an id that is reused
 abbrev pub evaluations_once : State → List ℕ → Option Kept → ℕ

@@ -4,13 +4,14 @@ ghost use Rattle.std.specs.Prelude.{◌≡◌, IsTrue, SomeIff};
 ghost use Rattle.std.specs.List.{list_all};
 ghost use Rattle.ghg_keeper.specs.Id.{is_id, is_id_byte};
 
+use ghg_keeper::MAX_ID_LEN;
 use ghg_units::ShortText;
 use std::marker::Model;
 
-/// A text of 1 to 40 bytes out of letters, digits, `.`, `_` and `-`.
+/// A text of at least one byte and at most `MAX_ID_LEN`, out of letters, digits, `.`, `_` and `-`.
 #[derive(Clone, Copy, PartialEq, Eq, Hash)]
 pub(crate) struct SubmissionId {
-    text: ShortText<{ SubmissionId::MAX_LEN }>,
+    text: ShortText<MAX_ID_LEN>,
 }
 
 impl Model for SubmissionId {
@@ -27,8 +28,6 @@ impl Model for SubmissionId {
 }
 
 impl SubmissionId {
-    const MAX_LEN: usize = 40;
-
     #[tactic(auto, unfolding(ghg_keeper::specs::Id::is_id))]
     /// The id that a text is; `None` exactly where it is none.
     pub(crate) fn new(text: &[u8]) -> Option<SubmissionId>
@@ -54,7 +53,7 @@ impl SubmissionId {
 fn is_id(text: &[u8]) -> bool
     ensures { result ≡ is_id text.now }
 {
-    !text.is_empty() && text.len() <= SubmissionId::MAX_LEN && has_id_bytes(text)
+    !text.is_empty() && text.len() <= MAX_ID_LEN && has_id_bytes(text)
 }
 
 fn has_id_bytes(text: &[u8]) -> bool

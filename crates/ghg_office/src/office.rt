@@ -146,8 +146,9 @@ impl Office {
         ensures answer { Answers (submitted self.old id.now body.now) result self.old self.new }
         // Only a new submission whose body is read takes memory.
         ensures memory { result ≡ Reply.Memory → IsRead self.old id.now body.now }
-        // With any answer no more nodes are evaluated than the data with its rows have, and none for a repeat
-        // or where a rule before the last is broken.
+        // With any answer no more nodes are evaluated than the rows affect, where these are of figures alone,
+        // and else no more than the data with them have; none for a repeat, or where a rule before the last
+        // is broken.
         ensures steps { steps.new ≤ steps.old + evaluations self.old id.now body.now }
         // With any answer the rows that a keeper tells are the accepted submissions.
         ensures kept { stored ≡ true

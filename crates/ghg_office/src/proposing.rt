@@ -9,7 +9,7 @@ ghost use Rattle.ghg_data.specs.Refusal.{IfRule};
 ghost use Rattle.ghg_import.specs.Body.{max_body};
 ghost use Rattle.ghg_engine.specs.Proposals.{IsProposed};
 ghost use Rattle.ghg_office.specs.Accepted.{kept_bytes};
-ghost use Rattle.ghg_office.specs.Office.{State, arranged_by, entered, entered_by, evaluations_of};
+ghost use Rattle.ghg_office.specs.Office.{State, entered, entered_by, evaluations_by, evaluations_of_rows};
 
 use crate::accepted::Accepted;
 use ghg_data::PlanRefusal;
@@ -43,7 +43,7 @@ pub(crate) fn prepare<L: Ledger>(
         (IfRule (λ rule. entered_by before body.now ≡ Err rule)) }
     ensures steps { let before : State =
         record { content = engine.old.content; accepted = accepted.old.list } in
-        steps.new ≤ steps.old + evaluations_of (arranged_by before body.now) }
+        steps.new ≤ steps.old + evaluations_by before body.now }
 {
     let rows = read_rows(alloc, body)?;
     let kept_bytes = accepted.kept_bytes() + body.len() as u64;
@@ -63,8 +63,8 @@ fn propose<L: Ledger>(
 ) -> Result<Proposal, PlanRefusal>
     requires { AllByRecursion IsWellFormed rows.rows.items }
     ensures kept { engine.new.content ≡ engine.old.content }
-    ensures steps { steps.new ≤ steps.old +
-        evaluations_of (arranged engine.old.content rows.rows.items rows.rest kept_bytes) }
+    ensures steps { steps.new ≤ steps.old + evaluations_of_rows engine.old.content rows.rows.items
+        (arranged engine.old.content rows.rows.items rows.rest kept_bytes) }
     ensures proposed { IfOk result (IsProposed engine.new) }
     ensures entered { let made =
         entered engine.old.content (record { rows = rows.rows.items; rest = rows.rest }) kept_bytes in
