@@ -5,3 +5,4 @@ pub mod Paths
 pub mod Prefixes
 pub mod Received
 pub mod Serving
+pub mod Targets

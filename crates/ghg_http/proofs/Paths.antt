@@ -1,15 +1,13 @@
--- Which route a path finds.
-use Rattle.std.proofs.Common.{◌≡◌, ℕ, Bool, true, false, cond, zero, suc, ◌+◌, ◌-◌, ◌<◌, List, [], ◌∷◌, ◌++◌, length, drop, Option, Some, None, refl, sym, ap, ap₂, ◌∙◌, codes, arith, append_assoc, length-append}
-use Rattle.std.specs.Prelude.{◌==◌, ◌&&◌, not, nat_lt, option_and_then}
+-- Which route a path finds: a walk over rows, forwards.
+use Rattle.std.proofs.Common.{◌≡◌, ℕ, Bool, true, false, cond, zero, suc, ◌+◌, ◌-◌, ◌<◌, List, [], ◌∷◌, ◌++◌, length, drop, Option, Some, None, refl, sym, ap, ap₂, ◌∙◌, arith, append_assoc, length-append}
+use Rattle.std.specs.Prelude.{◌==◌, not, nat_lt}
 use Rattle.std.specs.List.{list_all, prefix_len}
 use Rattle.std.proofs.lemmas.Bool.Decides.{nat_tests}
-use Rattle.std.proofs.lemmas.List.Folds.{list_all-append}
 use Rattle.std.proofs.Math.Seq.{take-append_seam, drop-append_seam}
 use Rattle.matchit.specs.Rows.{RowsOf}
 use Rattle.matchit.specs.Seek.{cuts, has_slash, longest_suffix, or_else, own, param_step, seek, segment, step, with_suffix}
-use Rattle.matchit.proofs.OnLiterals.{matchit_on_literals}
-use Rattle.ghg_http.specs.Laws.{FindsSubmissions, FindsTables, is_query, is_segment_byte}
-use Rattle.ghg_http.specs.Route.{is_slash, parts_of, path_of, routes, table, table_at, target_of}
+use Rattle.ghg_http.specs.Laws.{is_segment_byte}
+use Rattle.ghg_http.specs.Route.{is_slash, table, table_at}
 
 -- ---- a walk over rows
 
@@ -34,7 +32,7 @@ module _ {K : Type 0} where
       by false = refl
 
   -- and no route is found
-  nothing : (skip : ℕ) (path : List ℕ) → seek {K = K} skip [] path ≡ None
+  pub nothing : (skip : ℕ) (path : List ℕ) → seek {K = K} skip [] path ≡ None
   unfolding seek
   nothing zero [] = refl
   nothing (suc skip) [] = refl
@@ -45,20 +43,20 @@ module _ {K : Type 0} where
       ∙ nothing ((param_step {K = K} [] (b ∷ path)).0 - 1) path)
 
   -- nor by a parameter
-  no_parameter : (b : ℕ) (path : List ℕ)
+  pub no_parameter : (b : ℕ) (path : List ℕ)
       → seek {K = K} ((param_step {K = K} [] (b ∷ path)).0 - 1) (param_step {K = K} [] (b ∷ path)).1 path ≡ None
   no_parameter b path =
       ap (λ rs. seek {K = K} ((param_step {K = K} [] (b ∷ path)).0 - 1) rs path) (no_rows (b ∷ path))
       ∙ nothing ((param_step {K = K} [] (b ∷ path)).0 - 1) path
 
   -- where all of a path is skipped, the route that ends there is found
-  skipped : (rs : RowsOf K) (path : List ℕ) → seek (length path) rs path ≡ own rs
+  pub skipped : (rs : RowsOf K) (path : List ℕ) → seek (length path) rs path ≡ own rs
   unfolding seek
   skipped rs [] = refl
   skipped rs (b ∷ path) = skipped rs path
 
   -- a route goes on at a byte that it has
-  at_byte : (x : ℕ) (t : List ℕ) (key : K) (path : List ℕ) → nat_lt x 256 ≡ true
+  pub at_byte : (x : ℕ) (t : List ℕ) (key : K) (path : List ℕ) → nat_lt x 256 ≡ true
       → seek 0 ((x ∷ t, key) ∷ []) (x ∷ path) ≡ seek 0 ((t, key) ∷ []) path
   unfolding seek
   at_byte x t key path e =
@@ -67,7 +65,7 @@ module _ {K : Type 0} where
       let no_rest_token : (x == 257) ≡ false = grind (arith, nat_tests, e) in
       rw (same, no_parameter_token, no_rest_token, no_parameter x path) (or_none _)
 
-  literals : (w t : List ℕ) (key : K) (path : List ℕ) → list_all (λ x. nat_lt x 256) w ≡ true
+  pub literals : (w t : List ℕ) (key : K) (path : List ℕ) → list_all (λ x. nat_lt x 256) w ≡ true
       → seek 0 ((w ++ t, key) ∷ []) (w ++ path) ≡ seek 0 ((t, key) ∷ []) path
   literals [] t key path e = refl
   literals (x ∷ w) t key path e =
@@ -76,7 +74,7 @@ module _ {K : Type 0} where
       at_byte x (w ++ t) key (w ++ path) first ∙ literals w t key path others
 
   -- and at a parameter, if it has that, where the path has another byte
-  at_parameter : (b : ℕ) (t : List ℕ) (key : K) (path : List ℕ) → nat_lt b 256 ≡ true
+  pub at_parameter : (b : ℕ) (t : List ℕ) (key : K) (path : List ℕ) → nat_lt b 256 ≡ true
       → seek 0 ((256 ∷ t, key) ∷ []) (b ∷ path)
       ≡ seek ((param_step ((t, key) ∷ []) (b ∷ path)).0 - 1) (param_step ((t, key) ∷ []) (b ∷ path)).1 path
   unfolding seek
@@ -91,7 +89,7 @@ module _ {K : Type 0} where
   last_step b key path e =
       ap (λ (slash : Bool). cond {A = ℕ × RowsOf K} slash (0, []) (length (b ∷ path), ([], key) ∷ [])) e
 
-  at_end : (b : ℕ) (key : K) (path : List ℕ) → nat_lt b 256 ≡ true → has_slash (b ∷ path) ≡ false
+  pub at_end : (b : ℕ) (key : K) (path : List ℕ) → nat_lt b 256 ≡ true → has_slash (b ∷ path) ≡ false
       → seek 0 ((256 ∷ [], key) ∷ []) (b ∷ path) ≡ Some key
   at_end b key path small e =
       at_parameter b [] key path small
@@ -121,7 +119,7 @@ module _ {K : Type 0} where
       ∙ ap (cut (xs ++ 47 ∷ [])) (suffix_of (xs ++ 47 ∷ []) t key (cuts_slash xs some))
       ∙ ap (λ (n : ℕ). (n, rs)) (omega (arith, length-append xs (47 ∷ [])))
 
-  at_next : (b : ℕ) (t : List ℕ) (key : K) (xs rest : List ℕ) → nat_lt b 256 ≡ true
+  pub at_next : (b : ℕ) (t : List ℕ) (key : K) (xs rest : List ℕ) → nat_lt b 256 ≡ true
       → segment ((b ∷ xs) ++ 47 ∷ rest) ≡ (b ∷ xs) ++ 47 ∷ []
       → seek 0 ((256 ∷ 47 ∷ t, key) ∷ []) ((b ∷ xs) ++ 47 ∷ rest) ≡ seek 0 ((t, key) ∷ []) rest
   at_next b t key xs rest small e =
@@ -133,29 +131,33 @@ module _ {K : Type 0} where
       ∙ at_byte 47 t key rest refl
 
   -- where no row has a parameter here
-  at_literal : (rs : RowsOf K) (b : ℕ) (path : List ℕ) → step 256 rs ≡ [] → own (step 257 rs) ≡ None
+  pub at_literal : (rs : RowsOf K) (b : ℕ) (path : List ℕ) → step 256 rs ≡ [] → own (step 257 rs) ≡ None
       → seek 0 rs (b ∷ path) ≡ seek 0 (step b rs) path
   unfolding seek
   at_literal rs b path p c = rw (p, c, no_parameter b path) (or_none _)
 
 -- ---- segments
 
-low_byte : (b : ℕ) → is_segment_byte b ≡ true → nat_lt b 256 ≡ true
+pub low_byte : (b : ℕ) → is_segment_byte b ≡ true → nat_lt b 256 ≡ true
 low_byte b e = grind (arith, nat_tests, e)
 
-no_slash : (xs : List ℕ) → list_all is_segment_byte xs ≡ true → has_slash xs ≡ false
+pub no_slash : (xs : List ℕ) → list_all is_segment_byte xs ≡ true → has_slash xs ≡ false
 no_slash [] e = refl
 no_slash (x ∷ xs) e =
     let first : (x == 47) ≡ false = grind (arith, nat_tests, e) in
     let others : list_all is_segment_byte xs ≡ true = grind (arith, e) in
     rw first (no_slash xs others)
 
-segment_to : (xs rest : List ℕ) → list_all is_segment_byte xs ≡ true → segment (xs ++ 47 ∷ rest) ≡ xs ++ 47 ∷ []
-segment_to [] rest e = refl
-segment_to (x ∷ xs) rest e =
-    let first : (x == 47) ≡ false = grind (arith, nat_tests, e) in
-    let others : list_all is_segment_byte xs ≡ true = grind (arith, e) in
-    rw first (ap (λ (t : List ℕ). x ∷ t) (segment_to xs rest others))
+pub segment_before : (xs rest : List ℕ) → has_slash xs ≡ false → segment (xs ++ 47 ∷ rest) ≡ xs ++ 47 ∷ []
+segment_before [] rest e = refl
+segment_before (x ∷ xs) rest e = by (x == 47) refl (segment_before xs rest)
+  where
+    by : (same : Bool) → (x == 47) ≡ same → (has_slash xs ≡ false → segment (xs ++ 47 ∷ rest) ≡ xs ++ 47 ∷ [])
+        → segment ((x ∷ xs) ++ 47 ∷ rest) ≡ (x ∷ xs) ++ 47 ∷ []
+    by true s others = let slash = rw s at e in absurd cc
+    by false s others =
+        let plain : has_slash xs ≡ false = rw s at e in
+        rw s (ap (λ (t : List ℕ). x ∷ t) (others plain))
 
 -- how far a test holds
 holds_to : (test : ℕ → Bool) (xs ys : List ℕ) → list_all test xs ≡ true → prefix_len test ys ≡ 0
@@ -167,22 +169,6 @@ holds_to test (x ∷ xs) ys e stop =
     let rest = holds_to test xs ys others stop in
     rw first (omega (arith, rest))
 
--- a path without a question mark is what stands before one
-path_before : (xs query : List ℕ) → list_all (λ b. not (b == 63)) xs ≡ true → is_query query ≡ true → path_of (xs ++ query) ≡ xs
-path_before xs query e q =
-    rw (holds_to (λ b. not (b == 63)) xs query e (stops query q)) (take-append_seam xs query)
-  where
-    stops : (query : List ℕ) → is_query query ≡ true → prefix_len (λ b. not (b == 63)) query ≡ 0
-    stops [] q = refl
-    stops (b ∷ query) q = rw q refl
-
-no_question : (xs : List ℕ) → list_all is_segment_byte xs ≡ true → list_all (λ b. not (b == 63)) xs ≡ true
-no_question [] e = refl
-no_question (x ∷ xs) e =
-    let first : (x == 63) ≡ false = grind (arith, nat_tests, e) in
-    let others : list_all is_segment_byte xs ≡ true = grind (arith, e) in
-    rw first (no_question xs others)
-
 no_slashes : (xs : List ℕ) → list_all is_segment_byte xs ≡ true → list_all (λ b. not (is_slash b)) xs ≡ true
 no_slashes [] e = refl
 no_slashes (x ∷ xs) e =
@@ -191,50 +177,10 @@ no_slashes (x ∷ xs) e =
     rw first (no_slashes xs others)
 
 -- what stands before and behind the first slash
-parts_at : (name year : List ℕ) → list_all is_segment_byte name ≡ true → table_at (name ++ 47 ∷ year) ≡ Some (table name year)
+pub parts_at : (name year : List ℕ) → list_all is_segment_byte name ≡ true → table_at (name ++ 47 ∷ year) ≡ Some (table name year)
 parts_at name year e =
     let at = holds_to (λ b. not (is_slash b)) name (47 ∷ year) (no_slashes name e) refl in
     let within : nat_lt (length name) (length (name ++ 47 ∷ year)) ≡ true = grind (arith, nat_tests, length-append name (47 ∷ year)) in
     let behind : drop (length name + 1) (name ++ 47 ∷ year) ≡ year =
     ap₂ drop (sym (length-append name (47 ∷ []))) (sym (append_assoc name (47 ∷ []) year)) ∙ drop-append_seam (name ++ 47 ∷ []) year in
     rw (at, within, take-append_seam name (47 ∷ year), behind) refl
-
--- ---- targets
-
-pub submissions_found : FindsSubmissions
-unfolding target_of matchit_on_literals routes
-submissions_found [] query s q = absurd (cc)
-submissions_found (b ∷ id) query s q =
-    let bytes : list_all is_segment_byte (b ∷ id) ≡ true = grind (arith, s) in
-    let small : nat_lt b 256 ≡ true = grind (arith, nat_tests, bytes) in
-    let path : List ℕ = codes "/submissions/" ++ (b ∷ id) in
-    let found = at_literal routes 47 (drop 1 path) refl refl ∙ at_literal (step 47 routes) 115 (drop 2 path) refl refl
-    ∙ literals (codes "ubmissions/") (256 ∷ []) _ (b ∷ id) refl ∙ at_end b _ id small (no_slash (b ∷ id) bytes) in
-    ap target_of (path_before path query (no_question (b ∷ id) bytes) q)
-    ∙ ap (option_and_then (λ route. parts_of route.value path)) found
-
-pub tables_found : FindsTables
-unfolding target_of matchit_on_literals routes
-tables_found [] year query n y q = absurd (cc)
-tables_found (a ∷ name) [] query n y q = absurd (cc)
-tables_found (a ∷ name) (b ∷ year) query n y q =
-    let name_bytes : list_all is_segment_byte (a ∷ name) ≡ true = grind (arith, n) in
-    let year_bytes : list_all is_segment_byte (b ∷ year) ≡ true = grind (arith, y) in
-    let small : nat_lt a 256 ≡ true = grind (arith, nat_tests, name_bytes) in
-    let small_year : nat_lt b 256 ≡ true = grind (arith, nat_tests, year_bytes) in
-    let parts : List ℕ = (a ∷ name) ++ 47 ∷ b ∷ year in
-    let path : List ℕ = codes "/tables/" ++ parts in
-    let found = at_literal routes 47 (drop 1 path) refl refl ∙ at_literal (step 47 routes) 116 (drop 2 path) refl refl
-    ∙ literals (codes "ables/") (256 ∷ 47 ∷ 256 ∷ []) _ parts refl
-    ∙ at_next a (256 ∷ []) _ name (b ∷ year) small (segment_to (a ∷ name) (b ∷ year) name_bytes)
-    ∙ at_end b _ year small_year (no_slash (b ∷ year) year_bytes) in
-    ap target_of (ap path_of (sym (append_assoc (codes "/tables/" ++ (a ∷ name)) (47 ∷ b ∷ year) query))
-    ∙ path_before path query (path_bytes name_bytes year_bytes) q)
-    ∙ ap (option_and_then (λ route. parts_of route.value path)) found
-    ∙ parts_at (a ∷ name) (b ∷ year) name_bytes
-  where
-    path_bytes : list_all is_segment_byte (a ∷ name) ≡ true → list_all is_segment_byte (b ∷ year) ≡ true
-        → list_all (λ c. not (c == 63)) ((a ∷ name) ++ 47 ∷ b ∷ year) ≡ true
-    path_bytes n y =
-        list_all-append (λ c. not (c == 63)) (a ∷ name) (47 ∷ b ∷ year)
-        ∙ ap₂ (λ (x y : Bool). x && y) (no_question (a ∷ name) n) (no_question (b ∷ year) y)

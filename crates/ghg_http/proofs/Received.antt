@@ -1,5 +1,5 @@
 -- What was read from a link by several reads holds a request.
-use Rattle.std.proofs.Common.{◌≡◌, ℕ, ◌+◌, ◌<◌, ◌≤◌, List, [], ◌++◌, length, take, drop, sym, ap, ◌∙◌, append_assoc, append-nil, length-append, refl, subst, arith, inr, Option, Some, None, Result, Ok, Err, Bor}
+use Rattle.std.proofs.Common.{◌≡◌, ℕ, ◌+◌, ◌<◌, ◌≤◌, List, [], ◌++◌, length, take, drop, sym, ap, ◌∙◌, append_assoc, append-nil, length-append, refl, subst, arith, inl, inr, ◌⊎◌, length-drop, Option, Some, None, Result, Ok, Err, Bor}
 use Rattle.std.specs.Prelude.{IfErr, IfOk}
 use Rattle.std.proofs.lemmas.List.{take-append-drop, nil_from_length}
 use Rattle.httparse.specs.Grammar.{ReadsRequest}
@@ -8,7 +8,7 @@ use Rattle.ghg_outer.specs.Tape.{Consumes, IsAtEnd, Tape}
 use Rattle.ghg_outer.proofs.Tapes.{consumes_more, consumes_nothing, rose_later}
 use Rattle.ghg_http.specs.Decision.{seen, show, submit}
 use Rattle.ghg_http.specs.Head.{HasHead, IsWhole}
-use Rattle.ghg_http.specs.Receive.{CompletesBody, CutsBody, FollowsHead, Grows, Stopped, TakesRequest}
+use Rattle.ghg_http.specs.Receive.{CompletesBody, CutsBody, EndsEarly, Fills, FollowsHead, Grows, HasShortBody, IsPrompt, ReadsLast, Stopped, TakesRequest, max_read}
 use Rattle.ghg_http.specs.declared.decision.Decision.{Decision}
 use Rattle.ghg_http.specs.declared.decision.Decision.TheVariants as decided
 use Rattle.ghg_http.specs.declared.decision.Refusal.{Refusal}
@@ -20,19 +20,31 @@ use Rattle.ghg_http.specs.declared.request.Request.TheVariants.{Refused, Submit,
 -- ---- stopping
 
 -- memory ran out with some text read
-pub out_of_memory : (a b : Tape) (text : List ℕ) → Consumes a b text → Stopped a b Memory
-out_of_memory a b text read = record { text = text; read = read; cause = λ e. absurd cc }
+pub out_of_memory : (Kind : List ℕ → Type 0) (a b : Tape) (text : List ℕ) → Consumes a b text → Stopped Kind a b Memory
+out_of_memory Kind a b text read = record { text = text; read = read; cause = λ e. absurd cc; kind = λ e. absurd cc }
 
 -- and with nothing read
-pub out_of_memory_at_once : (a : Tape) → Stopped a a Memory
-out_of_memory_at_once a = out_of_memory a a [] (consumes_nothing a)
+pub out_of_memory_at_once : (Kind : List ℕ → Type 0) (a : Tape) → Stopped Kind a a Memory
+out_of_memory_at_once Kind a = out_of_memory Kind a a [] (consumes_nothing a)
 
 -- some text was read before
-pub stopped_later : (a b c : Tape) (text : List ℕ) (e : ReceiveError) → Consumes a b text → Stopped b c e → Stopped a c e
-stopped_later a b c text e read s = record {
+pub stopped_later : (Kind Late : List ℕ → Type 0) (a b c : Tape) (text : List ℕ) (e : ReceiveError) → Consumes a b text
+    → ((more : List ℕ) → Late more → Kind (text ++ more)) → Stopped Late b c e → Stopped Kind a c e
+stopped_later Kind Late a b c text e read known s = record {
   text = text ++ s.text;
   read = consumes_more a b c text s.text read s.read;
   cause = λ failed. rose_later a b c read.counts (s.cause failed);
+  kind = λ failed. known s.text (s.kind failed);
+}
+
+-- the same text is of another kind
+pub stopped_so : (Kind Given : List ℕ → Type 0) (a b : Tape) (e : ReceiveError) → ((text : List ℕ) → Given text → Kind text)
+    → Stopped Given a b e → Stopped Kind a b e
+stopped_so Kind Given a b e known s = record {
+  text = s.text;
+  read = s.read;
+  cause = s.cause;
+  kind = λ failed. known s.text (s.kind failed);
 }
 
 -- ---- a buffer
@@ -53,6 +65,49 @@ grows_more a b c x y z p q = record {
 pub grows_nothing : (a : Tape) (x : List ℕ) → Grows a a x x
 grows_nothing a x = record { got = []; buffer = sym (append-nil x); read = consumes_nothing a }
 
+-- so many bytes came
+count_came : (b c : Tape) (old new : List ℕ) (n : ℕ) (grows : Grows b c old new) → length new ≡ length old + n → length grows.got ≡ n
+count_came b c old new n grows count =
+    let size = ap length grows.buffer ∙ length-append old grows.got in omega (arith, size, count)
+
+-- a buffer that is filled grows
+pub fills_nothing : (a : Tape) (x : List ℕ) (size : ℕ) → Fills a a x x size
+fills_nothing a x size = record {
+  grows = record { got = []; buffer = sym (append-nil x); read = consumes_nothing a };
+  last = inl refl;
+}
+
+pub fills_more : (a b c : Tape) (x y z : List ℕ) (size n : ℕ) → Fills a b x y size → length y < size → Grows b c y z
+    → length z ≡ length y + n → n ≤ max_read → Fills a c x z size
+fills_more a b c x y z size n p room q count once = record {
+  grows = record {
+    got = p.grows.got ++ q.got;
+    buffer = q.buffer ∙ ap (λ t. t ++ q.got) p.grows.buffer ∙ append_assoc x p.grows.got q.got;
+    read = consumes_more a b c p.grows.got q.got p.grows.read q.read;
+  };
+  last = inr (record {
+    front = p.grows.got;
+    last = q.got;
+    whole = refl;
+    short = subst (λ t. length t < size) p.grows.buffer room;
+    few = let came = count_came b c y z n q count in omega (arith, came, once);
+  });
+}
+
+-- nothing was read behind a request: at first, and after a read while the bytes ended early
+pub prompt_empty : IsPrompt []
+prompt_empty = record { front = []; last = []; whole = refl; early = inl refl; few = omega arith }
+
+pub prompt_more : (b c : Tape) (old new : List ℕ) (n : ℕ) → EndsEarly old → Grows b c old new → length new ≡ length old + n
+    → n ≤ max_read → IsPrompt new
+prompt_more b c old new n early grows count once = record {
+  front = old;
+  last = grows.got;
+  whole = grows.buffer;
+  early = inr early;
+  few = let came = count_came b c old new n grows count in omega (arith, came, once);
+}
+
 -- a read that gave nothing leaves the buffer
 nothing_came : (b c : Tape) (old new : List ℕ) (n : ℕ) → Grows b c old new → length new ≡ length old + n → n ≡ 0 → old ≡ new
 nothing_came b c old new n grows count none =
@@ -67,25 +122,43 @@ still_read a b c old new n before grows count none =
     subst (Consumes a c) (sym (nothing_came b c old new n grows count none))
     (all_read a c new (grows_more a b c [] old new before grows))
 
+-- a read that failed leaves it
+pub stopped_grown : (Kind : List ℕ → Type 0) (a b c : Tape) (old new : List ℕ) (e : ReceiveError) → Grows a b old new → Kind new
+    → Stopped (λ text. text ≡ []) b c e → Stopped (λ text. Kind (old ++ text)) a c e
+stopped_grown Kind a b c old new e grows h =
+    stopped_later (λ text. Kind (old ++ text)) (λ text. text ≡ []) a b c grows.got e grows.read
+    (λ more none. subst Kind (grows.buffer ∙ sym (ap (λ t. old ++ t) (ap (λ t. grows.got ++ t) none ∙ append-nil grows.got))) h)
+
 -- ---- a body
 
 -- the body that is cut from what came, and the rest of it
-pub body_cut : (a b : Tape) (rest all body : List ℕ) (n : ℕ) → Grows a b rest all → body ≡ take n all
-    → CompletesBody a b rest body
-body_cut a b rest all body n grows cut = record {
-  got = grows.got;
+pub body_cut : (a b : Tape) (rest all body : List ℕ) (n : ℕ) → Fills a b rest all n → body ≡ take n all
+    → (all ≡ rest) ⊎ (length all ≤ n) → CompletesBody a b rest n body
+body_cut a b rest all body n fills cut near = record {
+  got = fills.grows.got;
   extra = drop n all;
-  read = grows.read;
-  whole = sym grows.buffer ∙ sym (take-append-drop n all) ∙ ap (λ t. t ++ drop n all) (sym cut);
+  read = fills.grows.read;
+  last = fills.last;
+  whole = sym fills.grows.buffer ∙ sym (take-append-drop n all) ∙ ap (λ t. t ++ drop n all) (sym cut);
+  near = by near;
 }
+  where
+    by : (all ≡ rest) ⊎ (length all ≤ n) → (fills.grows.got ≡ []) ⊎ (drop n all ≡ [])
+    by (inl same) =
+        let size = ap length fills.grows.buffer ∙ length-append rest fills.grows.got in
+        let as_before = ap length same in
+        inl (nil_from_length fills.grows.got (omega (arith, size, as_before)))
+    by (inr few) =
+        let size = length-drop n all in
+        inr (nil_from_length (drop n all) (omega (arith, size, few)))
 
-pub cut_short : (a b : Tape) (rest all : List ℕ) (n : ℕ) → Grows a b rest all → IsAtEnd b → length all < n
+pub cut_short : (a b : Tape) (rest all : List ℕ) (n : ℕ) → Fills a b rest all n → IsAtEnd b → length all < n
     → CutsBody a b rest n
-cut_short a b rest all n grows end few = record {
-  got = grows.got;
-  read = grows.read;
+cut_short a b rest all n fills end few = record {
+  got = fills.grows.got;
+  read = fills.grows.read;
   end = end;
-  short = let size = ap length grows.buffer in omega (arith, size, few);
+  short = let size = ap length fills.grows.buffer in omega (arith, size, few);
 }
 
 -- ---- requests
@@ -99,46 +172,102 @@ module _ (bytes : List ℕ) (made : Decision) (size : ℕ) (h : IsWhole bytes ma
     few = h.few;
   }
 
+  no_more : length (bytes ++ []) ≤ 16384
+  no_more = subst (λ t. length t ≤ 16384) (sym (append-nil bytes)) small
+
+  near_body : (got extra : List ℕ) → (got ≡ []) ⊎ (extra ≡ []) → (length (bytes ++ got) ≤ 16384) ⊎ (extra ≡ [])
+  near_body got extra (inl none) = inl (subst (λ t. length (bytes ++ t) ≤ 16384) (sym none) no_more)
+  near_body got extra (inr none) = inr none
+
+  still_prompt : IsPrompt bytes → IsPrompt (bytes ++ [])
+  still_prompt = subst IsPrompt (sym (append-nil bytes))
+
   -- the request is refused
-  pub refuses : (a : Tape) (reason : Refusal) → made ≡ decided.Refuse reason → FollowsHead a a bytes (Some (Refused reason))
-  refuses a reason is = record {
+  pub refuses : (a : Tape) (reason : Refusal) → IsPrompt bytes → made ≡ decided.Refuse reason → FollowsHead a a bytes (Some (Refused reason))
+  refuses a reason prompt is = record {
     got = [];
     read = consumes_nothing a;
-    holds = inr (inr (record {
-      head = h.head;
-      rest = drop size bytes ++ [];
-      has_head = has_head [] (drop size bytes ++ []) refl;
-      decides = sym h.decides ∙ ap seen is;
-    }));
+    holds = (
+      (
+        inr (inr (record {
+          head = h.head;
+          rest = drop size bytes ++ [];
+          has_head = has_head [] (drop size bytes ++ []) refl;
+          decides = sym h.decides ∙ ap seen is;
+        })),
+        no_more,
+      ),
+      still_prompt prompt,
+    );
   }
 
   -- it asks for a table
-  pub shows : (a : Tape) (table year : Bor (List ℕ)) (name when : List ℕ) → made ≡ decided.Show table year
+  pub shows : (a : Tape) (table year : Bor (List ℕ)) (name when : List ℕ) → IsPrompt bytes → made ≡ decided.Show table year
       → name ≡ table.now → when ≡ year.now → FollowsHead a a bytes (Some (Show name when))
-  shows a table year name when is named dated = record {
+  shows a table year name when prompt is named dated = record {
     got = [];
     read = consumes_nothing a;
-    holds = record {
-      head = h.head;
-      rest = drop size bytes ++ [];
-      has_head = has_head [] (drop size bytes ++ []) refl;
-      decides = sym h.decides ∙ ap seen is ∙ ap (λ t. show t year.now) (sym named) ∙ ap (show name) (sym dated);
-    };
+    holds = (
+      (
+        record {
+          head = h.head;
+          rest = drop size bytes ++ [];
+          has_head = has_head [] (drop size bytes ++ []) refl;
+          decides = sym h.decides ∙ ap seen is ∙ ap (λ t. show t year.now) (sym named) ∙ ap (show name) (sym dated);
+        },
+        no_more,
+      ),
+      still_prompt prompt,
+    );
+  }
+
+  -- bytes behind the head that are less than a body
+  pub has_short_body : (id : Bor (List ℕ)) (n : ℕ) (got : List ℕ) → made ≡ decided.Submit id n
+      → length (drop size bytes ++ got) < n → HasShortBody (bytes ++ got)
+  has_short_body id n got is short = record {
+    head = h.head;
+    rest = drop size bytes ++ got;
+    id = id.now;
+    size = n;
+    has_head = has_head got (drop size bytes ++ got) refl;
+    decides = sym h.decides ∙ ap seen is;
+    short = short;
+  }
+
+  pub stops_short : (a b : Tape) (e : ReceiveError) (id : Bor (List ℕ)) (n : ℕ) → made ≡ decided.Submit id n
+      → Stopped (λ text. length (drop size bytes ++ text) < n) a b e → Stopped (λ text. EndsEarly (bytes ++ text)) a b e
+  stops_short a b e id n is =
+      stopped_so (λ text. EndsEarly (bytes ++ text)) (λ text. length (drop size bytes ++ text) < n) a b e
+      (λ text short. inr (has_short_body id n text is short))
+
+  prompt_body : (id : Bor (List ℕ)) (n : ℕ) (got : List ℕ) → IsPrompt bytes → made ≡ decided.Submit id n
+      → (got ≡ []) ⊎ ReadsLast (drop size bytes) got n → IsPrompt (bytes ++ got)
+  prompt_body id n got prompt is (inl none) = subst (λ t. IsPrompt (bytes ++ t)) (sym none) (still_prompt prompt)
+  prompt_body id n got prompt is (inr some) = record {
+    front = bytes ++ some.front;
+    last = some.last;
+    whole = ap (λ t. bytes ++ t) some.whole ∙ sym (append_assoc bytes some.front some.last);
+    early = inr (inr (has_short_body id n some.front is some.short));
+    few = some.few;
   }
 
   -- it is a submission whose body came
-  pub submits : (a b : Tape) (id : Bor (List ℕ)) (n : ℕ) (name body : List ℕ) → made ≡ decided.Submit id n
-      → name ≡ id.now → CompletesBody a b (drop size bytes) body → length body ≡ n
+  pub submits : (a b : Tape) (id : Bor (List ℕ)) (n : ℕ) (name body : List ℕ) → IsPrompt bytes → made ≡ decided.Submit id n
+      → name ≡ id.now → CompletesBody a b (drop size bytes) n body → length body ≡ n
       → FollowsHead a b bytes (Some (Submit name body))
-  submits a b id n name body is named came count = record {
+  submits a b id n name body prompt is named came count = record {
     got = came.got;
     read = came.read;
-    holds = record {
-      head = h.head;
-      extra = came.extra;
-      has_head = has_head came.got (body ++ came.extra) came.whole;
-      decides = sym h.decides ∙ ap seen is ∙ ap (λ i. submit i n) (sym named) ∙ ap (submit name) (sym count);
-    };
+    holds = (
+      record {
+        head = h.head;
+        extra = came.extra;
+        has_head = has_head came.got (body ++ came.extra) came.whole;
+        decides = sym h.decides ∙ ap seen is ∙ ap (λ i. submit i n) (sym named) ∙ ap (submit name) (sym count);
+        near = near_body came.got came.extra came.near;
+      },
+      prompt_body id n came.got prompt is came.last,
+    );
   }
 
   -- or one that is cut off
@@ -147,18 +276,7 @@ module _ (bytes : List ℕ) (made : Decision) (size : ℕ) (h : IsWhole bytes ma
   cuts a b id n is cut = record {
     got = cut.got;
     read = cut.read;
-    holds = (
-      cut.end,
-      inr (record {
-        head = h.head;
-        rest = drop size bytes ++ cut.got;
-        id = id.now;
-        size = n;
-        has_head = has_head cut.got (drop size bytes ++ cut.got) refl;
-        decides = sym h.decides ∙ ap seen is;
-        short = cut.short;
-      }),
-    );
+    holds = (cut.end, inr (has_short_body id n cut.got is cut.short));
   }
 
 -- a request that follows its head was read with it
@@ -172,6 +290,7 @@ follows a b c buffer (Ok found) grows h = record {
 }
 
 pub follows_stopped : (a b c : Tape) (buffer : List ℕ) (r : Result (Option Request) ReceiveError) → Grows a b [] buffer
-    → IfErr r (Stopped b c) → IfErr r (Stopped a c)
+    → IfErr r (Stopped (λ text. EndsEarly (buffer ++ text)) b c) → IfErr r (Stopped EndsEarly a c)
 follows_stopped a b c buffer (Ok found) grows h = tt
-follows_stopped a b c buffer (Err e) grows h = stopped_later a b c buffer e (all_read a b buffer grows) h
+follows_stopped a b c buffer (Err e) grows h =
+    stopped_later EndsEarly (λ text. EndsEarly (buffer ++ text)) a b c buffer e (all_read a b buffer grows) (λ more early. early) h

@@ -1,5 +1,5 @@
 -- What comes of a link, from what was read, answered and written.
-use Rattle.std.proofs.Common.{◌≡◌, ◌≢◌, ℕ, ◌+◌, ◌<◌, ◌≤◌, Bool, true, false, List, [], length, take, Option, Some, None, Result, Ok, Err, inl, inr, refl, sym, ap, subst, ◌∙◌, length-append, arith}
+use Rattle.std.proofs.Common.{◌≡◌, ◌≢◌, ℕ, ◌+◌, ◌<◌, ◌≤◌, Bool, true, false, List, [], length, take, Option, Some, None, Result, Ok, inl, inr, refl, sym, ap, subst, ◌∙◌, arith}
 use Rattle.std.specs.Prelude.{if◌then◌else◌}
 use Rattle.std.specs.declared.alloc.AllocError.{AllocError}
 use Rattle.std.specs.Io.KnownBytes as known
@@ -14,9 +14,9 @@ use Rattle.ghg_office.specs.declared.reply.Reply.{Reply}
 use Rattle.ghg_office.specs.declared.reply.Reply.TheVariants as answered
 use Rattle.ghg_tables.specs.declared.table.Table.{Table}
 use Rattle.ghg_tables.specs.Names.{table_in}
-use Rattle.ghg_http.specs.Receive.{Stopped, TakesRequest}
+use Rattle.ghg_http.specs.Receive.{EndsEarly, Stopped, TakesRequest}
 use Rattle.ghg_http.specs.Reply.{HttpReply, reply_bytes}
-use Rattle.ghg_http.specs.Serve.{AnswersRequest, BreaksOff, Exchange, Exchanges, IsAnswered, IsUnanswered, Sends, ServesLink, evaluations_for, shown, snapshot}
+use Rattle.ghg_http.specs.Serve.{AnswersRequest, BreaksOff, Exchange, Exchanges, IsUnanswered, Sends, ServesLink, evaluations_for, shown, snapshot}
 use Rattle.ghg_http.specs.declared.reply.Message.{Message}
 use Rattle.ghg_http.specs.declared.request.ReceiveError.TheVariants as stopped
 use Rattle.ghg_http.specs.declared.request.Request.{Request}
@@ -90,18 +90,18 @@ module _ (s : State) (a b : Tape) (n : ℕ) where
     spent = omega arith;
   }
 
-  pub link_failed : Stopped a b stopped.Failed → ServesLink (snapshot s a n) (snapshot s b n) LinkFault
+  pub link_failed : Stopped EndsEarly a b stopped.Failed → ServesLink (snapshot s a n) (snapshot s b n) LinkFault
   link_failed h = record {
     exchange = quiet h.text;
     from = refl;
     to = refl;
     link = read_only h.text h.read;
-    passes = inl (quietly h.text);
+    passes = inl (record { early = h.kind refl; unanswered = quietly h.text });
     cause = h.cause refl;
     spent = omega arith;
   }
 
-  pub ran_out : Stopped a b stopped.Memory → ServesLink (snapshot s a n) (snapshot s b n) Memory
+  pub ran_out : Stopped EndsEarly a b stopped.Memory → ServesLink (snapshot s a n) (snapshot s b n) Memory
   ran_out h = record {
     exchange = quiet h.text;
     from = refl;
@@ -140,7 +140,7 @@ module _ (s after : State) (a b : Tape) (n m : ℕ) (request : Request) (t : Tak
     link = exchanged a b b t.bytes [] (loud []) t.read (appends_nothing b) refl refl;
     passes = inr (record {
       due = h.due;
-      answered = record { request = request; holds = t.holds; replies = h.replies; asks = refl };
+      answered = record { request = request; holds = t.holds.0; prompt = t.holds.1; replies = h.replies; asks = refl };
       count = 0;
       short = reply_some h.due;
       prefix = refl;
@@ -153,7 +153,7 @@ module _ (s after : State) (a b : Tape) (n m : ℕ) (request : Request) (t : Tak
     breaks : (count : ℕ) → count < length message.bytes.items → BreaksOff (loud (take count message.bytes.items))
     breaks count short = record {
       due = h.due;
-      answered = record { request = request; holds = t.holds; replies = h.replies; asks = refl };
+      answered = record { request = request; holds = t.holds.0; prompt = t.holds.1; replies = h.replies; asks = refl };
       count = count;
       short = subst (λ bytes. count < length bytes) h.made.bytes short;
       prefix = ap (take count) h.made.bytes;
@@ -168,7 +168,7 @@ module _ (s after : State) (a b : Tape) (n m : ℕ) (request : Request) (t : Tak
       link = exchanged a b c t.bytes message.bytes.items (loud message.bytes.items) t.read w.1 refl refl;
       passes = record {
         due = h.due;
-        answered = record { request = request; holds = t.holds; replies = h.replies; asks = refl };
+        answered = record { request = request; holds = t.holds.0; prompt = t.holds.1; replies = h.replies; asks = refl };
         code_is = sym h.made.status ∙ sym w.0;
         whole = h.made.bytes;
       };

@@ -30,15 +30,20 @@ pub record IsWhole (bytes : List ℕ) (made : Decision) (size : ℕ) : Type 0 wh
   pub few : length head.fields ≤ max_fields
   pub decides : seen made ≡ decision_of head
 
--- there is no head in the room that one has, or there are more fields than one may have
+-- they hold no head yet, and there is room for more
+abbrev pub AwaitsHead : List ℕ → Type 0
+AwaitsHead bytes = HasNoRequest bytes × MayBecomeRequest bytes × (length bytes < max_head)
+
+-- a head that began well has not ended in the room that one has, or there are more fields than one may have
 abbrev pub IsTooLarge : List ℕ → Type 0
-IsTooLarge bytes = (HasNoRequest bytes × (max_head ≤ length bytes)) ⊎ RequestExceeds max_fields bytes
+IsTooLarge bytes =
+    (HasNoRequest bytes × MayBecomeRequest bytes × (max_head ≤ length bytes))
+    ⊎ RequestExceeds max_fields bytes
 
 -- what is said of the bytes
 abbrev pub IsHead : List ℕ → Head → Type 0
 IsHead bytes (Whole made size) = IsWhole bytes made size
--- they hold no head yet, and there is room for more
-IsHead bytes Unfinished = HasNoRequest bytes × MayBecomeRequest bytes × (length bytes < max_head)
+IsHead bytes Unfinished = AwaitsHead bytes
 -- no bytes can follow that make a head
 IsHead bytes Malformed = NeverHasRequest bytes
 IsHead bytes TooLarge = IsTooLarge bytes

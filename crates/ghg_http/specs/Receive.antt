@@ -1,11 +1,12 @@
 -- What is received from a link, and where a request stands in it.
-use Rattle.std.specs.Prelude.{◌≡◌, ℕ, ◌<◌, ◌⊎◌, List, ◌++◌, length, Option, Some, None}
-use Rattle.httparse.specs.Grammar.{RequestHead, HasNoRequest, NeverHasRequest}
+use Rattle.std.specs.Prelude.{◌≡◌, ℕ, ◌<◌, ◌≤◌, ◌⊎◌, List, [], ◌++◌, length, Option, Some, None}
+use Rattle.httparse.specs.Grammar.{RequestHead, NeverHasRequest}
 use Rattle.ghg_outer.specs.Tape.{Consumes, IsAtEnd, Rose, Tape}
 use Rattle.ghg_http.specs.Decision.{decision_of, refuse, submit, show}
-use Rattle.ghg_http.specs.Head.{HasHead, IsTooLarge}
+use Rattle.ghg_http.specs.Head.{AwaitsHead, HasHead, IsTooLarge, max_head}
 use Rattle.ghg_http.specs.declared.decision.Refusal.{Refusal}
 use Rattle.ghg_http.specs.declared.decision.Refusal.TheVariants.{BadRequest, HeadTooLarge}
+use Rattle.ghg_http.specs.declared.request.TheConstants.{MAX_READ}
 use Rattle.ghg_http.specs.declared.request.ReceiveError.{ReceiveError}
 use Rattle.ghg_http.specs.declared.request.ReceiveError.TheVariants.{Failed}
 use Rattle.ghg_http.specs.declared.request.Request.{Request}
@@ -13,24 +14,47 @@ use Rattle.ghg_http.specs.declared.request.Request.TheVariants.{Refused, Submit,
 
 -- ---- reading
 
+-- the most bytes that one read takes
+abbrev pub max_read : ℕ
+max_read = MAX_READ
+
 -- What was read, perhaps by several reads, stands at the end of the buffer.
 pub record Grows (before after : Tape) (old new : List ℕ) : Type 0 where
   pub got : List ℕ
   pub buffer : new ≡ old ++ got
   pub read : Consumes before after got
 
--- The link failed, where its count rose, or memory ran out.
-pub record Stopped (before after : Tape) (error : ReceiveError) : Type 0 where
+-- What was read behind these bytes came by several reads, and before the last of them all had been fewer than
+-- this size.
+pub record ReadsLast (old got : List ℕ) (size : ℕ) : Type 0 where
+  pub front : List ℕ
+  pub last : List ℕ
+  pub whole : got ≡ front ++ last
+  pub short : length (old ++ front) < size
+  pub few : length last ≤ max_read
+
+-- A buffer grew by reads, each of them while it was shorter than this size.
+pub record Fills (before after : Tape) (old new : List ℕ) (size : ℕ) : Type 0 where
+  pub grows : Grows before after old new
+  pub last : (grows.got ≡ []) ⊎ ReadsLast old grows.got size
+
+-- Some text was read. Then the link failed, where its count rose and the text is of this kind, or memory ran
+-- out.
+pub record Stopped (Kind : List ℕ → Type 0) (before after : Tape) (error : ReceiveError) : Type 0 where
   pub text : List ℕ
   pub read : Consumes before after text
   pub cause : error ≡ Failed → Rose before after
+  pub kind : error ≡ Failed → Kind text
 
--- What was read completes a body, of which the rest had come before. Some bytes may have come behind it.
-pub record CompletesBody (before after : Tape) (rest body : List ℕ) : Type 0 where
+-- What was read completes a body of this size, of which the rest had come before. Some bytes may have come
+-- behind it, but then nothing more was read.
+pub record CompletesBody (before after : Tape) (rest : List ℕ) (size : ℕ) (body : List ℕ) : Type 0 where
   pub got : List ℕ
   pub extra : List ℕ
   pub read : Consumes before after got
   pub whole : rest ++ got ≡ body ++ extra
+  pub near : (got ≡ []) ⊎ (extra ≡ [])
+  pub last : (got ≡ []) ⊎ ReadsLast rest got size
 
 -- The input ended before a body of this size, of which the rest had come before.
 pub record CutsBody (before after : Tape) (rest : List ℕ) (size : ℕ) : Type 0 where
@@ -54,13 +78,14 @@ IsRefusedBy bytes reason =
     ((reason ≡ BadRequest) × NeverHasRequest bytes)
     ⊎ (((reason ≡ HeadTooLarge) × IsTooLarge bytes) ⊎ DecidesRefusal bytes reason)
 
--- The head decides that a submission of this id and size follows, and this is its body. Some bytes may stand
--- behind it.
+-- The head decides that a submission of this id and size follows, and this is its body. Bytes stand behind it
+-- only in the room that a head has.
 pub record HoldsSubmission (bytes id body : List ℕ) : Type 0 where
   pub head : RequestHead
   pub extra : List ℕ
   pub has_head : HasHead bytes head (body ++ extra)
   pub decides : decision_of head ≡ submit id (length body)
+  pub near : (length bytes ≤ max_head) ⊎ (extra ≡ [])
 
 -- The head asks for a table.
 pub record HoldsTableRequest (bytes table year : List ℕ) : Type 0 where
@@ -79,19 +104,30 @@ pub record HasShortBody (bytes : List ℕ) : Type 0 where
   pub decides : decision_of head ≡ submit id size
   pub short : length rest < size
 
--- the bytes hold this request
+-- The bytes hold this request. There are no more of them than the room of a head, or than its body takes.
 abbrev pub HoldsRequest : List ℕ → Request → Type 0
-HoldsRequest bytes (Refused reason) = IsRefusedBy bytes reason
+HoldsRequest bytes (Refused reason) = IsRefusedBy bytes reason × (length bytes ≤ max_head)
 HoldsRequest bytes (Submit id body) = HoldsSubmission bytes id body
-HoldsRequest bytes (Show name year) = HoldsTableRequest bytes name year
+HoldsRequest bytes (Show name year) = HoldsTableRequest bytes name year × (length bytes ≤ max_head)
 
--- the bytes end before a whole request
+-- The bytes end before a whole request: before the end of a head that has room, or of a body. Bytes that can
+-- begin no head are no such bytes, nor are those that fill the room of a head.
 abbrev pub EndsEarly : List ℕ → Type 0
-EndsEarly bytes = HasNoRequest bytes ⊎ HasShortBody bytes
+EndsEarly bytes = AwaitsHead bytes ⊎ HasShortBody bytes
 
--- the bytes that were read hold this request, or the input ended before a whole one
+-- Nothing was read once a whole request had come: before the last read the bytes ended early, or there were
+-- none.
+pub record IsPrompt (bytes : List ℕ) : Type 0 where
+  pub front : List ℕ
+  pub last : List ℕ
+  pub whole : bytes ≡ front ++ last
+  pub early : (front ≡ []) ⊎ EndsEarly front
+  pub few : length last ≤ max_read
+
+-- The bytes that were read hold this request, and nothing was read behind it. Or the input ended before a
+-- whole one.
 abbrev pub IsReceived : Tape → List ℕ → Option Request → Type 0
-IsReceived after bytes (Some request) = HoldsRequest bytes request
+IsReceived after bytes (Some request) = HoldsRequest bytes request × IsPrompt bytes
 IsReceived after bytes None = IsAtEnd after × EndsEarly bytes
 
 -- Some bytes were read, and they hold this request, or end before a whole one.
@@ -100,8 +136,8 @@ pub record TakesRequest (before after : Tape) (found : Option Request) : Type 0 
   pub read : Consumes before after bytes
   pub holds : IsReceived after bytes found
 
--- Some bytes were read behind those that begin with the head, and all of them hold this request, or end before
--- a whole one.
+-- Some bytes were read behind those that begin with the head, and all of them hold this request, or end
+-- before a whole one.
 pub record FollowsHead (before after : Tape) (bytes : List ℕ) (found : Option Request) : Type 0 where
   pub got : List ℕ
   pub read : Consumes before after got

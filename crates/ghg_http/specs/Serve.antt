@@ -1,5 +1,5 @@
--- What comes of a link that is served: a request is read from it, the office answers, and the reply is written
--- to it.
+-- What comes of a link that is served: a request is read from it, the office answers, and the reply is
+-- written to it.
 use Rattle.std.specs.Prelude.{◌≡◌, ◌==◌, ⊤, ℕ, ◌+◌, ◌<◌, ◌≤◌, ◌⊎◌, List, [], length, take, Option, Some, None, Result, IfOk, if◌then◌else◌}
 use Rattle.std.specs.declared.alloc.AllocError.{AllocError}
 use Rattle.std.specs.Io.KnownBytes as known
@@ -9,7 +9,7 @@ use Rattle.ghg_office.specs.Office.{State, evaluations, requested, submitted}
 use Rattle.ghg_office.specs.Replies.{Answers, Shows}
 use Rattle.ghg_office.specs.declared.reply.Reply.{Reply}
 use Rattle.ghg_office.specs.declared.reply.Reply.TheVariants.{NoTable}
-use Rattle.ghg_http.specs.Receive.{EndsEarly, HoldsRequest}
+use Rattle.ghg_http.specs.Receive.{EndsEarly, HoldsRequest, IsPrompt}
 use Rattle.ghg_http.specs.Reply.{HttpReply, IsMessageOf, reply_bytes}
 use Rattle.ghg_http.specs.Statuses.{office_reply, refusal_reply}
 use Rattle.ghg_http.specs.declared.reply.Message.{Message}
@@ -39,7 +39,8 @@ Replies s (Show name year) due after =
     (answer : Reply) × Shows (shown s name (year_of year)) answer × (due ≡ office_reply answer) × (after ≡ s)
 
 -- The office answered the request, and where there was memory for it, this is the reply.
-pub record AnswersRequest (s : State) (request : Request) (after : State) (result : Result Message AllocError) : Type 0 where
+pub record AnswersRequest (s : State) (request : Request) (after : State) (result : Result Message AllocError)
+    : Type 0 where
   pub due : HttpReply
   pub replies : Replies s request due after
   pub made : IfOk result (IsMessageOf due)
@@ -51,8 +52,8 @@ evaluations_for s request = 0
 
 -- ---- what passes over a link
 
--- The states of the office before and after; what was taken from the link, and what was written to it; and how
--- many evaluations were asked for.
+-- The states of the office before and after; what was taken from the link, and what was written to it; and
+-- how many evaluations were asked for.
 pub record Exchange : Type 0 where
   pub before : State
   pub after : State
@@ -60,10 +61,12 @@ pub record Exchange : Type 0 where
   pub written : List ℕ
   pub evaluations : ℕ
 
--- What was taken holds a request, to which this reply is due.
+-- What was taken holds a request, to which this reply is due. Nothing was taken once the whole request had
+-- come.
 pub record IsAnswered (x : Exchange) (due : HttpReply) : Type 0 where
   pub request : Request
   pub holds : HoldsRequest x.taken request
+  pub prompt : IsPrompt x.taken
   pub replies : Replies x.before request due x.after
   pub asks : x.evaluations ≡ evaluations_for x.before request
 
@@ -97,7 +100,7 @@ pub record IsCutOff (x : Exchange) : Type 0 where
 abbrev pub Passes : Exchange → LinkEnd → Type 0
 Passes x (Served code) = IsReplied x code
 Passes x Cut = IsCutOff x
-Passes x LinkFault = IsUnanswered x ⊎ BreaksOff x
+Passes x LinkFault = IsCutOff x ⊎ BreaksOff x
 Passes x Memory = IsUnanswered x ⊎ BreaksOff x
 
 -- The bytes that were taken were read from the link, and then those that were written were appended to it.

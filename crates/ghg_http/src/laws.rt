@@ -1,14 +1,10 @@
 //! Laws of targets.
 
-ghost use Rattle.ghg_http.specs.Laws.{FindsSubmissions, FindsTables};
+ghost use Rattle.ghg_http.specs.Laws.{FindsTargets};
 
-/// A target `/submissions/ID` is a submission, with any one segment for its id. What follows a question mark
-/// does not matter.
-pub fn finds_submissions()
-    ensures { FindsSubmissions }
-{}
-
-/// A target `/tables/TABLE/YEAR` is a request for a table, with any two segments for its name and its year.
-pub fn finds_tables()
-    ensures { FindsTables }
+/// A request target asks for a submission exactly where its path is `/submissions/ID`, and for a table
+/// exactly where it is `/tables/TABLE/YEAR`, of one segment for each of these words. No other path has a
+/// route. What follows a question mark does not matter.
+pub fn finds_targets()
+    ensures { FindsTargets }
 {}

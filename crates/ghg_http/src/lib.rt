@@ -15,7 +15,7 @@ mod serve;
 mod status;
 
 pub use decision::Refusal;
-pub use laws::{finds_submissions, finds_tables};
+pub use laws::finds_targets;
 pub use request::Request;
 pub use route::{Route, routes};
 pub use serve::{LinkEnd, serve_one};

@@ -1,8 +1,8 @@
 //! Requests, as they are received from a link.
 
-ghost use Rattle.std.specs.Prelude.{◌≡◌, ◌+◌, ◌<◌, ◌≤◌, IfErr, IfOk, IfSome, MatchOption, false, length, true};
+ghost use Rattle.std.specs.Prelude.{◌≡◌, ◌⊎◌, ◌+◌, ◌++◌, ◌<◌, ◌≤◌, [], IfErr, IfOk, IfSome, MatchOption, false, length, true};
 ghost use Rattle.ghg_http.specs.Head.{IsWhole};
-ghost use Rattle.ghg_http.specs.Receive.{CompletesBody, CutsBody, FollowsHead, Grows, Stopped, TakesRequest};
+ghost use Rattle.ghg_http.specs.Receive.{CompletesBody, CutsBody, EndsEarly, Fills, FollowsHead, Grows, IsPrompt, Stopped, TakesRequest, max_read};
 ghost use Rattle.ghg_http.specs.Route.{routes};
 ghost use Rattle.ghg_outer.specs.Tape.{IsAtEnd};
 
@@ -13,6 +13,9 @@ use ghg_outer::{Failed, Source};
 use ghg_units::Text;
 use matchit::Router;
 use std::alloc::{AllocError, AllocFailed, Global};
+
+// The most bytes that one read takes.
+const MAX_READ: usize = 4096;
 
 /// Why no request was received.
 #[derive(Clone, Copy, Debug, PartialEq, Eq, Drop)]
@@ -56,8 +59,8 @@ pub enum Request {
 
 /// Receives the next request from a link, or finds that the input ends before a whole one.
 ///
-/// Of a head no more than 16,384 bytes are read before it is whole. A read may take bytes that stand behind
-/// the request too.
+/// No more than 16,384 bytes are read, or than the body of a submission takes. The first of them may stand
+/// behind the request too, but nothing is read once a whole request has come.
 pub fn receive_request<T: Source>(
     alloc: Global,
     router: &Router<Route>,
@@ -65,7 +68,7 @@ pub fn receive_request<T: Source>(
 ) -> Result<Option<Request>, ReceiveError>
     requires { router.now ≡ routes }
     ensures request { IfOk result (TakesRequest (T.tape link.old) (T.tape link.new)) }
-    ensures stopped { IfErr result (Stopped (T.tape link.old) (T.tape link.new)) }
+    ensures stopped { IfErr result (Stopped EndsEarly (T.tape link.old) (T.tape link.new)) }
 {
     let mut buffer = Vec::new(alloc);
     'head: loop {
@@ -95,8 +98,10 @@ fn receive_rest<T: Source>(
 ) -> Result<Option<Request>, ReceiveError>
     requires whole { IsWhole bytes.now decision size }
     requires short { length bytes.now ≤ MAX_HEAD }
+    requires prompt { IsPrompt bytes.now }
     ensures request { IfOk result (FollowsHead (T.tape link.old) (T.tape link.new) bytes.now) }
-    ensures stopped { IfErr result (Stopped (T.tape link.old) (T.tape link.new)) }
+    ensures stopped { IfErr result (Stopped (λ text. EndsEarly (bytes.now ++ text))
+        (T.tape link.old) (T.tape link.new)) }
 {
     match decision {
         Decision::Refuse(reason) => Ok(Some(Request::Refused(reason))),
@@ -135,9 +140,10 @@ fn receive_body<T: Source>(
 ) -> Result<Option<Text>, ReceiveError>
     ensures body { IfOk result (λ body. MatchOption body
         (CutsBody (T.tape link.old) (T.tape link.new) rest.now size)
-        (CompletesBody (T.tape link.old) (T.tape link.new) rest.now)) }
+        (CompletesBody (T.tape link.old) (T.tape link.new) rest.now size)) }
     ensures size { IfOk result (λ body. IfSome body (λ bytes. length bytes ≡ size)) }
-    ensures stopped { IfErr result (Stopped (T.tape link.old) (T.tape link.new)) }
+    ensures stopped { IfErr result (Stopped (λ text. length (rest.now ++ text) < size)
+        (T.tape link.old) (T.tape link.new)) }
 {
     let mut body = Vec::from_slice(alloc, rest)?;
     if !fill(link, &mut body, size)? {
@@ -149,11 +155,14 @@ fn receive_body<T: Source>(
 
 // Receives bytes until there are so many, and says whether that came before the end of the input.
 fn fill<T: Source>(link: &mut T, body: &mut Vec<u8>, size: usize) -> Result<bool, ReceiveError>
-    ensures got { IfOk result (λ _. Grows (T.tape link.old) (T.tape link.new) body.old.items body.new.items) }
+    ensures fills { IfOk result (λ _.
+        Fills (T.tape link.old) (T.tape link.new) body.old.items body.new.items size) }
     ensures whole { IfOk result (λ whole. whole ≡ true → size ≤ length body.new.items) }
+    ensures near { IfOk result (λ _. (body.new.items ≡ body.old.items) ⊎ (length body.new.items ≤ size)) }
     ensures cut { IfOk result (λ whole. whole ≡ false → length body.new.items < size) }
     ensures end { IfOk result (λ whole. whole ≡ false → IsAtEnd (T.tape link.new)) }
-    ensures stopped { IfErr result (Stopped (T.tape link.old) (T.tape link.new)) }
+    ensures stopped { IfErr result (Stopped (λ text. length (body.old.items ++ text) < size)
+        (T.tape link.old) (T.tape link.new)) }
 {
     while body.len() < size {
         if receive(link, body, size - body.len())? == 0 {
@@ -174,10 +183,11 @@ fn receive<T: Source>(
         Grows (T.tape link.old) (T.tape link.new) buffer.old.items buffer.new.items) }
     ensures count { IfOk result (λ n. length buffer.new.items ≡ length buffer.old.items + n) }
     ensures bound { IfOk result (λ n. n ≤ most) }
+    ensures once { IfOk result (λ n. n ≤ max_read) }
     ensures end { IfOk result (λ n. n ≡ 0 → IsAtEnd (T.tape link.new)) }
-    ensures stopped { IfErr result (Stopped (T.tape link.old) (T.tape link.new)) }
+    ensures stopped { IfErr result (Stopped (λ text. text ≡ []) (T.tape link.old) (T.tape link.new)) }
 {
-    let mut chunk = [0; 4096];
+    let mut chunk = [0; MAX_READ];
     let room = most.min(chunk.len());
     let count = link.read(&mut chunk[..room])?;
     buffer.extend_from_slice(&chunk[..count])?;
