@@ -60,8 +60,8 @@ pub record StopsInRefusal {State Request : Type 0} (p : Protocol State Request) 
   pub stopped : StoppedWriting from.at.output after.output (wrong_line (from.answered + 1)) stop
   pub rest : after ≡ record from.at { input = after.input; output = after.output }
 
--- why: a count of faults rose; that memory ran out has no cause that is told, and what the keeper tells stands
--- beside the session
+-- why: a count of faults rose; that memory ran out has no cause that is told, and what the keeper tells
+-- stands beside the session
 abbrev pub IsCaused : {State : Type 0} → Snapshot State → Snapshot State → Stop → Type 0
 IsCaused before after Input = Rose before.input after.input
 IsCaused before after Output = Rose before.output after.output

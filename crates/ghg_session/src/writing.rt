@@ -9,13 +9,9 @@ use ghg_outer::{Sink, WriteError};
 pub fn write_all<W: Sink>(out: &mut W, piece: &[u8]) -> Result<(), Stop>
     ensures { WritesAll (W.tape out.old) (W.tape out.new) piece.now result }
 {
-    let mut at = 0;
-    'pieces: while at < piece.len() {
-        match out.write(&piece[at..]) {
-            Ok(count) => at += count,
-            Err(WriteError::Failed) => return Err(Stop::Output),
-            Err(WriteError::Memory) => return Err(Stop::Memory),
-        }
+    match ghg_outer::write_all(out, piece) {
+        Ok(()) => Ok(()),
+        Err(WriteError::Failed) => Err(Stop::Output),
+        Err(WriteError::Memory) => Err(Stop::Memory),
     }
-    Ok(())
 }
