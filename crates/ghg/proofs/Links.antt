@@ -1,7 +1,7 @@
 -- Links that are served one after the other.
 use Rattle.std.proofs.Common.{◌≡◌, ◌≢◌, ◌∙◌, ◌⊎◌, inl, inr, ℕ, ◌+◌, ◌<◌, ◌≤◌, Bool, true, false, cond, List, [], ◌∷◌, ◌++◌, length, map, option_map, Option, Some, None, IfSome, IsSome, append-nil, add-zero, add_assoc, append_assoc, length-append, refl, sym, ap, subst, arith}
 use Rattle.std.proofs.lemmas.Bool.{eqb-true}
-use Rattle.std.proofs.lemmas.List.{map-append}
+use Rattle.std.proofs.lemmas.List.{map-append, nil_from_length}
 use Rattle.std.proofs.lemmas.List.Sums.{sum_by_push}
 use Rattle.ghg_http.specs.declared.serve.LinkEnd.{LinkEnd}
 use Rattle.ghg_http.specs.declared.serve.LinkEnd.TheVariants.{Served, Cut, LinkFault, Memory}
@@ -169,15 +169,16 @@ module _ (a b c : Station) (number : ℕ) (one : ServedLink) (so_far : ServedSoF
     port = λ e. absurd cc;
     fewer = λ _. omega (arith, fewer, so_far.number_is);
     none = λ h. absurd (h refl);
+    memory = λ _. inl refl;
     unavailable = unavailable_more so_far.links one a.shelf.faults b.shelf.faults c.shelf.faults so_far.unavailable counted;
     kept = kept;
   }
 
 pub serving_ends : (service : Service) (a b : Station) (number status : ℕ) → ServedSoFar a b number
-    → (status ≡ 0) ⊎ ((status ≡ 7) ⊎ (status ≡ 8)) → (status ≡ 0 → number ≡ service.connections)
+    → (status ≡ 8 → number ≡ 0) → (status ≡ 0) ⊎ ((status ≡ 7) ⊎ (status ≡ 8)) → (status ≡ 0 → number ≡ service.connections)
     → (status ≡ 0 → IfSome b.door.port (λ open_port. open_port ≡ service.port)) → (status ≢ 0 → number < service.connections)
     → (IsSome service.settings.store → Lists b.shelf b.office.state.accepted) → ServesLinks service a b status
-serving_ends service a b number status so_far kind all port fewer kept =
+serving_ends service a b number status so_far memory kind all port fewer kept =
     let same : so_far.links ++ [] ≡ so_far.links = append-nil so_far.links in
     record {
       taken = so_far.links;
@@ -191,6 +192,7 @@ serving_ends service a b number status so_far kind all port fewer kept =
       port = port;
       fewer = λ h. rw so_far.number_is (fewer h);
       none = λ _. refl;
+      memory = λ e. inr (nil_from_length so_far.links (so_far.number_is ∙ memory e));
       unavailable = rw same so_far.unavailable;
       kept = kept;
     }
@@ -210,6 +212,7 @@ serving_since service a b c status office door counts links = record {
   port = links.port;
   fewer = links.fewer;
   none = links.none;
+  memory = links.memory;
   unavailable = let later = links.unavailable in omega (arith, later, counts);
   kept = links.kept;
 }

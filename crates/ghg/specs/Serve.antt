@@ -84,6 +84,8 @@ pub record ServesLinks (service : Service) (before after : Station) (status : �
   pub port : status ≡ 0 → IfSome after.door.port (λ open_port. open_port ≡ service.port)
   pub fewer : status ≢ 0 → length taken < service.connections
   pub none : status ≢ 8 → dropped ≡ []
+  -- With status 8 a link was dropped, or there was no memory before the first one was opened.
+  pub memory : status ≡ 8 → (length dropped ≡ 1) ⊎ (taken ≡ [])
   -- The keeper failed at least as often as that was the reply.
   pub unavailable : raised_by (unavailable_count (taken ++ dropped)) before.shelf.faults ≤ after.shelf.faults
   -- Where submissions are stored, the rows that the keeper tells in the end are the accepted submissions.

@@ -6,7 +6,7 @@ use Rattle.ghg.proofs.serving.serve_links.Goals as goal
 pub returns-in-Err-clause-links : goal.returns-in-Err-clause-links
 returns-in-Err-clause-links g c =
     let told = tells_same g.D.Link.Told.tape (g.D.Door.register c.args.door.now) (g.D.Door.register c.listen.new.self) c.in-Err.ensures.kept in
-    serving_ends _ _ _ 0 7 (none_served _ _ refl (omega arith) told.given_is told.finished_is) (inr (inl refl)) (λ e. absurd cc)
+    serving_ends _ _ _ 0 7 (none_served _ _ refl (omega arith) told.given_is told.finished_is) (λ e. absurd cc) (inr (inl refl)) (λ e. absurd cc)
     (λ e. absurd cc) (λ _. omega (arith, c.requires.some)) c.requires.same
 
 pub links-init : goal.links-init
@@ -25,7 +25,7 @@ pub returns-in_default-next-clause-links : goal.returns-in_default-next-clause-l
 returns-in_default-next-clause-links g c =
     let told = tells_same g.D.Link.Told.tape (g.D.Door.register c.links.door) (g.D.Door.register c.next.new.self) c.in_default-next.ensures.kept in
     serving_ends _ _ _ c.links._served 7
-    (served_same _ _ _ _ c.links.invariant.served refl (omega arith) told.given_is told.finished_is) (inr (inl refl)) (λ e. absurd cc)
+    (served_same _ _ _ _ c.links.invariant.served refl (omega arith) told.given_is told.finished_is) (λ e. absurd cc) (inr (inl refl)) (λ e. absurd cc)
     (λ e. absurd cc) (λ _. c.links-test.true) (λ some. (c.links.invariant.kept (c.is_some-stored.ensures ∙ some)).rows)
 
 pub returns-in-Err-finish-clause-links : goal.returns-in-Err-finish-clause-links
@@ -57,5 +57,5 @@ links-preserved g c =
 
 pub returns-clause-links : goal.returns-clause-links
 returns-clause-links g c =
-    serving_ends _ _ _ c.links._served 0 c.links.invariant.served (inl refl) (λ _. omega (arith, c.links-test.false, c.links.auto._served-end))
+    serving_ends _ _ _ c.links._served 0 c.links.invariant.served (λ e. absurd cc) (inl refl) (λ _. omega (arith, c.links-test.false, c.links.auto._served-end))
     (λ _. c.links.invariant.port) (λ h. absurd (h refl)) (λ some. (c.links.invariant.kept (c.is_some-stored.ensures ∙ some)).rows)

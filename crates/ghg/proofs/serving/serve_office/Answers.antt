@@ -6,7 +6,7 @@ use Rattle.ghg.proofs.serving.serve_office.Goals as goal
 pub returns-clause-links : goal.returns-clause-links
 returns-clause-links g c = (
   c.args.office,
-  rw c.status.ensures (serving_ends _ _ _ 0 8 (none_served _ _ refl (omega arith) refl refl) (inr (inr refl)) (λ e. absurd cc)
+  rw c.status.ensures (serving_ends _ _ _ 0 8 (none_served _ _ refl (omega arith) refl refl) (λ _. refl) (inr (inr refl)) (λ e. absurd cc)
       (λ e. absurd cc) (λ _. omega (arith, c.requires.some)) c.requires.same),
   λ some. keeps_listed _ _ (c.requires.same some),
 )
