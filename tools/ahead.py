@@ -8,6 +8,7 @@ import functools
 from tools import headers, vocabulary
 from tools.book import record_taken_by
 from tools.causes import name as mended_name
+from tools.causes import year as year_of
 
 
 class Ahead:
@@ -30,6 +31,35 @@ class Ahead:
         """The first row of any file that enters a name, or None."""
         return next(iter(self._entered.get((kind, name), [])), None)
 
+    def first_year(self):
+        """The first year of the span that some file enters, as a text, or None."""
+        row = self.row_of("span", "")
+        years = [year_of(row.field(column)).text for column in ("year", "value")] if row else []
+        return min(filter(str.isdecimal, years), default=None)
+
+    def entry_behind(self, row):
+        """The first row behind another one that enters the same record, or None."""
+        later = {id(sheet) for sheet in self.waiting}
+        return next((entry for entry in self._entered.get((row.key[0], row.field("name")), [])
+                     if entry.key == row.key and (id(entry.sheet) in later or is_below(entry, row))), None)
+
+    def is_entered(self, row):
+        """Tells whether some row of any file enters the record of a row."""
+        return any(entry.key == row.key for entry in self._entered.get((row.key[0], row.field("name")), []))
+
+    def lines_at(self, code):
+        """The rows of any file that enter a line at a category or under it."""
+        return [row for (kind, _), rows in self._entered.items() if kind == "line" for row in rows[:1]
+                if vocabulary.plain(row.field("subject")).startswith(vocabulary.plain(code))]
+
+    def parameters_bound(self, line):
+        """The parameters of a line that some row of any file binds."""
+        return {parameter for of_line, parameter in self._bindings if of_line == line}
+
+    def is_bound(self, line, parameter):
+        """Tells whether some row of any file binds a parameter of a line."""
+        return (line, parameter) in self._bindings
+
     def parameters_that_take(self, kind, name):
         """The parameters that some row of any file binds to a record, each with the form of the binding."""
         return self._bound.get((kind, name), [])
@@ -48,6 +78,11 @@ class Ahead:
         return found
 
     @functools.cached_property
+    def _bindings(self):
+        bound = (row for row in self._rows if row.field("kind") == "bind")
+        return {(row.field("subject"), row.field("name")) for row in bound}
+
+    @functools.cached_property
     def _bound(self):
         found = {}
         for row in self._rows:
@@ -59,6 +94,17 @@ class Ahead:
                 if row.field("name") in parameters:
                     found.setdefault(taken, []).append((parameters[row.field("name")], row.field("value")))
         return found
+
+
+def said_of_later(what, entry):
+    """That a row of a later file enters what is not there yet."""
+    how = "put that file in front of this one, by its number or in ORDER.txt"
+    return f"{what} is entered in a later file ({entry.place}); {how}"
+
+
+def is_below(row, other):
+    """Tells whether a row stands below another one in the same file."""
+    return row.sheet is other.sheet and row.line > other.line
 
 
 def as_meant(row):

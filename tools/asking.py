@@ -3,9 +3,9 @@ it takes it.
 """
 import re
 
-from tools import causes, vocabulary
+from tools import causes, letters, vocabulary
 from tools.faults import at_row
-from tools.other_words import OTHER_ACTS, OTHER_KINDS
+from tools.other_words import OTHER_ACTS, OTHER_KINDS, meant_by
 from tools.sheets import COLUMNS
 from tools.vocabulary import listed, nearest
 
@@ -30,6 +30,10 @@ class Asking:
         """
         kind, name = row.field("kind"), causes.name(row.field("name")).text
         return self.book.parameters_that_take(kind, name) or self.ahead.parameters_that_take(kind, name)
+
+    def first_year(self):
+        """The first year of the span, in force or meant, as a text, or None."""
+        return str(self.book.span[0]) if self.book.span else self.ahead.first_year()
 
     def measured(self, row):
         """What the record of a row measures in another year, or for the parameters that take it, or None."""
@@ -56,6 +60,7 @@ class Asking:
         text = row.field(column)
         bare = causes.without_blanks(text)
         candidates = [(cause_of(bare.causes), bare.text, True)]
+        candidates.append((letters.said_of_alike(bare.text), letters.latin(bare.text), True))
         for word in nearest(bare.text, known, 1, 0.75):
             same = word.casefold() == bare.text.casefold()
             cause = "upper case" if same and word.islower() else "lower case" if same else "no such word"
@@ -67,7 +72,7 @@ class Asking:
     def other_word(self, row, column, others, known, what):
         """One of a few words, or another word for one."""
         said = f"{what} {listed(known)}"
-        meant = others.get(causes.without_blanks(row.field(column)).text.casefold())
+        meant = meant_by(row.field(column), others)
         if meant:
             return self.first_taken(row, column, [("no such word", meant, True)], said)
         return self.choice(row, column, known, said)
@@ -122,11 +127,14 @@ def is_header(row):
 
 
 def is_total(row):
-    """Tells whether a row without a kind is one of totals, as spreadsheets have them."""
+    """Tells whether a row is one of totals, as spreadsheets have them: by its act, or without a kind by its
+    name.
+    """
     named = [row.field("act"), row.field("name")] if len(row.fields) == len(COLUMNS) else row.fields[:4]
-    has_kind = len(row.fields) > 1 and row.fields[1].strip()
+    if len(row.fields) > 1 and row.fields[1].strip():
+        named = [row.field("act")]
     total = r"((grand|sub)[ -]?)?totals?\b.*|sum( of\b.*)?"
-    return not has_kind and any(re.fullmatch(total, text.strip(), re.IGNORECASE) for text in named)
+    return any(re.fullmatch(total, text.strip(), re.IGNORECASE) for text in named)
 
 
 def has_figure(row):

@@ -7,6 +7,7 @@ stays and is blank.
 import re
 
 from tools import units, vocabulary
+from tools.ahead import said_of_later
 from tools.asking import article
 from tools.book import lines_taken_by, record_taken_by
 from tools.faults import at_row, counted
@@ -18,6 +19,8 @@ from tools.vocabulary import limit, listed, nearest, said_of_parameter
 
 # The parameter by which the program names an uncertainty whose line there is not.
 UNCERTAINTY = "uncert"
+# What of a fuel may be told as its carbon or as its CO2.
+CARBON_OF_FUEL = "carbon content of fuel"
 # The name of a half-life that no workbook has.
 HALF_LIFE = "NO.SUCH.HALF.LIFE.-.-.-."
 
@@ -55,10 +58,7 @@ class After:
     def in_later_file(self, kind, name):
         """That a later file enters what is not there, or nothing."""
         row = self.ahead.entry(kind, name)
-        if row is None:
-            return ""
-        entered = f"{kind} {name} is entered in a later file ({row.place})"
-        return f"{entered}; put that file in front of this one, by its number or in ORDER.txt"
+        return said_of_later(f"{kind} {name}", row) if row else ""
 
     def line_of(self, name):
         """The row of a line, there or meant to be there, or None."""
@@ -70,7 +70,9 @@ class After:
 
     def blank(self, bound):
         """The file's rows with NE in place of what a binding takes."""
-        return self.changed(bound, value="key", low="NE")
+        blank = bound.with_fields(value="key", low="NE")
+        blank.has_other_figure = True
+        return [blank if row is bound else row for row in self.rows]
 
     def with_half_life(self, bound):
         """The file's rows with a half-life in place of what a binding takes, and that half-life where it
@@ -193,8 +195,7 @@ def without_parameter(holder, bound, parameters, after):
     It goes on as that of the parameter that is meant.
     """
     code, line = holder.field("value"), holder.field("name")
-    there = listed(map(said_of_parameter, parameters.values()), "and")
-    has = f"{code} has no {bound.field('name')}; its parameters are {there}"
+    has = vocabulary.said_of_no_parameter(code, bound.field("name"))
     if not after.is_own(bound):
         if not after.is_own(holder):
             return None, None
@@ -204,7 +205,10 @@ def without_parameter(holder, bound, parameters, after):
         return at_row(holder, cause, "value"), after.rows + [withdrawn]
     unbound = [name for name in parameters if name not in after.book.bindings[line]]
     free = [name for name in unbound if may_take(bound, parameters[name], after)]
-    near = free if len(free) == 1 else nearest(bound.field("name"), free, 1, 0.4)
+    near = [name for name in free or unbound if vocabulary.is_said_of(code, name, bound.field("name"))]
+    if len(near) != 1:
+        near = free if len(free) == 1 else nearest(bound.field("name"), free, 1, 0.4)
+        near = near or nearest(bound.field("name"), unbound, 1, 0.75)
     if near:
         return at_row(bound, has, "name", near[0]), after.changed(bound, name=near[0])
     after.refused.add([bound])
@@ -296,6 +300,8 @@ def of_another_form(bound, holder, wanted, after):
     if record and vocabulary.is_decay(wanted):
         cause += f", and {taken[0]} {taken[1]} is in {record.field('unit')} ({measures}) at {record.place}"
         cause += way_to(wanted, record)
+    elif vocabulary.is_decay(wanted):
+        cause += f"; write decay in value, and in low a factor in {vocabulary.HALF_LIFE_UNIT}"
     return at_row(bound, cause, "value"), after.without_target(bound, wanted)
 
 
@@ -311,7 +317,9 @@ def of_record(bound, holder, wanted, after):
     of = f"the {wanted['measures']} of a half-life" if vocabulary.is_decay(wanted) else wanted["measures"]
     takes = f"{wanted['name']} of {holder.field('value')} takes {of} ({words})"
     if after.is_own(bound):
-        cause = f"{takes}, and {measured} at {record.place}{way_to(wanted, record)}"
+        cause = f"{takes}, and {measured} at {record.place}"
+        made = made_by_line(bound, wanted, after.book)
+        cause += f"; line {made} makes it: write line,{made}" if made else way_to(wanted, record)
         return at_row(bound, cause, "low"), after.without_target(bound, wanted)
     cause = f"{takes}, and {measured}; the binding stands at {bound.place}"
     entered = after.acts_on(kind, name, ("enter", "correct"))
@@ -322,6 +330,15 @@ def of_record(bound, holder, wanted, after):
     return None, None
 
 
+def made_by_line(bound, wanted, book):
+    """The one line that makes what a parameter takes of the record that its binding takes, or None."""
+    taken = record_taken_by(bound)
+    lines = [line for line, row in book.lines.items() if line != bound.field("subject")
+             and vocabulary.given_by(row.field("value")) == wanted["measures"]
+             and any(record_taken_by(other) == taken for other in book.bindings.get(line, {}).values())]
+    return lines[0] if len(lines) == 1 else None
+
+
 def way_to(wanted, record):
     """How a record that measures something else comes to what a parameter takes, where that is known."""
     unit, measures = record.field("unit"), vocabulary.record_of(wanted)
@@ -329,6 +346,9 @@ def way_to(wanted, record):
     if years:
         return f"; of a yearly rate of {record.field('value')} write the half-life, {years} in yr, there"
     meant = units.meant(unit, measures)
+    if meant and measures == CARBON_OF_FUEL:
+        said = meant.said if meant.times != 1 else "take the same number"
+        return f"; where it is of carbon, write {meant.word} there ({said}); where of CO2, take 12/44 of that"
     if meant and vocabulary.measured_by(meant.word) == measures:
         return f"; write {meant.word} there{'' if meant.times == 1 else f' ({meant.said})'}"
     known = vocabulary.units_that_measure(measures)
@@ -353,26 +373,55 @@ def without_record(bound, wanted, after):
         cause = f"there is no {kind} {name}, since its row was refused"
         fault = at_row(bound, cause, "low", follows=refused.place)
     elif after.book.some_record(other, name) or after.refused.that_enters(other, name):
-        place = (after.book.some_record(other, name) or after.refused.that_enters(other, name)).place
-        column, write = ("low", None) if vocabulary.is_decay(wanted) else ("value", other)
-        fault = at_row(bound, f"{name} is no {kind} but {article(other)} ({place})", column, write)
+        record = after.book.some_record(other, name) or after.refused.that_enters(other, name)
+        cause = f"{name} is no {kind} but {article(other)} ({record.place})"
+        measures = vocabulary.measured_by(record.field("unit"))
+        if vocabulary.is_decay(wanted):
+            fault = at_row(bound, cause, "low")
+        elif measures in (None, wanted["measures"]):
+            fault = at_row(bound, cause, "value", other)
+        else:
+            cause += f" in {record.field('unit')}, and {said_of_wanted(wanted)} is taken here"
+            fault = at_row(bound, cause, "low")
         after.refused.meant_records.add((other, name))
     elif after.line_of(name) and not vocabulary.is_decay(wanted):
-        place = after.line_of(name).place
-        fault = at_row(bound, f"{name} is no {kind} but a line ({place})", "value", "line")
+        line = after.line_of(name)
+        cause = f"{name} is no {kind} but a line ({line.place})"
+        if is_giving(line, wanted):
+            form = "prev" if is_of_last_year(bound, after.line_of(bound.field("subject"))) else "line"
+            fault = at_row(bound, cause, "value", form)
+        else:
+            fault = at_row(bound, f"{cause}, and {said_of_wanted(wanted)} is taken here", "low")
     elif after.in_later_file(kind, name):
         fault = at_row(bound, after.in_later_file(kind, name), "low")
         after.refused.meant_records.add((kind, name))
     else:
         near = nearest_record(kind, name, after.book)
         unit = vocabulary.HALF_LIFE_UNIT if vocabulary.is_decay(wanted) else wanted["unit"]
-        year = after.book.span[0] if after.book.span else "YEAR"
+        year = after.book.span[0] if after.book.span else after.ahead.first_year() or "YEAR"
         which = f": no row enters it; write a row enter,{kind},,{name},{year},VALUE,,,{unit},"
         if near:
             which = f"; the nearest is {near[0]} ({after.book.some_record(kind, near[0]).place})"
         fault = at_row(bound, f"there is no {kind} of this name{which}", "low")
         after.refused.meant_records.update((kind, found) for found in near)
     return fault, after.without_target(bound, wanted)
+
+
+def is_giving(line, wanted):
+    """Tells whether a line gives what a parameter takes."""
+    code = line.field("value")
+    return code in vocabulary.equations() and vocabulary.given_by(code) == wanted["measures"]
+
+
+def is_of_last_year(bound, holder):
+    """Tells whether a binding takes a stock of the year before, or a line takes itself."""
+    return bound.field("low") == bound.field("subject") or \
+        (holder.field("value"), bound.field("name")) in vocabulary.OF_LAST_YEAR
+
+
+def said_of_wanted(wanted):
+    """What a parameter takes, with its unit."""
+    return f"{wanted['measures']} ({wanted['unit']})"
 
 
 def nearest_record(kind, name, book):
@@ -382,9 +431,9 @@ def nearest_record(kind, name, book):
     known = book.years[kind]
     parts = sorted(re.split("[._-]", name))
     same = [other for other in known if sorted(re.split("[._-]", other)) == parts]
-    near = nearest(name, known, 5, 0.7)
-    taken = book.taken()
-    return (same or [other for other in near if (kind, other) not in taken] or near)[:1]
+    free = [other for other in known if (kind, other) not in book.taken()]
+    begun = [other for other in free if len(other) > 3 and (other.startswith(name) or name.startswith(other))]
+    return (same or nearest(name, free, 1, 0.7) or begun or nearest(name, known, 1, 0.8))[:1]
 
 
 def taken_away(gone, what, bound, rest):
@@ -404,8 +453,7 @@ def of_lines(bound, holder, wanted, after):
         taken = after.book.lines[name]
         code = taken.field("value")
         if vocabulary.given_by(code) != wanted["measures"]:
-            takes = f"{wanted['measures']} ({wanted['unit']})"
-            cause = f"{wanted['name']} of {holder.field('value')} takes {takes}"
+            cause = f"{wanted['name']} of {holder.field('value')} takes {said_of_wanted(wanted)}"
             cause += f", and line {name} ({code} at {taken.place}) gives {given(code)}"
             if after.is_own(bound):
                 cause += lines_that_give(wanted, bound, name, after.book)

@@ -9,7 +9,8 @@ KIND_TAKEN = {"activity": "activity", "factor": "factor", "decay": "factor"}
 
 
 class Book:
-    """What is in force: of each key the row that set it last, and the row that entered it.
+    """What is in force: of each key the row that set it last, the row that entered it, and the row that
+    withdrew it.
 
     Keys are tuples: ("activity", name, year), ("factor", name, year), ("line", name), ("bind", line,
     parameter), ("uncert", line), ("span",).
@@ -18,6 +19,7 @@ class Book:
     def __init__(self):
         self.rows = {}
         self.entered = {}
+        self.withdrawn = {}
         self.years = {"activity": {}, "factor": {}}
         self.bindings = {}
         self.lines = {}
@@ -26,6 +28,7 @@ class Book:
         """A book of its own with the same records."""
         other = Book()
         other.rows, other.entered = dict(self.rows), dict(self.entered)
+        other.withdrawn = dict(self.withdrawn)
         for kind, named in self.years.items():
             other.years[kind] = {name: dict(years) for name, years in named.items()}
         other.bindings = {line: dict(bound) for line, bound in self.bindings.items()}
@@ -36,6 +39,7 @@ class Book:
         """Applies an accepted row."""
         key = row.key
         if row.field("act") == "withdraw":
+            self.withdrawn[key] = row
             self._take_out(key)
             return
         if row.field("act") == "enter":
@@ -99,6 +103,15 @@ class Book:
                 if record:
                     found.setdefault(record, []).append(row)
         return found
+
+
+def book_of(sheets):
+    """The book after the rows of accepted files."""
+    book = Book()
+    for sheet in sheets:
+        for row in sheet.rows[1:]:
+            book.apply(row)
+    return book
 
 
 def record_taken_by(row):

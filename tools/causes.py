@@ -3,20 +3,29 @@
 Whether that is taken, the program is asked.
 """
 import dataclasses
+import datetime
 import decimal
 import functools
 import re
 import unicodedata
 
-from tools import vocabulary
+from tools import letters, vocabulary
 from tools.vocabulary import limit, nearest
 
 NO_BREAK = "\u00a0\u2007\u202f"
 UNSEEN = "\u200b\u200c\u200d\u2060\ufeff\u00ad"
 MINUS = "\u2212\u2010\u2011\u2012\u2013\u2014"
+# What stands between thousands, with its name.
+SEPARATORS = [
+    (" \u2009", "a blank"), (NO_BREAK, "a no-break space"), ("'\u2019", "an apostrophe"), ("_", "_"),
+]
 QUOTES = "'\"`\u2018\u2019\u201a\u201c\u201d\u201e\u00ab\u00bb"
 # Words in front of a number, and the mark of a footnote or of an estimate behind it.
-ABOUT = r"^(ca|approx|about|~|\u2248)\.?\s*(?=\d)"
+ABOUT = r"^(ca|circa|approx|about|~|\u2248)\.?\s*(?=\d)"
+# A power of ten behind a sign of multiplication, its exponent behind a sign or raised.
+POWER = "a power of ten"
+POWER_OF_TEN = re.compile(
+    r"(-?[\d.,]+)\s*[x*\u00d7\u00b7\u22c5]\s*10\s*(?:\^|\*\*)\s*([+-]?\d{1,3})", re.IGNORECASE)
 MARK = r"^(-?\d[\d.,\s]*?)\s*([*\u2020\u2021\u00a7]+|[\u00b9\u00b2\u00b3]|[(\[][^()\[\]]*[)\]])$"
 
 
@@ -61,23 +70,27 @@ def without_blanks(text):
 def number(text, most_decimals=None):
     """A number as it is written elsewhere, as this program takes it."""
     mended = ascii_digits(without_blanks(text))
+    mended = mended.less("a word for a number", re.sub("^zero$", "0", mended.text, flags=re.IGNORECASE))
     mended = mended.less("a minus sign of typography", re.sub(f"^[{MINUS}](?=[\\d.,])", "-", mended.text))
     mended = mended.less("an apostrophe in front", re.sub(r"^['\u2019`](?=[-\d.,])", "", mended.text))
+    mended = mended.less("a dash in place of decimals", re.sub(rf"(?<=\d)[.,][{MINUS}-]+$", "", mended.text))
     mended = mended.less("the minus sign behind the number", re.sub(r"^(\d[\d.,\s]*)-$", r"-\1", mended.text))
     mended = mended.less("an equals sign in front", re.sub(r'^="?(-?[\d.,]+)"?$', r"\1", mended.text))
     mended = mended.less("a word in front", re.sub(ABOUT, "", mended.text, flags=re.IGNORECASE))
+    ten = re.fullmatch(r"10\^(\d{1,2})", letters.lowered(mended.text, "^"))
+    mended = mended.less(POWER, f"1e{ten.group(1)}") if ten else mended
     mended = mended.less("a mark behind the number", re.sub(MARK, r"\1", mended.text))
     bracketed = re.fullmatch(r"\(([\d.,\s]+)\)", mended.text)
     if bracketed:
         mended = mended.less("parentheses for a negative number", "-" + bracketed.group(1))
     mended = mended.less("a plus sign", re.sub(r"^\+(?=[\d.,])", "", mended.text))
-    separators = ((" \u2009", "a blank"), (NO_BREAK, "a no-break space"), ("'\u2019", "an apostrophe"))
-    for separator, name in separators:
+    for separator, name in SEPARATORS:
         joined = re.sub(rf"(?<=\d)[{separator}](?=\d{{3}}(\D|$))", "", mended.text)
         mended = mended.less(f"{name} between thousands", joined)
-    mended = product(fraction(exponent(points(mended))))
+    mended = product(fraction(exponent(points(power_of_ten(mended)))))
     mended = mended.less("no digit in front of the point", re.sub(r"^(-?)\.(?=\d)", r"\g<1>0.", mended.text))
     mended = mended.less("no digit behind the point", re.sub(r"^(-?\d+)\.$", r"\1", mended.text))
+    mended = mended.less("no digit behind the comma", re.sub(r"^(-?\d+),$", r"\1", mended.text))
     return decimals(mended, int(limit("decimals")) if most_decimals is None else most_decimals)
 
 
@@ -95,7 +108,8 @@ def ascii_digits(mended):
 def points(mended):
     """Without commas: thousands, or a decimal comma. One that may be either is not sure."""
     text = mended.text
-    if re.fullmatch(r"-?\d{1,3}(,\d{3}){2,}(\.\d+)?", text) or re.fullmatch(r"-?\d{1,3}(,\d{3})+\.\d+", text):
+    grouped = r"-?\d{1,3}((,\d{3}){2,}(\.\d+)?|(,\d{3})+\.\d+)|-?\d{1,2}(,\d\d)+,\d{3}(\.\d+)?"
+    if re.fullmatch(grouped, text):
         return mended.less("commas between thousands", text.replace(",", ""))
     if re.fullmatch(r"-?\d{1,3}(\.\d{3})+,\d+", text):
         cause = "points between thousands and a decimal comma"
@@ -115,7 +129,16 @@ def exponent(mended):
     """Without an exponent."""
     if not re.fullmatch(r"-?(\d+(\.\d*)?|\.\d+)[eE][+-]?\d{1,3}", mended.text):
         return mended
-    return mended.less("an exponent", format(decimal.Decimal(mended.text), "f"))
+    digits = format(decimal.Decimal(mended.text), "f")
+    is_told = POWER in mended.causes
+    return Mended(mended.causes, digits) if is_told else mended.less("an exponent", digits)
+
+
+def power_of_ten(mended):
+    """With an exponent in place of a power of ten."""
+    text = re.sub(f"[{MINUS}]", "-", letters.lowered(mended.text, "^"))
+    found = POWER_OF_TEN.fullmatch(text)
+    return mended.less(POWER, f"{found.group(1)}e{found.group(2)}") if found else mended
 
 
 def product(mended):
@@ -183,24 +206,38 @@ def year(text):
     found = re.fullmatch(r"(\d),?(\d{3})", mended.text)
     if found:
         return mended.less("a comma in a year", "".join(found.groups()))
+    day = day_of_number(mended.text)
+    if day:
+        return mended.less(f"the number by which a spreadsheet keeps the date {day}", str(day.year))
+    found = re.fullmatch(r"((?:19|20)\d\d)(0[1-9]|1[0-2])([0-2]\d|3[01])", mended.text)
+    if found:
+        return mended.less("a date in place of a year", found.group(1))
     found = re.findall(r"(?<!\d)(?:19|20)\d\d(?!\d)", mended.text)
     return mended.less("more than the year", found[0]) if len(found) == 1 else mended
+
+
+def day_of_number(text):
+    """The day that a spreadsheet keeps under a number of five digits, from 1982 on, or None."""
+    if not re.fullmatch(r"[3-7]\d{4}(\.\d+)?", text):
+        return None
+    day = datetime.date(1899, 12, 30) + datetime.timedelta(days=int(text[:5]))
+    return day if day.year <= int(limit("last_year")) else None
 
 
 def notation_key(text):
     """The notation key that a text is, as no, N.O., not occurring or NE (no data); else the text in upper
     case.
     """
-    bare = without_blanks(text).text
+    bare = letters.latin(without_blanks(text).text)
     names = vocabulary.words()["key_names"]
     named = nearest(bare, names.values(), 1, 0.85) if " " in bare else []
     if named:
         return next(key for key, name in names.items() if name == named[0])
     if bare.upper() == "N0":
         return "NO"
-    letters = re.fullmatch(r"([A-Za-z])\.\s?([A-Za-z])\.?", bare)
-    if letters and bare.upper() not in ("N.A", "N.A."):
-        bare = "".join(letters.groups())
+    dotted = re.fullmatch(r"([A-Za-z])\.\s?([A-Za-z])\.?", bare)
+    if dotted and bare.upper() not in ("N.A", "N.A."):
+        bare = "".join(dotted.groups())
     first = re.match(rf"(N[OAE]|IE)\s*[(*:;,{MINUS}-]", bare)
     if first and not re.search(r"\b(N[OAE]|IE)\b", bare[2:]):
         return first.group(1)
@@ -214,12 +251,15 @@ def name(text):
     mended = mended.less("quotes around a name", mended.text.strip(QUOTES))
     mended = mended.less("lower case", mended.text.upper())
     mended = mended.less("a blank in a name", re.sub(r"\s+", ".", mended.text))
-    parts = unicodedata.normalize("NFKD", mended.text)
-    bare = "".join(letter for letter in parts if not unicodedata.combining(letter))
+    bare = letters.without_accents(mended.text)
     mended = mended.less("a letter with an accent", bare)
+    mended = mended.less(letters.said_of_alike(bare), letters.latin(bare))
+    if any(letter.isalpha() and not letter.isascii() for letter in mended.text):
+        return mended
     odd = sorted(set(re.findall(r"[^A-Z0-9._-]", mended.text)))
     if odd:
-        mended = mended.less(f"{' '.join(odd)} in a name", re.sub(r"[^A-Z0-9._-]+", ".", mended.text))
+        bare = re.sub(r"\.*[^A-Z0-9._-]+\.*", ".", mended.text).strip(".")
+        mended = mended.less(f"{' '.join(odd)} in a name", bare)
     if not re.search("[A-Z]", mended.text):
         return mended
     mended = mended.less("a name begins with a letter", mended.text.lstrip("._-"))

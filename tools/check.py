@@ -100,6 +100,7 @@ class Check:
         self.faults += faults
         reply = self.program.submit(lines_of(rows) if faults else sheet.data)
         reply, rows = self.behind_header(sheet, rows, reply)
+        sheet.meant = rows or sheet.rows
         tries = 0
         while reply and not reply.accepted:
             tries += 1
@@ -253,8 +254,13 @@ class Check:
         fault, changed = explainer.explain(row, reply)
         self.faults.append(fault)
         if changed is None:
+            stand_in = explainer.stand_in(row, reply.column)
             self.refused.add([] if lost else [row])
-            self.look_at_rest(explainer.stand_in(row, reply.column), reply.column, explainer)
+            if stand_in is not None and reply.column == "kind":
+                meant = stand_in.field("kind")
+                kinds = ("activity", "factor") if meant == "factor" else (meant,)
+                self.refused.add(row.with_fields(kind=kind) for kind in kinds)
+            self.look_at_rest(stand_in, reply.column, explainer)
             return None
         return self.without_faults(changed, explainer, lost)
 

@@ -1,6 +1,7 @@
 """The command line of `./workbook`."""
 import argparse
 import os
+import re
 import sys
 import traceback
 
@@ -15,6 +16,10 @@ FOLDER = (
     "several go one after the other"
 )
 STATUSES = "Statuses: 0 nothing is wrong, 1 there are faults or gaps, 2 the command could not be carried out."
+STATES = (
+    "E has a value; NO, IE and NA are a zero by that key; NE is blank by that key; "
+    "! is blank, since a record is missing."
+)
 PROGRAM = "the built program; else GHG_PROGRAM of the environment, else ./ghg, which builds it"
 
 
@@ -61,7 +66,7 @@ def add_tables(commands):
     example = "examples/fuel-combustion 2020 -o out"
     made = over_folders(commands, "tables", what, example, compiled(tables.run))
     year = "the year of the tables; of series, the last one"
-    made.add_argument("year", type=int, metavar="YEAR", help=year)
+    made.add_argument("year", type=read_year, metavar="YEAR", help=year)
     where = "the folder to write the files to; without it the tables are printed"
     made.add_argument("-o", "--output", metavar="OUT", help=where)
     one = f"one table only, of {', '.join(vocabulary.words()['tables'])}; may be given again"
@@ -69,10 +74,19 @@ def add_tables(commands):
     made.add_argument("--partial", action="store_true", help="write the tables also where a file is refused")
 
 
+def read_year(text):
+    """The year of tables, which stands behind the folders."""
+    if not re.fullmatch("[0-9]{4}", text):
+        due = "behind the folders stands a year of four digits"
+        raise argparse.ArgumentTypeError(f"{text} is no year: {due}")
+    return int(text)
+
+
 def add_complete(commands):
     """Adds the command `complete`."""
     what = "show for each category and gas which years are estimated, and list gaps"
     made = over_folders(commands, "complete", what, "examples/fuel-combustion", compiled(complete.run))
+    made.epilog = f"{STATES} {made.epilog}"
     made.add_argument("--csv", action="store_true", help="print the years as CSV, one column for each")
 
 

@@ -6,7 +6,7 @@ records that the line takes.
 import sys
 
 from tools import notices, vocabulary
-from tools.book import Book, lines_taken_by, record_taken_by
+from tools.book import book_of, lines_taken_by, record_taken_by
 from tools.faults import years_said
 from tools.tables import say_lacking, submit_all
 
@@ -86,8 +86,7 @@ def matrix(book, cells, years):
         gas = vocabulary.gas_of(row.field("value"))
         if gas:
             found.setdefault((row.field("subject"), gas), []).append(name)
-    order = list(vocabulary.categories())
-    gases = list(dict.fromkeys(vocabulary.gas_of(code) for code in vocabulary.equations()))
+    order, gases = list(vocabulary.categories()), vocabulary.gases()
     keys = sorted(found, key=lambda key: (order.index(key[0]), gases.index(key[1])))
     return {key: [states.of_lines(found[key], year) for year in years] for key in keys}
 
@@ -123,7 +122,7 @@ def without_line(book):
     """The leaf categories of the tree at which no line stands."""
     there = {row.field("subject") for row in book.lines.values()}
     return [f"{code} {vocabulary.categories()[code]['name']}" for code in vocabulary.leaves()
-            if code not in there and code not in notices.MEMOS]
+            if code not in there and code not in vocabulary.MEMOS]
 
 
 def print_list(heading, items):
@@ -137,10 +136,7 @@ def run(program, sheets, arguments):
     """Prints the states of all categories and gases, then lists, and answers the status."""
     accepted = submit_all(program, sheets)
     lacking = say_lacking(sheets, accepted, arguments.folders, "the years are without {}")
-    book = Book()
-    for sheet in accepted:
-        for row in sheet.rows[1:]:
-            book.apply(row)
+    book = book_of(accepted)
     if book.span is None:
         print("./workbook: no span is in force, so that there are no years", file=sys.stderr)
         return 1

@@ -5,9 +5,10 @@ What it says to write is what the program took when it was asked.
 import re
 
 from tools import vocabulary
+from tools.ahead import is_below, said_of_later
 from tools.asking import is_total
-from tools.faults import at_row, years_said
-from tools.number_faults import NumberFaults
+from tools.faults import at_row, shown, years_said
+from tools.number_faults import NumberFaults, year_between
 from tools.sheets import COLUMNS, Row, joined
 from tools.shifts import Shifts
 from tools.vocabulary import listed, nearest
@@ -44,7 +45,7 @@ class Explainer(WordFaults, NumberFaults, Shifts):
             return at_row(row, "an empty row; take it out"), None
         if is_total(row):
             return at_row(row, "a row of totals; take it out"), None
-        if ";" in fields[0]:
+        if fields[0].count(";") > len(COLUMNS) // 2:
             return at_row(row, f"{cause}: semicolons between the fields; write commas"), None
         if count == len(COLUMNS):
             return at_row(row, "no row of ten fields of UTF-8"), None
@@ -56,6 +57,9 @@ class Explainer(WordFaults, NumberFaults, Shifts):
         if pair:
             cause += f": a comma in the number {pair}; write a point for a decimal comma"
             return at_row(row, f"{cause}, and nothing between thousands"), None
+        within = self.comma_within(row, cause) if count == 11 and not fields[10] else None
+        if within:
+            return within
         if not any(fields[10:]):
             commas = "comma" if count == 11 else f"{count - 10} commas"
             return at_row(row, f"{cause}; take out the {commas} at the end"), of_rest(row, fields[:10])
@@ -63,6 +67,20 @@ class Explainer(WordFaults, NumberFaults, Shifts):
         cause += f": a comma in {'the note' if in_note else 'a field'}; put it in quotes"
         noted = fields[:9] + [",".join(fields[9:])]
         return at_row(row, cause), self.of_ten(row, noted) or (of_rest(row, noted) if fields[8] else None)
+
+    def comma_within(self, row, cause):
+        """One comma too many within a row of eleven fields, where the program takes it without that one and
+        not without the last; or None.
+        """
+        fields = row.fields
+        if self.of_ten(row, fields[:10]):
+            return None
+        for at in range(1, 10):
+            changed = self.of_ten(row, fields[:at] + fields[at + 1:]) if not fields[at] else None
+            if changed:
+                behind = next(filter(None, fields[at:]), "")
+                return at_row(row, f"{cause}; take out a comma in front of {shown(behind)}"), changed
+        return None
 
     def too_few(self, row, cause):
         """Less than ten fields. Empty ones are put in at the end, else where the program takes them."""
@@ -118,7 +136,7 @@ class Explainer(WordFaults, NumberFaults, Shifts):
         other = record.field("unit")
         known = listed(vocabulary.units_that_measure(vocabulary.measured_by(other)))
         cause = f"measures {measures}, and {kind} {name} is in {other} ({vocabulary.measured_by(other)})"
-        cause += f" at {record.place}; write {known}, or give this record another name"
+        cause += f" at {record.place}; write the figure in {known}, or give this record another name"
         return at_row(row, cause, "unit"), self.blank_figure(row.with_fields(unit=other))
 
     def activity_of_years(self, row):
@@ -135,22 +153,39 @@ class Explainer(WordFaults, NumberFaults, Shifts):
         key = row.key
         entered = self.book.entered.get(key)
         where = f" at {entered.place}" if entered and key in self.book.rows else ""
-        if entered and self.book.rows.get(key) is entered and entered.fields[:9] == row.fields[:9]:
-            cause = f"{said_of_key(key)} is entered already{where}, with the same figures"
-            return at_row(row, f"{cause}; take one of the two out"), None
         cause = f"{said_of_key(key)} is entered already{where}"
+        line = self.refused.that_sets(("line", key[1])) if key[0] == "bind" else None
+        if line and is_below(row, line):
+            return at_row(row, cause, follows=line.place), None
+        if entered and self.book.rows.get(key) is entered and entered.fields[:9] == row.fields[:9]:
+            return at_row(row, f"{cause}, with the same figures; take one of the two out"), None
         other = "take one of the two out"
         if key[0] in ("activity", "factor"):
             other = "give this one another name or year"
+            between = year_between(row)
+            other += f"; between the rows beside it is {between}" if between else ""
+        elif key[0] == "line":
+            other = "give this one another name, here and in its bindings"
         return at_row(row, f"{cause}; to change it use correct, else {other}"), None
 
     def absent(self, row):
         """Nothing to correct or withdraw. A correction goes on as an entry."""
         key, act = row.key, row.field("act")
-        entered = self.refused.that_sets(key)
-        if entered:
+        entered, gone = self.refused.that_sets(key), self.book.withdrawn.get(key)
+        if entered and not (gone and is_below(gone, entered)):
             cause = f"there is no {said_of_key(key)} to {act}, since its row was refused"
             return at_row(row, cause, follows=entered.place), None
+        behind = self.ahead.entry_behind(row)
+        if behind:
+            return at_row(row, entered_behind(row, behind)), None
+        if gone:
+            instead = "use enter" if act == "correct" else "take the row out"
+            cause = f"there is no {said_of_key(key)} to {act}, since {gone.place} withdraws it; {instead}"
+            return at_row(row, cause), row.with_fields(act="enter") if act == "correct" else None
+        line = self.book.lines.get(key[1]) if key[0] == "bind" else None
+        if line and key[2] not in vocabulary.parameters_of(line.field("value")):
+            cause = vocabulary.said_of_no_parameter(line.field("value"), key[2])
+            return at_row(row, f"{cause}; take the row out", "name"), None
         years = self.book.years.get(key[0], {}).get(key[1]) if len(key) > 1 else None
         there = f"; there are records of {years_said(years)}" if years else ""
         near = self.nearest_name(key)
@@ -178,6 +213,14 @@ def of_rest(row, fields):
     words = vocabulary.words()
     has_front = fields[0] in words["acts"] and fields[1] in words["kinds"]
     return Row(row.sheet, row.line, joined(fields)) if has_front else None
+
+
+def entered_behind(row, entry):
+    """That the record that a row changes is entered behind it, and what to move."""
+    what = said_of_key(row.key)
+    if entry.sheet is not row.sheet:
+        return said_of_later(what, entry)
+    return f"there is no {what} to {row.field('act')} yet; move it behind {entry.place}, which enters it"
 
 
 def said_of_key(key):

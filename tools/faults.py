@@ -48,6 +48,18 @@ def at_row(row, cause, column="", write=None, follows=None):
     return Fault(row.sheet, row.line, column, text, cause, write, follows, row)
 
 
+def warn(row, cause):
+    """A warning of a row."""
+    fault = at_row(row, cause)
+    fault.column = "warning"
+    return fault
+
+
+def warn_of(sheet, cause):
+    """A warning of a whole file."""
+    return Fault(sheet, 1, "warning", None, cause)
+
+
 def shown(text):
     """A text in quotes on one line, with what cannot be seen written out."""
     return f'"{written_out(text[:LONGEST])}{"..." if len(text) > LONGEST else ""}"'

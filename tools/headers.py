@@ -132,6 +132,8 @@ def header_of(rows):
 def other_words(rows, names):
     """A header with the ten names in another case or order."""
     order = [names.index(column) for column in COLUMNS]
+    if names == COLUMNS and sum(field[:1].isspace() for field in rows[0].fields) > len(COLUMNS) // 2:
+        return "a blank behind each comma; take these blanks out", [stripped(row) for row in rows]
     if names == COLUMNS:
         odd = [field for field in rows[0].fields if field not in COLUMNS]
         cause = f"the header is written {HEADER}"
@@ -140,6 +142,11 @@ def other_words(rows, names):
         return cause, [header_of(rows)] + rows[1:]
     placed = [reordered(row, order) for row in rows[1:]]
     return f"the columns stand in another order; the header is {HEADER}", [header_of(rows)] + placed
+
+
+def stripped(row):
+    """A row without blanks at the ends of its fields."""
+    return Row(row.sheet, row.line, joined([field.strip() for field in row.fields]))
 
 
 def reordered(row, order):
@@ -166,7 +173,8 @@ def other_names(rows, names):
     """A header that has not the ten names. The rows go on with the columns that are known."""
     absent = [column for column in COLUMNS if column not in names]
     odd = ", ".join(field for field, name in zip(rows[0].fields, names) if name and name not in COLUMNS)
-    lacks = f"the header has another column, {odd}" if odd else "the header has a column twice"
+    lacks = "the header has a column without a name" if "" in names else "the header has a column twice"
+    lacks = f"the header has another column, {odd}" if odd else lacks
     if absent:
         lacks = f"the header has no column {', '.join(absent)}{f', and has {odd}' if odd else ''}"
     first = {name: at for at, name in reversed(list(enumerate(names)))}

@@ -1,5 +1,5 @@
-"""Explains the refusals that name a ring of lines, a node beyond the limits, or a limit of the workbook: rules
-11 to 13. They are judged with all rows of a file applied.
+"""Explains the refusals that name a ring of lines, a node beyond the limits, or a limit of the workbook:
+rules 11 to 13. They are judged with all rows of a file applied.
 """
 from tools import vocabulary
 from tools.book import lines_taken_by, record_taken_by

@@ -2,22 +2,29 @@
 import decimal
 import re
 
-from tools import causes, units, vocabulary
+from tools import causes, letters, units, vocabulary
 from tools.asking import cause_of
-from tools.faults import at_row
-from tools.percent_faults import PercentFaults, figure_of, written
+from tools.faults import at_row, years_said
+from tools.percent_faults import BOTH_SIDES, EXACT, PercentFaults, figure_of, written
 from tools.vocabulary import HALF_LIFE_UNIT, limit, listed
 
 NO_FIGURE = {
+    "\u2013", "\u2014",
     "-", "--", "n/a", "na.", "n.a.", "n.a", "nan", "null", "none", "...", "..", ".", "x", "?", "tbd", "nd",
-    "n.d.", "nil", "zero", "missing", "unknown", "not available", "no data",
+    "n.d.", "b.d.", "k.a.", "s.d.", "s/d", "nil", "zero", "missing", "unknown", "not available", "no data",
 }
 # How a formula begins, and a number that a spreadsheet took for a day and a month.
 FORMULA = ("=", "+", "@")
 DAY_AND_MONTH = r"\d{1,4}[-. ](jan|feb|mar|apr|may|jun|jul|aug|sep|oct|nov|dec)[a-z]*|[a-z]{3}[-. ]\d{1,4}"
-BOUNDS = rf"(-?[\d.,\s]*\d)\s*(?:[-~{causes.MINUS}]|to|\.{{2,3}}|\u2026)\s*(-?\d[\d.,\s]*)"
+BOUNDS = rf"(-?[\d.,\s]*\d)\s*(?:[-~;{causes.MINUS}]|to|\.{{2,3}}|\u2026)\s*(-?\d[\d.,\s]*)"
 TWO_BOUNDS = re.compile(BOUNDS)
+# Two percentages, each with its sign or without.
+SIDE = rf"[+{causes.MINUS}-]?\s*(\d[\d.,]*)\s*%?"
+TWO_SIDES = re.compile(rf"{SIDE}\s*(?:[-/;{causes.MINUS}]|to|and)\s*{SIDE}")
 ALL_IN_ONE = re.compile(rf"(-?[\d.,\s]*\d)\s*[(\[]\s*{BOUNDS}[)\]]")
+# A first and a last year, and what people write for all years.
+YEARS = re.compile(rf"(\d{{4}})\s*(?:[-/:{causes.MINUS}]|to|\.\.+|\u2026)\s*(\d{{4}})")
+ALL_YEARS = {"", "all", "all years", "any", "every", "every year", "each year", "constant", "const", "-", "*"}
 # What the two percentages of an uncertainty are of.
 UNCERTAIN = {"value": "activity", "low": "factor"}
 
@@ -56,14 +63,19 @@ class NumberFaults(PercentFaults):
     def figure(self, row, column):
         """The value, low or high of an activity or a factor."""
         text = row.field(column)
-        bounds = self.all_in_one(row, column) or self.two_in_one(row, column)
+        bounds = self.blank_bounds(row, column) or self.all_in_one(row, column)
+        bounds = bounds or self.two_in_one(row, column)
         if bounds:
             return bounds
         other = {"low": "high", "high": "low"}.get(column)
         if column == "high" and not text and self.is_in_two(row):
             return self.in_two(row)
+        distance = self.both_sides(row, column) if other else None
+        if distance:
+            return distance
         if other and not text:
-            cause = f"{other} is {row.field(other)} and {column} is missing; fill both or neither"
+            there = "" if row.has_other_figure else f"{other} is {row.field(other)} and "
+            cause = f"{there}{column} is missing; fill both or neither"
             return at_row(row, cause, column), None
         percent = self.percent(row, column) or self.with_unit(row, column)
         if percent:
@@ -71,11 +83,34 @@ class NumberFaults(PercentFaults):
         keys = vocabulary.words()["keys"]
         if column == "value" and causes.notation_key(text) in [*keys, "C"]:
             return self.key(row, column, keys)
+        if re.search(r"\d", text) and re.search(rf"\b({'|'.join(keys)})\b", text):
+            return at_row(row, "a number and a notation key; write one of the two", column), None
         mended = causes.number(text)
         if not mended.sure:
-            return at_row(row, cause_of(mended.causes), column), None
+            return self.held_by_bounds(row, column) or (at_row(row, cause_of(mended.causes), column), None)
         otherwise = number_otherwise(column, mended.text, row)
         return self.first_taken(row, column, [(cause_of(mended.causes), mended.text, True)], otherwise)
+
+    def blank_bounds(self, row, column):
+        """Bounds of blanks alone or of what stands for nothing, or None."""
+        blank = [name for name in ("low", "high") if row.field(name)
+                 and row.field(name).strip().casefold() in ("", *NO_FIGURE)]
+        changed = row.with_fields(**dict.fromkeys(blank, ""))
+        if column not in blank or not self.takes(changed, column):
+            return None
+        cause = "low and high are empty where there are no bounds"
+        return at_row(row, cause, column, listed([f"nothing in {name}" for name in blank], "and")), changed
+
+    def held_by_bounds(self, row, column):
+        """A value with a comma of which low and high tell whether it stands between thousands, or None."""
+        if column != "value" or not row.field("low"):
+            return None
+        meant = [row.with_fields(value=row.field("value").strip().replace(",", mark)) for mark in ("", ".")]
+        held = [changed for changed in meant if self.takes(changed, None)]
+        if len(held) != 1:
+            return None
+        cause = "a comma between thousands" if held[0] is meant[0] else "a decimal comma"
+        return at_row(row, f"{cause}, by low and high", column, held[0].field("value")), held[0]
 
     def key(self, row, column, keys):
         """A notation key, or what looks like one."""
@@ -83,7 +118,7 @@ class NumberFaults(PercentFaults):
         if meant == "C":
             cause = f"confidential is no key here; write the number, or one of {listed(keys)}"
             return at_row(row, cause, column), None
-        if meant != row.field(column).strip().upper():
+        if meant != letters.latin(row.field(column)).strip().upper():
             return self.first_taken(row, column, [("a notation key has two letters", meant, True)], "no key")
         return self.choice(row, column, keys, f"no number and no notation key ({listed(keys)})")
 
@@ -144,20 +179,23 @@ class NumberFaults(PercentFaults):
         if not meant or not figure.sure:
             return None
         cause, unit = "a unit behind the number; it stands in the column unit alone", row.field("unit")
-        if meant.times != 1 or meant.word != unit and unit in vocabulary.units():
+        text = figure.text if meant.times == 1 else units.multiplied(figure.text, meant.times)
+        has_other = meant.word != unit and unit in vocabulary.units()
+        is_other = has_other and vocabulary.measured_by(meant.word) != vocabulary.measured_by(unit)
+        has_bounds = column != "value" or row.field("low") or row.field("high")
+        if text is None or is_other or has_other and has_bounds:
             return at_row(row, f"{cause}, as a number of {unit}", column), None
-        fields = {column: figure.text} if meant.word == unit else {column: figure.text, "unit": meant.word}
-        changed = row.with_fields(**fields)
+        changed = row.with_fields(**{column: text, "unit": meant.word})
         if not self.takes(changed, column):
             return None
-        write = figure.text if meant.word == unit else f"{figure.text} and the unit {meant.word}"
+        write = text if meant.word == unit else f"{text} and the unit {meant.word}"
         return at_row(row, cause, column, write), changed
 
     def half_life(self, row, column):
         """A half-life, which has no bounds, or a bound of it."""
         if column != "value":
             return self.filled(row, column, "a half-life has no bounds")
-        mended = causes.number(row.field(column))
+        mended = without_years(causes.number(row.field(column)))
         whole = re.fullmatch(r"0*(\d+)(\.0*)?", mended.text)
         fraction = re.fullmatch(r"\d+\.\d+", mended.text)
         form = f"a whole number of years from 1 to {limit('half_life')}"
@@ -177,16 +215,26 @@ class NumberFaults(PercentFaults):
             cause = f"the percentage of the {UNCERTAIN[column]} is missing; an uncertainty has two"
             return at_row(row, f"{cause}, of the activity in value and of the factor in low", column), None
         decimals = int(limit("percentage_decimals"))
-        mended = causes.number(text.strip().removesuffix("%").rstrip() if "%" in text else text, decimals)
+        sides = TWO_SIDES.fullmatch(text.strip())
+        bare = max(sides.groups(), key=lambda side: figure_of(side) or 0) if sides else text.strip()
+        bare = re.sub(rf"^({BOTH_SIDES}|[{causes.MINUS}-])\s*", "", bare).removesuffix("%").rstrip()
+        mended = causes.number(bare if bare != text.strip() else text, decimals)
         if not mended.sure:
             return at_row(row, cause_of(mended.causes), column), None
-        found = (["a percent sign"] if "%" in text else []) + mended.causes
+        found = ["two percentages in one field, of which the larger counts"] if sides else []
+        has_sign = re.match(rf"{BOTH_SIDES}|[{causes.MINUS}-]", text.strip())
+        found += ["a percentage has no sign"] if has_sign and not sides else []
+        found += ["a percent sign"] if "%" in text and not sides else []
+        found += mended.causes
         form = f"a number from 0 to {limit('percentage')} with at most {decimals} decimals"
         candidates = [(cause_of(found), mended.text, True)]
         return self.first_taken(row, column, candidates, f"no percentage; it is {form}")
 
     def year(self, row, column):
         """A year, or one of the three of a span."""
+        several = self.several_years(row, column)
+        if several:
+            return several
         mended = causes.year(row.field(column))
         if not mended.sure:
             first = row.with_fields(**{column: mended.text[:4]})
@@ -206,6 +254,32 @@ class NumberFaults(PercentFaults):
             otherwise = f"no year: a span has {first} year here, in {digits}"
         return self.first_taken(row, column, [(cause_of(mended.causes), mended.text, True)], otherwise)
 
+    def several_years(self, row, column):
+        """A first and a last year in one field, or none where a factor holds in all years; or None."""
+        text, kind = row.field(column).strip(), row.field("kind")
+        found = YEARS.fullmatch(text)
+        first, last = found.groups() if found else (None, None)
+        if column != "year" or found and first >= last or not found and text.casefold() not in ALL_YEARS:
+            return None
+        if kind == "span" and found and row.field("value").strip() in ("", last):
+            changed = row.with_fields(year=first, value=last)
+            write = f"{first} in year and {last} in value"
+            return at_row(row, "the first and the last year in one field", column, write), changed
+        if row.field("act") == "withdraw" and kind in self.book.years:
+            years = self.book.years[kind].get(row.field("name"), [])
+            there = f"; there are records of {years_said(years)}" if years else ""
+            return at_row(row, f"a row withdraws the record of one year{there}", column), None
+        if kind == "factor" and not year_between(row):
+            year = first or self.first_year()
+            cause = "a factor holds from its year on"
+            is_free = year and not self.ahead.is_entered(row.with_fields(year=year))
+            candidates = [(cause, year, True)] if is_free else []
+            otherwise = f"{cause}; write the first year that it holds in"
+            return self.first_taken(row, column, candidates, otherwise)
+        if kind == "activity" and found and int(last) > int(first) + 1:
+            return at_row(row, "several years in one field; write a row for each year", column), None
+        return None
+
     def disorder(self, row):
         """Bounds that do not hold their value, or a span whose years are in disorder; and the row to go on
         with.
@@ -222,12 +296,16 @@ class NumberFaults(PercentFaults):
             inner = sorted((least, number, most))
             order = "in order they are {1} with low {0} and high {2}".format(*map(written, inner))
             fault = at_row(row, f"low {low} is above high {high}; {order}", "low")
-        elif 0 <= least == most < number <= 100 * most:
+        elif 0 < most < number <= 100 * most and least in (most, -most):
             distance = written(most), written(number - most), written(number + most)
             cause = "low and high are the same figure and below the value; they are bounds, and no distances"
             sides = "of a distance of {} they are {} and {}".format(*distance)
             share = "of {} percent {} and {}".format(written(most), *shares(number, most))
             fault = at_row(row, f"{cause}: {sides}, {share}", "low")
+        elif 0 < least <= 1 <= most < min(number, 10):
+            bounds = listed([written(EXACT.multiply(number, bound)) for bound in (least, most)], "and")
+            cause = f"low and high are bounds, and no factors of the value; of these they are {bounds}"
+            fault = at_row(row, cause, "low")
         else:
             side, bound = ("low", "above") if least > number else ("high", "below")
             held = scaled(number, least, most)
@@ -248,6 +326,14 @@ class NumberFaults(PercentFaults):
         cause = f"the base year {base} is not from {first} to {last}"
         span = f"{base} in year" if base < first else f"{base} in value"
         return at_row(row, f"{cause}; write one of these here, or {span}", "low")
+
+
+def without_years(mended):
+    """A half-life without its unit behind it."""
+    found = re.fullmatch(r"(\d[\d.]*)\s*([A-Za-z]+)", mended.text)
+    meant = units.meant(found.group(2)) if found else None
+    is_unit = meant and meant.word == HALF_LIFE_UNIT
+    return mended.less("a unit behind the number", found.group(1)) if is_unit else mended
 
 
 def year_between(row):

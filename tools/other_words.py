@@ -1,8 +1,11 @@
 """What people write for the acts, the kinds and the forms of bindings."""
+from tools.vocabulary import plain
+
 OTHER_ACTS = {
     "add": "enter", "insert": "enter", "new": "enter", "update": "correct", "change": "correct",
     "amend": "correct", "edit": "correct", "replace": "correct", "revise": "correct", "delete": "withdraw",
-    "remove": "withdraw", "cancel": "withdraw",
+    "remove": "withdraw", "cancel": "withdraw", "retract": "withdraw", "drop": "withdraw",
+    "modify": "correct", "e": "enter", "c": "correct", "w": "withdraw",
 }
 OTHER_KINDS = {
     "ad": "activity", "activity data": "activity", "activities": "activity", "ef": "factor",
@@ -14,3 +17,8 @@ OTHER_FORMS = {
     "constant": "factor", "previous": "prev", "previous year": "prev", "last year": "prev", "lag": "prev",
     "total": "sum", "half-life": "decay", "notation key": "key", "nk": "key",
 }
+
+
+def meant_by(text, others):
+    """The word that others have for a text, whatever its case, blanks and signs, or None."""
+    return next((word for other, word in others.items() if plain(other) == plain(text)), None)

@@ -12,7 +12,7 @@ from tools.vocabulary import listed
 # A distance to both sides, or to one of them.
 BOTH_SIDES = r"\u00b1|\+/-|\+-|\+/\u2212"
 UNCERTAIN_FIGURE = re.compile(rf"(.+?)\s*(?:{BOTH_SIDES})\s*(.+?)\s*(%?)")
-DISTANCE = re.compile(rf"({BOTH_SIDES}|[+\-{causes.MINUS}])?\s*(.*?)\s*%")
+DISTANCE = re.compile(rf"({BOTH_SIDES}|[+\-{causes.MINUS}])?\s*(.*?)\s*%", re.DOTALL)
 EXACT = decimal.Context(prec=100)
 
 
@@ -26,7 +26,7 @@ class PercentFaults(Asking):
         if column == "value" and uncertain:
             return self.uncertain_figure(row, *uncertain.groups())
         if not text.endswith("%"):
-            return None
+            return self.both_sides(row, column)
         if column == "value":
             return self.ratio(row, column) if ratio else self.of_no_ratio(row)
         sign = DISTANCE.fullmatch(text).group(1)
@@ -76,6 +76,22 @@ class PercentFaults(Asking):
         if not bound or not self.takes(changed, column):
             return at_row(row, cause, column), None
         return at_row(row, cause, column, f"{bound}, which is {said}"), changed
+
+    def both_sides(self, row, column):
+        """A distance to both sides without a percent sign, in low or high or both; or None."""
+        bounds = [row.field(name).strip() for name in ("low", "high") if row.field(name).strip()]
+        found = [re.fullmatch(rf"(?:{BOTH_SIDES})\s*(.+)", bound) for bound in bounds]
+        distances = {figure_of(bound.group(1)) if bound else None for bound in found}
+        value, distance = figure_of(row.field("value")), min(distances, key=str, default=None)
+        if value is None or distance is None or len(distances) > 1 or row.has_other_figure:
+            return None
+        low, high = written(EXACT.subtract(value, distance)), written(EXACT.add(value, distance))
+        changed = row.with_fields(low=low, high=high)
+        if not self.takes(changed, None):
+            return None
+        cause = "a distance to both sides, and low and high are bounds"
+        at = column if row.field(column) else {"low": "high", "high": "low"}[column]
+        return at_row(row, cause, at, f"{low} in low and {high} in high"), changed
 
     def ratio_or_distance(self, row, column):
         """A bound of a ratio that is in percent, or by its distance from the value."""

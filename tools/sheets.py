@@ -79,22 +79,22 @@ class Row:
 
 class Sheet:
     """A file of a folder: the name to show for it, its bytes and its rows, of which the first is the
-    header.
+    header; and these rows as they are read without what is wrong with the file.
     """
 
     def __init__(self, name, data):
         self.name, self.data = name, data
-        self.rows = split(self, data)
+        self.rows = self.meant = split(self, data)
 
     def rows_above(self, line):
         """The rows above a line up to the header, the nearest first."""
-        for at in range(bisect.bisect_left(self.rows, line, key=lambda row: row.line) - 1, 0, -1):
-            yield self.rows[at]
+        for at in range(bisect.bisect_left(self.meant, line, key=lambda row: row.line) - 1, 0, -1):
+            yield self.meant[at]
 
     def rows_below(self, line):
         """The rows below a line, the nearest first."""
-        for at in range(bisect.bisect_right(self.rows, line, key=lambda row: row.line), len(self.rows)):
-            yield self.rows[at]
+        for at in range(bisect.bisect_right(self.meant, line, key=lambda row: row.line), len(self.meant)):
+            yield self.meant[at]
 
 
 def joined(fields):

@@ -10,6 +10,8 @@ from tools.sheets import COLUMN_AT, Row, joined
 from tools.vocabulary import limit, listed
 
 
+TOO_FAR_LEFT = "left; write one more comma in front of it, and one less at the end"
+TOO_FAR_RIGHT = "right; take out a comma in front of it, and write one at the end"
 # The columns that are filled in rows of these kinds.
 FILLED = {
     "line": ["subject", "name", "value"], "bind": ["subject", "name", "value", "low"],
@@ -33,16 +35,25 @@ class Shifts(Asking):
         """The fault and the row as it is meant, where the program takes it so, or None."""
         column = word_of_a_column(row.field("kind"))
         if len(row.fields) != len(COLUMN_AT) or not column:
-            return None
+            return self.shifted_kind(row)
         due, words = COLUMN_AT[column[0]], column[1]
         if row.fields[due] in words:
             return None
         if row.fields[due - 1] in words and not row.fields[-1]:
             meant = self.moved_right(row, due - 1)
-            return self.first_of(row, meant, "left; write one more comma in front of it")
+            return self.first_of(row, meant, TOO_FAR_LEFT)
         if row.fields[due + 1] in words:
-            return self.first_of(row, self.moved_left(row, due), "right; take out a comma in front of it")
+            return self.first_of(row, self.moved_left(row, due), TOO_FAR_RIGHT)
         return None
+
+    def shifted_kind(self, row):
+        """The fault of a row without a kind whose kind stands in subject, and the row as it is meant; or
+        None.
+        """
+        if row.field("kind").strip() or row.field("subject") not in vocabulary.words()["kinds"]:
+            return None
+        meant = [(row.field("subject"), row.fields[:1] + row.fields[2:] + [""])]
+        return self.first_of(row, meant, TOO_FAR_RIGHT)
 
     def swapped(self, row):
         """The fault of two fields of a row that stand in each other's column, and the row as it
@@ -106,9 +117,9 @@ class Shifts(Asking):
         meant = row.with_fields(subject="", name=row.field("subject"))
         if not self.takes(meant, "name"):
             return None
-        cause = f"the name of {article(row.field('kind'))} stands in name; move it there"
+        what = "an uncertainty" if row.field("kind") == "uncert" else article(row.field("kind"))
+        cause = f"the name of {what} stands in name; move it there"
         return at_row(row, cause, "subject"), meant
-
 
     def percentages_astray(self, row):
         """The fault of an uncertainty whose two percentages stand in other columns, or None."""

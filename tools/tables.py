@@ -4,7 +4,10 @@ import shlex
 import sys
 
 from tools import headers, vocabulary
+from tools.book import book_of
 from tools.faults import counted
+from tools.sheets import FolderFault
+from tools.vocabulary import listed
 
 
 def said_of(sheet, reply):
@@ -63,12 +66,21 @@ def run(program, sheets, arguments):
     shown = {name: program.show(name, arguments.year) for name in names}
     missing = [name for name, lines in shown.items() if lines is None]
     if missing:
-        what = f"there is no table {' or '.join(missing)} of {arguments.year}: the span has another year"
-        known = ", ".join(vocabulary.words()["tables"])
-        print(f"./workbook: {what}, or there is no span, or the tables are {known}", file=sys.stderr)
+        print(f"./workbook: {said_of_missing(missing, arguments.year, accepted)}", file=sys.stderr)
         return 1
     write(shown, arguments)
     return 1 if lacking else 0
+
+
+def said_of_missing(names, year, accepted):
+    """Why the program has none of some tables of a year."""
+    known = vocabulary.words()["tables"]
+    unknown = [name for name in names if name not in known]
+    if unknown:
+        return f"there is no table {listed(unknown)}; the tables are {listed(known, 'and')}"
+    span = book_of(accepted).span
+    why = f"the span is {span[0]} to {span[1]}" if span else "no span is in force"
+    return f"there is no table of {year}: {why}"
 
 
 def write(shown, arguments):
@@ -77,6 +89,8 @@ def write(shown, arguments):
         print("\n\n".join("\n".join(lines) for lines in shown.values()))
         return
     folder = pathlib.Path(arguments.output)
+    if folder.exists() and not folder.is_dir():
+        raise FolderFault(f"{folder} is no folder")
     folder.mkdir(parents=True, exist_ok=True)
     for name, lines in shown.items():
         path = folder / f"{name}-{arguments.year}.csv"

@@ -1,7 +1,7 @@
 """Explains the form and the target of a binding: rule 5."""
 import re
 
-from tools import causes, vocabulary
+from tools import causes, letters, vocabulary
 from tools.asking import Asking, article, cause_of
 from tools.book import KIND_TAKEN
 from tools.faults import at_row
@@ -44,7 +44,7 @@ class TargetFaults(Asking):
         what has the name.
         """
         forms = vocabulary.words()["forms"]
-        found = re.fullmatch(rf"(?:({'|'.join(forms)})[\s:=]+)?(.*)", text, re.IGNORECASE)
+        found = re.fullmatch(rf"(?:({'|'.join(forms)})[\s:=]+)?(.*)", text, re.IGNORECASE | re.DOTALL)
         form, name = (found.group(1) or "").lower(), causes.name(found.group(2)).text
         entered = [(kind, self.ahead.row_of(kind, name)) for kind in ("activity", "factor", "line")]
         there = [(kind, one) for kind, one in entered if one]
@@ -79,10 +79,14 @@ class TargetFaults(Asking):
             return at_row(row, f"no target; a binding by {form} names {target_of(form)}", column), None
         if form == "key":
             keys, meant = vocabulary.words()["keys"], causes.notation_key(text)
-            if meant in keys and meant != text.strip().upper():
+            if meant in keys and meant != letters.latin(text).strip().upper():
                 candidates = [("a notation key has two letters", meant, True)]
                 return self.first_taken(row, column, candidates, "no key")
-            return self.choice(row, column, keys, f"a binding by key takes {listed(keys)}")
+            zero = "; all but NE are zero" if is_zero(text) else ""
+            return self.choice(row, column, keys, f"a binding by key takes {listed(keys)}{zero}")
+        code = vocabulary.same_code(text) if form in ("line", "prev", "sum") else None
+        if code and not re.match("[A-Z]", text):
+            return self.category_for_target(row, column, code)
         if form == "sum":
             return self.sum_target(row, column)
         if text.upper() in vocabulary.words()["potentials"]:
@@ -102,6 +106,20 @@ class TargetFaults(Asking):
         candidates = [(cause_of(mended.causes), mended.text, mended.sure)]
         return self.first_taken(row, column, candidates, name_otherwise(mended.text, "name"))
 
+    def category_for_target(self, row, column, code):
+        """A category where lines are meant: those there that give what the parameter takes."""
+        parameter = self.parameter_of(row)
+        form, measures = row.field("value"), parameter["measures"] if parameter else None
+        others = [line for line in self.ahead.lines_at(code) if line.field("name") != row.field("subject")]
+        lines = [line.field("name") for line in others if line.field("value") in vocabulary.equations()
+                 and vocabulary.given_by(line.field("value")) == measures]
+        cause = f"{code} is a category, and a binding by {form} takes {target_of(form)}"
+        otherwise = f"{cause}; none there gives {measures}" if parameter and not lines else cause
+        if form != "sum" and len(lines) > 1:
+            return at_row(row, f"{cause}; there are {listed(lines, 'and')}", column), None
+        candidates = [(cause, " ".join(lines), False)] if lines else []
+        return self.first_taken(row, column, candidates, otherwise)
+
     def parameter_of(self, row):
         """The parameter that a binding names, where its line is known, or None."""
         line = self.book.lines.get(row.field("subject")) or self.ahead.row_of("line", row.field("subject"))
@@ -118,7 +136,7 @@ class TargetFaults(Asking):
         if not parameter:
             return said
         name = f"{row.field('subject')}.{row.field('name')}"[:int(limit("name"))]
-        year = self.book.span[0] if self.book.span else "YEAR"
+        year = self.first_year() or "YEAR"
         units = vocabulary.units_that_measure(vocabulary.record_of(parameter))
         row_of_it = f"enter,factor,,{name},{year},{causes.number(text).text},,,UNIT,"
         return f"{said}: {row_of_it} in {listed(units)}, and factor,{name}"
@@ -143,6 +161,11 @@ def is_number(text):
     return bool(re.fullmatch(r"-?\d+(\.\d+)?", causes.number(text).text))
 
 
+def is_zero(text):
+    """Tells whether a text is the number zero."""
+    return is_number(text) and not causes.number(text).text.strip("-0.")
+
+
 def target_of(form):
     """What a binding by a form names."""
     if form in KIND_TAKEN:
@@ -158,6 +181,6 @@ def name_otherwise(text, what):
     if length > int(limit("name")):
         most = f"{length} letters where {limit('name')} are the most"
         return f"{most}; write a shorter name, the same everywhere"
-    if not re.match("[A-Z]", text):
+    if text.isascii() and not re.match("[A-Z]", text):
         return "a name begins with a letter"
     return f"a name is 1 to {limit('name')} of A to Z, 0 to 9, . _ and -, and begins with a letter"

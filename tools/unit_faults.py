@@ -20,6 +20,9 @@ class UnitFaults(Asking):
             return rate
         measures = self.measured(row)
         meant = units.meant(bare.text, measures)
+        record = self.book.some_record(row.field("kind"), row.field("name"))
+        if meant and record and measures != vocabulary.measured_by(meant.word):
+            meant = None
         candidates = [(cause_of(bare.causes), bare.text, True)]
         where, beside = (None, None) if bare.text else unit_beside(row, measures)
         if beside:

@@ -7,6 +7,7 @@ import unicodedata
 
 from tools import vocabulary
 from tools.causes import MINUS
+from tools.letters import latin, lowered
 
 Exact = fractions.Fraction
 POWERS = {"k": 3, "M": 6, "G": 9, "T": 12, "P": 15, "E": 18}
@@ -18,19 +19,20 @@ BASES = [
     ("energy", "J", "0.000000000001", "kMGTPE", ["joule"]),
     ("energy", "Wh", "0.0000000036", "kMGT", ["watthour"]),
     ("energy", "cal", "0.0000000000041868", "kMGTP", ["calorie"]),
-    ("energy", "toe", "0.041868", "kM", []),
-    ("energy", "tce", "0.0293076", "kM", []),
+    ("energy", "toe", "0.041868", "kM", ["toe"]),
+    ("energy", "tce", "0.0293076", "kM", ["tce"]),
     ("area", "ha", "1", "kM", ["hectare"]),
     ("volume", "l", "0.001", "k", ["litre", "liter"]),
 ]
 OTHERS = {
     ("mass", "0.000000001"): ["mg", "milligram"], ("mass", "0.00045359237"): ["lb", "pound"],
-    ("mass", "0.1"): ["quintal"],
+    ("mass", "0.1"): ["quintal"], ("mass", "0.90718474"): ["shortton"], ("mass", "1.0160469088"): ["longton"],
     ("energy", "0.001055056"): ["MMBtu"], ("energy", "0.000000001055056"): ["Btu"],
+    ("energy", "0.0001055056"): ["therm"],
     ("area", "100"): ["km2"], ("area", "0.0001"): ["m2"], ("area", "0.40468564224"): ["acre"],
     ("volume", "1"): ["m3", "Nm3", "Sm3", "cbm"], ("volume", "1000000"): ["Mm3", "mcm"],
     ("volume", "1000000000"): ["km3", "bcm"], ("volume", "1000"): ["ML", "megalitre"],
-    ("volume", "0.1"): ["hl"],
+    ("volume", "0.1"): ["hl"], ("volume", "0.158987294928"): ["bbl", "barrel"],
     ("animals", "1"): ["head"], ("people", "1"): ["person", "people", "capita", "cap", "inhabitant"],
     ("days", "1"): ["day", "d"], ("years", "1"): ["yr", "year", "y", "a", "annum"],
     ("minutes", "1"): ["AEmin", "min", "minute"], ("ratio", "0.01"): ["pct", "%", "percent", "percentage"],
@@ -39,26 +41,29 @@ OTHERS = {
 }
 MULTIPLES = {
     "hundred": 2, "thousand": 3, "'000": 3, "000": 3, "000s": 3, "k": 3, "million": 6, "mio": 6, "mln": 6,
-    "billion": 9, "bn": 9, "mrd": 9,
+    "billion": 9, "bn": 9, "mrd": 9, "mill": 6, "tsd": 3, "tys": 3, "lakh": 5, "crore": 7,
 }
 PHRASES = {
-    "ae-min/cell-day": "AEmin", "ae min/cell-day": "AEmin", "min/cell-day": "AEmin", "ae-min": "AEmin",
-    "min per cell-day": "AEmin",
-    "metric ton": "t", "cubic metre": "m3", "cubic meter": "m3", "square kilometre": "km2", "watt hour": "Wh",
+    "ae-min/cell-day": "AEmin", "ae-mins/cell-day": "AEmin", "ae min/cell-day": "AEmin",
+    "min/cell-day": "AEmin", "ae-min": "AEmin", "min per cell-day": "AEmin",
+    "metric tonne": "t", "metric ton": "t", "metric t": "t", "short ton": "shortton", "long ton": "longton",
+    "cubic metre": "m3", "cubic meter": "m3", "square kilometre": "km2", "watt hour": "Wh",
     "watt-hour": "Wh", "per cent": "%", "p.a.": "/yr", "d.m.": "dm",
     "anode effect minute": "AEmin", "ae min": "AEmin",
 }
 # Equivalents of a gas, behind its formula.
 EQUIVALENTS = re.compile(r"(co2|ch4|n2o)[\s-]*e(q\.?|quivalents?)?(?![a-z0-9])", re.IGNORECASE)
+# Tonnes of fuel that measure energy.
+FUEL_EQUIVALENTS = re.compile(
+    r"t(?:on(?:ne)?s?)?(?: of)?[\s.-]*(oil|coal|o|c)\.?[\s-]*e(?:q\.?|quivalents?|\.)(?![a-z0-9])",
+    re.IGNORECASE)
 # Animals are counted in heads. Behind a mass they only say what it is of.
 ANIMALS = {"animal", "cow", "cattle", "bovine", "sheep", "goat", "pig", "swine", "horse", "poultry", "bird"}
 GASES = {"co2", "ch4", "n2o", "cf4", "c2f6"}
 # What stands without a blank behind the mass of it.
 GLUED = GASES | {"c", "n", "n2o-n", "gas", "dm", "vs", "bod", "cod"}
-# What a figure of fuel is in other than its net calorific value: another figure.
-GROSS = {"gross", "gcv", "hhv"}
-RAISED = re.compile("[\u2070\u00b9\u00b2\u00b3\u2074-\u2079\u207b]+")
-LOWERED = str.maketrans("\u2070\u00b9\u00b2\u00b3\u2074\u2075\u2076\u2077\u2078\u2079\u207b", "0123456789-")
+# What makes another figure: a gross calorific value, and equivalents of something else.
+OTHER_FIGURES = {"gross", "gcv", "hhv", "equivalent", "equivalents", "eq"}
 
 
 class Reading:
@@ -139,17 +144,18 @@ def unit_of(text):
 
 def prepared(text):
     """A text with one form for blanks, strokes, powers and phrases."""
-    text = RAISED.sub(lambda found: "^" + found.group().translate(LOWERED), text)
-    text = re.sub(f"[{MINUS}]", "-", unicodedata.normalize("NFKC", text))
+    text = re.sub(f"[{MINUS}]", "-", unicodedata.normalize("NFKC", lowered(latin(text), "^")))
     text = re.sub(r"\(([^()]*)\)\s*\^?-1(?!\d)", r"/ \1 ", text)
     text = EQUIVALENTS.sub(r"\1", text)
+    text = FUEL_EQUIVALENTS.sub(lambda found: f"t{found.group(1)[0].lower()}e", text)
     for phrase, word in PHRASES.items():
         text = re.sub(rf"(?<![a-z]){re.escape(phrase)}s?(?![a-z0-9])\.?", word, text, flags=re.IGNORECASE)
+    text = re.sub(r"\bof\b", " ", text, flags=re.IGNORECASE)
     text = re.sub(r"\b(per|each)\b", "/", text, flags=re.IGNORECASE)
     text = re.sub(r"(?<=[a-z])\^([23])", r"\1", text, flags=re.IGNORECASE)
     text = re.sub(r"(?<=[a-z0-9])\^?-1\b", "^-1", text, flags=re.IGNORECASE)
     text = re.sub(r"[\u00b7*\u00d7()\[\]]|\.(?=[\s/]|$)", " ", text)
-    return re.sub(r"(?<=\d)(?!e\d)(?=[A-Za-z%])(?<![A-Za-z]\d)", " ", text)
+    return re.sub(r"(?<=\d)(?![eE]\d)(?=[A-Za-z%])(?<![A-Za-z]\d)", " ", text)
 
 
 @functools.lru_cache(maxsize=10000)
@@ -171,12 +177,13 @@ def add_part(reading, words, sign):
     """Adds the words between two strokes to a reading, and tells whether all of them are known."""
     has_unit = has_number = False
     for word in words:
-        power = -1 if word.endswith("^-1") else sign
+        is_inverse = word.endswith("^-1")
+        power = -1 if is_inverse else sign
         word = word.removesuffix("^-1")
         unit, what = unit_of(word), word
         if not unit and not multiple_of(word):
             unit, what = without_what_it_is_of(word)
-        if unit and not (has_unit and unit in ANIMALS):
+        if unit and (is_inverse or not (has_unit and unit in ANIMALS)):
             reading.add(unit, power)
             has_unit = True
         elif multiple_of(word):
@@ -201,7 +208,8 @@ def without_what_it_is_of(word):
 
 def is_of_something(what):
     """Tells whether a word behind a unit says what it is of, and changes no figure."""
-    return what not in GROSS and bool(re.fullmatch("[a-z][a-z0-9-]*", what.casefold()))
+    plain = what.casefold().replace(".", "")
+    return plain not in OTHER_FIGURES and bool(re.fullmatch("[a-z][a-z0-9-]*", plain))
 
 
 def multiple_of(word):
@@ -211,7 +219,7 @@ def multiple_of(word):
         return Exact(10) ** MULTIPLES.get(named, MULTIPLES.get(word.casefold()))
     if re.fullmatch(r"10\^\d{1,2}", word):
         return Exact(10) ** int(word[3:])
-    if re.fullmatch(r"\d{1,3}([,.]?000)*(\.\d+)?|1e\d{1,2}", word):
+    if re.fullmatch(r"\d{1,3}([,.]?000)*(\.\d+)?|1[eE]\d{1,2}", word):
         number = Exact(re.sub(r"[,.](?=000)", "", word))
         return number or None
     return None
@@ -240,6 +248,12 @@ class Meant:
         if is_short(self.times) or not is_short(inverse):
             return f"multiply by {written(self.times)}"
         return f"divide by {written(inverse)}"
+
+
+def multiplied(text, times):
+    """A figure that is multiplied, in digits, or None where it has many decimals."""
+    number = Exact(text) * times if re.fullmatch(r"-?\d{1,15}(\.\d{1,12})?", text) else None
+    return written(number) if number is not None and is_short(number) else None
 
 
 def is_short(number):

@@ -8,6 +8,10 @@ import re
 
 # Half-lives are in this unit, out of which the form `decay` of a binding makes a yearly decay factor.
 HALF_LIFE_UNIT = "yr"
+# The codes outside the tree.
+MEMOS = ("MB", "MC", "RA")
+# The parameters that take what a line gave the year before.
+OF_LAST_YEAR = {("Q91", "PREV"), ("Q92", "PREV")}
 PATH = pathlib.Path(__file__).resolve().parent / "vocabulary.json"
 EARLIER = PATH.parent / "earlier-codes.csv"
 
@@ -53,6 +57,11 @@ def volume_of_category(code):
     return {"1": "2", "2": "3", "3": "4", "4": "5", "M": "2", "R": "2"}.get(code[:1])
 
 
+def same_code(code):
+    """The category that a code is, whatever its case, dots and blanks, or None."""
+    return next((known for known in categories() if plain(known) == plain(code)), None)
+
+
 def volume_of_equation(code):
     """The volume of the Guidelines that an equation is of, or None where it is of none."""
     found = re.match(r"Volume (\d)", equations()[code]["source"])
@@ -60,13 +69,22 @@ def volume_of_equation(code):
 
 
 def elsewhere(code, equation):
-    """What the code of a line of an equation is in other guidelines, and which code that is here; or None."""
+    """What the code of a line of an equation is in other guidelines, with that code and the one here; or
+    None.
+    """
     there = [row for row in earlier_codes()
-             if code.upper().startswith(row["code"]) and equation in row["equations"].split()]
+             if code.casefold().startswith(row["code"].casefold()) and equation in row["equations"].split()]
     if not there:
         return None
     row = max(there, key=lambda row: len(row["code"]))
-    return f"{row['code']} is {row['name']} in the {row['of']}, and that is {row['here']} here", row["here"]
+    said = f"{row['code']} is {row['name']} in the {row['of']}, and that is {row['here']} here"
+    return said, row["code"], row["here"]
+
+
+@functools.cache
+def places_of(equation):
+    """The categories at which lines of an equation stand that other guidelines have under other codes."""
+    return {row["here"] for row in earlier_codes() if equation in row["equations"].split()}
 
 
 @functools.cache
@@ -130,10 +148,43 @@ def gas_of(code):
     return equations()[code]["output"].get("gas")
 
 
+@functools.cache
+def gases():
+    """The gases that equations emit, in the order of the equations."""
+    return list(dict.fromkeys(filter(None, map(gas_of, equations()))))
+
+
+def gas_in(name):
+    """The one gas that stands in a name between its dots and strokes, or None."""
+    named = set(gases()) & set(re.split("[._-]", name))
+    return min(named) if len(named) == 1 else None
+
+
+def equations_alike(code, gas):
+    """The equations of the same parameters that emit a gas."""
+    return [other for other, equation in equations().items()
+            if gas_of(other) == gas and equation["parameters"] == equations()[code]["parameters"]]
+
+
 def said_of_parameter(parameter):
     """A parameter with what it measures, and the base unit or the form that gives it."""
     of = "by decay" if is_decay(parameter) else parameter["unit"]
     return f'{parameter["name"]} {parameter["measures"]} ({of})'
+
+
+def is_said_of(code, parameter, text):
+    """Tells whether the page of equations says what a parameter is by a word that begins like a text."""
+    about = equations()[code]["about"]
+    about += "".join(equations()[other]["about"] for other in re.findall("`(Q[0-9]+)`", about))
+    said = [words for words, name in re.findall("([^`]*)`([A-Z0-9]+)`", about) if name == parameter]
+    stem = text.casefold().removesuffix("s")
+    return len(stem) > 3 and any(word.startswith(stem) for words in said for word in words.casefold().split())
+
+
+def said_of_no_parameter(code, name):
+    """That an equation has no parameter of a name, and those that it has."""
+    there = listed(map(said_of_parameter, parameters_of(code).values()), "and")
+    return f"{code} has no {name}; its parameters are {there}"
 
 
 def listed(items, last="or"):
@@ -142,6 +193,11 @@ def listed(items, last="or"):
     if len(items) < 2:
         return "".join(items)
     return f'{", ".join(items[:-1])} {last} {items[-1]}'
+
+
+def are(items):
+    """The verb of items that are listed behind it."""
+    return "is" if len(items) == 1 else "are"
 
 
 def plain(text):

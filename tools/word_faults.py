@@ -1,18 +1,23 @@
 """Explains a word that is none of its column, or a column that has to be empty: rule 5."""
+import itertools
 import re
 
-from tools import causes, vocabulary
+from tools import causes, letters, vocabulary
 from tools.asking import article, cause_of, has_figure, is_empty, is_header, is_note, is_total
 from tools.faults import at_row
-from tools.other_words import OTHER_ACTS, OTHER_KINDS
+from tools.other_words import OTHER_ACTS, OTHER_KINDS, meant_by
 from tools.sheets import COLUMNS_OF_KEY
 from tools.target_faults import TargetFaults, name_otherwise
 from tools.unit_faults import UnitFaults, unit_beside
-from tools.vocabulary import limit, listed
+from tools.vocabulary import are, limit, listed, nearest
 
 
 # The columns that a merged cell may leave empty, by the kind of a row.
 MERGED = {"activity": ["name", "unit"], "factor": ["name", "unit"], "line": ["subject"], "bind": ["subject"]}
+
+
+# What may stand in front of a code of a category.
+WORD_OF_CODE = r"^(crf|crt|nfr|ipcc|code|category)[\s:._-]+"
 
 
 class WordFaults(UnitFaults, TargetFaults):
@@ -26,7 +31,7 @@ class WordFaults(UnitFaults, TargetFaults):
             return at_row(row, "the header once more; take this row out"), None
         if is_total(row):
             return at_row(row, "a row of totals; take it out"), None
-        below = self.below_a_merged_cell(row, column)
+        below = self.left_in_force(row, column) or self.below_a_merged_cell(row, column)
         if below:
             return below
         if is_note(row):
@@ -58,6 +63,14 @@ class WordFaults(UnitFaults, TargetFaults):
             return self.filled(row, column, cause)
         return self.filled(row, column, f"this column stays empty in {article(kind)} row")
 
+    def left_in_force(self, row, column):
+        """An empty field of a correction, which is as the record in force has it; or None."""
+        record = self.book.rows.get(row.key) if row.field("act") == "correct" else None
+        if record is None or row.field(column).strip() or not record.field(column):
+            return None
+        cause = f"empty; a correction has all columns, and {record.place} has this one"
+        return self.first_taken(row, column, [(cause, record.field(column), True)], cause)
+
     def below_a_merged_cell(self, row, column):
         """Empty fields that rows above fill, as a spreadsheet writes cells that were merged, or None."""
         fields = filled_from_above(row)
@@ -70,7 +83,7 @@ class WordFaults(UnitFaults, TargetFaults):
     def act(self, row, column):
         """An act, or another word for one. A row with figures withdraws nothing."""
         acts = vocabulary.words()["acts"]
-        meant = OTHER_ACTS.get(causes.without_blanks(row.field(column)).text.casefold())
+        meant = meant_by(row.field(column), OTHER_ACTS)
         if meant == "withdraw" and any(map(row.field, ("value", "low", "high", "unit"))):
             return self.choice(row, column, acts)
         return self.other_word(row, column, OTHER_ACTS, acts, "act is")
@@ -82,9 +95,29 @@ class WordFaults(UnitFaults, TargetFaults):
         what = "name of a line" if of_line else f"name of {article(row.field('kind'))}"
         if text.upper().startswith("GWP."):
             return self.potential(row, column)
+        code = vocabulary.same_code(text) if row.field("kind") in ("bind", "uncert") else None
+        if code:
+            return self.category_for_line(row, column, code)
         mended = causes.name(text)
         otherwise = name_otherwise(mended.text, what)
         return self.first_taken(row, column, [(cause_of(mended.causes), mended.text, True)], otherwise)
+
+    def category_for_line(self, row, column, code):
+        """A category where the name of a line stands: that of the one line there that lacks such a row, if
+        there is one.
+        """
+        lines, parameter = self.ahead.lines_at(code), causes.name(row.field("name")).text
+        fit = [line.field("name") for line in lines if row.field("kind") == "bind"
+               and line.field("value") in vocabulary.equations()
+               and parameter in vocabulary.parameters_of(line.field("value"))
+               and not self.ahead.is_bound(line.field("name"), parameter)]
+        above = (other for other in row.sheet.rows_above(row.line) if other.field("kind") == "line")
+        near = [other.field("name") for other in itertools.islice(above, 1)]
+        fit = near if set(near) & set(fit) else fit
+        there = [line.field("name") for line in lines]
+        cause = f"{code} is a category, and here stands the name of a line"
+        otherwise = cause + (f"; there {are(there)} {listed(there, 'and')}" if there else "")
+        return self.first_taken(row, column, [(cause, fit[0], True)] if len(fit) == 1 else [], otherwise)
 
     def potential(self, row, column):
         """A name that begins like that of a warming potential."""
@@ -95,8 +128,8 @@ class WordFaults(UnitFaults, TargetFaults):
         bare = causes.name(row.field(column))
         otherwise = f"no such potential; there are {listed(known, 'and')}; of another gas take the row out"
         candidates = [(cause_of(bare.causes), bare.text, True)]
-        letters = bare.text[:4] + bare.text[4:].replace("0", "O")
-        candidates.append(("a zero in place of the letter O", letters, True))
+        with_letter = bare.text[:4] + bare.text[4:].replace("0", "O")
+        candidates.append(("a zero in place of the letter O", with_letter, True))
         return self.first_taken(row, column, candidates, otherwise)
 
     def parameter(self, row, column):
@@ -110,6 +143,9 @@ class WordFaults(UnitFaults, TargetFaults):
         otherwise = f"no parameter: it is 1 to {limit('parameter')} upper-case letters or digits{has}"
         candidates = alone(row.field(column).strip().upper(), known, "a parameter without what it measures")
         candidates.append((cause_of(mended.causes), mended.text, True))
+        unbound = [name for name in known if not self.ahead.is_bound(row.field("subject"), name)]
+        if len(unbound) == 1 and not mended.text:
+            candidates = [("empty, and no other row binds it", unbound[0], True)]
         return self.first_taken(row, column, candidates, otherwise)
 
     def category(self, row, column):
@@ -117,23 +153,32 @@ class WordFaults(UnitFaults, TargetFaults):
 
         The line goes on at a memo code where its own is not known, so that its bindings are seen.
         """
-        text = row.field(column)
-        bare = causes.without_blanks(text)
+        bare = plain_text(row.field(column))
+        without_word = re.sub(WORD_OF_CODE, "", bare.text, flags=re.IGNORECASE)
+        bare = bare.less("a word in front of the code", without_word)
+        bare = bare.less("1.AA is 1A here", re.sub(r"^1\.?AA\.?(?=\d)", "1A", bare.text, flags=re.IGNORECASE))
+        there = set(map(vocabulary.same_code, re.split(r"[\s,;/&+]+", bare.text)))
+        if len(there & set(vocabulary.leaves())) > 1:
+            fault = at_row(row, "more than one category; a line stands at one", column)
+            return fault, self.placed(row, column)
         code = re.sub(r"[\s.]", "", bare.text)
         candidates = [(cause_of(bare.causes), bare.text, True)]
         candidates.append((cause_of(bare.causes + ["a code has no dots or blanks"]), code, True))
-        candidates += alone(bare.text, vocabulary.leaves(), "a code without its name")
+        if re.match(r"([^0-9]|1).*(international|bunker)", bare.text, re.IGNORECASE):
+            candidates.append(("international transport is at MB here", "MB", True))
+        other = None
+        if code not in vocabulary.categories():
+            other = vocabulary.elsewhere(code_in_front(bare.text), row.field("value").strip().upper())
+        candidates += [one for one in alone(bare.text, vocabulary.leaves(), "a code without its name")
+                       if not other or is_of_leaf(other, one[1], row.field("value"))]
         named = {leaf: vocabulary.categories()[leaf]["name"] for leaf in vocabulary.leaves()}
         candidates += called(bare.text, named, "the code of the category stands here")
         for word in [word for word in vocabulary.categories() if word.casefold() == code.casefold()]:
             candidates.append((cause_of(bare.causes + [f"the code is written {word}"]), word, True))
-        other = None
-        if code not in vocabulary.categories():
-            other = vocabulary.elsewhere(code, row.field("value").strip().upper())
-        for leaf in [leaf for leaf in vocabulary.leaves() if code.casefold().startswith(leaf.casefold())]:
-            if not other or vocabulary.volume_of_category(leaf) == vocabulary.volume_of_category(other[1]):
+        for leaf in [leaf for leaf in vocabulary.leaves() if divides(bare.text, leaf)]:
+            if not other or is_of_leaf(other, leaf, row.field("value")):
                 candidates.append((f"this tree has {leaf} undivided", leaf, True))
-        candidates += [(*other, True)] if other else []
+        candidates += [(other[0], other[2], True)] if other else []
         fault, changed = self.first_taken(row, column, candidates, category_otherwise(code, bare.text))
         return fault, changed or self.placed(row, column)
 
@@ -145,8 +190,7 @@ class WordFaults(UnitFaults, TargetFaults):
 
     def equation(self, row, column):
         """A code of an equation."""
-        text = row.field(column)
-        bare = causes.without_blanks(text)
+        bare = plain_text(row.field(column))
         code = re.sub(r"\s", "", bare.text).upper()
         candidates = [(cause_of(bare.causes), bare.text, True)]
         candidates += alone(bare.text.upper(), vocabulary.equations(), "a code without its name")
@@ -157,12 +201,57 @@ class WordFaults(UnitFaults, TargetFaults):
             candidates.append(("the code of an equation begins with Q", "Q" + code, True))
         elif number:
             candidates.append(("an equation is written like Q10", "Q" + number.group(1), True))
-        known = equations_near(code, bare.text)
+        elif re.fullmatch(r"Q[0-9OI]+", code):
+            digits = code.translate(str.maketrans("OI", "01"))
+            candidates.append(("letters in place of digits", digits, True))
+        numbered = equations_numbered(code, row.field("subject"))
+        if len(numbered) == 1:
+            candidates.append((f"here stands the code of {said_of_source(*numbered)}", *numbered, True))
+        fitting = self.equations_of_bindings(causes.name(row.field("name")).text)
+        of_gas = [known for known in fitting if vocabulary.gas_of(known) == code]
+        if len(of_gas) == 1:
+            candidates.append((f"here stands the code of the equation that gives {code}", *of_gas, True))
+        known = numbered or of_gas or equations_near(code, bare.text) or fitting
         what = f"no equation of this code{near_it(map(said_of_equation, known))}"
         if not code:
             what = "empty; here stands the code of an equation"
         otherwise = f"{what}; ./workbook words equations lists them"
         return self.first_taken(row, column, candidates, otherwise)
+
+    def equations_of_bindings(self, line):
+        """The equations of just those parameters that rows bind of a line."""
+        bound = self.ahead.parameters_bound(line)
+        return [code for code in vocabulary.equations() if bound == set(vocabulary.parameters_of(code))]
+
+
+def plain_text(text):
+    """A text without blanks at its ends, and without letters that look Latin and are not."""
+    bare = causes.without_blanks(text)
+    return bare.less(letters.said_of_alike(bare.text), letters.latin(bare.text))
+
+
+def code_in_front(text):
+    """The code that a text begins with, without its dots and blanks and without the name behind it."""
+    parts = text.replace(".", "").split()
+    behind = itertools.takewhile(lambda part: len(part) < 3 or part.casefold() == "iii", parts[1:])
+    return "".join([*parts[:1], *behind])
+
+
+def divides(text, leaf):
+    """Tells whether a code is a part of a leaf, as 1A1ai is of 1A1a; 2B10 is none of 2B1."""
+    parts, of_leaf = (re.findall("[0-9]+|[a-z]", code.casefold()) for code in (text, leaf))
+    return parts[:len(of_leaf)] == of_leaf
+
+
+def is_of_leaf(other, leaf, equation):
+    """Tells whether a code of other guidelines may be a part of a leaf: it is of the same volume, says no
+    more than the leaf does, and a line of the equation stands there.
+    """
+    _, code, here = other
+    volumes = vocabulary.volume_of_category(leaf), vocabulary.volume_of_category(here)
+    has_place = leaf in vocabulary.places_of(equation.strip().upper())
+    return volumes[0] == volumes[1] and len(code) <= len(leaf) and has_place
+
 
 def filled_from_above(row):
     """What the rows above have in the columns that a merged cell may leave empty and that are, by column."""
@@ -208,6 +297,20 @@ def called(text, named, cause):
             if plain and re.sub(r"\W+", " ", name).casefold().strip() == plain]
 
 
+def equations_numbered(code, category):
+    """The equations of the volume of a category with the number of the Guidelines that a text is."""
+    found = re.fullmatch(r"(?:EQ(?:UATION|N)?\.?)?(\d{1,2}\.\d{1,2}(?:\.\d)?)", code)
+    volume = vocabulary.volume_of_category(category.strip())
+    return [known for known, equation in vocabulary.equations().items()
+            if found and volume and vocabulary.volume_of_equation(known) == volume
+            and found.group(1) in re.findall(r"[\d.]*\d", equation["source"].split(",", 1)[-1])]
+
+
+def said_of_source(code):
+    """The equation of the Guidelines that an equation is."""
+    return vocabulary.equations()[code]["source"]
+
+
 def equations_near(code, text):
     """The equations with the nearest numbers to a code that is none, or those whose names hold the text."""
     found = re.fullmatch(r"Q(\d+)", code)
@@ -215,7 +318,7 @@ def equations_near(code, text):
         number = int(found.group(1))
         return sorted(vocabulary.equations(), key=lambda known: abs(int(known[1:]) - number))[:3]
     names = {known: equation["computes"] for known, equation in vocabulary.equations().items()}
-    return named_like(text, names)
+    return named_like(text, names) or nearest(code, names, 3, 0.75)
 
 
 def named_like(text, names):
@@ -229,7 +332,7 @@ def named_like(text, names):
 def near_it(known):
     """What is near a text that is none of its column, where anything is."""
     known = list(known)
-    return f"; near it {'is' if len(known) == 1 else 'are'} {listed(known, 'and')}" if known else ""
+    return f"; near it {are(known)} {listed(known, 'and')}" if known else ""
 
 
 def said_of_equation(code):
@@ -245,7 +348,8 @@ def category_otherwise(code, text):
     if code in known:
         return f"not a leaf: its leaves are {listed(vocabulary.leaves_under(code), 'and')}"
     longest = min(len(code) - 1, max(map(len, known)))
-    above = next((code[:end] for end in range(longest, 0, -1) if code[:end] in known), None)
+    fronts = (code[:end] for end in range(longest, 0, -1))
+    above = next((front for front in fronts if front in known and known[front]["children"]), None)
     if above:
         there = [f"{leaf} ({known[leaf]['name']})" for leaf in known[above]["children"]]
         return f"no category of this tree; under {above} it has {listed(there, 'and')}"

@@ -1,4 +1,6 @@
 """Searches the vocabulary, and shows an equation with a template of its rows."""
+import re
+
 from tools import units as readings
 from tools import vocabulary
 from tools.sheets import COLUMNS
@@ -8,8 +10,8 @@ PARTS = ["units", "categories", "equations", "parameters"]
 MEASURED_YEARLY = {
     "mass", "energy", "area", "volume", "animals", "people", "carbon", "gas", "days", "anode effect minutes",
 }
-# The parameters that take what a line gave the year before: the line itself, or that of the stock.
-LINE_OF_LAST_YEAR = {("Q91", "PREV"): "NAME", ("Q92", "PREV"): "STOCK"}
+# The line of the year before that such a parameter takes: the line itself, or that of the stock.
+LINE_OF_LAST_YEAR = {"Q91": "NAME", "Q92": "STOCK"}
 
 
 def units():
@@ -50,15 +52,36 @@ def parameters():
 def found_in(items, words):
     """The items that have all words in them."""
     return [(word, said) for word, said, also in items
-            if all(part.casefold() in f"{word} {said} {also}".casefold() for part in words)]
+            if all(any(form in f"{word} {said} {also}".casefold() for form in forms(part)) for part in words)]
+
+
+def forms(word):
+    """How a word may stand in the vocabulary: without the s of a plural, and as a code without dots."""
+    plain = word.casefold()
+    found = {plain, plain.removesuffix("s") if len(plain) > 3 else plain}
+    return found | ({plain.replace(".", "")} if re.match(r"\d\.?[a-z]", plain) else set())
+
+
+def near(parts, words):
+    """What is meant by words that nothing has in it: a unit that people write so, and the category that a
+    code divides; by parts.
+    """
+    text, found = " ".join(words), {}
+    meant = readings.meant(text) if "units" in parts else None
+    if meant:
+        found["units"] = [(meant.word, f"{vocabulary.measured_by(meant.word)}; for {text} {meant.said}")]
+    leaves = [leaf for leaf in vocabulary.leaves() if "categories" in parts
+              and vocabulary.plain(text).startswith(vocabulary.plain(leaf))]
+    if leaves and text[0].isdecimal():
+        found["categories"] = [(code, said) for code, said, _ in categories() if code in leaves]
+    return found
 
 
 def sample(code, parameter):
     """The rows of a template that give a parameter its figure."""
     name = f"NAME.{parameter['name']}"
-    line = LINE_OF_LAST_YEAR.get((code, parameter["name"]))
-    if line:
-        return f"enter,bind,NAME,{parameter['name']},,prev,{line},,,", None
+    if (code, parameter["name"]) in vocabulary.OF_LAST_YEAR:
+        return f"enter,bind,NAME,{parameter['name']},,prev,{LINE_OF_LAST_YEAR[code]},,,", None
     if vocabulary.is_decay(parameter):
         half_life = f"enter,factor,,{name},YEAR,VALUE,,,{vocabulary.HALF_LIFE_UNIT},"
         return f"enter,bind,NAME,{parameter['name']},,decay,{name},,,", half_life
@@ -99,6 +122,8 @@ def run(words):
         return 0
     lists = {"units": units, "categories": categories, "equations": equations, "parameters": parameters}
     found = {part: found_in(lists[part](), words) for part in parts}
+    if not any(found.values()):
+        found = near(parts, words)
     if found.get("equations") and len(found["equations"]) == 1 and sum(map(len, found.values())) == 1:
         print_equation(found["equations"][0][0])
         return 0

@@ -22,7 +22,8 @@ class TwentyMistakes(unittest.TestCase):
     def test_mended_as_told_there_is_no_fault(self):
         for inventory in INVENTORIES:
             ran = workbook("check", inventory / "mended", "--no-warnings")
-            self.assertEqual(ran.stdout, "4 files: 0 faults, 0 warnings\n", inventory.name)
+            files = len(list((inventory / "mended").glob("*.csv")))
+            self.assertEqual(ran.stdout, f"{files} files: 0 faults, 0 warnings\n", inventory.name)
             self.assertEqual(ran.returncode, 0)
 
 

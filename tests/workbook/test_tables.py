@@ -53,14 +53,27 @@ class Refused(unittest.TestCase):
         ran = workbook("tables", "examples/fuel-combustion", "2030")
         self.assertEqual(ran.returncode, 1)
         self.assertEqual(ran.stdout, "")
-        self.assertIn("of 2030", ran.stderr)
+        due = "./workbook: there is no table of 2030: the span is 1990 to 2020\n"
+        self.assertTrue(ran.stderr.endswith(due), ran.stderr)
 
+    def test_what_is_no_year(self):
+        for words in (["examples/how-to", "-5"], ["examples/how-to", "20"], ["2020", "examples/how-to"]):
+            ran = workbook("tables", *words, "--program", "no-such-program")
+            self.assertEqual((ran.returncode, ran.stdout), (2, ""))
+            due = f"{words[1]} is no year: behind the folders stands a year of four digits\n"
+            self.assertTrue(ran.stderr.endswith(due), ran.stderr)
 
-    def test_what_is_no_year_or_no_table(self):
-        for words in (["-5"], ["99999"], ["2020", "--table", "Cells"]):
-            ran = workbook("tables", "examples/how-to", *words)
-            self.assertEqual((ran.returncode, ran.stdout), (1, ""))
-            self.assertIn("./workbook: there is no table ", ran.stderr)
+    def test_what_is_no_table(self):
+        ran = workbook("tables", "examples/how-to", "2020", "--table", "Cells", "--table", "summary")
+        self.assertEqual((ran.returncode, ran.stdout), (1, ""))
+        self.assertIn("./workbook: there is no table Cells; the tables are cells, summary, ", ran.stderr)
+
+    def test_no_span(self):
+        with tempfile.TemporaryDirectory() as room:
+            (pathlib.Path(room) / "1.csv").write_text(HEADER)
+            ran = workbook("tables", room, "2020")
+        self.assertEqual((ran.returncode, ran.stdout), (1, ""))
+        self.assertIn("./workbook: there is no table of 2020: no span is in force\n", ran.stderr)
 
 
 class Folders(unittest.TestCase):
@@ -127,7 +140,7 @@ class Folders(unittest.TestCase):
         with tempfile.NamedTemporaryFile() as file:
             ran = workbook("tables", "examples/how-to", "2020", "-o", file.name)
         self.assertEqual((ran.returncode, ran.stdout), (2, ""))
-        self.assertIn(f"./workbook: {file.name}: File exists", ran.stderr)
+        self.assertIn(f"./workbook: {file.name} is no folder", ran.stderr)
 
     def test_no_folder(self):
         ran = workbook("check", "no-such-folder")

@@ -22,10 +22,18 @@ MEANT = [
     ("tonnes/terajoule", "t/TJ", SAME), ("t C/TJ", "tC/TJ", SAME), ("kg C/GJ", "kgC/GJ", SAME),
     ("kcal/kg", "TJ/Gg", "multiply by 0.0041868"), ("GJ/tonne", "GJ/t", SAME), ("GgC", "GgC", SAME),
     ("kt C", "ktC", SAME), ("t C/t", "t/t", SAME), ("t C/ha", "t/ha", SAME), ("t d.m./ha", "t/ha", SAME),
-    ("kg N ha-1 yr-1", "kg/ha", SAME), ("kg N/head/yr", "kg/head", SAME),
+    ("kg N ha-1 yr-1", "kg/ha", SAME), ("kg N animal-1 yr-1", "kg/head", SAME),
+    ("kg N/head/yr", "kg/head", SAME),
     ("kg N2O\u2013N (kg N)\u20131", "kg/kg", SAME),
     ("kg/1000 head", "kg/head", "divide by 1000"), ("kg N (1000 kg animal mass)-1 day-1", "kg/t/day", SAME),
     ("m3 CH4/kg VS", "m3/kg", SAME), ("g BOD/cap/day", "g/person/day", SAME), ("min/cell-day", "AEmin", SAME),
+    ("tonnes of oil equivalent", "ktoe", "divide by 1000"), ("t o.e.", "ktoe", "divide by 1000"),
+    ("thousand tonnes of oil equivalent", "ktoe", SAME), ("Mt coal equivalent", "PJ", "multiply by 29.3076"),
+    ("barrels", "m3", "multiply by 0.158987"), ("short tons", "t", "multiply by 0.90718474"),
+    ("metric tonnes", "t", SAME), ("therms", "GJ", "multiply by 0.1055056"), ("1E3 t", "kt", SAME),
+    ("tys. t", "kt", SAME), ("Tsd. t", "kt", SAME), ("million m3 u.b.", "Mm3", SAME),
+    ("(kg CF4/t Al)/(AE-Mins/cell-day)", "kg/t/AEmin", SAME), ("kg/\u0422J", "kg/TJ", SAME),
+    ("thousands of tonnes", "kt", SAME), ("Mill. t", "kt", "multiply by 1000"), ("metric t", "t", SAME),
 ]
 # Each text with what is measured, and the unit that it means then.
 MEASURED = [
@@ -35,7 +43,8 @@ MEASURED = [
     ("thousand", "animals", "head", "multiply by 1000"), ("t C/TJ", "emission factor of fuel", "tC/TJ", SAME),
 ]
 # Texts that are no unit of the table, or that give another figure, as a gross calorific value.
-NONE = ["", "n/a", "barrels", "TJ GCV", "thousand", "C", "CO2", "/", "US$", "TJ/", "furlongs"]
+NONE = ["", "n/a", "TJ GCV", "TJ g.c.v.", "thousand", "C", "CO2", "/", "US$", "TJ/", "furlongs",
+        "t equivalent"]
 
 
 class Units(unittest.TestCase):

@@ -128,6 +128,15 @@ class Search(unittest.TestCase):
             found = workbook("words", "units", written).stdout.splitlines()
             self.assertIn(word, [line.split()[0] for line in found], written)
 
+    def test_by_other_forms_of_a_word(self):
+        for written, due in (
+                ("tonnes", "  t       mass\n"), ("1.A.1.a", "  1A1a  Main activity electricity"),
+                ("1A1ai", "  1A1a  Main activity electricity"), ("2.C.1.f", "  2C1  Iron and steel"),
+                ("m\u00b3", "  m3  volume; for m\u00b3 the same number\n"),
+                ("kg N2O-N/kg N", "  kg/kg  ratio; for kg N2O-N/kg N the same number\n"),
+                ("kilotonnes of oil equivalent", "  ktoe  energy; for kilotonnes of oil equivalent")):
+            self.assertIn(due, workbook("words", *written.split()).stdout, written)
+
     def test_templates_bind_what_a_line_gave_last_year(self):
         for code, line in (("Q91", "NAME"), ("Q92", "STOCK")):
             rows = workbook("words", code).stdout.splitlines()

@@ -1,0 +1,151 @@
+"""Warnings about figures: what the program takes, and is most likely another number or in another unit."""
+import decimal
+import re
+
+from tools import vocabulary
+from tools.faults import counted, warn
+
+# What fuels have of these in the base unit, blast furnace gas and hydrogen with them.
+OF_FUELS = {"net calorific value": (1, 150), "carbon content of fuel": (5, 100)}
+# What CO2 of fuels burnt is in kg/TJ.
+CO2_OF_FUELS = (20000, 300000)
+# The changes of stocks of the reference approach have a sign.
+SIGNED = {"SC"}
+
+
+def all_of_figures(book):
+    """Every warning about figures."""
+    kinds = (ratios, negatives, hundredfold, unlike_fuels, shares_as_percentages, distances)
+    return [warning for kind in kinds for warning in kind(book)]
+
+
+def figures(row):
+    """The figures of a record in the base unit, without notation keys and empty columns."""
+    unit = vocabulary.units()[row.field("unit")]
+    texts = [row.field(column) for column in ("value", "low", "high")]
+    return [decimal.Decimal(text) * unit["over"] / unit["under"] for text in texts if re.match(r"-?\d", text)]
+
+
+def named_records(book):
+    """Each activity and factor but the potentials, with what it measures and its records by years, without
+    those whose figure is not the writer's.
+    """
+    for kind, named in book.years.items():
+        for name, years in sorted(named.items()):
+            rows = [row for _, row in sorted(years.items()) if not row.has_other_figure]
+            if rows and not name.startswith("GWP."):
+                yield kind, name, vocabulary.measured_by(rows[0].field("unit")), rows
+
+
+def odd_records(book, is_odd):
+    """Each activity and factor with records that are odd for what it measures: the first of these, and how
+    many more there are.
+    """
+    for kind, name, measures, rows in named_records(book):
+        odd = [row for row in rows if is_odd(row, measures)]
+        if odd:
+            yield kind, name, odd[0], len(odd) - 1
+
+
+def ratios(book):
+    """Ratios outside 0 to 1: once for each name."""
+    def is_odd(row, measures):
+        return measures == "ratio" and any(not 0 <= figure <= 1 for figure in figures(row))
+
+    for kind, name, row, others in odd_records(book, is_odd):
+        low, high = row.field("low"), row.field("high")
+        bounds = f" ({low} to {high})" if low else ""
+        more = f", and {others} more of its records" if others else ""
+        figure = f"{row.field('value')}{bounds} {row.field('unit')}"
+        yield warn(row, f"{kind} {name} is a ratio outside 0 to 1: {figure}{more}")
+
+
+def negatives(book):
+    """Negative activities: once for each name."""
+    taken = book.taken()
+
+    def is_odd(row, measures):
+        return row.field("kind") == "activity" and measures != "ratio" and row.field("value").startswith("-")
+
+    for kind, name, row, others in odd_records(book, is_odd):
+        bound = taken.get((kind, name), [])
+        if not bound or any(binding.field("name") not in SIGNED for binding in bound):
+            more = f", and in {counted(others, 'more year')}" if others else ""
+            figure = f"{row.field('value')} {row.field('unit')} in {row.field('year')}"
+            yield warn(row, f"activity {name} is negative: {figure}{more}")
+
+
+def distances(book):
+    """Bounds that lie at one distance to both sides of zero, and not of the value: once for each name."""
+    def is_odd(row, _):
+        return is_of_distances(row)
+
+    for kind, name, row, others in odd_records(book, is_odd):
+        more = f", and in {counted(others, 'more record')}" if others else ""
+        bounds = f"from {row.field('low')} to {row.field('high')}{more}"
+        cause = f"{kind} {name} is {row.field('value')} {bounds}"
+        yield warn(row, f"{cause}; low and high are bounds, and no distances")
+
+
+def is_of_distances(row):
+    """Tells whether the bounds of a figure that is not zero are the same but for their sign."""
+    low, high = row.field("low"), row.field("high")
+    if not low or row.field("value") in vocabulary.words()["keys"]:
+        return False
+    value, low, high = (decimal.Decimal(text) for text in (row.field("value"), low, high))
+    return value != 0 and high > 0 and low == -high
+
+
+def hundredfold(book):
+    """Activities that grow or shrink a hundredfold from one record to the next: once for each name."""
+    for kind, name, _, rows in named_records(book):
+        known = [(row, figures(row)[0]) for row in rows if kind == "activity" and figures(row)]
+        for (before, one), (row, other) in zip(known, known[1:]):
+            least, most = sorted((abs(one), abs(other)))
+            if one * other > 0 and most >= 100 * least:
+                were = " and ".join(f"{of.field('value')} {of.field('unit')} in {of.field('year')}"
+                                    for of in (before, row))
+                yield warn(row, f"activity {name} is {were}; is a unit or a point wrong?")
+                break
+
+
+def unlike_fuels(book):
+    """Factors of fuels that no fuel has: once for each name."""
+    taken = book.taken()
+
+    def usual(row, measures):
+        name = row.field("name")
+        if measures == "emission factor of fuel" and vocabulary.gas_in(name) in (None, "CO2") \
+                and is_of_co2(book, taken.get((row.field("kind"), name), [])):
+            return CO2_OF_FUELS
+        return OF_FUELS.get(measures)
+
+    def is_odd(row, measures):
+        of_fuels, value = usual(row, measures), figures(row)[:1]
+        return of_fuels and any(figure and not of_fuels[0] <= figure <= of_fuels[1] for figure in value)
+
+    for kind, name, row, _ in odd_records(book, is_odd):
+        measures = vocabulary.measured_by(row.field("unit"))
+        least, most = usual(row, measures)
+        fuels = f"fuels have {least} to {most} {vocabulary.units_that_measure(measures)[0]}"
+        figure = f"{row.field('value')} {row.field('unit')}"
+        yield warn(row, f"{kind} {name} is {figure}, and {fuels}; is the unit another?")
+
+
+def is_of_co2(book, bindings):
+    """Tells whether some line that emits CO2 takes what these bindings take."""
+    lines = [book.lines.get(bound.field("subject")) for bound in bindings]
+    return any(line and vocabulary.gas_of(line.field("value")) == "CO2" for line in lines)
+
+
+def shares_as_percentages(book):
+    """Uncertainties of which both percentages are below 1."""
+    found = []
+    for key, row in sorted(book.rows.items(), key=lambda item: item[1].line):
+        if key[0] == "uncert" and not row.has_other_figure:
+            both = [decimal.Decimal(row.field(column)) for column in ("value", "low")]
+            if all(0 < percentage < 1 for percentage in both):
+                figures_said = f"{row.field('value')} and {row.field('low')}"
+                cause = f"both percentages of {key[1]} are below 1: {figures_said}; are they shares?"
+                found.append(warn(row, cause))
+    return found

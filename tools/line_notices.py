@@ -1,0 +1,151 @@
+"""Warnings about lines: what the program takes, and is most likely another equation, category or binding."""
+import re
+
+from tools import vocabulary
+from tools.book import record_taken_by
+from tools.faults import warn
+from tools.vocabulary import MEMOS, are, listed
+
+# The equation of the stock that the parameters of vocabulary.OF_LAST_YEAR take.
+STOCK = "Q91"
+
+
+def all_of_lines(book):
+    """Every warning about lines and their bindings."""
+    kinds = (double_lines, other_codes, other_gases, stocks_of_the_year, always_blank, other_volumes)
+    return [warning for kind in kinds for warning in kind(book)]
+
+
+def other_volumes(book):
+    """Lines that emit a gas by an equation of another volume than that of their category, but for measured
+    emissions, whose ratios are 1.
+    """
+    found = []
+    for row in by_place(book):
+        code, equation = row.field("subject"), row.field("value")
+        volumes = vocabulary.volume_of_category(code), vocabulary.volume_of_equation(equation)
+        if None in volumes or volumes[0] == volumes[1] or not vocabulary.gas_of(equation):
+            continue
+        if row.has_other_figure:
+            continue
+        if is_measured(book, row.field("name"), equation):
+            continue
+        what = vocabulary.equations()[equation]["computes"]
+        cause = f"line {row.field('name')} at {code} ({vocabulary.categories()[code]['name']}) has {equation}"
+        cause += f" of Volume {volumes[1]} ({what})"
+        other = vocabulary.elsewhere(code, equation)
+        found.append(warn(row, f"{cause}; {other[0] if other else 'is the category another?'}"))
+    return found
+
+
+def is_measured(book, line, equation):
+    """Tells whether all ratios that a line takes are factors of 1."""
+    bound, ratios = book.bindings.get(line, {}), []
+    for name, parameter in vocabulary.parameters_of(equation).items():
+        if parameter["measures"] == "ratio" and name in bound:
+            record = book.some_record("factor", bound[name].field("low"))
+            ratios.append(bool(record) and record.field("value") == "1")
+    return bool(ratios) and all(ratios)
+
+
+def other_codes(book):
+    """Lines at a category that has the code of theirs in other guidelines."""
+    for row in by_place(book):
+        code, equation = row.field("subject"), row.field("value")
+        other = vocabulary.elsewhere(code, equation)
+        same_volume = vocabulary.volume_of_category(code) == vocabulary.volume_of_equation(equation)
+        if other and same_volume and not row.has_other_figure and code not in vocabulary.places_of(equation):
+            what = vocabulary.categories()[code]["name"]
+            yield warn(row, f"line {row.field('name')} at {code} ({what}) has {equation}; {other[0]}")
+
+
+def other_gases(book):
+    """Lines that emit another gas than their name has, and their factors whose name has another one."""
+    found = []
+    for row in by_place(book):
+        line, equation = row.field("name"), row.field("value")
+        gas = vocabulary.gas_of(equation)
+        if gas is None:
+            continue
+        named = vocabulary.gas_in(line)
+        if named not in (None, gas):
+            others = vocabulary.equations_alike(equation, named)
+            meant = f"; {others[0]} gives {named}" if others else ""
+            found.append(warn(row, f"line {line} has {equation}, which gives {gas}{meant}"))
+        for bound in book.bindings.get(line, {}).values():
+            kind, name = record_taken_by(bound) or (None, "")
+            other = vocabulary.gas_in(name)
+            if kind == "factor" and other not in (None, named or gas):
+                meant = "".join(gas if part == other else part for part in re.split("([._-])", name))
+                is_there = f"; is {meant} meant?" if meant in book.years["factor"] else ""
+                found.append(warn(bound, f"line {line} gives {gas}, and takes factor {name}{is_there}"))
+    return found
+
+
+def stocks_of_the_year(book):
+    """Bindings that take the stock of this year where that of the year before is due."""
+    found = []
+    for line, parameter in sorted(vocabulary.OF_LAST_YEAR):
+        for row in by_place(book):
+            bindings = book.bindings.get(row.field("name"), {}) if row.field("value") == line else {}
+            bound = bindings.get(parameter)
+            taken = book.lines.get(bound.field("low")) if bound and bound.field("value") == "line" else None
+            if taken and taken.field("value") == STOCK:
+                cause = f"{parameter} of {line} is the stock at the end of the year before, and line"
+                cause += f" {bound.field('low')} is taken of the same year; is prev meant?"
+                found.append(warn(bound, cause))
+    return found
+
+
+def always_blank(book):
+    """Lines that take an activity, and are blank since another parameter is bound to NE."""
+    found = []
+    for row in by_place(book):
+        bound = list(book.bindings.get(row.field("name"), {}).values())
+        blank = [other for other in bound if (other.field("value"), other.field("low")) == ("key", "NE")]
+        blank = [other for other in blank if not other.has_other_figure]
+        if blank and any(other.field("value") == "activity" for other in bound):
+            names = listed([other.field("name") for other in blank], "and")
+            cause = f"line {row.field('name')} is blank in all years: {names} {are(blank)} bound to NE"
+            found.append(warn(blank[0], f"{cause}; NO, NA and IE are zero"))
+    return found
+
+
+def double_lines(book):
+    """Lines of one equation over the same activities that no share tells apart."""
+    found, seen = [], {}
+    for row in by_place(book):
+        name = row.field("name")
+        if row.field("subject") in MEMOS:
+            continue
+        key = what_it_takes(book, name, row.field("value"))
+        if key is None:
+            continue
+        if " or " in vocabulary.equations()[key[0]]["computes"]:
+            # an equation of two sources, as enteric fermentation and manure: two categories take one herd
+            key += (row.field("subject"),)
+        before = seen.setdefault(key, row)
+        if before is not row:
+            activities = listed(sorted({taken for _, taken in key[1]}), "and")
+            both = f"line {name} and line {before.field('name')} ({before.place}) are both {key[0]}"
+            found.append(warn(row, f"{both} of activity {activities}; is it counted twice?"))
+    return found
+
+
+def what_it_takes(book, name, code):
+    """The equation of a line, its activities and what its ratios are bound to;
+
+    None where it takes no activity.
+    """
+    parameters = vocabulary.parameters_of(code)
+    bound = book.bindings.get(name, {})
+    activities = frozenset((parameter, row.field("low")) for parameter, row in bound.items()
+                           if row.field("value") == "activity")
+    shares = frozenset((parameter, row.field("value"), row.field("low")) for parameter, row in bound.items()
+                       if parameters[parameter]["measures"] == "ratio")
+    return (code, activities, shares) if activities else None
+
+
+def by_place(book):
+    """The lines by their files and the rows in them."""
+    return sorted(book.lines.values(), key=lambda row: (row.sheet.name, row.line))
