@@ -1,16 +1,22 @@
 """The built program as a service: whole replies against bytes that are written by hand here, or of
 tests/country.
 """
+import contextlib
 import http.client
+import re
 import resource
+import shlex
+import shutil
 import signal
 import socket
+import sqlite3
 import struct
 import subprocess
 import tempfile
+import time
 import unittest
 
-from tests.service.serving import (GAS, HEADER, HOST, PROGRAM, SECONDS, TOP, Service, get, post,
+from tests.service.serving import (GAS, HEADER, HOST, PROGRAM, SECONDS, TOP, Service, free_port, get, post,
                                    read_to_the_end, reply, table)
 from tests.workbook.test_country import files
 
@@ -27,6 +33,8 @@ TOO_LONG = reply("413 Payload Too Large", "refused 3 BodyTooLong")
 NO_TABLE = reply("404 Not Found", "no table")
 ACCEPTED, REPEATED = reply("201 Created", "accepted 1"), reply("200 OK", "repeated 1")
 LONGEST = 4_194_304
+# What makes `close` reset a connection.
+RESET = struct.pack("ii", 1, 0)
 
 
 def refused(text):
@@ -91,13 +99,28 @@ class Exchanges(unittest.TestCase):
             (b"GET /tables/cells HTTP/1.1\r\n\r\n", NOT_FOUND),
             (chunked, LENGTH), (b"POST /submissions/a HTTP/1.1\r\n\r\n", LENGTH),
             (post("a", GAS, length="many"), BAD), (post("a", GAS, length="12345678901"), BAD),
-            (post("a", GAS, "Content-Length: 0291"), BAD),
+            (post("a", GAS, "Content-Length: 0291"), BAD), (post("a", GAS, "Content-Length: 290"), BAD),
+            (post("a", GAS, length=""), BAD), (get("cells", 1990, "Content-Length: many"), BAD),
+            (get("cells", 1990, "Content-Length: 1", "Content-Length: 01"), BAD),
             (post("a", GAS, "Content-Encoding: gzip"), CODED),
             (post("a", b"", length=LONGEST + 1), TOO_LONG),
             (b"\r\n\x01\r\n", BAD), (b"GET /\xff HTTP/1.1\r\n\r\n", BAD), (b"GET / HTTP/2.0\r\n\r\n", BAD),
-            (get("cells", 1990, *fields), TOO_LARGE),
-            (get("cells", 1990, *fields[:64]), NO_TABLE),
+            (post("\xff", GAS), BAD), (b"GET /tables/cells/\xc3\x28 HTTP/1.1\r\n\r\n", BAD),
+            (get("cells", 1990, *fields), TOO_LARGE), (get("cells", 1990, *fields)[:-2], TOO_LARGE),
             (b"GET / HTTP/1.1\r\nX: " + b"y" * 16_365, TOO_LARGE))
+
+    def test_the_longest_heads_and_those_that_are_longer(self):
+        fields = [f"X-{number}: y" for number in range(64)]
+        head = get("cells", 1990, "X: ")
+        longest, longer = (head[:-4] + b"y" * (size - len(head)) + head[-4:] for size in (16_384, 16_385))
+        self.assertEqual((len(longest), len(longer)), (16_384, 16_385))
+        posted = post("a", GAS, "X: ")
+        at = posted.index(b"X: ") + 3
+        posted = posted[:at] + b"y" * (16_384 + len(GAS) - len(posted)) + posted[at:]
+        self.assertEqual(posted.index(GAS), 16_384)
+        self.exchanged((posted, ACCEPTED), (longest, table(CELLS)), (longer, TOO_LARGE),
+                       (get("cells", 1990, *fields), table(CELLS)), (get("cells", 1990, *fields)[:-2], b""),
+                       (get("cells", 1990, *fields, "X: y"), TOO_LARGE))
 
     def test_heads_that_are_taken(self):
         self.exchanged(
@@ -136,12 +159,36 @@ class Country(unittest.TestCase):
             self.assertEqual(service.status(), 0)
 
 
+@unittest.skipUnless(shutil.which("curl"), "there is no curl")
+class Curl(unittest.TestCase):
+    def test_the_two_lines_of_the_readme(self):
+        lines = re.findall("^curl .*$", (TOP / "README.md").read_text("utf-8"), re.MULTILINE)
+        self.assertEqual(len(lines), 2)
+        first, *others = files()
+        with tempfile.TemporaryDirectory() as room, Service(len(others) + 2) as service:
+            shutil.copy(first, f"{room}/1-energy.csv")
+            self.assertEqual(self.printed(lines[0], service, room), b'{"reply":"accepted 1"}')
+            for number, path in enumerate(others, 2):
+                self.assertEqual(service.exchange(post(path.stem, path.read_bytes())),
+                                 reply("201 Created", f"accepted {number}"))
+            self.assertEqual(self.printed(lines[1], service, room),
+                             (TOP / "tests/country/summary-2020.csv").read_bytes())
+            self.assertEqual(service.status(), 0)
+
+    def printed(self, line, service, room):
+        """What a command of the page prints, with the port of this program."""
+        words = shlex.split(line.replace(":8000/", f":{service.port}/"))
+        ran = subprocess.run([words[0], "--disable", "--noproxy", "*", "--silent", *words[1:]], cwd=room,
+                             stdin=subprocess.DEVNULL, stdout=subprocess.PIPE, timeout=SECONDS, check=False)
+        self.assertEqual(ran.returncode, 0, line)
+        return ran.stdout
+
+
 class Links(unittest.TestCase):
-    def test_a_request_that_is_cut_is_none(self):
+    def test_each_proper_prefix_of_a_request_is_none(self):
         request = post("a", GAS)
-        cuts = [*range(0, len(request), 29), len(request) - 1]
-        with Service(len(cuts) + 2) as service:
-            for cut in cuts:
+        with Service(len(request) + 2) as service:
+            for cut in range(len(request)):
                 self.assertEqual(service.exchange(request[:cut]), b"", cut)
             self.assertEqual(service.exchange(request), ACCEPTED)
             self.assertEqual(service.exchange(request), REPEATED)
@@ -157,14 +204,63 @@ class Links(unittest.TestCase):
             self.assertEqual(service.status(), 0)
 
     def test_a_client_that_breaks_off(self):
-        request, linger = post("a", GAS), struct.pack("ii", 1, 0)
+        request = post("a", GAS)
         with Service(3) as service:
             for part in (request[:100], request):
                 with service.connect() as link:
                     link.sendall(part)
-                    link.setsockopt(socket.SOL_SOCKET, socket.SO_LINGER, linger)
+                    link.setsockopt(socket.SOL_SOCKET, socket.SO_LINGER, RESET)
             again = service.exchange(request)
             self.assertIn(again, (ACCEPTED, REPEATED))
+            self.assertEqual(service.status(), 0)
+
+    def test_a_link_that_fails_before_it_is_read(self):
+        with Service(2) as service:
+            with service.connect() as link:
+                link.setsockopt(socket.SOL_SOCKET, socket.SO_LINGER, RESET)
+            self.assertEqual(service.exchange(post("a", GAS)), ACCEPTED)
+            self.assertEqual(service.status(), 0)
+
+    @unittest.skipUnless(hasattr(resource, "prlimit"), "no limit can be set from outside")
+    def test_a_door_that_gives_no_further_link(self):
+        with Service(10) as service:
+            self.assertEqual(service.exchange(post("a", GAS)), ACCEPTED)
+            resource.prlimit(service.process.pid, resource.RLIMIT_NOFILE, (1, 1))
+            # The program may have asked for one more link before its limit was set.
+            until = time.monotonic() + SECONDS
+            replies = []
+            while service.process.poll() is None and time.monotonic() < until:
+                with contextlib.suppress(OSError):
+                    replies.append(service.exchange(post("a", GAS)))
+            self.assertIn(replies, ([], [b""], [REPEATED], [REPEATED, b""]))
+            self.assertEqual(service.status(), 7)
+
+    def test_a_client_that_closes_while_its_reply_is_written(self):
+        rows = [HEADER, b"enter,span,,,1990,1990,1990,,,\nenter,activity,,A,1990,1,,,TJ,\n"
+                b"enter,factor,,F,1990,1000,,,kg/TJ,\n"]
+        names = [b"L%023d" % number for number in range(5000)]
+        rows += [b"enter,line,1A1a,%b,,Q10,,,,\nenter,bind,%b,FC,,activity,A,,,\n"
+                 b"enter,bind,%b,EF,,factor,F,,,\n" % (name, name, name) for name in names]
+        lines = [b"%b,1A1a,Q10,CO2,Gg,0.001,0.001,0.001\n" % name for name in names]
+        due = CELLS[:CELLS.index(b"\n") + 1] + b"".join(lines)
+        with Service(3) as service:
+            self.assertEqual(service.exchange(post("a", b"".join(rows))), ACCEPTED)
+            with socket.socket() as link:
+                # Small segments and a small buffer: most of the reply has to wait for the client.
+                link.setsockopt(socket.SOL_SOCKET, socket.SO_RCVBUF, 4096)
+                link.setsockopt(socket.IPPROTO_TCP, socket.TCP_MAXSEG, 536)
+                link.connect((HOST, service.port))
+                link.sendall(get("cells", 1990))
+                self.assertEqual(link.recv(8), b"HTTP/1.1")
+                with service.connect() as other:
+                    other.sendall(get("cells", 1990))
+                    other.settimeout(0.2)
+                    with self.assertRaises(TimeoutError):
+                        other.recv(1)
+                    link.setsockopt(socket.SOL_SOCKET, socket.SO_LINGER, RESET)
+                    link.close()
+                    other.settimeout(SECONDS)
+                    self.assertEqual(read_to_the_end(other), table(due))
             self.assertEqual(service.status(), 0)
 
 
@@ -224,6 +320,15 @@ class Ends(unittest.TestCase):
             with open(f"{room}/book.db", "w", encoding="ascii") as file:
                 file.write("act,kind,subject,name,year,value,low,high,unit,note\n" * 100)
             self.assertEqual(self.ended(*words, folder=room), (6, b""))
+
+    def test_a_kept_row_that_is_refused(self):
+        with tempfile.TemporaryDirectory() as room:
+            with contextlib.closing(sqlite3.connect(f"{room}/book.db")) as store, store:
+                store.execute("CREATE TABLE accepted(seq INTEGER PRIMARY KEY, id TEXT UNIQUE NOT NULL, "
+                              "body BLOB NOT NULL)")
+                store.executemany("INSERT INTO accepted VALUES (?, ?, ?)", [(1, "a", GAS), (2, "b", b"")])
+            words = ["serve", "--port", str(free_port()), "--connections", "1", "--store", "book.db"]
+            self.assertEqual(self.ended(*words, folder=room), (9, b"kept row 2 refused 4 BadShape row 0\n"))
 
 
 if __name__ == "__main__":

@@ -6,6 +6,7 @@ import contextlib
 import os
 import pathlib
 import resource
+import shutil
 import signal
 import sqlite3
 import subprocess
@@ -45,15 +46,25 @@ def rows_of(path):
 def make(path, *statements, rows=()):
     """Makes a database by these statements, and puts rows into its table."""
     with contextlib.closing(sqlite3.connect(path)) as connection, connection:
+        connection.execute("PRAGMA synchronous = OFF")
         for statement in statements:
             connection.execute(statement)
-        connection.executemany("INSERT INTO accepted VALUES (?, ?, ?)", rows)
+        if rows:
+            connection.executemany("INSERT INTO accepted VALUES (?, ?, ?)", rows)
 
 
 def without_room():
     """Lets a program write files of at most 1 MiB, and go on where one would be longer."""
     signal.signal(signal.SIGXFSZ, signal.SIG_IGN)
     resource.setrlimit(resource.RLIMIT_FSIZE, (1 << 20, 1 << 20))
+
+
+def as_another_user():
+    """Gives up the rights of root, for those of a user who owns nothing."""
+    if os.geteuid() == 0:
+        os.setgroups([])
+        os.setgid(65534)
+        os.setuid(65534)
 
 
 class Stores(unittest.TestCase):
@@ -116,6 +127,27 @@ class Kept(Stores):
         self.assertEqual(again, (0, entered.replace(b"accepted", b"repeated")))
         self.assertEqual([row[1] for row in rows_of(self.store)], [path.stem for path in files()])
 
+    def test_a_store_of_one_row_that_sqlite3_made(self):
+        make(self.store, TABLE, rows=[(1, "a", GAS)])
+        self.assertEqual(self.run_with(session(submit(b"a", GAS))), (0, b"repeated 1\n"))
+        self.assertEqual(rows_of(self.store), [(1, "a", GAS)])
+
+    def test_a_kept_header_alone(self):
+        for rows, shown in (([(1, "b", HEADER)], b"no table\n"), ([(1, "a", GAS), (2, "b", HEADER)], CELLS)):
+            self.store.unlink(missing_ok=True)
+            make(self.store, TABLE, rows=rows)
+            given = session(submit(b"b", HEADER), b"SHOW cells 1990\n")
+            self.assertEqual(self.run_with(given), (0, b"repeated %d\n%b" % (len(rows), shown)))
+            self.assertEqual(rows_of(self.store), rows)
+
+    @unittest.skipUnless(os.access("/usr/bin/sqlite3", os.X_OK), "there is no sqlite3")
+    def test_the_tool_sqlite3_reads_a_store(self):
+        self.run_with(session(submit(b"a", GAS), submit(b"c", POTENTIAL), submit(b"b", HEADER)))
+        query = "select seq, id, length(body) from accepted"
+        ran = subprocess.run(["/usr/bin/sqlite3", "-init", "/dev/null", "book.db", query], cwd=self.room,
+                             stdin=subprocess.DEVNULL, capture_output=True, timeout=SECONDS, check=False)
+        self.assertEqual((ran.returncode, ran.stdout), (0, b"1|a|291\n2|c|86\n3|b|52\n"))
+
     def test_a_store_that_sqlite3_made(self):
         make(self.store, TABLE, rows=[(1, "a", GAS), (2, "c", POTENTIAL)])
         given = session(submit(b"c", POTENTIAL), b"SHOW cells 1990\n")
@@ -170,11 +202,24 @@ class Refused(Stores):
         self.store.mkdir()
         self.assertEqual(self.run_with(GAS_THEN_CELLS), (6, b""))
 
-    @unittest.skipIf(os.geteuid() == 0, "root may write any file")
-    def test_a_file_that_may_not_be_written(self):
+    def test_a_file_and_a_folder_that_may_not_be_written(self):
         self.run_with(GAS_THEN_CELLS)
-        self.store.chmod(0o444)
-        self.assertEqual(self.run_with(GAS_THEN_CELLS), (6, b""))
+        # A copy, as the other user may not come to the folder of the program.
+        shutil.copy(PROGRAM, self.room / "program")
+        (self.room / "program").chmod(0o755)
+        self.addCleanup(self.room.chmod, 0o700)
+        for folder, file, name in ((0o777, 0o444, "book.db"), (0o555, 0o444, "book.db"),
+                                   (0o777, 0o000, "book.db"), (0o555, 0o444, "new.db")):
+            self.room.chmod(folder)
+            self.store.chmod(file)
+            ran = subprocess.run(["./program", "compile", "--store", name], input=GAS_THEN_CELLS,
+                                 cwd=self.room, stdout=subprocess.PIPE, timeout=SECONDS,
+                                 preexec_fn=as_another_user, check=False)
+            self.assertEqual((ran.returncode, ran.stdout), (6, b""), (folder, file, name))
+            self.assertFalse((self.room / "new.db").exists())
+        self.room.chmod(0o700)
+        self.store.chmod(0o644)
+        self.assertEqual(rows_of(self.store), [(1, "a", GAS)])
 
     def test_a_store_that_sqlite3_has(self):
         self.run_with(GAS_THEN_CELLS)
@@ -200,6 +245,15 @@ class Refused(Stores):
         self.assertEqual(rows_of(self.store), [(1, "a", GAS)])
         self.assertEqual(self.run_with(given), (0, b"repeated 1\naccepted 2\naccepted 3\n"))
 
+    def test_a_first_submission_that_could_not_be_kept(self):
+        long = HEADER + b"enter,activity,,A,1990,1,,,t,%b\n" % (b"n" * (3 << 20))
+        given = session(submit(b"long", long), b"SHOW cells 1990\n")
+        self.run_with(session())
+        self.assertEqual(self.run_with(given, before=without_room), (6, b""))
+        self.assertEqual(rows_of(self.store), [])
+        self.assertEqual(self.run_with(session(submit(b"long", long))), (0, b"accepted 1\n"))
+        self.assertEqual(rows_of(self.store), [(1, "long", long)])
+
     def test_a_kept_row_that_is_refused(self):
         for rows, due in (
                 ([(1, "a", GAS), (2, "b", b"")], b"kept row 2 refused 4 BadShape row 0\n"),
@@ -217,10 +271,65 @@ class Refused(Stores):
         self.assertEqual(rows_of(self.store), rows)
 
     def test_another_table_of_that_name(self):
-        make(self.store, "CREATE TABLE accepted(a, b, c)", rows=[("x", "y", "z")])
-        self.assertEqual(self.run_with(GAS_THEN_CELLS)[0], 6)
+        seq, id_, body = "seq INTEGER PRIMARY KEY", "id TEXT UNIQUE NOT NULL", "body BLOB NOT NULL"
+        for columns in ("(a, b, c)", "(seq, id, body)",
+                        f"(seq INTEGER, {id_}, {body})", f"(seq INTEGER UNIQUE, {id_}, {body})",
+                        f"(seq INT PRIMARY KEY, {id_}, {body})",
+                        f"({seq}, id TEXT NOT NULL, {body})", f"({seq}, id TEXT UNIQUE, {body})",
+                        f"({seq}, id BLOB UNIQUE NOT NULL, {body})",
+                        f"({seq}, id TEXT NOT NULL, {body}, UNIQUE (id, body))",
+                        f"({seq}, {id_}, body BLOB)", f"({seq}, {id_}, body BLOB UNIQUE NOT NULL)",
+                        f"({seq}, {id_}, body TEXT NOT NULL)", f"({seq}, {id_}, words BLOB NOT NULL)",
+                        f"({seq}, {id_}, {body}) STRICT", f"({seq}, {id_}, {body}) WITHOUT ROWID"):
+            for rows in ([], [(1, "a", GAS)]):
+                self.is_refused_as_it_is(f"CREATE TABLE accepted{columns}", rows)
+        self.is_refused_as_it_is(f"CREATE TABLE accepted({seq}, {body}, {id_})", [(1, GAS, "a")])
+        for columns in (f"{seq}, {id_}", f"{seq}, {id_}, {body}, note TEXT"):
+            self.is_refused_as_it_is(f"CREATE TABLE accepted({columns})", [])
+
+    def test_a_table_with_more_than_columns(self):
+        for more in ("CREATE TRIGGER t AFTER INSERT ON accepted BEGIN DELETE FROM accepted; END",
+                     "CREATE INDEX i ON accepted(length(body))"):
+            self.is_refused_as_it_is(TABLE, [], more)
+            self.is_refused_as_it_is(TABLE, [(1, "a", GAS)], more)
+
+    def is_refused_as_it_is(self, table, rows, *more):
+        """Makes a store of this table and these rows, and looks that a run fails and changes neither."""
+        self.store.unlink(missing_ok=True)
+        make(self.store, table, rows=rows)
+        make(self.store, *more)
+        self.assertEqual(self.run_with(GAS_THEN_CELLS), (6, b""), table)
         with contextlib.closing(sqlite3.connect(self.store)) as connection:
-            self.assertEqual(connection.execute("SELECT * FROM accepted").fetchall(), [("x", "y", "z")])
+            tables = connection.execute("SELECT sql FROM sqlite_master WHERE type = 'table'")
+            self.assertEqual(tables.fetchall(), [(table,)])
+            self.assertEqual(connection.execute("SELECT * FROM accepted").fetchall(), rows)
+
+    def test_what_else_a_table_says_is_not_compared(self):
+        seq, id_, body = "seq INTEGER PRIMARY KEY", "id TEXT UNIQUE NOT NULL", "body BLOB NOT NULL"
+        for columns in (f"SEQ INTEGER PRIMARY KEY AUTOINCREMENT, {id_}, {body}",
+                        f"{seq}, id VARCHAR(40) COLLATE NOCASE UNIQUE NOT NULL, {body}",
+                        f"{seq}, {id_}, body NOT NULL", f"{seq}, {id_} DEFAULT 'x', {body} DEFAULT x'00'",
+                        f"{seq}, {id_}, {body}, CHECK (length(id) > 0)"):
+            self.store.unlink(missing_ok=True)
+            make(self.store, f"CREATE TABLE accepted({columns})", "CREATE UNIQUE INDEX i ON accepted(body)",
+                 "CREATE TABLE other(a)")
+            self.assertEqual(self.run_with(GAS_THEN_CELLS), (0, b"accepted 1\n" + CELLS), columns)
+            self.assertEqual(rows_of(self.store), [(1, "a", GAS)])
+
+    def test_a_rule_of_the_table_that_a_submission_breaks(self):
+        for rule in ("COLLATE NOCASE", "CHECK (id <> 'A')"):
+            self.store.unlink(missing_ok=True)
+            make(self.store, TABLE.replace("NOT NULL,", f"NOT NULL {rule},", 1))
+            given = session(submit(b"a", GAS), submit(b"A", POTENTIAL), submit(b"c", POTENTIAL))
+            self.assertEqual(self.run_with(given), (6, b"accepted 1\n"), rule)
+            self.assertEqual(rows_of(self.store), [(1, "a", GAS)])
+
+    def test_a_view_of_that_name(self):
+        make(self.store, "CREATE VIEW accepted AS SELECT 1 AS seq, 'a' AS id, x'00' AS body")
+        self.assertEqual(self.run_with(GAS_THEN_CELLS), (6, b""))
+        with contextlib.closing(sqlite3.connect(self.store)) as connection:
+            objects = connection.execute("SELECT type, name FROM sqlite_master").fetchall()
+        self.assertEqual(objects, [("view", "accepted")])
 
 
 if __name__ == "__main__":
