@@ -1,7 +1,7 @@
 """An inventory with more than twenty different mistakes is mended after one check.
 
-Of each folder of `twenty`, `mistakes` holds the inventory with the lines due, and `mended` what these lines
-say to write.
+Of each folder of `twenty`, `mistakes` holds the inventory, and `mended` what was written after one check.
+Where the lines due were written before the check, `mistakes` has them in `due.txt`.
 """
 import unittest
 
@@ -16,8 +16,10 @@ class TwentyMistakes(unittest.TestCase):
     def test_one_check_tells_all(self):
         for inventory in INVENTORIES:
             ran = workbook("check", inventory / "mistakes")
-            self.assertEqual(ran.stdout, (inventory / "mistakes/due.txt").read_text(encoding="utf-8"))
-            self.assertEqual(ran.returncode, 1)
+            due = inventory / "mistakes/due.txt"
+            if due.exists():
+                self.assertEqual(ran.stdout, due.read_text(encoding="utf-8"))
+            self.assertEqual(ran.returncode, 1, inventory.name)
 
     def test_mended_as_told_there_is_no_fault(self):
         for inventory in INVENTORIES:
