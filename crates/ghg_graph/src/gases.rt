@@ -40,7 +40,7 @@ pub fn potential<R: Records>(records: &R, line: &Name, year: u32) -> Input
     }
 }
 
-// The gas that a line emits; nothing exactly where it is not present, or gives something else.
+/// The gas that a line emits; nothing exactly where it is not present, or gives something else.
 pub(crate) fn line_gas<R: Records>(records: &R, line: &Name) -> Option<Gas>
     ensures { result ≡ line_gas (R.content records.now) line.now }
 {
