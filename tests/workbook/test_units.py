@@ -34,17 +34,37 @@ MEANT = [
     ("tys. t", "kt", SAME), ("Tsd. t", "kt", SAME), ("million m3 u.b.", "Mm3", SAME),
     ("(kg CF4/t Al)/(AE-Mins/cell-day)", "kg/t/AEmin", SAME), ("kg/\u0422J", "kg/TJ", SAME),
     ("thousands of tonnes", "kt", SAME), ("Mill. t", "kt", "multiply by 1000"), ("metric t", "t", SAME),
+    ("ktonnes", "kt", SAME), ("KTONNES", "kt", SAME), ("kton", "kt", SAME), ("kilotonnes", "kt", SAME),
+    ("kilo-tonnes", "kt", SAME), ("kilo tonnes", "kt", SAME), ("tonnes", "t", SAME), ("metric_tons", "t", SAME),
+    ("Mtonnes", "kt", "multiply by 1000"), ("10**3 t", "kt", SAME), ("000's tonnes", "kt", SAME),
+    ("ths. t", "kt", SAME), ("thous. tonnes", "kt", SAME), ("ktpa", "kt", SAME), ("t/a", "t", SAME),
+    ("Gg/yr", "Gg", SAME), ("Gg per year", "Gg", SAME), ("TJ/yr", "TJ", SAME), ("TJoule", "TJ", SAME),
+    ("giga-joules", "GJ", SAME), ("GWhe", "GWh", SAME), ("MWh_th", "GWh", "divide by 1000"),
+    ("ktep", "ktoe", SAME), ("TJ_NCV", "TJ", SAME), ("kg_CO2/TJ", "kg/TJ", SAME), ("kg.CO2/TJ", "kg/TJ", SAME),
+    ("kg:TJ", "kg/TJ", SAME), ("kg\\TJ", "kg/TJ", SAME), ("kt (1000 t)", "kt", SAME), ("t (tonnes)", "t", SAME),
+    ("hd", "head", SAME), ("khead", "head", "multiply by 1000"), ("population", "person", SAME),
+    ("sq. km", "kha", "divide by 10"), ("sqkm", "kha", "divide by 10"), ("hect.", "ha", SAME),
+    ("cu m", "m3", SAME), ("min/cell/day", "AEmin", SAME), ("p.c.", "pct", SAME), ("share", "1", SAME),
 ]
 # Each text with what is measured, and the unit that it means then.
 MEASURED = [
     ("kt CO2", "gas", "Gg-gas", SAME), ("t", "carbon", "tC", SAME), ("kt", "gas", "Gg-gas", SAME),
     ("kg/m3", "mass per volume of wood", "t/m3", "divide by 1000"),
     ("m3/t", "methane yield", "m3/kg", "divide by 1000"),
-    ("thousand", "animals", "head", "multiply by 1000"), ("t C/TJ", "emission factor of fuel", "tC/TJ", SAME),
+    ("thousand", "animals", "head", "multiply by 1000"), ("number", "animals", "head", SAME),
+    ("no.", "animals", "head", SAME), ("#", "people", "person", SAME), ("t C/TJ", "emission factor of fuel", "tC/TJ", SAME),
 ]
 # Texts that are no unit of the table, or that give another figure, as a gross calorific value.
 NONE = ["", "n/a", "TJ GCV", "TJ g.c.v.", "thousand", "C", "CO2", "/", "US$", "TJ/", "furlongs",
-        "t equivalent"]
+        "t equivalent", "number", "kg/LU"]
+# Units that are upside down, with what is measured, and the unit that is meant; or None where it is not that.
+UPSIDE_DOWN = [
+    ("TJ/kg", "emission factor of fuel", "kg/TJ"), ("TJ/t", "emission factor of fuel", "t/TJ"),
+    ("t/GJ", "net calorific value", "GJ/t"), ("Gg/TJ", "net calorific value", "TJ/Gg"),
+    ("ha/t", "mass per area", "t/ha"), ("head/kg", "mass per head or per head and year", "kg/head"),
+    ("kg/TJ", "emission factor of fuel", None), ("t", "mass", None), ("TJ/kg", None, None),
+    ("TJ/mg", "emission factor of fuel", None), ("furlongs", "mass", None),
+]
 
 
 class Units(unittest.TestCase):
@@ -57,6 +77,10 @@ class Units(unittest.TestCase):
         for text, measures, word, said in MEASURED:
             found = units.meant(text, measures)
             self.assertEqual((found and found.word, found and found.said), (word, said), text)
+
+    def test_upside_down(self):
+        for text, measures, word in UPSIDE_DOWN:
+            self.assertEqual(units.upside_down(text, measures), word, text)
 
     def test_none(self):
         for text in NONE:
