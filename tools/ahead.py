@@ -5,7 +5,7 @@ figure is bound to further down.
 """
 import functools
 
-from tools import headers, vocabulary
+from tools import headers, other_equation, vocabulary
 from tools.book import record_taken_by
 from tools.causes import name as mended_name
 from tools.causes import year as year_of
@@ -47,6 +47,10 @@ class Ahead:
         """Tells whether some row of any file enters the record of a row."""
         return any(entry.key == row.key for entry in self._entered.get((row.key[0], row.field("name")), []))
 
+    def years_of(self, activity):
+        """The years of an activity that rows of any file enter or correct, as texts."""
+        return self._years.get(activity, set())
+
     def lines_at(self, code):
         """The rows of any file that enter a line at a category or under it."""
         return [row for (kind, _), rows in self._entered.items() if kind == "line" for row in rows[:1]
@@ -54,11 +58,27 @@ class Ahead:
 
     def parameters_bound(self, line):
         """The parameters of a line that some row of any file binds."""
-        return {parameter for of_line, parameter in self._bindings if of_line == line}
+        return set(self._bindings.get(line, {}))
 
     def is_bound(self, line, parameter):
         """Tells whether some row of any file binds a parameter of a line."""
-        return (line, parameter) in self._bindings
+        return parameter in self._bindings.get(line, {})
+
+    def factors_taken_by(self, line):
+        """The names of the factors that rows of any file bind for a line."""
+        bound = self._bindings.get(line, {}).values()
+        return [row.field("low") for row in bound if row.field("value") == "factor"]
+
+    def equation_of(self, line):
+        """The equation that a line is meant to have: one of just the parameters that rows bind, where its own
+        lacks one of them; or None.
+        """
+        row, bound = self.row_of("line", line), self.parameters_bound(line)
+        own = row.field("value") if row and row.field("value") in vocabulary.equations() else None
+        if own and bound <= set(vocabulary.parameters_of(own)):
+            return own
+        fitting = other_equation.of_parameters(bound) if row else []
+        return other_equation.likeliest(fitting, row, self)[0] if fitting else own
 
     def parameters_that_take(self, kind, name):
         """The parameters that some row of any file binds to a record, each with the form of the binding."""
@@ -78,21 +98,31 @@ class Ahead:
         return found
 
     @functools.cached_property
+    def _years(self):
+        found = {}
+        for row in self._rows:
+            if row.field("kind") == "activity" and row.field("act") != "withdraw":
+                found.setdefault(row.field("name"), set()).add(row.field("year"))
+        return found
+
+    @functools.cached_property
     def _bindings(self):
-        bound = (row for row in self._rows if row.field("kind") == "bind")
-        return {(row.field("subject"), row.field("name")) for row in bound}
+        found = {}
+        for row in self._rows:
+            if row.field("kind") == "bind":
+                found.setdefault(row.field("subject"), {}).setdefault(row.field("name"), row)
+        return found
 
     @functools.cached_property
     def _bound(self):
+        codes = {line: self.equation_of(line) for line in self._bindings}
         found = {}
         for row in self._rows:
-            line = self.row_of("line", row.field("subject")) if row.field("kind") == "bind" else None
-            equation = vocabulary.equations().get(line.field("value")) if line else None
-            taken = record_taken_by(row)
-            if equation and taken:
-                parameters = {parameter["name"]: parameter for parameter in equation["parameters"]}
-                if row.field("name") in parameters:
-                    found.setdefault(taken, []).append((parameters[row.field("name")], row.field("value")))
+            code = codes.get(row.field("subject")) if row.field("kind") == "bind" else None
+            taken, name = record_taken_by(row), row.field("name")
+            if code and taken and name in vocabulary.parameters_of(code):
+                parameter = vocabulary.parameters_of(code)[name]
+                found.setdefault(taken, []).append((parameter, row.field("value")))
         return found
 
 

@@ -35,6 +35,14 @@ class Asking:
         """The first year of the span, in force or meant, as a text, or None."""
         return str(self.book.span[0]) if self.book.span else self.ahead.first_year()
 
+    def year_lacking(self, row):
+        """The one year of the span that no row enters of the activity of a row, or None."""
+        if row.field("kind") != "activity" or not self.book.span:
+            return None
+        first, last = self.book.span
+        lacking = set(map(str, range(first, last + 1))) - self.ahead.years_of(row.field("name"))
+        return min(lacking) if len(lacking) == 1 else None
+
     def measured(self, row):
         """What the record of a row measures in another year, or for the parameters that take it, or None."""
         record = self.book.some_record(row.field("kind"), row.field("name"))

@@ -6,7 +6,7 @@ stays and is blank.
 """
 import re
 
-from tools import units, vocabulary
+from tools import absent_records, other_equation, units, vocabulary
 from tools.ahead import said_of_later
 from tools.asking import article
 from tools.book import lines_taken_by, record_taken_by
@@ -14,13 +14,15 @@ from tools.faults import at_row, counted
 from tools.sheets import COLUMNS, Row, joined
 from tools.shifts import said_of_swapped
 from tools.unit_faults import years_of_rate
-from tools.vocabulary import limit, listed, nearest, said_of_parameter
+from tools.vocabulary import limit, listed, nearest, said_of_parameter, said_of_wanted
 
 
 # The parameter by which the program names an uncertainty whose line there is not.
 UNCERTAINTY = "uncert"
 # What of a fuel may be told as its carbon or as its CO2.
 CARBON_OF_FUEL = "carbon content of fuel"
+# What stands between the parts of a name.
+PARTS = re.compile("[._-]")
 # The name of a half-life that no workbook has.
 HALF_LIFE = "NO.SUCH.HALF.LIFE.-.-.-."
 
@@ -63,6 +65,13 @@ class After:
     def line_of(self, name):
         """The row of a line, there or meant to be there, or None."""
         return self.book.lines.get(name) or self.ahead.row_of("line", name)
+
+    def records_left(self, wanted):
+        """The records that measure what a parameter takes, and that nothing takes nor was meant to."""
+        taken = set(self.book.taken()) | self.refused.meant_records
+        return [(kind, name) for kind, named in self.book.years.items() for name in named
+                if (kind, name) not in taken and not name.startswith("GWP.")
+                and self.book.measured_by(kind, name) == vocabulary.record_of(wanted)]
 
     def changed(self, changed, **fields):
         """The file's rows with other fields in one of them."""
@@ -108,6 +117,9 @@ def explain(line, parameter, after):
     holder = book.lines.get(line)
     if holder is None:
         return without_line(line, parameter, bound, after)
+    meant = other_equation.explain(holder, after)
+    if meant:
+        return meant
     code = holder.field("value")
     parameters = vocabulary.parameters_of(code)
     if parameter not in parameters:
@@ -139,7 +151,7 @@ def without_line(line, parameter, bound, after):
         meant = bound.with_fields(subject=parameter, name=line)
         fault = at_row(bound, *said_of_swapped(meant, "subject", "name"))
         return fault, after.changed(bound, subject=parameter, name=line)
-    refused = after.refused.that_sets(("line", line))
+    refused = refused_line(line, after)
     near = nearest(line, after.book.lines, 1, 0.75)
     if near and not refused and parameter not in after.book.bindings.get(near[0], {}):
         return misspelt_line(bound, near[0], after)
@@ -168,19 +180,40 @@ def uncertainty_without_line(line, after):
         return at_row(gone[0], cause), after.rows + [added(gone[0], "withdraw", UNCERTAINTY, "", line)]
     if not after.is_own(row):
         return None, None
-    refused = after.refused.that_sets(("line", line))
+    refused = refused_line(line, after)
     near = nearest(line, after.book.lines, 1, 0.75)
     if refused:
         cause = f"there is no line {line}, since its row was refused"
         fault = at_row(row, cause, "name", follows=refused.place)
     elif after.in_later_file("line", line):
         fault = at_row(row, after.in_later_file("line", line), "name")
+    elif record_of_name(line, after.book)[1]:
+        return uncertainty_of_record(row, after)
     else:
         other = after.book.rows.get((UNCERTAINTY, near[0])) if near else None
         known = f", whose uncertainty stands at {other.place}; take one of the two out" if other else ""
         fault = at_row(row, f"there is no line {line}{nearest_line(near, after)}{known}", "name")
     after.refused.add([row])
     return fault, after.without([row])
+
+
+def uncertainty_of_record(row, after):
+    """An uncertainty of an activity or a factor. It is one of the line that takes it, where one alone does.
+    """
+    name = row.field("name")
+    kind, record = record_of_name(name, after.book)
+    cause = f"{name} is no line but {article(kind)} ({record.place})"
+    lines = sorted({bound.field("subject") for bound in after.book.taken().get((kind, name), [])})
+    if len(lines) == 1 and (UNCERTAINTY, lines[0]) not in after.book.rows:
+        fault = at_row(row, f"{cause}, which line {lines[0]} takes", "name", lines[0])
+        return fault, after.changed(row, name=lines[0])
+    taken = f", which {listed([f'line {line}' for line in lines], 'and')} take" if len(lines) > 1 else ""
+    return at_row(row, f"{cause}{taken}; an uncertainty is of a line", "name"), after.without([row])
+
+
+def refused_line(name, after):
+    """The refused row of a line, or None."""
+    return after.refused.that_sets(("line", name)) or after.refused.that_has(name, ["line"])
 
 
 def misspelt_line(bound, line, after):
@@ -248,24 +281,24 @@ def without_binding(holder, wanted, after):
     astray = [row for row in after.acts_on("bind", name, ("enter",)) if is_astray(row, line, after)]
     if astray:
         return misspelt_line(astray[0], line, after)
-    form, target = target_left(wanted, after)
+    form, target = target_left(wanted, line, after)
     write = f"a row enter,bind,{line},{name},,{form},{target},,,"
     return at_row(holder, f"{needs}, and no row binds it", "name", write), with_blank
 
 
-def target_left(wanted, after):
+def target_left(wanted, line, after):
     """The form and the target of a binding that is missing: the one record that measures what is wanted and
-    that nothing takes, else placeholders.
+    that nothing takes, or the one of these that has most of the line's name; else placeholders.
     """
-    taken = set(after.book.taken()) | after.refused.meant_records
-    measures = vocabulary.record_of(wanted)
-    left = [(kind, name) for kind, named in after.book.years.items() for name in named
-            if (kind, name) not in taken and not name.startswith("GWP.")
-            and vocabulary.measured_by(after.book.some_record(kind, name).field("unit")) == measures]
     decays = vocabulary.is_decay(wanted)
-    if len(left) == 1:
-        return "decay" if decays else left[0][0], left[0][1]
-    return "decay" if decays else "FORM", "TARGET"
+    left = after.records_left(wanted)
+    parts = set(PARTS.split(line))
+    shared = {record: len(parts & set(PARTS.split(record[1]))) for record in left}
+    most = [record for record in left if shared[record] == max(shared.values())]
+    if len(most) != 1:
+        return "decay" if decays else "FORM", "TARGET"
+    after.refused.meant_records.add(most[0])
+    return "decay" if decays else most[0][0], most[0][1]
 
 
 def is_astray(bound, line, after):
@@ -309,11 +342,15 @@ def of_record(bound, holder, wanted, after):
     """A binding to an activity or a factor that there is not, or that measures something else."""
     kind, name = record_taken_by(bound)
     record = after.book.some_record(kind, name)
+    if record is None and after.is_own(bound):
+        return absent_records.explain(bound, wanted, after)
     if record is None:
-        return without_record(bound, wanted, after)
+        gone = after.acts_on(kind, name, ("withdraw",))
+        return taken_away(gone, f"{kind} {name}", bound, after.without(gone))
     words = listed(vocabulary.units_that_measure(vocabulary.record_of(wanted)))
     measured = f"{kind} {name} is in {record.field('unit')} ({vocabulary.measured_by(record.field('unit'))})"
     after.refused.meant_records.add((kind, name))
+    after.refused.mismeasured.add((kind, name))
     of = f"the {wanted['measures']} of a half-life" if vocabulary.is_decay(wanted) else wanted["measures"]
     takes = f"{wanted['name']} of {holder.field('value')} takes {of} ({words})"
     if after.is_own(bound):
@@ -345,6 +382,9 @@ def way_to(wanted, record):
     years = years_of_rate(record.field("value")) if measures == vocabulary.half_life() else None
     if years:
         return f"; of a yearly rate of {record.field('value')} write the half-life, {years} in yr, there"
+    turned = units.upside_down(unit, measures)
+    if turned:
+        return f"; where that is upside down, write {turned} there"
     meant = units.meant(unit, measures)
     if meant and measures == CARBON_OF_FUEL:
         said = meant.said if meant.times != 1 else "take the same number"
@@ -359,81 +399,6 @@ def way_to(wanted, record):
         return ""
     of_it = vocabulary.equations()[makes[0]]["computes"]
     return f"; a line of {makes[0]} ({of_it}) makes it: ./workbook words {makes[0]} shows its rows"
-
-
-def without_record(bound, wanted, after):
-    """A binding to an activity or a factor without records."""
-    kind, name = record_taken_by(bound)
-    gone = after.acts_on(kind, name, ("withdraw",))
-    if not after.is_own(bound):
-        return taken_away(gone, f"{kind} {name}", bound, after.without(gone))
-    refused = after.refused.that_enters(kind, name)
-    other = "factor" if kind == "activity" else "activity"
-    if refused:
-        cause = f"there is no {kind} {name}, since its row was refused"
-        fault = at_row(bound, cause, "low", follows=refused.place)
-    elif after.book.some_record(other, name) or after.refused.that_enters(other, name):
-        record = after.book.some_record(other, name) or after.refused.that_enters(other, name)
-        cause = f"{name} is no {kind} but {article(other)} ({record.place})"
-        measures = vocabulary.measured_by(record.field("unit"))
-        if vocabulary.is_decay(wanted):
-            fault = at_row(bound, cause, "low")
-        elif measures in (None, wanted["measures"]):
-            fault = at_row(bound, cause, "value", other)
-        else:
-            cause += f" in {record.field('unit')}, and {said_of_wanted(wanted)} is taken here"
-            fault = at_row(bound, cause, "low")
-        after.refused.meant_records.add((other, name))
-    elif after.line_of(name) and not vocabulary.is_decay(wanted):
-        line = after.line_of(name)
-        cause = f"{name} is no {kind} but a line ({line.place})"
-        if is_giving(line, wanted):
-            form = "prev" if is_of_last_year(bound, after.line_of(bound.field("subject"))) else "line"
-            fault = at_row(bound, cause, "value", form)
-        else:
-            fault = at_row(bound, f"{cause}, and {said_of_wanted(wanted)} is taken here", "low")
-    elif after.in_later_file(kind, name):
-        fault = at_row(bound, after.in_later_file(kind, name), "low")
-        after.refused.meant_records.add((kind, name))
-    else:
-        near = nearest_record(kind, name, after.book)
-        unit = vocabulary.HALF_LIFE_UNIT if vocabulary.is_decay(wanted) else wanted["unit"]
-        year = after.book.span[0] if after.book.span else after.ahead.first_year() or "YEAR"
-        which = f": no row enters it; write a row enter,{kind},,{name},{year},VALUE,,,{unit},"
-        if near:
-            which = f"; the nearest is {near[0]} ({after.book.some_record(kind, near[0]).place})"
-        fault = at_row(bound, f"there is no {kind} of this name{which}", "low")
-        after.refused.meant_records.update((kind, found) for found in near)
-    return fault, after.without_target(bound, wanted)
-
-
-def is_giving(line, wanted):
-    """Tells whether a line gives what a parameter takes."""
-    code = line.field("value")
-    return code in vocabulary.equations() and vocabulary.given_by(code) == wanted["measures"]
-
-
-def is_of_last_year(bound, holder):
-    """Tells whether a binding takes a stock of the year before, or a line takes itself."""
-    return bound.field("low") == bound.field("subject") or \
-        (holder.field("value"), bound.field("name")) in vocabulary.OF_LAST_YEAR
-
-
-def said_of_wanted(wanted):
-    """What a parameter takes, with its unit."""
-    return f"{wanted['measures']} ({wanted['unit']})"
-
-
-def nearest_record(kind, name, book):
-    """The name of a kind that is most likely meant, where one is near: one of the same parts in another
-    order, else the nearest of those that no line takes, else the nearest of all.
-    """
-    known = book.years[kind]
-    parts = sorted(re.split("[._-]", name))
-    same = [other for other in known if sorted(re.split("[._-]", other)) == parts]
-    free = [other for other in known if (kind, other) not in book.taken()]
-    begun = [other for other in free if len(other) > 3 and (other.startswith(name) or name.startswith(other))]
-    return (same or nearest(name, free, 1, 0.7) or begun or nearest(name, known, 1, 0.8))[:1]
 
 
 def taken_away(gone, what, bound, rest):
@@ -490,8 +455,8 @@ def absent_lines(bound, names, wanted, after):
     if not after.is_own(bound):
         gone = after.acts_on("line", names[0], ("withdraw",))
         return taken_away(gone, f"line {names[0]}", bound, after.without_line(names[0]))
-    refused = [after.refused.that_sets(("line", name)) for name in names]
-    cause = "; ".join(absent_line(name, row, after) for name, row in zip(names, refused))
+    refused = [refused_line(name, after) for name in names]
+    cause = "; ".join(absent_line(name, row, wanted, after) for name, row in zip(names, refused))
     kind, record = record_of_name(names[0], after.book)
     if lines_taken_by(bound) == names[:1] and record and not refused[0] \
             and vocabulary.measured_by(record.field("unit")) == vocabulary.record_of(wanted):
@@ -501,16 +466,24 @@ def absent_lines(bound, names, wanted, after):
     return fault, after.changed(bound, low=" ".join(others)) if others else after.blank(bound)
 
 
-def absent_line(name, refused, after):
-    """Why a line is not there."""
+def absent_line(name, refused, wanted, after):
+    """Why a line is not there, with the nearest that gives what is wanted, or the one that nothing takes."""
     if refused:
         return f"there is no line {name}, since its row was refused"
     kind, record = record_of_name(name, after.book)
     if record:
         after.refused.meant_records.add((kind, name))
         return f"{name} is no line but {article(kind)} ({record.place})"
-    near = nearest(name, after.book.lines, 1, 0.7)
-    return after.in_later_file("line", name) or f"there is no line {name}{nearest_line(near, after)}"
+    if after.in_later_file("line", name):
+        return after.in_later_file("line", name)
+    giving = [line for line, row in after.book.lines.items()
+              if vocabulary.given_by(row.field("value")) == wanted["measures"]]
+    near = nearest_line(nearest(name, giving, 1, 0.7), after)
+    left = [line for line in giving if line not in after.book.lines_taken()]
+    if not near and len(left) == 1:
+        place = after.book.lines[left[0]].place
+        near = f"; line {left[0]} ({place}) gives {wanted['measures']}, and no line takes it"
+    return f"there is no line {name}{near}"
 
 
 def record_of_name(name, book):

@@ -75,6 +75,11 @@ class Book:
         years = self.years[kind].get(name)
         return years[min(years)] if years else None
 
+    def measured_by(self, kind, name):
+        """What an activity or a factor measures, or None where there is none."""
+        record = self.some_record(kind, name)
+        return vocabulary.measured_by(record.field("unit")) if record else None
+
     def in_force(self, kind, name, year):
         """The record that an activity or a factor has in a year, or None."""
         years = self.years[kind].get(name, {})
@@ -84,12 +89,15 @@ class Book:
         return years[max(begun)] if begun else None
 
     def parameters_that_take(self, kind, name):
-        """The parameters that a record is bound to, each with the form of its binding."""
+        """The parameters that a record is bound to, each with the form of its binding, but for those of lines
+        whose equation lacks one that is bound.
+        """
         found = []
         for line, bound in self.bindings.items():
             of_line = vocabulary.parameters_of(self.lines[line].field("value")) if line in self.lines else {}
-            found += [(of_line[parameter], row.field("value")) for parameter, row in bound.items()
-                      if parameter in of_line and record_taken_by(row) == (kind, name)]
+            if set(bound) <= set(of_line):
+                found += [(of_line[parameter], row.field("value")) for parameter, row in bound.items()
+                          if record_taken_by(row) == (kind, name)]
         return found
 
     def taken(self):
@@ -103,6 +111,16 @@ class Book:
                 if record:
                     found.setdefault(record, []).append(row)
         return found
+
+    def lines_taken(self):
+        """The lines that lines take."""
+        rows = (row for bound in self.bindings.values() for row in bound.values())
+        return {name for row in rows for name in lines_taken_by(row)}
+
+    def is_of_last_year(self, bound):
+        """Tells whether a binding is of a parameter that takes what a line gave the year before."""
+        line = self.lines.get(bound.field("subject"))
+        return bool(line) and (line.field("value"), bound.field("name")) in vocabulary.OF_LAST_YEAR
 
 
 def book_of(sheets):

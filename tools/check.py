@@ -24,12 +24,13 @@ OF_A_ROW = (4, 5, 6, 7, 8, 9)
 
 
 class Refused:
-    """The rows that were refused and taken out, by what they would have set; and the records that a
-    refused binding takes.
+    """The rows that were refused and taken out, by what they would have set; the records that a refused
+    binding takes; and those that measure something else than their binding takes.
     """
 
     def __init__(self):
-        self.rows, self.meant_records = {}, set()
+        self.rows, self.entering = {}, []
+        self.meant_records, self.mismeasured = set(), set()
 
     def add(self, rows):
         """Adds rows that were taken out."""
@@ -42,6 +43,8 @@ class Refused:
             self.rows.setdefault((kind, *key[:1]), row)
             if kind == "bind":
                 self.meant_records.add(record_taken_by(row))
+            else:
+                self.entering.append(row)
 
     def that_sets(self, key):
         """The refused row that would have set a key, or None."""
@@ -54,6 +57,16 @@ class Refused:
     def that_enters(self, kind, name):
         """A refused row of an activity or a factor, or None."""
         return self.rows.get((kind, name))
+
+    def that_has(self, name, kinds=("activity", "factor", "line")):
+        """A refused row with a name in some column, of some kinds or of none that there is; or None."""
+        others = set(COLUMNS_OF_KEY) - set(kinds)
+        return next((row for row in self.entering if row.field("kind").strip().lower() not in others
+                     and any(mended_name(field).text == name for field in row.fields)), None)
+
+    def parameters_bound(self, line):
+        """The parameters of a line that refused rows would have bound."""
+        return [key[2] for key in self.rows if key[0] == "bind" and key[1:2] == (line,) and len(key) > 2]
 
 
 class Applied:

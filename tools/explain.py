@@ -4,9 +4,10 @@ What it says to write is what the program took when it was asked.
 """
 import re
 
-from tools import vocabulary
+from tools import causes, units, vocabulary
 from tools.ahead import is_below, said_of_later
 from tools.asking import is_total
+from tools.book import record_taken_by
 from tools.faults import at_row, shown, years_said
 from tools.number_faults import NumberFaults, year_between
 from tools.sheets import COLUMNS, Row, joined
@@ -136,7 +137,10 @@ class Explainer(WordFaults, NumberFaults, Shifts):
         other = record.field("unit")
         known = listed(vocabulary.units_that_measure(vocabulary.measured_by(other)))
         cause = f"measures {measures}, and {kind} {name} is in {other} ({vocabulary.measured_by(other)})"
-        cause += f" at {record.place}; write the figure in {known}, or give this record another name"
+        turned = units.upside_down(unit, vocabulary.measured_by(other))
+        cause += f" at {record.place}; "
+        cause += f"where it is upside down, write {turned}" if turned else \
+            f"write the figure in {known}, or give this record another name"
         return at_row(row, cause, "unit"), self.blank_figure(row.with_fields(unit=other))
 
     def activity_of_years(self, row):
@@ -157,16 +161,56 @@ class Explainer(WordFaults, NumberFaults, Shifts):
         line = self.refused.that_sets(("line", key[1])) if key[0] == "bind" else None
         if line and is_below(row, line):
             return at_row(row, cause, follows=line.place), None
+        meant = self.bound_for_another(row, cause) if key[0] == "bind" else None
+        if meant:
+            return meant
         if entered and self.book.rows.get(key) is entered and entered.fields[:9] == row.fields[:9]:
             return at_row(row, f"{cause}, with the same figures; take one of the two out"), None
         other = "take one of the two out"
         if key[0] in ("activity", "factor"):
             other = "give this one another name or year"
-            between = year_between(row)
-            other += f"; between the rows beside it is {between}" if between else ""
+            between, lacking = year_between(row), self.year_lacking(row)
+            if between:
+                other += f"; between the rows beside it is {between}"
+            elif lacking:
+                other += f"; no row is of {lacking}"
         elif key[0] == "line":
             other = "give this one another name, here and in its bindings"
         return at_row(row, f"{cause}; to change it use correct, else {other}"), None
+
+    def bound_for_another(self, row, cause):
+        """A binding that is entered already, of a row that is meant for the line above it, or for the one
+        parameter that is left of its line and takes what it names; or None.
+        """
+        line, parameter = row.field("subject"), row.field("name")
+        above = self.line_above(row)
+        if above and above != line and parameter in self.parameters_left(above):
+            cause = f"{cause}; the line above is {above}, which has no binding of {parameter}"
+            return at_row(row, cause, "subject", above), row.with_fields(subject=above)
+        left = [name for name, known in self.parameters_left(line).items()
+                if self.measured_by_target(row) == vocabulary.record_of(known)]
+        if len(left) != 1:
+            return None
+        cause = f"{cause}; {left[0]} has no binding"
+        return at_row(row, cause, "name", left[0]), row.with_fields(name=left[0])
+
+    def line_above(self, row):
+        """The name of the nearest line above a row in its file, or None."""
+        lines = (other for other in row.sheet.rows_above(row.line) if other.field("kind") == "line")
+        return next((causes.name(other.field("name")).text for other in lines), None)
+
+    def parameters_left(self, line):
+        """The parameters of a line that no row of any file binds, by name."""
+        holder = self.ahead.row_of("line", line)
+        known = holder and vocabulary.equations().get(holder.field("value"))
+        parameters = vocabulary.parameters_of(holder.field("value")) if known else {}
+        return {name: known for name, known in parameters.items() if not self.ahead.is_bound(line, name)}
+
+    def measured_by_target(self, row):
+        """What the record measures that a binding takes, by the row that enters it, or None."""
+        taken = record_taken_by(row)
+        record = self.ahead.row_of(*taken) if taken else None
+        return vocabulary.measured_by(record.field("unit")) if record else None
 
     def absent(self, row):
         """Nothing to correct or withdraw. A correction goes on as an entry."""

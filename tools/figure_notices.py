@@ -13,10 +13,11 @@ CO2_OF_FUELS = (20000, 300000)
 SIGNED = {"SC"}
 
 
-def all_of_figures(book):
-    """Every warning about figures."""
+def all_of_figures(book, mismeasured):
+    """Every warning about figures, but for those of activities and factors whose unit is a fault."""
     kinds = (ratios, negatives, hundredfold, unlike_fuels, shares_as_percentages, distances)
-    return [warning for kind in kinds for warning in kind(book)]
+    found = (warning for kind in kinds for warning in kind(book))
+    return [warning for warning in found if warning.row.key[:2] not in mismeasured]
 
 
 def figures(row):
@@ -27,13 +28,13 @@ def figures(row):
 
 
 def named_records(book):
-    """Each activity and factor but the potentials, with what it measures and its records by years, without
-    those whose figure is not the writer's.
+    """Each activity and factor, with what it measures and its records by years, without those whose figure is
+    not the writer's, but for the potentials and what has a name like one.
     """
     for kind, named in book.years.items():
         for name, years in sorted(named.items()):
             rows = [row for _, row in sorted(years.items()) if not row.has_other_figure]
-            if rows and not name.startswith("GWP."):
+            if rows and not vocabulary.potential_like(name):
                 yield kind, name, vocabulary.measured_by(rows[0].field("unit")), rows
 
 

@@ -7,7 +7,9 @@ import re
 
 from tools import causes, sheets, vocabulary
 from tools.faults import Fault, counted
+from tools.other_words import OTHER_COLUMNS, meant_by
 from tools.sheets import COLUMN_AT, COLUMNS, Row, joined
+from tools.vocabulary import nearest
 
 HEADER = ",".join(COLUMNS)
 # How a text of UTF-16 begins: with a mark, or with an ASCII letter.
@@ -131,7 +133,6 @@ def header_of(rows):
 
 def other_words(rows, names):
     """A header with the ten names in another case or order."""
-    order = [names.index(column) for column in COLUMNS]
     if names == COLUMNS and sum(field[:1].isspace() for field in rows[0].fields) > len(COLUMNS) // 2:
         return "a blank behind each comma; take these blanks out", [stripped(row) for row in rows]
     if names == COLUMNS:
@@ -140,20 +141,38 @@ def other_words(rows, names):
         if len(odd) == 1:
             cause = f'the header has "{odd[0]}"; write {bare(odd)[0]}'
         return cause, [header_of(rows)] + rows[1:]
-    placed = [reordered(row, order) for row in rows[1:]]
-    return f"the columns stand in another order; the header is {HEADER}", [header_of(rows)] + placed
+    cause = "the columns stand in another order"
+    placed = placed_by(rows, [names.index(column) for column in COLUMNS])
+    if is_in_order(rows[1:], placed):
+        cause, placed = "the header has another order than the rows, which stand in the right one", rows[1:]
+    return f"{cause}; the header is {HEADER}", [header_of(rows)] + placed
+
+
+def placed_by(rows, places):
+    """The rows behind a header with their fields by the places of the columns. One that has not as many
+    fields as the header stays.
+    """
+    width = len(rows[0].fields)
+    return [with_columns(row, places) if len(row.fields) == width else row for row in rows[1:]]
+
+
+def is_in_order(rows, placed):
+    """Tells whether rows have more words of their columns as they stand than in the order of their header."""
+    return len(rows[0].fields) == len(COLUMNS) and likeness(rows) > likeness(placed) if rows else False
+
+
+def likeness(rows):
+    """How many fields of rows are what their columns hold: a word, a year or a name."""
+    words = vocabulary.words()
+    known = {"act": words["acts"], "kind": words["kinds"], "unit": ["", *vocabulary.units()]}
+    found = sum(row.field(column) in texts for row in rows for column, texts in known.items())
+    found += sum(bool(re.fullmatch(r"(\d{4})?", row.field("year"))) for row in rows)
+    return found + sum(bool(re.search("[A-Za-z]", row.field("name"))) for row in rows)
 
 
 def stripped(row):
     """A row without blanks at the ends of its fields."""
     return Row(row.sheet, row.line, joined([field.strip() for field in row.fields]))
-
-
-def reordered(row, order):
-    """A row of ten fields with its fields in another order."""
-    if len(row.fields) != 10:
-        return row
-    return Row(row.sheet, row.line, joined([row.fields[at] for at in order]))
 
 
 def eleventh(rows):
@@ -177,11 +196,36 @@ def other_names(rows, names):
     lacks = f"the header has another column, {odd}" if odd else lacks
     if absent:
         lacks = f"the header has no column {', '.join(absent)}{f', and has {odd}' if odd else ''}"
+    places = places_of_columns(names)
+    placed = placed_by(rows, places)
+    found = [at for at in places if at is not None]
+    if is_in_order(rows[1:], placed):
+        lacks += ", and has another order than the rows, which stand in the right one"
+        placed = rows[1:]
+    elif found != sorted(found):
+        lacks += ", and its columns stand in another order"
+    return f"{lacks}; it is {HEADER}", [header_of(rows)] + placed
+
+
+def places_of_columns(names):
+    """Where each column stands under these names, or None where there is no such column."""
     first = {name: at for at, name in reversed(list(enumerate(names)))}
     once = [name if first[name] == at else "" for at, name in enumerate(names)]
-    places = [place_of(column, once) for column in COLUMNS]
-    placed = [with_columns(row, places) if len(row.fields) == len(names) else row for row in rows[1:]]
-    return f"{lacks}; it is {HEADER}", [header_of(rows)] + placed
+    for at, name in enumerate(once):
+        meant = meant_column(name, once)
+        once[at] = meant or name
+    return [place_of(column, once) for column in COLUMNS]
+
+
+def meant_column(name, names):
+    """The column that a name most likely is of those that the names lack, or None."""
+    absent = [column for column in COLUMNS if column not in names]
+    if not name or name in COLUMNS or not absent:
+        return None
+    other = meant_by(name, OTHER_COLUMNS)
+    if other in absent:
+        return other
+    return next(iter(nearest(name, absent, 1, 0.7)), None)
 
 
 def place_of(column, names):

@@ -13,6 +13,12 @@ def ring(line, after):
     own = [bound for bound in path if after.is_own(bound)]
     if not own:
         return None, None
+    of_last_year = [bound for bound in own if after.book.is_of_last_year(bound)]
+    if of_last_year:
+        bound = of_last_year[0]
+        code = after.book.lines[bound.field("subject")].field("value")
+        cause = f"{bound.field('name')} of {code} is what the line gave the year before"
+        return at_row(bound, cause, "value", "prev"), after.changed(bound, value="prev")
     steps = [f"{bound.field('subject')} takes {taken} ({bound.place})"
              for bound, taken in zip(path, following(path, line))]
     cause = f"lines take each other's values of the same year in a ring: {listed(steps, 'and')}"

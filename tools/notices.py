@@ -1,6 +1,4 @@
 """What the program takes and a compiler would want to know of. A warning refuses nothing."""
-import re
-
 from tools import headers, vocabulary
 from tools.faults import counted, warn, warn_of, years_said
 from tools.figure_notices import all_of_figures
@@ -17,7 +15,7 @@ def all_warnings(book, refused, sheets, left):
     """Every warning about a workbook, but for those that only follow from a refused row."""
     found = headers_alone([sheet for sheet in sheets if sheet not in left])
     found += rows_in_quotes(sheets) + orphans(book, refused, sheets)
-    found += all_of_lines(book) + all_of_figures(book)
+    found += all_of_lines(book) + all_of_figures(book, refused.mismeasured)
     span = book.rows.get(("span",))
     if not span and refused.that_sets(("span",)):
         return found
@@ -79,24 +77,24 @@ def other_name(book, kind, name):
     """A name that is meant most likely: that of a potential, or one that a line takes, with the years that it
     lacks.
     """
-    parts = [part for part in re.split("[._-]", name) if part != "GWP"]
-    potential = ".".join(["GWP", *parts])
-    if kind == "factor" and potential in vocabulary.words()["potentials"]:
+    potential = vocabulary.potential_like(name)
+    if kind == "factor" and potential:
         return f"; is it {potential}?"
-    measures = measured(book, kind, name)
-    known = [taken for of_kind, taken in book.taken() if of_kind == kind and taken in book.years[kind]
-             and measured(book, kind, taken) == measures]
-    near = nearest(name, known, 1, 0.8)
-    if not near:
-        return ""
-    lacking = set(book.years[kind][name]) - set(book.years[kind][near[0]]) if kind == "activity" else set()
+    near, lacking = taken_like(book, kind, name)
     of = f", which has no record of {years_said(lacking)}" if lacking else ""
-    return f"; is it {near[0]}{of}?"
+    return f"; is it {near}{of}?" if near else ""
 
 
-def measured(book, kind, name):
-    """What a record measures."""
-    return vocabulary.measured_by(book.some_record(kind, name).field("unit"))
+def taken_like(book, kind, name):
+    """The nearest name that a line takes, where one measures the same, and the years of an activity that it
+    lacks; or None and no years.
+    """
+    known = [taken for of_kind, taken in book.taken() if of_kind == kind and taken in book.years[kind]
+             and book.measured_by(kind, taken) == book.measured_by(kind, name)]
+    near = next(iter(nearest(name, known, 1, 0.8)), None)
+    if near is None or kind != "activity":
+        return near, set()
+    return near, set(book.years[kind][name]) - set(book.years[kind][near])
 
 
 def outside(book, first, last):
@@ -126,11 +124,15 @@ def lines_of(bindings):
 
 
 def holes(book, refused, first, last):
-    """Activities that lines take and that lack years between others."""
+    """Activities that lines take and that lack years between others, but for those of which another name is
+    told to be this one.
+    """
     found, taken = [], book.taken()
+    told = [taken_like(book, "activity", name) for name in untaken(book, refused, "activity")]
     for name, years in sorted(book.years["activity"].items()):
         between = range(max(min(years), first), min(max(years), last) + 1)
-        lacking = [year for year in between if year not in years]
+        elsewhere = {year for near, lacked in told for year in lacked if near == name}
+        lacking = [year for year in between if year not in years and year not in elsewhere]
         if lacking and ("activity", name) in taken and not refused.that_enters("activity", name):
             blank = f"{lines_of(taken['activity', name])} blank there"
             cause = f"activity {name} has no record of {years_said(lacking)}; {blank}"

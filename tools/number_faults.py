@@ -239,9 +239,11 @@ class NumberFaults(PercentFaults):
         if not mended.sure:
             first = row.with_fields(**{column: mended.text[:4]})
             return at_row(row, cause_of(mended.causes), column), first if self.takes(first, column) else None
-        between = year_between(row) if not mended.text and column == "year" else None
-        if between:
-            return self.first_taken(row, column, [("empty, between two years", between, True)], "no year")
+        is_empty = not mended.text and column == "year"
+        between, lacking = (year_between(row), self.year_lacking(row)) if is_empty else (None, None)
+        if between or lacking:
+            cause = "empty, between two years" if between else f"empty, and no other row is of {lacking}"
+            return self.first_taken(row, column, [(cause, between or lacking, True)], "no year")
         first, last = self.book.span or (0, -1)
         short = [str(year) for year in range(first, last + 1)
                  if re.fullmatch(r"['\u2019]?\d\d", mended.text) and str(year).endswith(mended.text[-2:])]
@@ -286,7 +288,7 @@ class NumberFaults(PercentFaults):
         """
         value, low, high = (row.field(column) for column in ("value", "low", "high"))
         if row.field("kind") == "span":
-            return self.disorder_of_span(row, row.field("year"), value, low), None
+            return self.disorder_of_span(row, row.field("year"), value, low)
         number, least, most = (decimal.Decimal(text) for text in (value, low, high))
         if most <= number <= least:
             changed = row.with_fields(low=high, high=low)
@@ -317,15 +319,16 @@ class NumberFaults(PercentFaults):
 
     @staticmethod
     def disorder_of_span(row, first, last, base):
-        """The years of a span in disorder."""
+        """The years of a span in disorder, and the span to go on with where first and last are swapped."""
         if last < first:
             cause = f"the last year {last} is before the first, {first}"
             if last <= base <= first:
-                return at_row(row, cause, "value", f"{last} in year and {first} in value")
-            return at_row(row, cause, "value")
+                changed = row.with_fields(year=last, value=first)
+                return at_row(row, cause, "value", f"{last} in year and {first} in value"), changed
+            return at_row(row, cause, "value"), None
         cause = f"the base year {base} is not from {first} to {last}"
         span = f"{base} in year" if base < first else f"{base} in value"
-        return at_row(row, f"{cause}; write one of these here, or {span}", "low")
+        return at_row(row, f"{cause}; write one of these here, or {span}", "low"), None
 
 
 def without_years(mended):

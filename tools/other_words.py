@@ -1,4 +1,4 @@
-"""What people write for the acts, the kinds and the forms of bindings."""
+"""What people write for the columns, the acts, the kinds and the forms of bindings."""
 from tools.vocabulary import plain
 
 OTHER_ACTS = {
@@ -11,6 +11,13 @@ OTHER_KINDS = {
     "ad": "activity", "activity data": "activity", "activities": "activity", "ef": "factor",
     "emission factor": "factor", "constant": "factor", "binding": "bind", "uncertainty": "uncert",
     "gwp": "factor", "source": "line", "years": "span", "period": "span",
+}
+OTHER_COLUMNS = {
+    "action": "act", "operation": "act", "type": "kind", "record": "kind", "category": "subject",
+    "code": "subject", "sector": "subject", "id": "name", "amount": "value", "figure": "value",
+    "number": "value", "quantity": "value", "lower": "low", "min": "low", "minimum": "low", "upper": "high",
+    "max": "high", "maximum": "high", "lower bound": "low", "upper bound": "high", "notes": "note",
+    "comment": "note", "comments": "note", "remark": "note", "remarks": "note", "source": "note",
 }
 OTHER_FORMS = {
     "ad": "activity", "activity data": "activity", "ef": "factor", "emission factor": "factor",

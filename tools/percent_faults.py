@@ -41,9 +41,10 @@ class PercentFaults(Asking):
                   if other != column and row.field(other).strip().endswith("%")]
         changed = row.with_fields(**{column: figure.text})
         write = figure.text
-        if row.field("unit") != "pct" and row.field("low") and not others:
-            write = in_unit(figure.text, row.field("unit"))
-            changed = row.with_fields(**{column: write or figure.text})
+        in_own = in_unit(figure.text, row.field("unit")) if row.field("low") and not others else None
+        of_own = row.with_fields(**{column: in_own or figure.text})
+        if row.field("unit") != "pct" and in_own and self.takes(of_own, None):
+            changed, write = of_own, in_own
         elif row.field("unit") != "pct":
             changed, write = changed.with_fields(unit="pct"), f"{figure.text} and the unit pct"
         if not self.takes(changed, column):

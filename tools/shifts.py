@@ -15,7 +15,7 @@ TOO_FAR_RIGHT = "right; take out a comma in front of it, and write one at the en
 # The columns that are filled in rows of these kinds.
 FILLED = {
     "line": ["subject", "name", "value"], "bind": ["subject", "name", "value", "low"],
-    "activity": ["year", "value"], "factor": ["year", "value"],
+    "activity": ["name", "year", "value"], "factor": ["name", "year", "value"],
 }
 
 

@@ -5,7 +5,7 @@ from tools import causes, letters, vocabulary
 from tools.asking import Asking, article, cause_of
 from tools.book import KIND_TAKEN
 from tools.faults import at_row
-from tools.other_words import OTHER_FORMS
+from tools.other_words import OTHER_FORMS, meant_by
 from tools.vocabulary import limit, listed, nearest, said_of_parameter
 
 
@@ -19,7 +19,9 @@ class TargetFaults(Asking):
         bound = row.with_fields(value="key", low=key)
         if key in vocabulary.words()["keys"] and not row.field("low") and self.takes(bound, None):
             return at_row(row, "a notation key is bound by key", column, f"key,{key}"), bound
-        target = self.target_in_value(row, text) or self.form_of_target(row, column)
+        target = self.target_in_value(row, text)
+        if not meant_by(text, OTHER_FORMS) and not nearest(text, forms, 1, 0.75):
+            target = target or self.form_of_target(row, column)
         if target:
             return target
         if is_number(row.field("low") or text) and not nearest(key, forms, 1, 0.75):
@@ -29,15 +31,16 @@ class TargetFaults(Asking):
         return fault, changed or self.blank_binding(row)
 
     def form_of_target(self, row, column):
-        """The form of a binding that has a target and no form, told by what the target is, or None."""
+        """The form of a binding that has a target and no form that there is, told by what the target is, or
+        None.
+        """
         low = row.field("low")
-        if row.field(column).strip() or not low.strip():
-            return None
         kinds = ["key"] if causes.notation_key(low) in vocabulary.words()["keys"] else []
         name = causes.name(low).text
         kinds += [kind for kind in ("activity", "factor", "line") if self.ahead.row_of(kind, name)]
-        candidates = [(f"empty; {low.strip()} is taken by {kind}", kind, True) for kind in kinds]
-        return self.first_taken(row, column, candidates, "empty") if candidates else None
+        what = "no such form" if row.field(column).strip() else "empty"
+        candidates = [(f"{what}; {low.strip()} is taken by {kind}", kind, True) for kind in kinds]
+        return self.first_taken(row, column, candidates, what) if low.strip() and candidates else None
 
     def target_in_value(self, row, text):
         """The target of a binding in value, alone or behind its form, or None. Which form is meant is told by
@@ -61,8 +64,10 @@ class TargetFaults(Asking):
 
     def blank_binding(self, row):
         """The binding with NE as its target, so that its line is not left without it, where the program
-        takes it.
+        takes it. What it names is meant to be taken all the same.
         """
+        named = [causes.name(row.field(column)).text for column in ("value", "low")]
+        self.refused.meant_records.update((kind, name) for kind in ("activity", "factor") for name in named)
         changed = row.with_fields(value="key", low="NE")
         changed.has_other_figure = True
         return changed if self.takes(changed, None) else None
@@ -94,7 +99,9 @@ class TargetFaults(Asking):
             parameter = self.parameter_of(row)
             takes = f"; {said_of_parameter(parameter)} is what is taken here" if parameter else ""
             return at_row(row, f"{cause}{takes}", column), None
-        if form in ("line", "prev") and len(re.findall(r"[^\s,;+]+", text)) > 1:
+        mended = causes.name(text)
+        is_there = self.ahead.row_of("line", mended.text)
+        if form in ("line", "prev") and not is_there and len(re.findall(r"[^\s,;+]+", text)) > 1:
             cause = f"more than one line; a binding by {form} takes one, and by sum several"
             return at_row(row, cause, column), None
         if is_number(text):
@@ -102,7 +109,6 @@ class TargetFaults(Asking):
         if re.search(r"\S\s*[+;,]\s*\S", text):
             cause = f"more than one name; a binding by {form} takes one, and by sum the lines that it adds up"
             return at_row(row, cause, column), None
-        mended = causes.name(text)
         candidates = [(cause_of(mended.causes), mended.text, mended.sure)]
         return self.first_taken(row, column, candidates, name_otherwise(mended.text, "name"))
 

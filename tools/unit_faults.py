@@ -24,6 +24,9 @@ class UnitFaults(Asking):
         if meant and record and measures != vocabulary.measured_by(meant.word):
             meant = None
         candidates = [(cause_of(bare.causes), bare.text, True)]
+        turned = units.upside_down(bare.text, measures)
+        if turned and not (meant and vocabulary.measured_by(meant.word) == measures):
+            candidates.append(("the unit is upside down", turned, True))
         where, beside = (None, None) if bare.text else unit_beside(row, measures)
         if beside:
             candidates.append((f"empty, and the {where} has the unit", beside, True))

@@ -12,17 +12,18 @@ from tools.letters import latin, lowered
 Exact = fractions.Fraction
 POWERS = {"k": 3, "M": 6, "G": 9, "T": 12, "P": 15, "E": 18}
 LONG_POWERS = {"kilo": 3, "mega": 6, "giga": 9, "tera": 12, "peta": 15, "exa": 18}
-# What is measured, the base, its size in t, TJ, ha or m3, the powers in front of it, and its long names.
+# What is measured, the base, its size in t, TJ, ha or m3, the powers in front of it, and its other names.
 BASES = [
-    ("mass", "t", "1", "kMG", ["tonne", "ton"]),
+    ("mass", "t", "1", "kMG", ["tonne", "ton", "tpa"]),
     ("mass", "g", "0.000001", "kMGTP", ["gram", "gramme"]),
     ("energy", "J", "0.000000000001", "kMGTPE", ["joule"]),
-    ("energy", "Wh", "0.0000000036", "kMGT", ["watthour"]),
+    ("energy", "Wh", "0.0000000036", "kMGT", ["watthour", "Whe", "Whel", "Whth"]),
     ("energy", "cal", "0.0000000000041868", "kMGTP", ["calorie"]),
-    ("energy", "toe", "0.041868", "kM", ["toe"]),
-    ("energy", "tce", "0.0293076", "kM", ["tce"]),
-    ("area", "ha", "1", "kM", ["hectare"]),
+    ("energy", "toe", "0.041868", "kM", ["tep"]),
+    ("energy", "tce", "0.0293076", "kM", ["tec"]),
+    ("area", "ha", "1", "kM", ["hectare", "hect"]),
     ("volume", "l", "0.001", "k", ["litre", "liter"]),
+    ("animals", "head", "1", "kM", ["hd"]),
 ]
 OTHERS = {
     ("mass", "0.000000001"): ["mg", "milligram"], ("mass", "0.00045359237"): ["lb", "pound"],
@@ -33,22 +34,29 @@ OTHERS = {
     ("volume", "1"): ["m3", "Nm3", "Sm3", "cbm"], ("volume", "1000000"): ["Mm3", "mcm"],
     ("volume", "1000000000"): ["km3", "bcm"], ("volume", "1000"): ["ML", "megalitre"],
     ("volume", "0.1"): ["hl"], ("volume", "0.158987294928"): ["bbl", "barrel"],
-    ("animals", "1"): ["head"], ("people", "1"): ["person", "people", "capita", "cap", "inhabitant"],
+    ("people", "1"): ["person", "people", "capita", "cap", "inhabitant", "inh", "population", "pop"],
     ("days", "1"): ["day", "d"], ("years", "1"): ["yr", "year", "y", "a", "annum"],
-    ("minutes", "1"): ["AEmin", "min", "minute"], ("ratio", "0.01"): ["pct", "%", "percent", "percentage"],
+    ("minutes", "1"): ["AEmin", "min", "minute"],
+    ("ratio", "0.01"): ["pct", "%", "percent", "percentage", "perc", "pc"],
     ("ratio", "0.001"): ["\u2030"], ("ratio", "0.000001"): ["ppm"],
-    ("ratio", "1"): ["-", "fraction", "ratio", "none", "dimensionless"],
+    ("ratio", "1"): ["-", "fraction", "ratio", "none", "dimensionless", "unitless", "share"],
 }
 MULTIPLES = {
     "hundred": 2, "thousand": 3, "'000": 3, "000": 3, "000s": 3, "k": 3, "million": 6, "mio": 6, "mln": 6,
     "billion": 9, "bn": 9, "mrd": 9, "mill": 6, "tsd": 3, "tys": 3, "lakh": 5, "crore": 7,
+    "000'": 3, "thous": 3, "ths": 3, "thsd": 3,
 }
+# What people write for the unit of what is counted.
+COUNTS = {"number", "numbers", "no", "nr", "#", "count", "pcs", "piece", "pieces", "unit", "units"}
+COUNTED = ("animals", "people")
 PHRASES = {
     "ae-min/cell-day": "AEmin", "ae-mins/cell-day": "AEmin", "ae min/cell-day": "AEmin",
-    "min/cell-day": "AEmin", "ae-min": "AEmin", "min per cell-day": "AEmin",
+    "min/cell-day": "AEmin", "ae-min": "AEmin", "min per cell-day": "AEmin", "min/cell/day": "AEmin",
     "metric tonne": "t", "metric ton": "t", "metric t": "t", "short ton": "shortton", "long ton": "longton",
-    "cubic metre": "m3", "cubic meter": "m3", "square kilometre": "km2", "watt hour": "Wh",
-    "watt-hour": "Wh", "per cent": "%", "p.a.": "/yr", "d.m.": "dm",
+    "metric-tonne": "t", "metric-ton": "t", "cubic metre": "m3", "cubic meter": "m3", "cu.m": "m3",
+    "cu m": "m3",
+    "square kilometre": "km2", "square km": "km2", "sq. km": "km2", "sq km": "km2", "sqkm": "km2",
+    "watt hour": "Wh", "watt-hour": "Wh", "per cent": "%", "p.c.": "%", "p.a.": "/yr", "d.m.": "dm",
     "anode effect minute": "AEmin", "ae min": "AEmin",
 }
 # Equivalents of a gas, behind its formula.
@@ -108,10 +116,10 @@ def known():
     for measures, base, size, powers, names in BASES:
         sizes = {"": Exact(size), **{power: Exact(size) * 10 ** POWERS[power] for power in powers}}
         found.update({front + base: (measures, one, front + base) for front, one in sizes.items()})
-        fronts = {"": 0, **LONG_POWERS}
-        for name in names:
-            found.update({front + name: (measures, Exact(size) * 10 ** power, symbol_of(front) + base)
-                          for front, power in fronts.items()})
+        fronts = {"": 0, **LONG_POWERS, **{letter: POWERS[letter] for letter in powers}}
+        for name in [base, *names]:
+            for front, power in fronts.items():
+                found.setdefault(front + name, (measures, Exact(size) * 10 ** power, symbol_of(front) + base))
     for (measures, size), words in OTHERS.items():
         found.update({word: (measures, Exact(size), words[0]) for word in words})
     found.update(dict.fromkeys(ANIMALS, ("animals", Exact(1), "head")))
@@ -119,8 +127,8 @@ def known():
 
 
 def symbol_of(front):
-    """The letter of a power that is written out, as k of kilo; nothing of none."""
-    return next((letter for letter, power in POWERS.items() if power == LONG_POWERS.get(front)), "")
+    """The letter of a power that may be written out, as k of kilo; nothing of none."""
+    return next((letter for letter, power in POWERS.items() if power == LONG_POWERS.get(front)), front)
 
 
 @functools.cache
@@ -134,7 +142,8 @@ def without_case():
 
 def unit_of(text):
     """The unit that a text without blanks is, in the plural too, or None."""
-    for word in (text, text.removesuffix("s"), text.removesuffix("es")):
+    for plural in ("$", "s$", "es$"):
+        word = re.sub(plural, "", text, flags=re.IGNORECASE)
         if word in known():
             return word
         if word.casefold() in without_case():
@@ -145,6 +154,8 @@ def unit_of(text):
 def prepared(text):
     """A text with one form for blanks, strokes, powers and phrases."""
     text = re.sub(f"[{MINUS}]", "-", unicodedata.normalize("NFKC", lowered(latin(text), "^")))
+    text = re.sub(r"(?<=[A-Za-z0-9])[:\\](?=[A-Za-z])", "/", text.replace("**", "^").replace("_", " "))
+    text = re.sub(rf"({'|'.join(LONG_POWERS)})[ -](?=[a-z])", r"\1", text, flags=re.IGNORECASE)
     text = re.sub(r"\(([^()]*)\)\s*\^?-1(?!\d)", r"/ \1 ", text)
     text = EQUIVALENTS.sub(r"\1", text)
     text = FUEL_EQUIVALENTS.sub(lambda found: f"t{found.group(1)[0].lower()}e", text)
@@ -154,14 +165,19 @@ def prepared(text):
     text = re.sub(r"\b(per|each)\b", "/", text, flags=re.IGNORECASE)
     text = re.sub(r"(?<=[a-z])\^([23])", r"\1", text, flags=re.IGNORECASE)
     text = re.sub(r"(?<=[a-z0-9])\^?-1\b", "^-1", text, flags=re.IGNORECASE)
-    text = re.sub(r"[\u00b7*\u00d7()\[\]]|\.(?=[\s/]|$)", " ", text)
+    text = re.sub(r"[\u00b7*\u00d7()\[\]]|\.(?=[\s/]|$)|^x(?=\d)|(?<=[a-z])\.(?=[A-Z])", " ", text)
     return re.sub(r"(?<=\d)(?![eE]\d)(?=[A-Za-z%])(?<![A-Za-z]\d)", " ", text)
 
 
 @functools.lru_cache(maxsize=10000)
 def read(text):
     """The reading of a text, without what stands in brackets if need be, or None where it is no unit."""
-    return read_parts(text) or read_parts(re.sub(r"\s*\([^()]*\)(?!\s*\^?-)", "", text))
+    return read_parts(text) or read_parts(without_brackets(text))
+
+
+def without_brackets(text):
+    """A text without what stands in brackets, but for the parts of an inverse."""
+    return re.sub(r"\s*\([^()]*\)(?!\s*\^?-)", "", text)
 
 
 def read_parts(text):
@@ -273,21 +289,43 @@ def meant(text, measures=None):
 
     Where it is known what is measured, it is one that measures that, if any is.
     """
+    if measures in COUNTED and text.casefold().strip(". ") in COUNTS:
+        return Meant(vocabulary.units_that_measure(measures)[0], Exact(1))
+    return of_table(read(text), measures) or of_table(read_parts(without_brackets(text)), measures)
+
+
+def upside_down(text, measures):
+    """The unit of the table that a text is the inverse of, where that measures what is wanted and a figure
+    stays the same; or None.
+    """
     reading = read(text)
+    if reading is None or measures is None:
+        return None
+    inverse = Reading()
+    inverse.powers = {what: -power for what, power in reading.powers.items()}
+    inverse.size = 1 / reading.size
+    turned = [word[1:] if word.startswith("/") else f"/{word}" for word in reading.words]
+    inverse.words = sorted(turned, key=lambda word: word.startswith("/"))
+    found = of_table(inverse, measures)
+    is_wanted = found and found.times == 1 and vocabulary.measured_by(found.word) == measures
+    return found.word if is_wanted else None
+
+
+def of_table(reading, measures):
+    """The unit of the table that a reading most likely is, or None."""
     if reading is None:
         return None
     if not reading.powers and reading.size != 1:
         base = vocabulary.units_that_measure(measures)[:1]
         return Meant(base[0], reading.size) if base and measures != "ratio" else None
-    found = [(word, of_table) for word, of_table in table().items()
-             if is_like(reading, of_table, word, measures)]
-    wanted = [(word, of_table) for word, of_table in found if vocabulary.measured_by(word) == measures]
-    carbon = [(word, of_table) for word, of_table in found if of_table.of == reading.of == "C"]
-    found = carbon or wanted or [(word, of_table) for word, of_table in found if not of_table.of]
+    found = [(word, known) for word, known in table().items() if is_like(reading, known, word, measures)]
+    wanted = [(word, known) for word, known in found if vocabulary.measured_by(word) == measures]
+    carbon = [(word, known) for word, known in found if known.of == reading.of == "C"]
+    found = carbon or wanted or [(word, known) for word, known in found if not known.of]
     if not found:
         return None
-    word, of_table = min(found, key=lambda pair: distance(reading, pair[1]))
-    return Meant(word, reading.size / of_table.size)
+    word, known = min(found, key=lambda pair: distance(reading, pair[1]))
+    return Meant(word, reading.size / known.size)
 
 
 def is_like(reading, of_table, word, measures):

@@ -160,6 +160,13 @@ def gas_in(name):
     return min(named) if len(named) == 1 else None
 
 
+def potential_like(name):
+    """The potential that a name is but for its signs and its first part, as GWP_CH4 or CH4, or None."""
+    parts = [part for part in re.split("[._-]", name) if part != "GWP"]
+    potential = ".".join(["GWP", *parts])
+    return potential if potential in words()["potentials"] else None
+
+
 def equations_alike(code, gas):
     """The equations of the same parameters that emit a gas."""
     return [other for other, equation in equations().items()
@@ -170,6 +177,11 @@ def said_of_parameter(parameter):
     """A parameter with what it measures, and the base unit or the form that gives it."""
     of = "by decay" if is_decay(parameter) else parameter["unit"]
     return f'{parameter["name"]} {parameter["measures"]} ({of})'
+
+
+def said_of_wanted(parameter):
+    """What a parameter takes, with its base unit."""
+    return f"{parameter['measures']} ({parameter['unit']})"
 
 
 def is_said_of(code, parameter, text):

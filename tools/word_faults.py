@@ -2,9 +2,10 @@
 import itertools
 import re
 
-from tools import causes, letters, vocabulary
+from tools import causes, letters, other_equation, vocabulary
 from tools.asking import article, cause_of, has_figure, is_empty, is_header, is_note, is_total
 from tools.faults import at_row
+from tools.other_equation import said_of
 from tools.other_words import OTHER_ACTS, OTHER_KINDS, meant_by
 from tools.sheets import COLUMNS_OF_KEY
 from tools.target_faults import TargetFaults, name_otherwise
@@ -200,28 +201,30 @@ class WordFaults(UnitFaults, TargetFaults):
         if code.isdigit():
             candidates.append(("the code of an equation begins with Q", "Q" + code, True))
         elif number:
-            candidates.append(("an equation is written like Q10", "Q" + number.group(1), True))
+            written = "Q" + number.group(1).lstrip("0")
+            candidates.append(("an equation is written like Q10", written, True))
         elif re.fullmatch(r"Q[0-9OI]+", code):
             digits = code.translate(str.maketrans("OI", "01"))
             candidates.append(("letters in place of digits", digits, True))
         numbered = equations_numbered(code, row.field("subject"))
         if len(numbered) == 1:
             candidates.append((f"here stands the code of {said_of_source(*numbered)}", *numbered, True))
-        fitting = self.equations_of_bindings(causes.name(row.field("name")).text)
+        line = causes.name(row.field("name")).text
+        fitting = other_equation.of_parameters(self.ahead.parameters_bound(line))
         of_gas = [known for known in fitting if vocabulary.gas_of(known) == code]
         if len(of_gas) == 1:
             candidates.append((f"here stands the code of the equation that gives {code}", *of_gas, True))
+        meant = other_equation.likeliest(fitting, row.with_fields(name=line), self.ahead)
+        if len(meant) == 1:
+            cause = "no equation of this code" if code else "empty"
+            cause += f"; the bindings of this line are those of {said_of(meant)}"
+            candidates.append((cause, *meant, True))
         known = numbered or of_gas or equations_near(code, bare.text) or fitting
-        what = f"no equation of this code{near_it(map(said_of_equation, known))}"
+        what = f"no equation of this code{near_it([said_of([code]) for code in known])}"
         if not code:
             what = "empty; here stands the code of an equation"
         otherwise = f"{what}; ./workbook words equations lists them"
         return self.first_taken(row, column, candidates, otherwise)
-
-    def equations_of_bindings(self, line):
-        """The equations of just those parameters that rows bind of a line."""
-        bound = self.ahead.parameters_bound(line)
-        return [code for code in vocabulary.equations() if bound == set(vocabulary.parameters_of(code))]
 
 
 def plain_text(text):
@@ -333,11 +336,6 @@ def near_it(known):
     """What is near a text that is none of its column, where anything is."""
     known = list(known)
     return f"; near it {are(known)} {listed(known, 'and')}" if known else ""
-
-
-def said_of_equation(code):
-    """An equation with what it computes."""
-    return f"{code} ({vocabulary.equations()[code]['computes']})"
 
 
 def category_otherwise(code, text):

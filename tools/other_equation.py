@@ -1,0 +1,102 @@
+"""Tells which equation the bindings of a line are those of, where the line has another one or none."""
+from tools import vocabulary
+from tools.book import lines_taken_by, record_taken_by
+from tools.faults import at_row
+from tools.vocabulary import listed
+
+# A line with fewer bindings does not tell its equation.
+FEWEST = 2
+
+
+class Fit:
+    """How the bindings of a line fit the parameters of an equation: the names of those that do, of those that
+    are none of its parameters, and of its parameters that have no binding; and how many are amiss.
+    """
+
+    def __init__(self, code, bound):
+        parameters = vocabulary.parameters_of(code)
+        self.code = code
+        self.fitting = [name for name, taken in bound.items() if name in parameters
+                        and taken in (None, vocabulary.record_of(parameters[name]))]
+        self.strange = [name for name in bound if name not in parameters]
+        self.absent = [name for name in parameters if name not in bound]
+        self.amiss = len(bound) - len(self.fitting) + len(self.absent)
+
+
+def explain(holder, after):
+    """The fault of a line whose bindings are those of another equation, and the rows to go on with; or
+    None.
+    """
+    if holder.field("act") != "enter" or not after.is_own(holder):
+        return None
+    bound = bindings_of(holder.field("name"), after)
+    fits = nearest_fits(bound, Fit(holder.field("value"), bound), holder.field("subject"))
+    if not fits:
+        return None
+    codes = likeliest([fit.code for fit in fits], holder, after.ahead)
+    nearest = "nearest to " if fits[0].amiss else ""
+    cause = f"the bindings of this line, {listed(bound, 'and')}, are {nearest}those of {said_of(codes)}"
+    changed = holder.with_fields(value=codes[0])
+    changed.has_other_figure = len(codes) > 1
+    rows = [changed if row is holder else row for row in after.rows]
+    return at_row(holder, cause, "value", codes[0] if len(codes) == 1 else "one of these"), rows
+
+
+def bindings_of(line, after):
+    """The parameters that rows bind of a line, each with what is measured there, or None where that is not
+    known.
+    """
+    bound = {name: measured_by(row, after.book) for name, row in after.book.bindings.get(line, {}).items()}
+    return {**dict.fromkeys(after.refused.parameters_bound(line)), **bound}
+
+
+def measured_by(bound, book):
+    """What the record or the first line measures that a binding takes, or None."""
+    taken = record_taken_by(bound)
+    record = book.some_record(*taken) if taken else None
+    if record is not None:
+        return None if record.has_other_figure else vocabulary.measured_by(record.field("unit"))
+    lines = [book.lines[name] for name in lines_taken_by(bound) if name in book.lines]
+    return vocabulary.given_by(lines[0].field("value")) if lines else None
+
+
+def nearest_fits(bound, there, category):
+    """The equations that the bindings fit best, where they are so much nearer than the line's own that this
+    one is most likely wrong.
+    """
+    known = [Fit(code, bound) for code in vocabulary.equations() if code != there.code]
+    known = [fit for fit in known if fit.amiss < 2 and len(fit.fitting) > len(there.fitting)]
+    if len(bound) < FEWEST or not known:
+        return []
+    best = min((fit.amiss, -len(fit.fitting)) for fit in known)
+    nearest = [fit for fit in known if (fit.amiss, -len(fit.fitting)) == best]
+    volume = vocabulary.volume_of_category(category)
+    of_volume = [fit for fit in nearest if vocabulary.volume_of_equation(fit.code) == volume]
+    if 2 * len(there.fitting) < len(bound):
+        return of_volume or nearest
+    has_more = there.strange and not there.absent
+    return of_volume if has_more or vocabulary.volume_of_equation(there.code) != volume else []
+
+
+def likeliest(codes, line, ahead):
+    """Those of some equations that the volume of a line's category tells, then the gas in its name, in those
+    of the factors that it takes, and of the equation that it has.
+    """
+    volume, own = vocabulary.volume_of_category(line.field("subject").strip()), line.field("value")
+    codes = [code for code in codes if vocabulary.volume_of_equation(code) == volume] or codes
+    names = [line.field("name"), *ahead.factors_taken_by(line.field("name"))]
+    gases = [vocabulary.gas_in(name) for name in names]
+    gases += [vocabulary.gas_of(own)] if own in vocabulary.equations() else []
+    for gas in filter(None, gases):
+        codes = [code for code in codes if vocabulary.gas_of(code) == gas] or codes
+    return codes
+
+
+def of_parameters(names):
+    """The equations of just some parameters."""
+    return [code for code in vocabulary.equations() if names == set(vocabulary.parameters_of(code))]
+
+
+def said_of(codes):
+    """Equations with what they compute."""
+    return listed([f"{code} ({vocabulary.equations()[code]['computes']})" for code in codes], "and")
