@@ -42,6 +42,8 @@ def record_of_another_kind(bound, wanted, after):
     measures = vocabulary.measured_by(record.field("unit"))
     if vocabulary.is_decay(wanted):
         return at_row(bound, cause, "low")
+    if measures == wanted["measures"] and vocabulary.is_amount(measures) == (kind == "activity"):
+        return at_row(bound, f"{cause}; write {kind} in kind of its rows, or {other} here", "value")
     if measures in (None, wanted["measures"]):
         return at_row(bound, cause, "value", other)
     cause += f" in {record.field('unit')}, and {said_of_wanted(wanted)} is taken here"

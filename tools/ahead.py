@@ -6,7 +6,7 @@ figure is bound to further down.
 import functools
 
 from tools import headers, other_equation, vocabulary
-from tools.book import record_taken_by
+from tools.book import lines_taken_by, record_taken_by
 from tools.causes import name as mended_name
 from tools.causes import year as year_of
 
@@ -69,6 +69,25 @@ class Ahead:
         bound = self._bindings.get(line, {}).values()
         return [row.field("low") for row in bound if row.field("value") == "factor"]
 
+    def parameters_left(self, line):
+        """The parameters of a line that no row of any file binds, by name."""
+        code = self.equation_of(line)
+        known = vocabulary.parameters_of(code) if code else {}
+        return {name: parameter for name, parameter in known.items() if not self.is_bound(line, name)}
+
+    def records_left(self, kind, parameter):
+        """The names of a kind that rows of any file enter, that measure what a parameter takes, and that none
+        takes.
+        """
+        measures = vocabulary.record_of(parameter)
+        left = ((name, rows[0]) for (of_kind, name), rows in self._entered.items()
+                if of_kind == kind and (kind, name) not in self._bound)
+        return [name for name, row in left if name and vocabulary.measured_by(row.field("unit")) == measures]
+
+    def is_named(self, line):
+        """Tells whether some row of any file has an uncertainty of a line, or takes it."""
+        return line in self._named
+
     def equation_of(self, line):
         """The equation that a line is meant to have: one of just the parameters that rows bind, where its own
         lacks one of them; or None.
@@ -112,6 +131,11 @@ class Ahead:
             if row.field("kind") == "bind":
                 found.setdefault(row.field("subject"), {}).setdefault(row.field("name"), row)
         return found
+
+    @functools.cached_property
+    def _named(self):
+        found = {row.field("name") for row in self._rows if row.field("kind") == "uncert"}
+        return found.union(*(lines_taken_by(row) for row in self._rows if row.field("kind") == "bind"))
 
     @functools.cached_property
     def _bound(self):

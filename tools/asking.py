@@ -123,6 +123,12 @@ def kind_by_its_rest(row):
     return "line" if re.fullmatch(r"[Qq]\d+", value) else None
 
 
+def line_above(row):
+    """The name of the nearest line above a row in its file, or None."""
+    lines = (other for other in row.sheet.rows_above(row.line) if other.field("kind") == "line")
+    return next((causes.name(other.field("name")).text for other in lines), None)
+
+
 def is_empty(row):
     """Tells whether a row has nothing in it."""
     return not any(field.strip() for field in row.fields)

@@ -6,9 +6,9 @@ stays and is blank.
 """
 import re
 
-from tools import absent_records, other_equation, units, vocabulary
+from tools import absent_records, other_equation, swapped_bindings, units, vocabulary
 from tools.ahead import said_of_later
-from tools.asking import article
+from tools.asking import article, line_above
 from tools.book import lines_taken_by, record_taken_by
 from tools.faults import at_row, counted
 from tools.sheets import COLUMNS, Row, joined
@@ -20,7 +20,7 @@ from tools.vocabulary import limit, listed, nearest, said_of_parameter, said_of_
 # The parameter by which the program names an uncertainty whose line there is not.
 UNCERTAINTY = "uncert"
 # What of a fuel may be told as its carbon or as its CO2.
-CARBON_OF_FUEL = "carbon content of fuel"
+CARBON_OF_FUEL, CO2_OF_FUEL = "carbon content of fuel", "emission factor of fuel"
 # What stands between the parts of a name.
 PARTS = re.compile("[._-]")
 # The name of a half-life that no workbook has.
@@ -155,6 +155,10 @@ def without_line(line, parameter, bound, after):
     near = nearest(line, after.book.lines, 1, 0.75)
     if near and not refused and parameter not in after.book.bindings.get(near[0], {}):
         return misspelt_line(bound, near[0], after)
+    above = line_above(bound)
+    if not refused and not after.in_later_file("line", line) and above in after.book.lines \
+            and parameter in after.ahead.parameters_left(above):
+        return of_line_above(bound, above, after)
     own = after.bindings_of(line)
     more = f" ({counted(len(own) - 1, 'further binding')} of it in this file)" if len(own) > 1 else ""
     if refused:
@@ -198,17 +202,19 @@ def uncertainty_without_line(line, after):
 
 
 def uncertainty_of_record(row, after):
-    """An uncertainty of an activity or a factor. It is one of the line that takes it, where one alone does.
+    """An uncertainty of an activity or a factor. It is one of the line that emits what is made of it, where
+    one alone does.
     """
-    name = row.field("name")
-    kind, record = record_of_name(name, after.book)
-    cause = f"{name} is no line but {article(kind)} ({record.place})"
-    lines = sorted({bound.field("subject") for bound in after.book.taken().get((kind, name), [])})
+    kind, record = record_of_name(row.field("name"), after.book)
+    cause = f"{row.field('name')} is no line but {article(kind)} ({record.place})"
+    lines = after.book.emitting(kind, row.field("name"))
     if len(lines) == 1 and (UNCERTAINTY, lines[0]) not in after.book.rows:
-        fault = at_row(row, f"{cause}, which line {lines[0]} takes", "name", lines[0])
+        fault = at_row(row, f"{cause}, of which line {lines[0]} is made", "name", lines[0])
         return fault, after.changed(row, name=lines[0])
-    taken = f", which {listed([f'line {line}' for line in lines], 'and')} take" if len(lines) > 1 else ""
-    return at_row(row, f"{cause}{taken}; an uncertainty is of a line", "name"), after.without([row])
+    after.refused.add(row.with_fields(name=line) for line in lines)
+    named = listed([f"line {line}" for line in lines], "and")
+    made = f", of which {named} are made" if len(lines) > 1 else ""
+    return at_row(row, f"{cause}{made}; an uncertainty is of a line", "name"), after.without([row])
 
 
 def refused_line(name, after):
@@ -216,8 +222,22 @@ def refused_line(name, after):
     return after.refused.that_sets(("line", name)) or after.refused.that_has(name, ["line"])
 
 
+def of_line_above(bound, line, after):
+    """A binding of no line, below a line that lacks it. It goes on as that line's."""
+    parameter = bound.field("name")
+    cause = f"there is no line {bound.field('subject')}; the line above is {line}, which has no binding of"
+    return at_row(bound, f"{cause} {parameter}", "subject", line), after.changed(bound, subject=line)
+
+
 def misspelt_line(bound, line, after):
-    """A binding whose line is most likely another, which lacks it. It goes on as that line's."""
+    """A binding whose line is most likely another, which lacks it. It goes on as that line's, or the line
+    goes on under the name that its bindings and other rows have.
+    """
+    meant, holder = bound.field("subject"), after.book.lines[line]
+    is_odd = after.ahead.is_named(meant) and not after.ahead.is_named(line)
+    if is_odd and after.is_own(holder) and not after.book.bindings.get(line):
+        cause = f"its bindings and other rows name {meant}"
+        return at_row(holder, cause, "name", meant), after.changed(holder, name=meant)
     cause = f"there is no line {bound.field('subject')}{nearest_line([line], after)}"
     return at_row(bound, cause, "subject"), after.changed(bound, subject=line)
 
@@ -278,11 +298,18 @@ def without_binding(holder, wanted, after):
     misspelt = [row for other, row in bound.items() if other not in parameters and after.is_own(row)]
     if misspelt:
         return without_parameter(holder, misspelt[0], parameters, after)
-    astray = [row for row in after.acts_on("bind", name, ("enter",)) if is_astray(row, line, after)]
+    own = after.acts_on("bind", name, ("enter",))
+    astray = [row for row in own if is_astray(row, line, after)]
     if astray:
         return misspelt_line(astray[0], line, after)
+    below = [row for row in own if row.field("subject") not in after.book.lines and line_above(row) == line]
+    if below and not after.in_later_file("line", below[0].field("subject")):
+        return of_line_above(below[0], line, after)
     form, target = target_left(wanted, line, after)
     write = f"a row enter,bind,{line},{name},,{form},{target},,,"
+    other = other_equation.with_fewer(holder, after)
+    if other:
+        write += f"; or write {other_equation.said_of([other])} in value, which takes what is bound"
     return at_row(holder, f"{needs}, and no row binds it", "name", write), with_blank
 
 
@@ -342,6 +369,9 @@ def of_record(bound, holder, wanted, after):
     """A binding to an activity or a factor that there is not, or that measures something else."""
     kind, name = record_taken_by(bound)
     record = after.book.some_record(kind, name)
+    swapped = swapped_bindings.explain(bound, holder, wanted, after) if after.is_own(bound) else None
+    if swapped:
+        return swapped
     if record is None and after.is_own(bound):
         return absent_records.explain(bound, wanted, after)
     if record is None:
@@ -355,8 +385,13 @@ def of_record(bound, holder, wanted, after):
     takes = f"{wanted['name']} of {holder.field('value')} takes {of} ({words})"
     if after.is_own(bound):
         cause = f"{takes}, and {measured} at {record.place}"
-        made = made_by_line(bound, wanted, after.book)
-        cause += f"; line {made} makes it: write line,{made}" if made else way_to(wanted, record)
+        made, others = made_by_line(bound, wanted, after.book), taken_as_measured(bound, after.book)
+        if made:
+            cause += f"; line {made} makes it: write line,{made}"
+        elif others:
+            cause += f", as which line {others[0]} takes it"
+        else:
+            cause += way_to(wanted, record)
         return at_row(bound, cause, "low"), after.without_target(bound, wanted)
     cause = f"{takes}, and {measured}; the binding stands at {bound.place}"
     entered = after.acts_on(kind, name, ("enter", "correct"))
@@ -365,6 +400,17 @@ def of_record(bound, holder, wanted, after):
     if after.is_own(holder):
         return at_row(holder, cause, "value"), after.without_line(holder.field("name"))
     return None, None
+
+
+def taken_as_measured(bound, book):
+    """The other lines that take the record of a binding as what it measures."""
+    taken, found = record_taken_by(bound), []
+    for line, bindings in book.bindings.items():
+        known = vocabulary.parameters_of(book.lines[line].field("value")) if line in book.lines else {}
+        found += [line for name, other in bindings.items() if other is not bound and name in known
+                  and record_taken_by(other) == taken
+                  and vocabulary.record_of(known[name]) == book.measured_by(*taken)]
+    return found
 
 
 def made_by_line(bound, wanted, book):
@@ -391,6 +437,8 @@ def way_to(wanted, record):
         return f"; where it is of carbon, write {meant.word} there ({said}); where of CO2, take 12/44 of that"
     if meant and vocabulary.measured_by(meant.word) == measures:
         return f"; write {meant.word} there{'' if meant.times == 1 else f' ({meant.said})'}"
+    if (vocabulary.measured_by(unit), measures) == (CARBON_OF_FUEL, CO2_OF_FUEL):
+        return "; of CO2 it is 44/12 of the figure in t/TJ: write that there"
     known = vocabulary.units_that_measure(measures)
     if len(known) == 1 and known[0].startswith(f"{unit}/"):
         return f"; write {known[0]} there"
@@ -418,6 +466,9 @@ def of_lines(bound, holder, wanted, after):
         taken = after.book.lines[name]
         code = taken.field("value")
         if vocabulary.given_by(code) != wanted["measures"]:
+            meant = other_equation.explain(taken, after)
+            if meant:
+                return meant
             cause = f"{wanted['name']} of {holder.field('value')} takes {said_of_wanted(wanted)}"
             cause += f", and line {name} ({code} at {taken.place}) gives {given(code)}"
             if after.is_own(bound):

@@ -117,6 +117,18 @@ class Book:
         rows = (row for bound in self.bindings.values() for row in bound.values())
         return {name for row in rows for name in lines_taken_by(row)}
 
+    def emitting(self, kind, name):
+        """The lines that emit a gas and take an activity or a factor, over other lines if need be."""
+        waiting = [row.field("subject") for row in self.taken().get((kind, name), [])]
+        reached = []
+        while waiting:
+            line = waiting.pop(0)
+            if line in self.lines and line not in reached:
+                reached.append(line)
+                waiting += [other for other, bound in self.bindings.items()
+                            if any(line in lines_taken_by(row) for row in bound.values())]
+        return sorted(line for line in reached if vocabulary.gas_of(self.lines[line].field("value")))
+
     def is_of_last_year(self, bound):
         """Tells whether a binding is of a parameter that takes what a line gave the year before."""
         line = self.lines.get(bound.field("subject"))

@@ -168,6 +168,8 @@ def fraction(mended):
     if not found:
         return mended
     over, under = map(int, found.groups())
+    if min(abs(over), under) >= 1000:
+        return Mended(mended.causes + ["two numbers in one field; write one"], mended.text, False)
     quotient = decimal.Decimal(over) / under
     if quotient * under == over and quotient.as_tuple().exponent >= -int(limit("decimals")):
         return mended.less("a fraction", format(quotient, "f"))

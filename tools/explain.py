@@ -2,11 +2,12 @@
 
 What it says to write is what the program took when it was asked.
 """
+import itertools
 import re
 
 from tools import causes, units, vocabulary
 from tools.ahead import is_below, said_of_later
-from tools.asking import is_total
+from tools.asking import is_total, line_above
 from tools.book import record_taken_by
 from tools.faults import at_row, shown, years_said
 from tools.number_faults import NumberFaults, year_between
@@ -14,6 +15,9 @@ from tools.sheets import COLUMNS, Row, joined
 from tools.shifts import Shifts
 from tools.vocabulary import listed, nearest
 from tools.word_faults import WordFaults
+
+
+NO_COMMA = "write a point for a decimal comma, and nothing between thousands"
 
 
 class Explainer(WordFaults, NumberFaults, Shifts):
@@ -24,10 +28,11 @@ class Explainer(WordFaults, NumberFaults, Shifts):
         if reply.rule == 4:
             return self.shape(row)
         if reply.rule == 5:
-            moved = self.shifted(row) or self.swapped(row) or self.astray(row)
+            moved = self.blanks(row) or self.shifted(row) or self.swapped(row) or self.astray(row)
             return moved or self.word(row, reply.column)
         if reply.rule == 6:
-            return self.shifted(row) or self.swapped(row) or self.number(row, reply.column)
+            moved = self.blanks(row) or self.shifted(row) or self.swapped(row)
+            return moved or self.number(row, reply.column)
         if reply.rule == 7:
             return self.disorder(row)
         if reply.rule == 8:
@@ -47,20 +52,18 @@ class Explainer(WordFaults, NumberFaults, Shifts):
         if is_total(row):
             return at_row(row, "a row of totals; take it out"), None
         if fields[0].count(";") > len(COLUMNS) // 2:
-            return at_row(row, f"{cause}: semicolons between the fields; write commas"), None
+            fault = at_row(row, f"{cause}: semicolons between the fields; write commas")
+            return fault, of_rest(row, row.raw.decode("utf-8", "replace").split(";"))
         if count == len(COLUMNS):
             return at_row(row, "no row of ten fields of UTF-8"), None
         if count == 1:
             return at_row(row, f"{cause}; take the row out, or write what it says into a note"), None
         if count < 10:
             return self.too_few(row, f"{cause}: write a comma for each empty column too")
-        pair = self.number_in_two(row)
-        if pair:
-            cause += f": a comma in the number {pair}; write a point for a decimal comma"
-            return at_row(row, f"{cause}, and nothing between thousands"), None
         within = self.comma_within(row, cause) if count == 11 and not fields[10] else None
-        if within:
-            return within
+        parted = within or self.numbers_in_two(row, cause)
+        if parted:
+            return parted
         if not any(fields[10:]):
             commas = "comma" if count == 11 else f"{count - 10} commas"
             return at_row(row, f"{cause}; take out the {commas} at the end"), of_rest(row, fields[:10])
@@ -98,17 +101,41 @@ class Explainer(WordFaults, NumberFaults, Shifts):
         changed = Row(row.sheet, row.line, joined(fields))
         return changed if self.takes(changed, None) else None
 
-    def number_in_two(self, row):
-        """A number with a comma that stands in two columns, in a row whose unit stands that much further
-        right.
+    def numbers_in_two(self, row, cause):
+        """Numbers with commas that each stand in two columns, in a row whose unit stands that much further
+        right; or None. The row goes on with points, or with NE where the commas may stand between thousands.
         """
-        fields = row.fields
-        if fields[1] not in ("activity", "factor") or fields[len(fields) - 2] not in vocabulary.units():
+        parts, unit = row.fields[5:-2], row.fields[-2]
+        if row.field("kind") not in ("activity", "factor") or unit not in vocabulary.units():
             return None
-        for at in range(5, len(fields) - 3):
-            if re.fullmatch(r"-?\d+", fields[at]) and re.fullmatch(r"\d+(\.\d+)?", fields[at + 1]):
-                return f"{fields[at]},{fields[at + 1]}"
-        return None
+        for columns in itertools.product((1, 2), repeat=3):
+            figures = figures_of(parts, columns) if sum(columns) == len(parts) else None
+            changed = self.of_ten(row, [*row.fields[:5], *figures, unit, row.fields[-1]]) if figures else None
+            if changed:
+                return self.said_of_parted(row, changed, cause)
+        pairs = [f"{one},{other}" for one, other in zip(parts, parts[1:]) if are_parts(one, other)]
+        cause += f": a comma in the number {pairs[0]}; {NO_COMMA}" if pairs else ""
+        return (at_row(row, cause), None) if pairs else None
+
+    def said_of_parted(self, row, changed, cause):
+        """The fault of numbers that commas part, and the row with points in their place."""
+        named = {column: changed.field(column) for column in ("value", "low", "high")}
+        parted = {column: text for column, text in named.items() if text not in row.fields[5:-2]}
+        first = next(iter(parted.values()), "").replace(".", ",")
+        cause += f": a comma in the number {first}"
+        if all(re.fullmatch(r"-?[1-9]\d{0,2}\.\d{3}", text) for text in parted.values()):
+            return at_row(row, f"{cause}; {NO_COMMA}"), self.blank_figure(changed)
+        write = listed([f"{text} in {column}" for column, text in parted.items()], "and")
+        return at_row(row, cause, "", write), changed
+
+    def blanks(self, row):
+        """The fault of a row with a blank at the end of most of its fields, and the row without them, where
+        the program takes it so; or None.
+        """
+        bare = [field.strip() for field in row.fields]
+        odd = sum(field != text for field, text in zip(row.fields, bare))
+        changed = self.of_ten(row, bare) if len(bare) == len(COLUMNS) and 2 * odd > len(COLUMNS) else None
+        return (at_row(row, "blanks around the fields; take them out"), changed) if changed else None
 
     def not_utf8(self, row):
         """Bytes that are no UTF-8. The row goes on as if they were Latin-1."""
@@ -183,28 +210,16 @@ class Explainer(WordFaults, NumberFaults, Shifts):
         parameter that is left of its line and takes what it names; or None.
         """
         line, parameter = row.field("subject"), row.field("name")
-        above = self.line_above(row)
-        if above and above != line and parameter in self.parameters_left(above):
+        above = line_above(row)
+        if above and above != line and parameter in self.ahead.parameters_left(above):
             cause = f"{cause}; the line above is {above}, which has no binding of {parameter}"
             return at_row(row, cause, "subject", above), row.with_fields(subject=above)
-        left = [name for name, known in self.parameters_left(line).items()
+        left = [name for name, known in self.ahead.parameters_left(line).items()
                 if self.measured_by_target(row) == vocabulary.record_of(known)]
         if len(left) != 1:
             return None
         cause = f"{cause}; {left[0]} has no binding"
         return at_row(row, cause, "name", left[0]), row.with_fields(name=left[0])
-
-    def line_above(self, row):
-        """The name of the nearest line above a row in its file, or None."""
-        lines = (other for other in row.sheet.rows_above(row.line) if other.field("kind") == "line")
-        return next((causes.name(other.field("name")).text for other in lines), None)
-
-    def parameters_left(self, line):
-        """The parameters of a line that no row of any file binds, by name."""
-        holder = self.ahead.row_of("line", line)
-        known = holder and vocabulary.equations().get(holder.field("value"))
-        parameters = vocabulary.parameters_of(holder.field("value")) if known else {}
-        return {name: known for name, known in parameters.items() if not self.ahead.is_bound(line, name)}
 
     def measured_by_target(self, row):
         """What the record measures that a binding takes, by the row that enters it, or None."""
@@ -248,6 +263,22 @@ class Explainer(WordFaults, NumberFaults, Shifts):
         near = nearest(key[1], named, 1, 0.75)
         there = [name for name in near if (key[0], name, *key[2:]) in self.book.rows]
         return there[0] if there else None
+
+
+def figures_of(parts, columns):
+    """The three figures of a row out of parts, each of one column or of two with a point between them."""
+    rest, figures = list(parts), []
+    for count in columns:
+        taken, rest = rest[:count], rest[count:]
+        if count == 2 and not are_parts(*taken):
+            return None
+        figures.append(".".join(taken))
+    return figures
+
+
+def are_parts(one, other):
+    """Tells whether two texts may be a number that a comma parts."""
+    return bool(re.fullmatch(r"-?\d+", one)) and other.isdecimal()
 
 
 def of_rest(row, fields):

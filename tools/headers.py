@@ -162,12 +162,22 @@ def is_in_order(rows, placed):
 
 
 def likeness(rows):
-    """How many fields of rows are what their columns hold: a word, a year or a name."""
+    """How many fields of rows look like what their columns hold."""
     words = vocabulary.words()
     known = {"act": words["acts"], "kind": words["kinds"], "unit": ["", *vocabulary.units()]}
     found = sum(row.field(column) in texts for row in rows for column, texts in known.items())
     found += sum(bool(re.fullmatch(r"(\d{4})?", row.field("year"))) for row in rows)
-    return found + sum(bool(re.search("[A-Za-z]", row.field("name"))) for row in rows)
+    found += sum(bool(re.search("[A-Za-z]", row.field("name"))) for row in rows)
+    return found + sum(is_filled_in_order(row) for row in rows)
+
+
+def is_filled_in_order(row):
+    """Tells whether a row has a value, and behind it nothing, or low alone, or bounds in their order."""
+    value, low, high = (row.field(column).strip() for column in ("value", "low", "high"))
+    figures = [causes.number(text).text for text in (low, high)]
+    if high and all(re.fullmatch(r"-?\d{1,40}(\.\d{1,40})?", figure) for figure in figures):
+        return float(figures[0]) <= float(figures[1])
+    return bool(value) and not high
 
 
 def stripped(row):

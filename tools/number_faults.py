@@ -250,7 +250,8 @@ class NumberFaults(PercentFaults):
         if len(short) == 1:
             mended = mended.less("two digits of a year", short[0])
         digits = f"four digits from {limit('first_year')} to {limit('last_year')}"
-        otherwise = f"no year; a year is {digits}"
+        lacking = self.year_lacking(row)
+        otherwise = f"no year; a year is {digits}{f', and no other row is of {lacking}' if lacking else ''}"
         if row.field("kind") == "span":
             first = {"year": "the first", "value": "the last", "low": "the base"}[column]
             otherwise = f"no year: a span has {first} year here, in {digits}"
@@ -298,22 +299,16 @@ class NumberFaults(PercentFaults):
             inner = sorted((least, number, most))
             order = "in order they are {1} with low {0} and high {2}".format(*map(written, inner))
             fault = at_row(row, f"low {low} is above high {high}; {order}", "low")
-        elif 0 < most < number <= 100 * most and least in (most, -most):
-            distance = written(most), written(number - most), written(number + most)
+        elif 0 < most < number and (number <= 100 * most or most < 100) and least in (most, -most):
             cause = "low and high are the same figure and below the value; they are bounds, and no distances"
-            sides = "of a distance of {} they are {} and {}".format(*distance)
-            share = "of {} percent {} and {}".format(written(most), *shares(number, most))
-            fault = at_row(row, f"{cause}: {sides}, {share}", "low")
+            fault = at_row(row, f"{cause}: {said_of_distance(number, most)}", "low")
         elif 0 < least <= 1 <= most < min(number, 10):
             bounds = listed([written(EXACT.multiply(number, bound)) for bound in (least, most)], "and")
             cause = f"low and high are bounds, and no factors of the value; of these they are {bounds}"
             fault = at_row(row, cause, "low")
         else:
             side, bound = ("low", "above") if least > number else ("high", "below")
-            held = scaled(number, least, most)
-            advice = "write bounds that hold it, or leave both empty"
-            if held:
-                advice = f"{held} would hold it: is the unit of the bounds another?"
+            advice = way_to_bounds(number, least, most)
             fault = at_row(row, f"{side} is {bound} the value {value}; {advice}", side)
         return fault, self.blank_figure(row)
 
@@ -349,6 +344,29 @@ def year_between(row):
     if not (first.isdecimal() and last.isdecimal()) or int(last) - int(first) != 2:
         return None
     return str(int(first) + 1)
+
+
+def way_to_bounds(number, least, most):
+    """How to come to bounds that hold a number."""
+    held, inner = scaled(number, least, most), sorted((least, number, most))
+    if held:
+        return f"{held} would hold it: is the unit of the bounds another?"
+    advice = "write bounds that hold it, or leave both empty"
+    if 0 < inner[2] <= 2 * inner[0]:
+        advice += "; in order they are {1} with low {0} and high {2}".format(*map(written, inner))
+    return advice
+
+
+def said_of_distance(number, distance):
+    """The bounds at a distance from a number, and at so many percent of it, where these are meant at all."""
+    meant = []
+    if number <= 100 * distance:
+        bounds = written(distance), written(number - distance), written(number + distance)
+        meant.append("of a distance of {} they are {} and {}".format(*bounds))
+    if distance < 100:
+        bounds = [written(distance), *shares(number, distance)]
+        meant.append(f"of {{}} percent {'' if meant else 'they are '}{{}} and {{}}".format(*bounds))
+    return ", ".join(meant)
 
 
 def shares(number, percent):

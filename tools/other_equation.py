@@ -92,6 +92,15 @@ def likeliest(codes, line, ahead):
     return codes
 
 
+def with_fewer(line, after):
+    """The one equation of the volume of a line's category that takes just what is bound for it, or None."""
+    bound = bindings_of(line.field("name"), after)
+    fits = [Fit(code, bound) for code in of_parameters(set(bound))]
+    codes = likeliest([fit.code for fit in fits if not fit.amiss], line, after.ahead)
+    volume = vocabulary.volume_of_category(line.field("subject"))
+    return codes[0] if len(codes) == 1 and vocabulary.volume_of_equation(codes[0]) == volume else None
+
+
 def of_parameters(names):
     """The equations of just some parameters."""
     return [code for code in vocabulary.equations() if names == set(vocabulary.parameters_of(code))]

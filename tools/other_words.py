@@ -10,7 +10,8 @@ OTHER_ACTS = {
 OTHER_KINDS = {
     "ad": "activity", "activity data": "activity", "activities": "activity", "ef": "factor",
     "emission factor": "factor", "constant": "factor", "binding": "bind", "uncertainty": "uncert",
-    "gwp": "factor", "source": "line", "years": "span", "period": "span",
+    "gwp": "factor", "source": "line", "years": "span", "period": "span", "act": "activity", "fac": "factor",
+    "unc": "uncert",
 }
 OTHER_COLUMNS = {
     "action": "act", "operation": "act", "type": "kind", "record": "kind", "category": "subject",

@@ -10,8 +10,9 @@ from tools.sheets import COLUMN_AT, Row, joined
 from tools.vocabulary import limit, listed
 
 
-TOO_FAR_LEFT = "left; write one more comma in front of it, and one less at the end"
-TOO_FAR_RIGHT = "right; take out a comma in front of it, and write one at the end"
+TOO_FAR_LEFT = "one column too far left; write one more comma in front of it, and one less at the end"
+TWO_TOO_FAR_LEFT = "two columns too far left; write two more commas in front of it, and two less at the end"
+TOO_FAR_RIGHT = "one column too far right; take out a comma in front of it, and write one at the end"
 # The columns that are filled in rows of these kinds.
 FILLED = {
     "line": ["subject", "name", "value"], "bind": ["subject", "name", "value", "low"],
@@ -42,6 +43,9 @@ class Shifts(Asking):
         if row.fields[due - 1] in words and not row.fields[-1]:
             meant = self.moved_right(row, due - 1)
             return self.first_of(row, meant, TOO_FAR_LEFT)
+        if row.fields[due - 2] in words and not any(row.fields[-2:]):
+            meant = self.moved_right(row, due - 2, 2)
+            return self.first_of(row, meant, TWO_TOO_FAR_LEFT)
         if row.fields[due + 1] in words:
             return self.first_of(row, self.moved_left(row, due), TOO_FAR_RIGHT)
         return None
@@ -59,6 +63,10 @@ class Shifts(Asking):
         """The fault of two fields of a row that stand in each other's column, and the row as it
         is meant, where the program takes it so; or None.
         """
+        words = vocabulary.words()
+        if row.field("act") in words["kinds"] and row.field("kind") in words["acts"]:
+            meant = row.with_fields(act=row.field("kind"), kind=row.field("act"))
+            return at_row(row, *said_of_swapped(meant, "act", "kind")), meant
         for one, other in itertools.combinations(FILLED.get(row.field("kind"), []), 2):
             meant = row.with_fields(**{one: row.field(other), other: row.field(one)})
             if meant.fields != row.fields and self.has_known_words(meant) and self.takes(meant, None):
@@ -84,17 +92,17 @@ class Shifts(Asking):
         for text, fields in candidates:
             meant = Row(row.sheet, row.line, joined(fields))
             if self.takes(meant, None):
-                cause = f"the fields from {shown(text)} on stand one column too far {where}"
+                cause = f"the fields from {shown(text)} on stand {where}"
                 return at_row(row, cause), meant
         return None
 
     @staticmethod
-    def moved_right(row, last):
-        """The row with an empty field more in front of a field, each up to the last that may be meant; and
+    def moved_right(row, last, columns=1):
+        """The row with some empty fields more in front of a field, each up to the last that may be meant; and
         that field.
         """
         for at in range(last, 1, -1):
-            yield row.fields[at], row.fields[:at] + [""] + row.fields[at:-1]
+            yield row.fields[at], row.fields[:at] + [""] * columns + row.fields[at:-columns]
 
     @staticmethod
     def moved_left(row, last):
@@ -109,6 +117,8 @@ class Shifts(Asking):
         """The fault of a figure or an uncertainty whose name stands in subject, or of percentages in other
         columns, and the row as it is meant, where the program takes it so; or None.
         """
+        if row.field("kind") == "span":
+            return self.years_astray(row)
         if row.field("kind") == "uncert" and row.field("name"):
             return self.percentages_astray(row)
         named = ("activity", "factor", "uncert")
@@ -120,6 +130,17 @@ class Shifts(Asking):
         what = "an uncertainty" if row.field("kind") == "uncert" else article(row.field("kind"))
         cause = f"the name of {what} stands in name; move it there"
         return at_row(row, cause, "subject"), meant
+
+    def years_astray(self, row):
+        """The fault of a span whose three years stand in other columns, or None."""
+        columns = ("subject", "name", "year", "value", "low", "high", "unit")
+        years = [row.field(column) for column in columns if row.field(column)]
+        blank = dict.fromkeys(columns, "")
+        meant = row.with_fields(**{**blank, **dict(zip(("year", "value", "low"), years))})
+        if len(years) != 3 or meant.fields == row.fields or not self.takes(meant, None):
+            return None
+        write = "{} in year, {} in value and {} in low".format(*years)
+        return at_row(row, "the three years of a span stand in year, value and low", "", write), meant
 
     def percentages_astray(self, row):
         """The fault of an uncertainty whose two percentages stand in other columns, or None."""

@@ -68,9 +68,12 @@ class TargetFaults(Asking):
         """
         named = [causes.name(row.field(column)).text for column in ("value", "low")]
         self.refused.meant_records.update((kind, name) for kind in ("activity", "factor") for name in named)
-        changed = row.with_fields(value="key", low="NE")
-        changed.has_other_figure = True
-        return changed if self.takes(changed, None) else None
+        for others in ({}, {"year": "", "high": "", "unit": ""}):
+            changed = row.with_fields(value="key", low="NE", **others)
+            changed.has_other_figure = True
+            if self.takes(changed, None):
+                return changed
+        return None
 
     def target(self, row, column):
         """The target of a binding. The binding goes on with NE where it is not sure what is meant."""
@@ -81,7 +84,7 @@ class TargetFaults(Asking):
         """A name, several names or a notation key."""
         text, form = row.field(column), row.field("value")
         if not text.strip():
-            return at_row(row, f"no target; a binding by {form} names {target_of(form)}", column), None
+            return self.no_target(row, column)
         if form == "key":
             keys, meant = vocabulary.words()["keys"], causes.notation_key(text)
             if meant in keys and meant != letters.latin(text).strip().upper():
@@ -112,6 +115,16 @@ class TargetFaults(Asking):
         candidates = [(cause_of(mended.causes), mended.text, mended.sure)]
         return self.first_taken(row, column, candidates, name_otherwise(mended.text, "name"))
 
+    def no_target(self, row, column):
+        """No target: the one record of the form's kind that measures what the parameter takes, and that no
+        row takes, where there is one.
+        """
+        form, parameter = row.field("value"), self.parameter_of(row)
+        left = self.ahead.records_left(KIND_TAKEN.get(form), parameter) if parameter else []
+        otherwise = f"no target; a binding by {form} names {target_of(form)}"
+        cause = f"no target; no row takes this {KIND_TAKEN.get(form)}"
+        return self.first_taken(row, column, [(cause, left[0], True)] if len(left) == 1 else [], otherwise)
+
     def category_for_target(self, row, column, code):
         """A category where lines are meant: those there that give what the parameter takes."""
         parameter = self.parameter_of(row)
@@ -137,14 +150,19 @@ class TargetFaults(Asking):
         """What to write in place of a number as a target: a factor of it, with the units that its parameter
         takes, and its name.
         """
-        said = "a target is a name and no number; enter the number as a factor, and bind that by factor"
+        said = "a target is a name and no number"
         parameter = self.parameter_of(row)
         if not parameter:
-            return said
+            return f"{said}; enter the number as a factor, and bind that by factor"
         name = f"{row.field('subject')}.{row.field('name')}"[:int(limit("name"))]
+        there = self.ahead.row_of("factor", name)
+        if there:
+            self.refused.meant_records.add(("factor", name))
+            return f"{said}; there is factor {name} ({there.place}): write factor,{name}"
         year = self.first_year() or "YEAR"
         units = vocabulary.units_that_measure(vocabulary.record_of(parameter))
         row_of_it = f"enter,factor,,{name},{year},{causes.number(text).text},,,UNIT,"
+        said += "; enter the number as a factor, and bind that by factor"
         return f"{said}: {row_of_it} in {listed(units)}, and factor,{name}"
 
     def sum_target(self, row, column):

@@ -110,6 +110,12 @@ def measured_by(word):
     return unit["measures"] if unit else None
 
 
+def is_amount(measures):
+    """Tells whether what is measured is an amount, as activities are, and no ratio and no rate."""
+    base = units_that_measure(measures)[0]
+    return "/" not in base and base not in ("1", HALF_LIFE_UNIT)
+
+
 def half_life():
     """What the unit of half-lives measures, or None where no row holds one."""
     return measured_by(HALF_LIFE_UNIT)

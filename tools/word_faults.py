@@ -3,7 +3,8 @@ import itertools
 import re
 
 from tools import causes, letters, other_equation, vocabulary
-from tools.asking import article, cause_of, has_figure, is_empty, is_header, is_note, is_total
+from tools.asking import (
+    article, cause_of, has_figure, is_empty, is_header, is_note, is_total, kind_by_its_rest, line_above)
 from tools.faults import at_row
 from tools.other_equation import said_of
 from tools.other_words import OTHER_ACTS, OTHER_KINDS, meant_by
@@ -32,7 +33,8 @@ class WordFaults(UnitFaults, TargetFaults):
             return at_row(row, "the header once more; take this row out"), None
         if is_total(row):
             return at_row(row, "a row of totals; take it out"), None
-        below = self.left_in_force(row, column) or self.below_a_merged_cell(row, column)
+        below = self.left_in_force(row, column) or self.lost(row, column)
+        below = below or self.below_a_merged_cell(row, column)
         if below:
             return below
         if is_note(row):
@@ -71,6 +73,31 @@ class WordFaults(UnitFaults, TargetFaults):
             return None
         cause = f"empty; a correction has all columns, and {record.place} has this one"
         return self.first_taken(row, column, [(cause, record.field(column), True)], cause)
+
+    def lost(self, row, column):
+        """An empty kind of a row whose rest is that of one kind, an empty act of one of a record that is not
+        there, or an empty line of a binding below a line that lacks it; or None.
+        """
+        if row.field(column).strip():
+            return None
+        above = line_above(row) if (row.field("kind"), column) == ("bind", "subject") else None
+        if above and row.field("name") in self.ahead.parameters_left(above):
+            cause = f"empty; the line above is {above}, which has no binding of {row.field('name')}"
+            return self.first_taken(row, column, [(cause, above, True)], cause)
+        kind = kind_by_its_rest(row) if column == "kind" else None
+        if kind in ("line", "bind"):
+            cause = f"empty; the rest of the row is that of {article(kind)}"
+            return self.first_taken(row, column, [(cause, kind, True)], cause)
+        name = row.field("name") if column == "kind" and row.field("unit").strip() else None
+        there = [kind for kind in ("activity", "factor") if self.ahead.row_of(kind, name)]
+        if len(there) == 1:
+            cause = f"empty; other rows of this name are of {article(there[0])}"
+            return self.first_taken(row, column, [(cause, there[0], True)], cause)
+        is_new = row.field("kind") in COLUMNS_OF_KEY and row.key not in self.book.rows
+        if column == "act" and is_new and row.field("value").strip():
+            cause = "empty, and nothing in front enters this"
+            return self.first_taken(row, column, [(cause, "enter", True)], cause)
+        return None
 
     def below_a_merged_cell(self, row, column):
         """Empty fields that rows above fill, as a spreadsheet writes cells that were merged, or None."""
@@ -131,6 +158,8 @@ class WordFaults(UnitFaults, TargetFaults):
         candidates = [(cause_of(bare.causes), bare.text, True)]
         with_letter = bare.text[:4] + bare.text[4:].replace("0", "O")
         candidates.append(("a zero in place of the letter O", with_letter, True))
+        longer = [name for name in known if bare.text.startswith((f"{name}.", f"{name}_", f"{name}-"))]
+        candidates += [("more than the name of a potential", name, True) for name in longer]
         return self.first_taken(row, column, candidates, otherwise)
 
     def parameter(self, row, column):
@@ -145,8 +174,12 @@ class WordFaults(UnitFaults, TargetFaults):
         candidates = alone(row.field(column).strip().upper(), known, "a parameter without what it measures")
         candidates.append((cause_of(mended.causes), mended.text, True))
         unbound = [name for name in known if not self.ahead.is_bound(row.field("subject"), name)]
-        if len(unbound) == 1 and not mended.text:
+        words = row.field(column).split()
+        if len(unbound) == 1 and not words:
             candidates = [("empty, and no other row binds it", unbound[0], True)]
+        named = [name for name in unbound if is_said_of(line.field("value"), name, words)] if words else []
+        if len(named) == 1:
+            candidates.append(("here stands the code of the parameter", named[0], True))
         return self.first_taken(row, column, candidates, otherwise)
 
     def category(self, row, column):
@@ -165,6 +198,9 @@ class WordFaults(UnitFaults, TargetFaults):
         code = re.sub(r"[\s.]", "", bare.text)
         candidates = [(cause_of(bare.causes), bare.text, True)]
         candidates.append((cause_of(bare.causes + ["a code has no dots or blanks"]), code, True))
+        digits = code.translate(str.maketrans("IlOo", "1100"))
+        if digits in vocabulary.categories():
+            candidates.append(("letters in place of digits", digits, True))
         if re.match(r"([^0-9]|1).*(international|bunker)", bare.text, re.IGNORECASE):
             candidates.append(("international transport is at MB here", "MB", True))
         other = None
@@ -225,6 +261,11 @@ class WordFaults(UnitFaults, TargetFaults):
             what = "empty; here stands the code of an equation"
         otherwise = f"{what}; ./workbook words equations lists them"
         return self.first_taken(row, column, candidates, otherwise)
+
+
+def is_said_of(equation, parameter, words):
+    """Tells whether the page of equations says what a parameter is by these words."""
+    return all(vocabulary.is_said_of(equation, parameter, word) for word in words)
 
 
 def plain_text(text):
