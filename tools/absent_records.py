@@ -97,7 +97,8 @@ def no_such_name(bound, wanted, after):
         which = f"; the nearest is {places[0]}"
     else:
         unit = vocabulary.HALF_LIFE_UNIT if vocabulary.is_decay(wanted) else wanted["unit"]
-        year = after.book.span[0] if after.book.span else after.ahead.first_year() or "YEAR"
+        span = after.book.span or after.ahead.span()
+        year = span[0] if span else "YEAR"
         which = f": no row enters it; write a row enter,{kind},,{name},{year},VALUE,,,{unit},"
         which += f"; or take {places[0]}, which no line takes" if places else ""
     return at_row(bound, f"there is no {kind} of this name{which}", "low")

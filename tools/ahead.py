@@ -4,11 +4,13 @@ A refusal of one row is often told best by a row that stands behind it, as a uni
 figure is bound to further down.
 """
 import functools
+import re
 
 from tools import headers, other_equation, vocabulary
 from tools.book import lines_taken_by, record_taken_by
 from tools.causes import name as mended_name
 from tools.causes import year as year_of
+from tools.other_words import OTHER_ACTS, OTHER_KINDS, meant_by
 
 
 class Ahead:
@@ -31,11 +33,12 @@ class Ahead:
         """The first row of any file that enters a name, or None."""
         return next(iter(self._entered.get((kind, name), [])), None)
 
-    def first_year(self):
-        """The first year of the span that some file enters, as a text, or None."""
+    def span(self):
+        """The first and the last year of the span that some file enters, or None."""
         row = self.row_of("span", "")
         years = [year_of(row.field(column)).text for column in ("year", "value")] if row else []
-        return min(filter(str.isdecimal, years), default=None)
+        found = sorted(int(year) for year in years if re.fullmatch(r"\d{4}", year))
+        return (found[0], found[-1]) if found else None
 
     def entry_behind(self, row):
         """The first row behind another one that enters the same record, or None."""
@@ -59,6 +62,16 @@ class Ahead:
     def parameters_bound(self, line):
         """The parameters of a line that some row of any file binds."""
         return set(self._bindings.get(line, {}))
+
+    def bindings_of(self, line):
+        """The rows of any file that bind parameters of a line, by these."""
+        return self._bindings.get(line, {})
+
+    def measured_by(self, bound):
+        """What the record measures that a binding takes, by the row that enters it, or None."""
+        taken = record_taken_by(bound)
+        record = self.row_of(*taken) if taken else None
+        return vocabulary.measured_by(record.field("unit")) if record else None
 
     def is_bound(self, line, parameter):
         """Tells whether some row of any file binds a parameter of a line."""
@@ -161,9 +174,19 @@ def is_below(row, other):
     return row.sheet is other.sheet and row.line > other.line
 
 
+def word_meant(text, known, others):
+    """The word of a few that a text most likely is, else the text in lower case."""
+    bare = text.strip().lower()
+    if bare in known or not bare:
+        return bare
+    return meant_by(bare, others) or next(iter(vocabulary.nearest(bare, known, 1, 0.75)), bare)
+
+
 def as_meant(row):
     """A row with its words in the case of the vocabulary, and its names as names are written."""
-    act, kind = (row.field(column).strip().lower() for column in ("act", "kind"))
+    words = vocabulary.words()
+    act = word_meant(row.field("act"), words["acts"], OTHER_ACTS)
+    kind = word_meant(row.field("kind"), words["kinds"], OTHER_KINDS)
     fields = {"act": act, "kind": kind, "name": mended_name(row.field("name")).text}
     if kind == "line":
         fields["value"] = row.field("value").strip().upper()

@@ -31,15 +31,15 @@ class Asking:
         kind, name = row.field("kind"), causes.name(row.field("name")).text
         return self.book.parameters_that_take(kind, name) or self.ahead.parameters_that_take(kind, name)
 
-    def first_year(self):
-        """The first year of the span, in force or meant, as a text, or None."""
-        return str(self.book.span[0]) if self.book.span else self.ahead.first_year()
+    def span(self):
+        """The first and the last year of the span, in force or meant, or None."""
+        return self.book.span or self.ahead.span()
 
     def year_lacking(self, row):
         """The one year of the span that no row enters of the activity of a row, or None."""
-        if row.field("kind") != "activity" or not self.book.span:
+        if row.field("kind") != "activity" or not self.span():
             return None
-        first, last = self.book.span
+        first, last = self.span()
         lacking = set(map(str, range(first, last + 1))) - self.ahead.years_of(row.field("name"))
         return min(lacking) if len(lacking) == 1 else None
 

@@ -8,7 +8,6 @@ import re
 from tools import causes, units, vocabulary
 from tools.ahead import is_below, said_of_later
 from tools.asking import is_total, line_above
-from tools.book import record_taken_by
 from tools.faults import at_row, shown, years_said
 from tools.number_faults import NumberFaults, year_between
 from tools.sheets import COLUMNS, Row, joined
@@ -215,17 +214,11 @@ class Explainer(WordFaults, NumberFaults, Shifts):
             cause = f"{cause}; the line above is {above}, which has no binding of {parameter}"
             return at_row(row, cause, "subject", above), row.with_fields(subject=above)
         left = [name for name, known in self.ahead.parameters_left(line).items()
-                if self.measured_by_target(row) == vocabulary.record_of(known)]
+                if self.ahead.measured_by(row) == vocabulary.record_of(known)]
         if len(left) != 1:
             return None
         cause = f"{cause}; {left[0]} has no binding"
         return at_row(row, cause, "name", left[0]), row.with_fields(name=left[0])
-
-    def measured_by_target(self, row):
-        """What the record measures that a binding takes, by the row that enters it, or None."""
-        taken = record_taken_by(row)
-        record = self.ahead.row_of(*taken) if taken else None
-        return vocabulary.measured_by(record.field("unit")) if record else None
 
     def absent(self, row):
         """Nothing to correct or withdraw. A correction goes on as an entry."""

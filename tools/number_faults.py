@@ -239,23 +239,26 @@ class NumberFaults(PercentFaults):
         if not mended.sure:
             first = row.with_fields(**{column: mended.text[:4]})
             return at_row(row, cause_of(mended.causes), column), first if self.takes(first, column) else None
-        is_empty = not mended.text and column == "year"
-        between, lacking = (year_between(row), self.year_lacking(row)) if is_empty else (None, None)
-        if between or lacking:
+        if row.field("kind") == "span":
+            return self.year_of_span(row, column, mended)
+        between, lacking = year_between(row), self.year_lacking(row)
+        if not mended.text and (between or lacking):
             cause = "empty, between two years" if between else f"empty, and no other row is of {lacking}"
             return self.first_taken(row, column, [(cause, between or lacking, True)], "no year")
-        first, last = self.book.span or (0, -1)
-        short = [str(year) for year in range(first, last + 1)
-                 if re.fullmatch(r"['\u2019]?\d\d", mended.text) and str(year).endswith(mended.text[-2:])]
-        if len(short) == 1:
-            mended = mended.less("two digits of a year", short[0])
-        digits = f"four digits from {limit('first_year')} to {limit('last_year')}"
-        lacking = self.year_lacking(row)
-        otherwise = f"no year; a year is {digits}{f', and no other row is of {lacking}' if lacking else ''}"
-        if row.field("kind") == "span":
-            first = {"year": "the first", "value": "the last", "low": "the base"}[column]
-            otherwise = f"no year: a span has {first} year here, in {digits}"
-        return self.first_taken(row, column, [(cause_of(mended.causes), mended.text, True)], otherwise)
+        mended = of_two_digits(mended, self.span())
+        other = f", and no other row is of {lacking}" if lacking else ""
+        candidates = [(cause_of(mended.causes), mended.text, True)]
+        return self.first_taken(row, column, candidates, f"no year; a year is {year_form()}{other}")
+
+    def year_of_span(self, row, column, mended):
+        """One of the three years of a span. It goes on with its first year as the base where that is none."""
+        which = {"year": "the first", "value": "the last", "low": "the base"}[column]
+        otherwise = f"no year: a span has {which} year here, in {year_form()}"
+        candidates = [(cause_of(mended.causes), mended.text, True)]
+        fault, changed = self.first_taken(row, column, candidates, otherwise)
+        if not changed and column == "low":
+            changed = row.with_fields(low=row.field("year"))
+        return fault, changed
 
     def several_years(self, row, column):
         """A first and a last year in one field, or none where a factor holds in all years; or None."""
@@ -273,7 +276,7 @@ class NumberFaults(PercentFaults):
             there = f"; there are records of {years_said(years)}" if years else ""
             return at_row(row, f"a row withdraws the record of one year{there}", column), None
         if kind == "factor" and not year_between(row):
-            year = first or self.first_year()
+            year = first or (str(self.span()[0]) if self.span() else None)
             cause = "a factor holds from its year on"
             is_free = year and not self.ahead.is_entered(row.with_fields(year=year))
             candidates = [(cause, year, True)] if is_free else []
@@ -323,7 +326,21 @@ class NumberFaults(PercentFaults):
             return at_row(row, cause, "value"), None
         cause = f"the base year {base} is not from {first} to {last}"
         span = f"{base} in year" if base < first else f"{base} in value"
-        return at_row(row, f"{cause}; write one of these here, or {span}", "low"), None
+        changed = row.with_fields(low=first)
+        return at_row(row, f"{cause}; write one of these here, or {span}", "low"), changed
+
+
+def year_form():
+    """What a year is."""
+    return f"four digits from {limit('first_year')} to {limit('last_year')}"
+
+
+def of_two_digits(mended, span):
+    """A year with all its digits where it has two, and one year of the span ends with these."""
+    if not span or not re.fullmatch(r"['\u2019]?\d\d", mended.text):
+        return mended
+    years = [str(year) for year in range(span[0], span[1] + 1) if str(year).endswith(mended.text[-2:])]
+    return mended.less("two digits of a year", years[0]) if len(years) == 1 else mended
 
 
 def without_years(mended):

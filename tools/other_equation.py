@@ -92,6 +92,19 @@ def likeliest(codes, line, ahead):
     return codes
 
 
+def nearest_by_names(line, category, ahead):
+    """The equations of the volume of a category that have all but one of the parameters that rows of any file
+    bind for a line, and that have one more at the most.
+    """
+    bound = {name: ahead.measured_by(row) for name, row in ahead.bindings_of(line).items()}
+    volume = vocabulary.volume_of_category(category)
+    codes = [code for code in vocabulary.equations() if vocabulary.volume_of_equation(code) == volume]
+    fits = [Fit(code, bound) for code in codes]
+    known = [fit for fit in fits if fit.fitting and fit.amiss <= 2 and len(fit.strange) <= 1]
+    least = min((fit.amiss for fit in known), default=0)
+    return [fit.code for fit in known if fit.amiss == least]
+
+
 def with_fewer(line, after):
     """The one equation of the volume of a line's category that takes just what is bound for it, or None."""
     bound = bindings_of(line.field("name"), after)

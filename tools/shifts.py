@@ -78,7 +78,7 @@ class Shifts(Asking):
         a year of the workbook.
         """
         if row.field("kind") in ("activity", "factor"):
-            first, last = self.book.span or (int(limit("first_year")), int(limit("last_year")))
+            first, last = self.span() or (int(limit("first_year")), int(limit("last_year")))
             year = row.field("year")
             return len(year) == 4 and year.isdecimal() and first <= int(year) <= last
         if row.field("kind") == "line":

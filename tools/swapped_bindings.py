@@ -15,7 +15,8 @@ def explain(bound, holder, wanted, after):
         theirs, ours = record_of(other, after.book), record_of(bound, after.book)
         if theirs and ours and theirs != ours and theirs[1] == vocabulary.record_of(wanted) \
                 and ours[1] == vocabulary.record_of(known[name]):
-            return swapped(bound, other, theirs[0], ours[0], after)
+            column = "name" if is_of_its_form(bound, ours[1]) and is_of_its_form(other, theirs[1]) else "low"
+            return swapped(bound, other, column, after)
     return None
 
 
@@ -27,12 +28,13 @@ def record_of(bound, book):
     return found[0] if kind and found else None
 
 
-def swapped(bound, other, of_other, of_bound, after):
-    """The fault of two bindings with each other's parameter; or with each other's target, where their forms
-    are those of the targets that are meant.
-    """
-    forms = bound.field("value"), other.field("value")
-    column = "name" if forms == (of_bound, of_other) else "low"
+def is_of_its_form(bound, measures):
+    """Tells whether a binding takes an amount as an activity, or anything else as a factor."""
+    return vocabulary.is_amount(measures) == (bound.field("value") == "activity")
+
+
+def swapped(bound, other, column, after):
+    """The fault of two bindings with each other's parameter, in name, or with each other's target, in low."""
     first, second = sorted((bound, other), key=lambda row: row.line)
     meant = {id(first): second.field(column), id(second): first.field(column)}
     cause = f"this row and {second.place} have each other's {'parameter' if column == 'name' else 'target'}"

@@ -159,7 +159,7 @@ class TargetFaults(Asking):
         if there:
             self.refused.meant_records.add(("factor", name))
             return f"{said}; there is factor {name} ({there.place}): write factor,{name}"
-        year = self.first_year() or "YEAR"
+        year = self.span()[0] if self.span() else "YEAR"
         units = vocabulary.units_that_measure(vocabulary.record_of(parameter))
         row_of_it = f"enter,factor,,{name},{year},{causes.number(text).text},,,UNIT,"
         said += "; enter the number as a factor, and bind that by factor"

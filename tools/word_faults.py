@@ -250,10 +250,11 @@ class WordFaults(UnitFaults, TargetFaults):
         of_gas = [known for known in fitting if vocabulary.gas_of(known) == code]
         if len(of_gas) == 1:
             candidates.append((f"here stands the code of the equation that gives {code}", *of_gas, True))
-        meant = other_equation.likeliest(fitting, row.with_fields(name=line), self.ahead)
+        near = fitting or other_equation.nearest_by_names(line, row.field("subject").strip(), self.ahead)
+        meant = other_equation.likeliest(near, row.with_fields(name=line), self.ahead)
         if len(meant) == 1:
-            cause = "no equation of this code" if code else "empty"
-            cause += f"; the bindings of this line are those of {said_of(meant)}"
+            cause = f"{'no equation of this code' if code else 'empty'}; the bindings of this line are"
+            cause += f" {'' if fitting else 'nearest to '}those of {said_of(meant)}"
             candidates.append((cause, *meant, True))
         known = numbered or of_gas or equations_near(code, bare.text) or fitting
         what = f"no equation of this code{near_it([said_of([code]) for code in known])}"
