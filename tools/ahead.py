@@ -110,6 +110,8 @@ class Ahead:
         if own and bound <= set(vocabulary.parameters_of(own)):
             return own
         fitting = other_equation.of_parameters(bound) if row else []
+        if row and not own:
+            fitting = fitting or other_equation.nearest_by_names(line, row.field("subject").strip(), self)
         return other_equation.likeliest(fitting, row, self)[0] if fitting else own
 
     def parameters_that_take(self, kind, name):

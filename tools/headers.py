@@ -62,7 +62,9 @@ def rows_as_meant(sheet):
 def of_rows(rows):
     """Why a header in rows that can be read is none, and the rows to go on with."""
     if within_quotes(rows[0]) is not None:
-        return "quotes around each row; take them out", [unquoted(row) for row in rows]
+        quoted = sum(within_quotes(row) is not None for row in rows)
+        what = "each row" if 2 * quoted > len(rows) else "the header"
+        return f"quotes around {what}; take them out", [unquoted(row) for row in rows]
     between = delimiter(rows)
     if between:
         name = {";": "semicolons", "\t": "tabs", "|": "bars"}[between]
@@ -88,11 +90,12 @@ def utf16(data):
 
 
 def delimiter(rows):
-    """What stands between the fields of the header in place of commas, or None."""
-    for row in rows[:ROWS_IN_FRONT]:
-        for between in (b";", b"\t", b"|"):
-            if row.raw.count(between) >= max(5, row.raw.count(b",")):
-                return between.decode()
+    """What stands between the fields of at least half of the rows in place of commas, or None."""
+    first = rows[:ROWS_IN_FRONT]
+    for between in (b";", b"\t", b"|"):
+        parted = [row for row in first if row.raw.count(between) >= max(5, row.raw.count(b","))]
+        if parted and 2 * len(parted) >= len(first):
+            return between.decode()
     return None
 
 
