@@ -95,6 +95,8 @@ def no_such_name(bound, wanted, after):
     places = [f"{other} ({after.book.some_record(kind, other).place})" for other in meant]
     if near:
         which = f"; the nearest is {places[0]}"
+    elif after.refused.unread:
+        which = after.refused.where_else()
     else:
         unit = vocabulary.HALF_LIFE_UNIT if vocabulary.is_decay(wanted) else wanted["unit"]
         span = after.book.span or after.ahead.span()

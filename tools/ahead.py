@@ -67,6 +67,11 @@ class Ahead:
         """The rows of any file that bind parameters of a line, by these."""
         return self._bindings.get(line, {})
 
+    def later_binding(self, line, parameter):
+        """The row of a later file that binds a parameter of a line, or None."""
+        row = self._bindings.get(line, {}).get(parameter)
+        return row if row and any(row.sheet is sheet for sheet in self.waiting) else None
+
     def measured_by(self, bound):
         """What the record measures that a binding takes, by the row that enters it, or None."""
         taken = record_taken_by(bound)

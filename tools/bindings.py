@@ -101,7 +101,7 @@ class After:
 def added(place, *fields):
     """A row of the tools' own at the place of another row, with nothing behind its fields."""
     made = Row(place.sheet, place.line, joined([*fields, *[""] * (len(COLUMNS) - len(fields))]))
-    made.has_other_figure = True
+    made.has_other_figure = made.is_added = True
     return made
 
 
@@ -196,7 +196,8 @@ def uncertainty_without_line(line, after):
     else:
         other = after.book.rows.get((UNCERTAINTY, near[0])) if near else None
         known = f", whose uncertainty stands at {other.place}; take one of the two out" if other else ""
-        fault = at_row(row, f"there is no line {line}{nearest_line(near, after)}{known}", "name")
+        which = f"{nearest_line(near, after)}{known}" or after.refused.where_else()
+        fault = at_row(row, f"there is no line {line}{which}", "name")
     after.refused.add([row])
     return fault, after.without([row])
 
@@ -305,6 +306,10 @@ def without_binding(holder, wanted, after):
     below = [row for row in own if row.field("subject") not in after.book.lines and line_above(row) == line]
     if below and not after.in_later_file("line", below[0].field("subject")):
         return of_line_above(below[0], line, after)
+    later = after.ahead.later_binding(line, name)
+    if later:
+        cause = f"{needs}, and a later file binds it ({later.place}); put that row into this file"
+        return at_row(holder, cause, "name"), with_blank
     form, target = target_left(wanted, line, after)
     write = f"a row enter,bind,{line},{name},,{form},{target},,,"
     other = other_equation.with_fewer(holder, after)
@@ -534,7 +539,7 @@ def absent_line(name, refused, wanted, after):
     if not near and len(left) == 1:
         place = after.book.lines[left[0]].place
         near = f"; line {left[0]} ({place}) gives {wanted['measures']}, and no line takes it"
-    return f"there is no line {name}{near}"
+    return f"there is no line {name}{near or after.refused.where_else()}"
 
 
 def record_of_name(name, book):

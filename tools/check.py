@@ -5,6 +5,7 @@ that the program takes and that alone can be meant; then the file is submitted a
 each fault is one that the program found.
 """
 import collections
+import itertools
 
 from tools import bindings, headers, limit_faults
 from tools.ahead import Ahead
@@ -13,7 +14,7 @@ from tools.causes import name as mended_name
 from tools.explain import Explainer
 from tools.faults import Fault, counted
 from tools.sheets import COLUMNS, COLUMNS_OF_KEY, joined
-from tools.vocabulary import limit
+from tools.vocabulary import limit, listed
 
 HEADER = joined(COLUMNS)
 # A row that no workbook has its line for. Behind it no body is accepted: what a row breaks by itself comes
@@ -25,12 +26,13 @@ OF_A_ROW = (4, 5, 6, 7, 8, 9)
 
 class Refused:
     """The rows that were refused and taken out, by what they would have set; the records that a refused
-    binding takes; and those that measure something else than their binding takes.
+    binding takes; those that measure something else than their binding takes; and the files of which no row
+    can be read.
     """
 
     def __init__(self):
         self.rows, self.entering = {}, []
-        self.meant_records, self.mismeasured = set(), set()
+        self.meant_records, self.mismeasured, self.unread = set(), set(), []
 
     def add(self, rows):
         """Adds rows that were taken out."""
@@ -63,6 +65,11 @@ class Refused:
         others = set(COLUMNS_OF_KEY) - set(kinds)
         return next((row for row in self.entering if row.field("kind").strip().lower() not in others
                      and any(mended_name(field).text == name for field in row.fields)), None)
+
+    def where_else(self):
+        """Where a name may stand that is not there, as the end of a sentence; or nothing."""
+        named = listed(self.unread, "and")
+        return f", and {named} cannot be read; it may stand there" if named else ""
 
     def parameters_bound(self, line):
         """The parameters of a line that refused rows would have bound."""
@@ -114,12 +121,25 @@ class Check:
         reply = self.program.submit(lines_of(rows) if faults else sheet.data)
         reply, rows = self.behind_header(sheet, rows, reply)
         sheet.meant = rows or sheet.rows
+        if reply and reply.rule == 9 and self.is_copy(sheet):
+            return
         tries = 0
         while reply and not reply.accepted:
             tries += 1
             rows = self.changed(sheet, rows, reply) if tries <= 10 * len(rows) + 100 else None
             reply = self.program.submit(lines_of(rows)) if rows else None
         self.take(sheet, rows if reply else None)
+
+    def is_copy(self, sheet):
+        """Tells whether all rows of a file are those of one before it. That is one fault."""
+        rows = [row.fields[:-1] for row in sheet.meant[1:]]
+        before = itertools.takewhile(lambda other: other is not sheet, self.sheets)
+        twin = next((other for other in before if len(other.meant) == len(sheet.meant) > 2
+                     and [row.fields[:-1] for row in other.meant[1:]] == rows), None)
+        if twin:
+            cause = f"all {len(rows)} rows are entered already in {twin.name}, with the same figures"
+            self.faults.append(Fault(sheet, 1, "", None, f"{cause}; take one of the two files out"))
+        return twin is not None
 
     def behind_header(self, sheet, rows, reply):
         """The reply to a file without what is wrong with its header, and its rows. A cause that comes once
@@ -141,7 +161,9 @@ class Check:
         """Keeps the rows of an accepted file, or marks those of one that no change helps."""
         if rows is None:
             self.left.append(sheet)
-            self.refused.add(row for row in sheet.rows[1:] if len(row.fields) == 10)
+            readable = [row for row in sheet.rows[1:] if len(row.fields) == 10]
+            self.refused.add(readable)
+            self.refused.unread += [] if readable else [sheet.name]
             return
         for row in rows[1:]:
             self.book.apply(row)
@@ -265,7 +287,7 @@ class Check:
         if reply.rule == 7 and row.has_other_figure:
             return explainer.blank_figure(row)
         fault, changed = explainer.explain(row, reply)
-        self.faults.append(fault)
+        self.faults += [fault] if fault else []
         if changed is None:
             stand_in = explainer.stand_in(row, reply.column)
             self.refused.add([] if lost else [row])

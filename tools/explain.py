@@ -7,7 +7,7 @@ import re
 
 from tools import causes, units, vocabulary
 from tools.ahead import is_below, said_of_later
-from tools.asking import is_total, line_above
+from tools.asking import article, is_total, line_above
 from tools.faults import at_row, shown, years_said
 from tools.number_faults import NumberFaults, year_between
 from tools.sheets import COLUMNS, Row, joined
@@ -182,6 +182,8 @@ class Explainer(WordFaults, NumberFaults, Shifts):
         """A record that is entered already."""
         key = row.key
         entered = self.book.entered.get(key)
+        if entered and entered.is_added:
+            return None, row.with_fields(act="correct")
         where = f" at {entered.place}" if entered and key in self.book.rows else ""
         cause = f"{said_of_key(key)} is entered already{where}"
         line = self.refused.that_sets(("line", key[1])) if key[0] == "bind" else None
@@ -234,10 +236,9 @@ class Explainer(WordFaults, NumberFaults, Shifts):
             instead = "use enter" if act == "correct" else "take the row out"
             cause = f"there is no {said_of_key(key)} to {act}, since {gone.place} withdraws it; {instead}"
             return at_row(row, cause), row.with_fields(act="enter") if act == "correct" else None
-        line = self.book.lines.get(key[1]) if key[0] == "bind" else None
-        if line and key[2] not in vocabulary.parameters_of(line.field("value")):
-            cause = vocabulary.said_of_no_parameter(line.field("value"), key[2])
-            return at_row(row, f"{cause}; take the row out", "name"), None
+        other = self.of_another_kind(row) or self.of_another_parameter(row)
+        if other:
+            return other
         years = self.book.years.get(key[0], {}).get(key[1]) if len(key) > 1 else None
         there = f"; there are records of {years_said(years)}" if years else ""
         near = self.nearest_name(key)
@@ -245,6 +246,27 @@ class Explainer(WordFaults, NumberFaults, Shifts):
         instead = "" if near else "; use enter" if act == "correct" else "; take the row out"
         changed = row.with_fields(act="enter") if act == "correct" and not near else None
         return at_row(row, f"there is no {said_of_key(key)} to {act}{instead}{there}{other}"), changed
+
+    def of_another_kind(self, row):
+        """A change of a factor where an activity has its name and year, or the other way round; or None."""
+        kind = {"activity": "factor", "factor": "activity"}.get(row.field("kind"))
+        there = self.book.rows.get((kind, *row.key[1:]))
+        if there is None:
+            return None
+        cause = f"{row.field('name')} is no {row.field('kind')} but {article(kind)} ({there.place})"
+        return at_row(row, cause, "kind", kind), row.with_fields(kind=kind)
+
+    def of_another_parameter(self, row):
+        """A change of a binding that the equation of its line has not, or None."""
+        line = self.book.lines.get(row.field("subject")) if row.field("kind") == "bind" else None
+        known = vocabulary.parameters_of(line.field("value")) if line else {}
+        if not line or row.field("name") in known:
+            return None
+        cause = vocabulary.said_of_no_parameter(line.field("value"), row.field("name"))
+        near = nearest(row.field("name"), known, 1, 0.75)
+        if near:
+            return at_row(row, cause, "name", near[0]), row.with_fields(name=near[0])
+        return at_row(row, f"{cause}; take the row out", "name"), None
 
     def nearest_name(self, key):
         """The nearest name that there is, where the key's own is none."""

@@ -27,15 +27,20 @@ def explain(holder, after):
     """The fault of a line whose bindings are those of another equation, and the rows to go on with; or
     None.
     """
-    if holder.field("act") != "enter" or not after.is_own(holder):
+    is_changed = holder.field("act") == "correct"
+    if not after.is_own(holder) or is_changed and after.bindings_of(holder.field("name")):
         return None
     bound = bindings_of(holder.field("name"), after)
     fits = nearest_fits(bound, Fit(holder.field("value"), bound), holder.field("subject"))
     if not fits:
         return None
     codes = likeliest([fit.code for fit in fits], holder, after.ahead)
+    before = after.book.entered.get(holder.key)
+    if is_changed and before and before.field("value") in [fit.code for fit in fits]:
+        codes = [before.field("value")]
     nearest = "nearest to " if fits[0].amiss else ""
     cause = f"the bindings of this line, {listed(bound, 'and')}, are {nearest}those of {said_of(codes)}"
+    cause += ", and this file changes none of them" if is_changed else ""
     changed = holder.with_fields(value=codes[0])
     changed.has_other_figure = len(codes) > 1
     rows = [changed if row is holder else row for row in after.rows]

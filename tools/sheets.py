@@ -29,14 +29,14 @@ class FolderFault(Exception):
 class Row:
     """A record of a file: the line that it begins on, its bytes without the end of the line, and its fields.
 
-    One with a figure or a target that is not the writer's is marked.
+    One with a figure or a target that is not the writer's is marked, and so is one that the tools added.
     """
 
-    __slots__ = ("sheet", "line", "raw", "has_other_figure", "_fields", "_key")
+    __slots__ = ("sheet", "line", "raw", "has_other_figure", "is_added", "_fields", "_key")
 
     def __init__(self, sheet, line, raw):
         self.sheet, self.line, self.raw = sheet, line, raw
-        self.has_other_figure, self._fields, self._key = False, None, None
+        self.has_other_figure, self.is_added, self._fields, self._key = False, False, None, None
 
     @property
     def fields(self):

@@ -68,6 +68,13 @@ class Limits(unittest.TestCase):
     def test_a_file_that_is_there_twice(self):
         rows = HEADER + "".join(f"enter,activity,,A{n},2000,{n},,,t,\n" for n in range(2000))
         printed = checked(HEADER + SPAN, rows, rows)
+        cause = "all 2000 rows are entered already in 2.csv, with the same figures"
+        self.assertEqual(printed, [f"3.csv:1: {cause}; take one of the two files out",
+                                   "3 files: 1 fault, 0 warnings"])
+
+    def test_a_file_that_is_there_twice_but_for_a_row(self):
+        rows = HEADER + "".join(f"enter,activity,,A{n},2000,{n},,,t,\n" for n in range(2000))
+        printed = checked(HEADER + SPAN, rows, rows + "enter,activity,,B,2000,1,,,t,\n")
         said = "is entered already at 2.csv:2, with the same figures; take one of the two out"
         self.assertEqual(printed[0], f"3.csv:2: activity A0 2000 {said}")
         self.assertEqual((len(printed), printed[-1]), (2001, "3 files: 2000 faults, 0 warnings"))
