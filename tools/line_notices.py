@@ -8,11 +8,14 @@ from tools.vocabulary import MEMOS, are, listed
 
 # The equation of the stock that the parameters of vocabulary.OF_LAST_YEAR take.
 STOCK = "Q91"
+# What stocks measure.
+STOCKS = "carbon"
 
 
 def all_of_lines(book):
     """Every warning about lines and their bindings."""
-    kinds = (double_lines, other_codes, other_gases, stocks_of_the_year, always_blank, other_volumes)
+    kinds = (double_lines, other_codes, other_gases, stocks_of_the_year, flows_of_last_year, always_blank,
+             other_volumes)
     return [warning for kind in kinds for warning in kind(book)]
 
 
@@ -95,6 +98,18 @@ def stocks_of_the_year(book):
                 cause += f" {bound.field('low')} is taken of the same year; is prev meant?"
                 found.append(warn(bound, cause))
     return found
+
+
+def flows_of_last_year(book):
+    """Bindings that take what another line gave the year before, where that is no stock."""
+    for row in by_place(book):
+        for bound in book.bindings.get(row.field("name"), {}).values():
+            taken = book.lines.get(bound.field("low")) if bound.field("value") == "prev" else None
+            given = vocabulary.given_by(taken.field("value")) if taken else STOCKS
+            if given != STOCKS:
+                cause = f"{bound.field('name')} of line {row.field('name')} takes what line"
+                cause += f" {bound.field('low')} gave the year before, and {given} is no stock"
+                yield warn(bound, f"{cause}; is line meant?")
 
 
 def always_blank(book):

@@ -283,7 +283,10 @@ class NumberFaults(PercentFaults):
             otherwise = f"{cause}; write the first year that it holds in"
             return self.first_taken(row, column, candidates, otherwise)
         if kind == "activity" and found and int(last) > int(first) + 1:
-            return at_row(row, "several years in one field; write a row for each year", column), None
+            changed = row.with_fields(year=first)
+            is_free = not self.ahead.is_entered(changed)
+            cause = "several years in one field; write a row for each year"
+            return at_row(row, cause, column), changed if is_free else None
         return None
 
     def disorder(self, row):

@@ -121,6 +121,9 @@ class Shifts(Asking):
             return self.years_astray(row)
         if row.field("kind") == "uncert" and row.field("name"):
             return self.percentages_astray(row)
+        unit = self.unit_astray(row)
+        if unit:
+            return unit
         named = ("activity", "factor", "uncert")
         if row.field("kind") not in named or row.field("name") or not row.field("subject"):
             return None
@@ -130,6 +133,15 @@ class Shifts(Asking):
         what = "an uncertainty" if row.field("kind") == "uncert" else article(row.field("kind"))
         cause = f"the name of {what} stands in name; move it there"
         return at_row(row, cause, "subject"), meant
+
+    def unit_astray(self, row):
+        """The fault of a figure behind its unit, both in front of the column of the unit; or None."""
+        value, low = row.field("value"), row.field("low")
+        meant = row.with_fields(value=low, low="", unit=value)
+        if value not in vocabulary.units() or not low or row.field("unit") or not self.takes(meant, None):
+            return None
+        cause = "the unit stands in value and the value in low"
+        return at_row(row, cause, "", f"{low} in value, nothing in low and {value} in unit"), meant
 
     def years_astray(self, row):
         """The fault of a span whose three years stand in other columns, or None."""
