@@ -75,6 +75,14 @@ class Book:
         years = self.years[kind].get(name)
         return years[min(years)] if years else None
 
+    def named_by(self, bound):
+        """The earliest record that a binding of a record names, of the kind that its form takes or else of the
+        other one; or None.
+        """
+        kind, name = record_taken_by(bound) or (None, None)
+        kinds = sorted(self.years, key=lambda other: other != kind) if kind else []
+        return next(filter(None, (self.some_record(other, name) for other in kinds)), None)
+
     def measured_by(self, kind, name):
         """What an activity or a factor measures, or None where there is none."""
         record = self.some_record(kind, name)

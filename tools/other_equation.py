@@ -1,6 +1,6 @@
 """Tells which equation the bindings of a line are those of, where the line has another one or none."""
 from tools import vocabulary
-from tools.book import lines_taken_by, record_taken_by
+from tools.book import lines_taken_by
 from tools.faults import at_row
 from tools.vocabulary import listed
 
@@ -56,9 +56,10 @@ def bindings_of(line, after):
 
 
 def measured_by(bound, book):
-    """What the record or the first line measures that a binding takes, or None."""
-    taken = record_taken_by(bound)
-    record = book.some_record(*taken) if taken else None
+    """What the record that a binding names measures, whatever its kind, or the first line that it takes; or
+    None.
+    """
+    record = book.named_by(bound)
     if record is not None:
         return None if record.has_other_figure else vocabulary.measured_by(record.field("unit"))
     lines = [book.lines[name] for name in lines_taken_by(bound) if name in book.lines]

@@ -1,6 +1,5 @@
 """Tells that two bindings of a line have each other's parameter or target: rule 10."""
 from tools import vocabulary
-from tools.book import record_taken_by
 from tools.faults import at_row
 
 
@@ -12,20 +11,18 @@ def explain(bound, holder, wanted, after):
     for name, other in after.book.bindings.get(holder.field("name"), {}).items():
         if other is bound or name not in known or not after.is_own(other):
             continue
-        theirs, ours = record_of(other, after.book), record_of(bound, after.book)
-        if theirs and ours and theirs != ours and theirs[1] == vocabulary.record_of(wanted) \
-                and ours[1] == vocabulary.record_of(known[name]):
-            column = "name" if is_of_its_form(bound, ours[1]) and is_of_its_form(other, theirs[1]) else "low"
+        theirs, ours = measured_by(other, after.book), measured_by(bound, after.book)
+        if theirs != ours and theirs == vocabulary.record_of(wanted) \
+                and ours == vocabulary.record_of(known[name]):
+            column = "name" if is_of_its_form(bound, ours) and is_of_its_form(other, theirs) else "low"
             return swapped(bound, other, column, after)
     return None
 
 
-def record_of(bound, book):
-    """The kind of the record that a binding names, whatever its form, and what that measures; or None."""
-    kind, name = record_taken_by(bound) or (None, None)
-    kinds = sorted(book.years, key=lambda other: other != kind)
-    found = [(other, book.measured_by(other, name)) for other in kinds if book.some_record(other, name)]
-    return found[0] if kind and found else None
+def measured_by(bound, book):
+    """What the record measures that a binding names, whatever its kind, or None."""
+    record = book.named_by(bound)
+    return vocabulary.measured_by(record.field("unit")) if record else None
 
 
 def is_of_its_form(bound, measures):
