@@ -116,8 +116,8 @@ def unlike_fuels(book):
 
     def usual(row, measures):
         name = row.field("name")
-        if measures == "emission factor of fuel" and vocabulary.gas_in(name) in (None, "CO2") \
-                and is_of_co2(book, taken.get((row.field("kind"), name), [])):
+        gas, bound = vocabulary.gas_in(name), taken.get((row.field("kind"), name), [])
+        if measures == "emission factor of fuel" and (gas == "CO2" or gas is None and is_of_co2(book, bound)):
             return CO2_OF_FUELS
         return OF_FUELS.get(measures)
 
