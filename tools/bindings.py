@@ -6,15 +6,15 @@ stays and is blank.
 """
 import re
 
-from tools import absent_records, other_equation, swapped_bindings, units, vocabulary
+from tools import absent_records, line_targets, other_equation, swapped_bindings, units, vocabulary
 from tools.ahead import said_of_later
 from tools.asking import article, line_above
-from tools.book import lines_taken_by, record_taken_by
+from tools.book import record_taken_by
 from tools.faults import at_row, counted
 from tools.sheets import COLUMNS, Row, joined
 from tools.shifts import said_of_swapped
 from tools.unit_faults import years_of_rate
-from tools.vocabulary import limit, listed, nearest, said_of_parameter, said_of_wanted
+from tools.vocabulary import limit, listed, nearest, said_of_parameter
 
 
 # The parameter by which the program names an uncertainty whose line there is not.
@@ -65,6 +65,22 @@ class After:
     def line_of(self, name):
         """The row of a line, there or meant to be there, or None."""
         return self.book.lines.get(name) or self.ahead.row_of("line", name)
+
+    def refused_line(self, name):
+        """The refused row of a line, or None."""
+        return self.refused.that_sets(("line", name)) or self.refused.that_has(name, ["line"])
+
+    def nearest_line(self, near):
+        """The nearest line that there is, with its place, as the end of a sentence; or nothing."""
+        return f"; the nearest is {near[0]} ({self.book.lines[near[0]].place})" if near else ""
+
+    @staticmethod
+    def taken_away(gone, what, bound, rest):
+        """The fault of rows that withdraw what a binding of an earlier file takes, and the other rows."""
+        if not gone:
+            return None, None
+        cause = f"{what} is withdrawn, and line {bound.field('subject')} takes it at {bound.place}"
+        return at_row(gone[-1], cause), rest
 
     def records_left(self, wanted):
         """The records that measure what a parameter takes, and that nothing takes nor was meant to."""
@@ -131,7 +147,7 @@ def explain(line, parameter, after):
         return of_another_form(bound, holder, wanted, after)
     if record_taken_by(bound):
         return of_record(bound, holder, wanted, after)
-    return of_lines(bound, holder, wanted, after)
+    return line_targets.explain(bound, holder, wanted, after)
 
 
 def without_line(line, parameter, bound, after):
@@ -151,7 +167,7 @@ def without_line(line, parameter, bound, after):
         meant = bound.with_fields(subject=parameter, name=line)
         fault = at_row(bound, *said_of_swapped(meant, "subject", "name"))
         return fault, after.changed(bound, subject=parameter, name=line)
-    refused = refused_line(line, after)
+    refused = after.refused_line(line)
     near = nearest(line, after.book.lines, 1, 0.75)
     if near and not refused and parameter not in after.book.bindings.get(near[0], {}):
         return misspelt_line(bound, near[0], after)
@@ -169,7 +185,7 @@ def without_line(line, parameter, bound, after):
     else:
         there = after.book.bindings.get(near[0], {}).get(parameter) if near else None
         bound_there = f", whose {parameter} is bound at {there.place}" if there else ""
-        cause = f"there is no line {line}{more}{nearest_line(near, after)}{bound_there}"
+        cause = f"there is no line {line}{more}{after.nearest_line(near)}{bound_there}"
         fault = at_row(own[0], cause, "subject")
     after.refused.add(own)
     return fault, after.without(own)
@@ -184,19 +200,19 @@ def uncertainty_without_line(line, after):
         return at_row(gone[0], cause), after.rows + [added(gone[0], "withdraw", UNCERTAINTY, "", line)]
     if not after.is_own(row):
         return None, None
-    refused = refused_line(line, after)
+    refused = after.refused_line(line)
     near = nearest(line, after.book.lines, 1, 0.75)
     if refused:
         cause = f"there is no line {line}, since its row was refused"
         fault = at_row(row, cause, "name", follows=refused.place)
     elif after.in_later_file("line", line):
         fault = at_row(row, after.in_later_file("line", line), "name")
-    elif record_of_name(line, after.book)[1]:
+    elif after.book.record_named(line)[1]:
         return uncertainty_of_record(row, after)
     else:
         other = after.book.rows.get((UNCERTAINTY, near[0])) if near else None
         known = f", whose uncertainty stands at {other.place}; take one of the two out" if other else ""
-        which = f"{nearest_line(near, after)}{known}" or after.refused.where_else()
+        which = f"{after.nearest_line(near)}{known}" or after.refused.where_else()
         fault = at_row(row, f"there is no line {line}{which}", "name")
     after.refused.add([row])
     return fault, after.without([row])
@@ -206,7 +222,7 @@ def uncertainty_of_record(row, after):
     """An uncertainty of an activity or a factor. It is one of the line that emits what is made of it, where
     one alone does.
     """
-    kind, record = record_of_name(row.field("name"), after.book)
+    kind, record = after.book.record_named(row.field("name"))
     cause = f"{row.field('name')} is no line but {article(kind)} ({record.place})"
     lines = after.book.emitting(kind, row.field("name"))
     if len(lines) == 1 and (UNCERTAINTY, lines[0]) not in after.book.rows:
@@ -216,11 +232,6 @@ def uncertainty_of_record(row, after):
     named = listed([f"line {line}" for line in lines], "and")
     made = f", of which {named} are made" if len(lines) > 1 else ""
     return at_row(row, f"{cause}{made}; an uncertainty is of a line", "name"), after.without([row])
-
-
-def refused_line(name, after):
-    """The refused row of a line, or None."""
-    return after.refused.that_sets(("line", name)) or after.refused.that_has(name, ["line"])
 
 
 def of_line_above(bound, line, after):
@@ -239,7 +250,7 @@ def misspelt_line(bound, line, after):
     if is_odd and after.is_own(holder) and not after.book.bindings.get(line):
         cause = f"its bindings and other rows name {meant}"
         return at_row(holder, cause, "name", meant), after.changed(holder, name=meant)
-    cause = f"there is no line {bound.field('subject')}{nearest_line([line], after)}"
+    cause = f"there is no line {bound.field('subject')}{after.nearest_line([line])}"
     return at_row(bound, cause, "subject"), after.changed(bound, subject=line)
 
 
@@ -381,7 +392,7 @@ def of_record(bound, holder, wanted, after):
         return absent_records.explain(bound, wanted, after)
     if record is None:
         gone = after.acts_on(kind, name, ("withdraw",))
-        return taken_away(gone, f"{kind} {name}", bound, after.without(gone))
+        return after.taken_away(gone, f"{kind} {name}", bound, after.without(gone))
     words = listed(vocabulary.units_that_measure(vocabulary.record_of(wanted)))
     measured = f"{kind} {name} is in {record.field('unit')} ({vocabulary.measured_by(record.field('unit'))})"
     after.refused.meant_records.add((kind, name))
@@ -452,102 +463,3 @@ def way_to(wanted, record):
         return ""
     of_it = vocabulary.equations()[makes[0]]["computes"]
     return f"; a line of {makes[0]} ({of_it}) makes it: ./workbook words {makes[0]} shows its rows"
-
-
-def taken_away(gone, what, bound, rest):
-    """The fault of rows that withdraw what a binding of an earlier file takes, and the rest of the rows."""
-    if not gone:
-        return None, None
-    cause = f"{what} is withdrawn, and line {bound.field('subject')} takes it at {bound.place}"
-    return at_row(gone[-1], cause), rest
-
-
-def of_lines(bound, holder, wanted, after):
-    """A binding to lines of which one is not there, or gives something else."""
-    absent = [name for name in lines_taken_by(bound) if name not in after.book.lines]
-    if absent:
-        return absent_lines(bound, absent, wanted, after)
-    for name in lines_taken_by(bound):
-        taken = after.book.lines[name]
-        code = taken.field("value")
-        if vocabulary.given_by(code) != wanted["measures"]:
-            meant = other_equation.explain(taken, after)
-            if meant:
-                return meant
-            cause = f"{wanted['name']} of {holder.field('value')} takes {said_of_wanted(wanted)}"
-            cause += f", and line {name} ({code} at {taken.place}) gives {given(code)}"
-            if after.is_own(bound):
-                cause += lines_that_give(wanted, bound, name, after.book)
-                return at_row(bound, cause, "low"), after.blank(bound)
-            changed = [row for row in (taken, holder) if after.is_own(row)]
-            if not changed:
-                return None, None
-            cause += f"; the binding stands at {bound.place}"
-            return at_row(changed[0], cause, "value"), after.without_line(changed[0].field("name"))
-    return None, None
-
-
-def lines_that_give(wanted, bound, name, book):
-    """The nearest lines by name that give what a parameter takes, where there are any."""
-    there = [other for other, row in book.lines.items() if other != bound.field("subject")
-             and vocabulary.given_by(row.field("value")) == wanted["measures"]]
-    near = [f"line {other} ({book.lines[other].place})" for other in nearest(name, there, 2, 0.5)]
-    if not near:
-        known = {other: book.some_record("activity", other) for other in book.years["activity"]}
-        measured = [other for other, row in known.items()
-                    if vocabulary.measured_by(row.field("unit")) == wanted["measures"]]
-        near = [f"activity {other} ({known[other].place})" for other in nearest(name, measured, 1, 0.5)]
-    return f"; near it {listed(near, 'and')} {'has' if len(near) == 1 else 'have'} that" if near else ""
-
-
-def given(code):
-    """What a line of an equation gives, with its unit."""
-    output = vocabulary.equations()[code]["output"]
-    return f"{output['gas']} (Gg)" if "gas" in output else f"{output['measures']} ({output['unit']})"
-
-
-def absent_lines(bound, names, wanted, after):
-    """A binding to lines that are not there. A sum goes on with the others."""
-    if not after.is_own(bound):
-        gone = after.acts_on("line", names[0], ("withdraw",))
-        return taken_away(gone, f"line {names[0]}", bound, after.without_line(names[0]))
-    refused = [refused_line(name, after) for name in names]
-    cause = "; ".join(absent_line(name, row, wanted, after) for name, row in zip(names, refused))
-    kind, record = record_of_name(names[0], after.book)
-    if lines_taken_by(bound) == names[:1] and record and not refused[0] \
-            and vocabulary.measured_by(record.field("unit")) == vocabulary.record_of(wanted):
-        cause += f"; write {kind} in value"
-    fault = at_row(bound, cause, "low", follows=refused[0].place if all(refused) else None)
-    others = [name for name in lines_taken_by(bound) if name not in names]
-    return fault, after.changed(bound, low=" ".join(others)) if others else after.blank(bound)
-
-
-def absent_line(name, refused, wanted, after):
-    """Why a line is not there, with the nearest that gives what is wanted, or the one that nothing takes."""
-    if refused:
-        return f"there is no line {name}, since its row was refused"
-    kind, record = record_of_name(name, after.book)
-    if record:
-        after.refused.meant_records.add((kind, name))
-        return f"{name} is no line but {article(kind)} ({record.place})"
-    if after.in_later_file("line", name):
-        return after.in_later_file("line", name)
-    giving = [line for line, row in after.book.lines.items()
-              if vocabulary.given_by(row.field("value")) == wanted["measures"]]
-    near = nearest_line(nearest(name, giving, 1, 0.7), after)
-    left = [line for line in giving if line not in after.book.lines_taken()]
-    if not near and len(left) == 1:
-        place = after.book.lines[left[0]].place
-        near = f"; line {left[0]} ({place}) gives {wanted['measures']}, and no line takes it"
-    return f"there is no line {name}{near or after.refused.where_else()}"
-
-
-def record_of_name(name, book):
-    """The kind and the earliest record of an activity or a factor of this name, or None twice."""
-    found = [(kind, book.some_record(kind, name)) for kind in book.years if book.some_record(kind, name)]
-    return found[0] if found else (None, None)
-
-
-def nearest_line(near, after):
-    """The nearest line that there is, with its place."""
-    return f"; the nearest is {near[0]} ({after.book.lines[near[0]].place})" if near else ""

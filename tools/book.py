@@ -75,9 +75,14 @@ class Book:
         years = self.years[kind].get(name)
         return years[min(years)] if years else None
 
+    def record_named(self, name):
+        """The kind and the earliest record of an activity or a factor of a name, or None twice."""
+        found = [(kind, self.some_record(kind, name)) for kind in self.years if self.some_record(kind, name)]
+        return found[0] if found else (None, None)
+
     def named_by(self, bound):
-        """The earliest record that a binding of a record names, of the kind that its form takes or else of the
-        other one; or None.
+        """The earliest record that a binding of a record names, of the kind that its form takes or else of
+        the other one; or None.
         """
         kind, name = record_taken_by(bound) or (None, None)
         kinds = sorted(self.years, key=lambda other: other != kind) if kind else []

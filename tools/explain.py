@@ -5,7 +5,7 @@ What it says to write is what the program took when it was asked.
 import itertools
 import re
 
-from tools import causes, units, vocabulary
+from tools import units, vocabulary
 from tools.ahead import is_below, said_of_later
 from tools.asking import article, is_total, line_above
 from tools.faults import at_row, shown, years_said
