@@ -21,10 +21,11 @@ def all_of_figures(book, mismeasured):
 
 
 def figures(row):
-    """The figures of a record in the base unit, without notation keys and empty columns."""
+    """The figures of a record in the base unit, without notation keys, empty columns and what is no number."""
     unit = vocabulary.units()[row.field("unit")]
     texts = [row.field(column) for column in ("value", "low", "high")]
-    return [decimal.Decimal(text) * unit["over"] / unit["under"] for text in texts if re.match(r"-?\d", text)]
+    numbers = (decimal.Decimal(text) for text in texts if re.fullmatch(r"-?\d+(\.\d+)?", text))
+    return [number * unit["over"] / unit["under"] for number in numbers]
 
 
 def named_records(book):

@@ -2,6 +2,7 @@
 from tools import vocabulary
 from tools.book import lines_taken_by
 from tools.faults import at_row
+from tools.figure_notices import CO2_OF_FUELS, figures
 from tools.vocabulary import listed
 
 # A line with fewer bindings does not tell its equation.
@@ -41,10 +42,15 @@ def explain(holder, after):
     nearest = "nearest to " if fits[0].amiss else ""
     cause = f"the bindings of this line, {listed(bound, 'and')}, are {nearest}those of {said_of(codes)}"
     cause += ", and this file changes none of them" if is_changed else ""
-    changed = holder.with_fields(value=codes[0])
+    gas = vocabulary.gas_of(holder.field("value"))
+    meant = codes if len(codes) == 1 else [code for code in codes if gas and vocabulary.gas_of(code) == gas]
+    write = meant[0] if len(meant) == 1 else "one of these"
+    if len(codes) > 1 and len(meant) == 1:
+        write += f" where {gas} is meant, which {holder.field('value')} gives"
+    changed = holder.with_fields(value=(meant or codes)[0])
     changed.has_other_figure = len(codes) > 1
     rows = [changed if row is holder else row for row in after.rows]
-    return at_row(holder, cause, "value", codes[0] if len(codes) == 1 else "one of these"), rows
+    return at_row(holder, cause, "value", write), rows
 
 
 def bindings_of(line, after):
@@ -85,16 +91,18 @@ def nearest_fits(bound, there, category):
 
 
 def likeliest(codes, line, ahead):
-    """Those of some equations that the volume of a line's category tells, then the gas in its name, in those
-    of the factors that it takes, and of the equation that it has.
+    """Those of some equations that the volume of a line's category tells, then the gas in its name and in
+    those of the factors that it takes, and whether these are of CO2 of fuels.
     """
-    volume, own = vocabulary.volume_of_category(line.field("subject").strip()), line.field("value")
+    volume = vocabulary.volume_of_category(line.field("subject").strip())
     codes = [code for code in codes if vocabulary.volume_of_equation(code) == volume] or codes
-    names = [line.field("name"), *ahead.factors_taken_by(line.field("name"))]
-    gases = [vocabulary.gas_in(name) for name in names]
-    gases += [vocabulary.gas_of(own)] if own in vocabulary.equations() else []
-    for gas in filter(None, gases):
+    factors = ahead.factors_taken_by(line.field("name"))
+    for gas in filter(None, map(vocabulary.gas_in, [line.field("name"), *factors])):
         codes = [code for code in codes if vocabulary.gas_of(code) == gas] or codes
+    for row in filter(None, (ahead.row_of("factor", name) for name in factors)):
+        if vocabulary.measured_by(row.field("unit")) == "emission factor of fuel" and figures(row):
+            is_co2 = CO2_OF_FUELS[0] <= figures(row)[0] <= CO2_OF_FUELS[1]
+            codes = [code for code in codes if (vocabulary.gas_of(code) == "CO2") == is_co2] or codes
     return codes
 
 
