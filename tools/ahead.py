@@ -3,6 +3,7 @@
 A refusal of one row is often told best by a row that stands behind it, as a unit by the parameter that the
 figure is bound to further down.
 """
+import collections
 import functools
 import re
 
@@ -102,6 +103,21 @@ class Ahead:
                 if of_kind == kind and (kind, name) not in self._bound)
         return [name for name, row in left if name and vocabulary.measured_by(row.field("unit")) == measures]
 
+    def is_known(self, kind, name):
+        """Tells whether rows of any file take an activity or a factor, or it is a potential."""
+        return (kind, name) in self._bound or name in vocabulary.words()["potentials"]
+
+    def is_in_two_rows(self, name):
+        """Tells whether a text that is no unit stands in two fields of rows of any file."""
+        return name not in vocabulary.units() and self._texts[name] > 1
+
+    def names_lacking(self, kind, unit):
+        """The names of a kind that rows take for what a unit measures, and that no row enters."""
+        measures = vocabulary.measured_by(unit)
+        return [name for (of_kind, name), taken in self._bound.items()
+                if of_kind == kind and (kind, name) not in self._entered
+                and all(vocabulary.record_of(parameter) == measures for parameter, _ in taken)]
+
     def is_named(self, line):
         """Tells whether some row of any file has an uncertainty of a line, or takes it."""
         return line in self._named
@@ -135,6 +151,10 @@ class Ahead:
             if row.field("act") == "enter":
                 found.setdefault((row.field("kind"), row.field("name")), []).append(row)
         return found
+
+    @functools.cached_property
+    def _texts(self):
+        return collections.Counter(field for row in self._rows for field in row.fields[1:-1])
 
     @functools.cached_property
     def _years(self):

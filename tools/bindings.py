@@ -214,6 +214,7 @@ def uncertainty_without_line(line, after):
         known = f", whose uncertainty stands at {other.place}; take one of the two out" if other else ""
         which = f"{after.nearest_line(near)}{known}" or after.refused.where_else()
         fault = at_row(row, f"there is no line {line}{which}", "name")
+        after.refused.add(row.with_fields(name=other) for other in near)
     after.refused.add([row])
     return fault, after.without([row])
 
@@ -268,6 +269,10 @@ def without_parameter(holder, bound, parameters, after):
         cause = f"{has}; the binding of {parameter} at {bound.place} has to be withdrawn in this file"
         withdrawn = added(holder, "withdraw", "bind", line, parameter)
         return at_row(holder, cause, "value"), after.rows + [withdrawn]
+    above = line_above(bound)
+    if above != line and bound.field("name") in after.ahead.parameters_left(above):
+        cause = f"{has}; the line above is {above}, which has no binding of {bound.field('name')}"
+        return at_row(bound, cause, "subject", above), after.changed(bound, subject=above)
     unbound = [name for name in parameters if name not in after.book.bindings[line]]
     free = [name for name in unbound if may_take(bound, parameters[name], after)]
     near = [name for name in free or unbound if vocabulary.is_said_of(code, name, bound.field("name"))]
@@ -314,9 +319,12 @@ def without_binding(holder, wanted, after):
     astray = [row for row in own if is_astray(row, line, after)]
     if astray:
         return misspelt_line(astray[0], line, after)
-    below = [row for row in own if row.field("subject") not in after.book.lines and line_above(row) == line]
-    if below and not after.in_later_file("line", below[0].field("subject")):
-        return of_line_above(below[0], line, after)
+    for row in [row for row in own if line_above(row) == line]:
+        other = after.book.lines.get(row.field("subject"))
+        if other and name not in vocabulary.parameters_of(other.field("value")):
+            return without_parameter(other, row, vocabulary.parameters_of(other.field("value")), after)
+        if not other and not after.in_later_file("line", row.field("subject")):
+            return of_line_above(row, line, after)
     later = after.ahead.later_binding(line, name)
     if later:
         cause = f"{needs}, and a later file binds it ({later.place}); put that row into this file"

@@ -27,11 +27,11 @@ class Explainer(WordFaults, NumberFaults, Shifts):
         if reply.rule == 4:
             return self.shape(row)
         if reply.rule == 5:
-            moved = self.blanks(row) or self.shifted(row) or self.swapped(row) or self.astray(row)
-            return moved or self.word(row, reply.column)
+            moved = self.blanks(row) or self.shifted(row) or self.astray(row) or self.swapped(row)
+            return moved or self.rest_of_another_kind(row) or self.word(row, reply.column)
         if reply.rule == 6:
             moved = self.blanks(row) or self.shifted(row) or self.swapped(row)
-            return moved or self.number(row, reply.column)
+            return moved or self.rest_of_another_kind(row) or self.number(row, reply.column)
         if reply.rule == 7:
             return self.disorder(row)
         if reply.rule == 8:
@@ -198,10 +198,14 @@ class Explainer(WordFaults, NumberFaults, Shifts):
         if key[0] in ("activity", "factor"):
             other = "give this one another name or year"
             between, lacking = year_between(row), self.year_lacking(row)
+            names = self.ahead.names_lacking(key[0], row.field("unit"))
             if between:
                 other += f"; between the rows beside it is {between}"
             elif lacking:
                 other += f"; no row is of {lacking}"
+            elif len(names) == 1:
+                other += f"; no row enters {names[0]}, which is taken"
+                self.refused.rows.setdefault((key[0], names[0]), row)
         elif key[0] == "line":
             other = "give this one another name, here and in its bindings"
         return at_row(row, f"{cause}; to change it use correct, else {other}"), None

@@ -21,7 +21,7 @@ def all_of_figures(book, mismeasured):
 
 
 def figures(row):
-    """The figures of a record in the base unit, without notation keys, empty columns and what is no number."""
+    """The figures of a record in the base unit, without what is no number."""
     unit = vocabulary.units()[row.field("unit")]
     texts = [row.field(column) for column in ("value", "low", "high")]
     numbers = (decimal.Decimal(text) for text in texts if re.fullmatch(r"-?\d+(\.\d+)?", text))

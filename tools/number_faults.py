@@ -251,13 +251,16 @@ class NumberFaults(PercentFaults):
         return self.first_taken(row, column, candidates, f"no year; a year is {year_form()}{other}")
 
     def year_of_span(self, row, column, mended):
-        """One of the three years of a span. It goes on with its first year as the base where that is none."""
+        """One of the three years of a span. It goes on with its first year as the base, or the other way
+        round.
+        """
         which = {"year": "the first", "value": "the last", "low": "the base"}[column]
         otherwise = f"no year: a span has {which} year here, in {year_form()}"
         candidates = [(cause_of(mended.causes), mended.text, True)]
         fault, changed = self.first_taken(row, column, candidates, otherwise)
-        if not changed and column == "low":
-            changed = row.with_fields(low=row.field("year"))
+        other = {"low": "year", "year": "low"}.get(column)
+        if not changed and other and self.takes(row.with_fields(**{column: row.field(other)}), None):
+            changed = row.with_fields(**{column: row.field(other)})
         return fault, changed
 
     def several_years(self, row, column):

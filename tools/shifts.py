@@ -4,20 +4,24 @@ one more; and one of which two fields stand in each other's column.
 import itertools
 
 from tools import vocabulary
+from tools.ahead import word_meant
 from tools.asking import Asking, article
 from tools.faults import at_row, shown
-from tools.sheets import COLUMN_AT, Row, joined
+from tools.other_words import OTHER_KINDS
+from tools.sheets import COLUMN_AT, COLUMNS, Row, joined
 from tools.vocabulary import limit, listed
 
 
 TOO_FAR_LEFT = "one column too far left; write one more comma in front of it, and one less at the end"
 TWO_TOO_FAR_LEFT = "two columns too far left; write two more commas in front of it, and two less at the end"
 TOO_FAR_RIGHT = "one column too far right; take out a comma in front of it, and write one at the end"
-# The columns that are filled in rows of these kinds.
+# The columns that are filled in rows of each kind, and those that may be.
 FILLED = {
-    "line": ["subject", "name", "value"], "bind": ["subject", "name", "value", "low"],
-    "activity": ["name", "year", "value"], "factor": ["name", "year", "value"],
+    "span": ["year", "value", "low"], "line": ["subject", "name", "value"],
+    "bind": ["subject", "name", "value", "low"], "uncert": ["name", "value", "low"],
+    "activity": ["name", "year", "value", "unit"], "factor": ["name", "year", "value", "unit"],
 }
+MAY_BE_FILLED = {"activity": ["low", "high"], "factor": ["low", "high"]}
 
 
 def word_of_a_column(kind):
@@ -67,25 +71,53 @@ class Shifts(Asking):
         if row.field("act") in words["kinds"] and row.field("kind") in words["acts"]:
             meant = row.with_fields(act=row.field("kind"), kind=row.field("act"))
             return at_row(row, *said_of_swapped(meant, "act", "kind")), meant
-        for one, other in itertools.combinations(FILLED.get(row.field("kind"), []), 2):
+        if len(row.fields) != len(COLUMNS):
+            return None
+        for one, other in itertools.combinations(COLUMNS[:-1], 2):
             meant = row.with_fields(**{one: row.field(other), other: row.field(one)})
             if meant.fields != row.fields and self.has_known_words(meant) and self.takes(meant, None):
                 return at_row(row, *said_of_swapped(meant, one, other)), meant
         return None
 
-    def has_known_words(self, row):
-        """Tells whether a line has a category and an equation, a binding a parameter of its line, or a figure
-        a year of the workbook.
+    def rest_of_another_kind(self, row):
+        """The fault of a row whose rest is that of another kind, and the row as it is meant; or None.
+
+        A kind that is misspelt, or left out, is told as such.
         """
-        if row.field("kind") in ("activity", "factor"):
+        own = row.field("kind")
+        if own not in FILLED and (not own.strip() or word_meant(own, FILLED, OTHER_KINDS) in FILLED):
+            return None
+        for kind in [kind for kind in FILLED if FILLED[kind] != FILLED.get(own)]:
+            meant = row.with_fields(kind=kind)
+            if self.has_known_words(meant) and self.takes(meant, None):
+                return at_row(row, f"the rest of the row is that of {article(kind)}", "kind", kind), meant
+        return None
+
+    def has_known_words(self, row):
+        """Tells whether a row has the columns of its kind filled, and a line has a category and an equation,
+        a binding a parameter of its line, an uncertainty a line, or a figure a year of the workbook and a
+        name that other rows have.
+        """
+        kind, name = row.field("kind"), row.field("name")
+        filled = {column for column in COLUMNS[2:-1] if row.field(column)}
+        due = set(FILLED.get(kind, [""]))
+        if not due <= filled <= due.union(MAY_BE_FILLED.get(kind, [])):
+            return False
+        if kind in ("activity", "factor"):
             first, last = self.span() or (int(limit("first_year")), int(limit("last_year")))
             year = row.field("year")
-            return len(year) == 4 and year.isdecimal() and first <= int(year) <= last
-        if row.field("kind") == "line":
+            is_year = len(year) == 4 and year.isdecimal() and first <= int(year) <= last
+            measures = vocabulary.measured_by(row.field("unit"))
+            is_free = not name.startswith("GWP.") or (kind, measures) == ("factor", "ratio")
+            is_known = self.ahead.is_known(kind, name) or self.ahead.is_in_two_rows(name)
+            return is_year and bool(measures) and is_free and is_known
+        if kind == "line":
             has_equation = row.field("value") in vocabulary.equations()
             return has_equation and row.field("subject") in vocabulary.leaves()
+        if kind == "uncert":
+            return self.ahead.row_of("line", name) is not None
         line = self.book.lines.get(row.field("subject"))
-        return bool(line) and row.field("name") in vocabulary.parameters_of(line.field("value"))
+        return kind == "span" or bool(line) and name in vocabulary.parameters_of(line.field("value"))
 
     def first_of(self, row, candidates, where):
         """The fault and the first of some rows that the program takes, or None."""
@@ -170,5 +202,5 @@ class Shifts(Asking):
 
 def said_of_swapped(meant, one, other):
     """The cause of two fields in each other's column, and how the row is meant."""
-    write = f"{meant.field(one)} in {one} and {meant.field(other)} in {other}"
+    write = f"{meant.field(one) or 'nothing'} in {one} and {meant.field(other) or 'nothing'} in {other}"
     return f"{one} and {other} are swapped", "", write

@@ -84,7 +84,8 @@ def base_unit(measures):
 def unit_beside(row, measures=None):
     """The column that has a unit of the table in place of the unit's own, and the unit; or None twice."""
     behind = re.fullmatch(r"-?[\d.,\s]*\d\s*([A-Za-z%].*)", row.field("value").strip())
-    for column, text in (("note", row.field("note")), ("value", behind.group(1) if behind else "")):
+    note = row.field("note") if len(row.field("note").split()) < 3 else ""
+    for column, text in (("note", note), ("value", behind.group(1) if behind else "")):
         meant = units.meant(text, measures)
         if meant and meant.times == 1:
             return column, meant.word

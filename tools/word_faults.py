@@ -89,7 +89,9 @@ class WordFaults(UnitFaults, TargetFaults):
             cause = f"empty; the rest of the row is that of {article(kind)}"
             return self.first_taken(row, column, [(cause, kind, True)], cause)
         name = row.field("name") if column == "kind" and row.field("unit").strip() else None
-        there = [kind for kind in ("activity", "factor") if self.ahead.row_of(kind, name)]
+        there = [kind for kind in ("activity", "factor")
+                 if self.ahead.row_of(kind, name) or self.ahead.is_known(kind, name)]
+        there = ["factor"] if name in vocabulary.words()["potentials"] else there
         if len(there) == 1:
             cause = f"empty; other rows of this name are of {article(there[0])}"
             return self.first_taken(row, column, [(cause, there[0], True)], cause)
@@ -103,7 +105,8 @@ class WordFaults(UnitFaults, TargetFaults):
         """Empty fields that rows above fill, as a spreadsheet writes cells that were merged, or None."""
         fields = filled_from_above(row)
         changed = row.with_fields(**fields)
-        if column not in fields or not self.takes(changed, column):
+        is_there = "name" in fields and self.ahead.is_entered(changed)
+        if column not in fields or is_there or not self.takes(changed, column):
             return None
         write = listed([f"{text} in {name}" for name, text in fields.items()], "and")
         return at_row(row, "empty, as behind a merged cell; the row above has it", column, write), changed
@@ -126,6 +129,10 @@ class WordFaults(UnitFaults, TargetFaults):
         code = vocabulary.same_code(text) if row.field("kind") in ("bind", "uncert") else None
         if code:
             return self.category_for_line(row, column, code)
+        lacking = self.ahead.names_lacking(row.field("kind"), row.field("unit")) if not text.strip() else []
+        if len(lacking) == 1:
+            cause = "empty; no row enters this name, which is taken"
+            return self.first_taken(row, column, [(cause, lacking[0], True)], cause)
         mended = causes.name(text)
         otherwise = name_otherwise(mended.text, what)
         return self.first_taken(row, column, [(cause_of(mended.causes), mended.text, True)], otherwise)
@@ -307,6 +314,8 @@ def filled_from_above(row):
         if not row.field(column).strip():
             fields[column] = text_above(row, column, kind)
     kind = fields.get("kind", kind)
+    if row.field("unit").strip() and kind not in ("activity", "factor"):
+        return {}
     for column in MERGED.get(kind, []):
         if not row.field(column).strip() and (column != "unit" or is_of_name_above(row, kind)):
             fields[column] = text_above(row, column, kind)
