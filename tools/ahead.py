@@ -100,7 +100,7 @@ class Ahead:
         """
         measures = vocabulary.record_of(parameter)
         left = ((name, rows[0]) for (of_kind, name), rows in self._entered.items()
-                if of_kind == kind and (kind, name) not in self._bound)
+                if of_kind == kind and (kind, name) not in self._taken and not name.startswith("GWP."))
         return [name for name, row in left if name and vocabulary.measured_by(row.field("unit")) == measures]
 
     def is_known(self, kind, name):
@@ -176,6 +176,10 @@ class Ahead:
     def _named(self):
         found = {row.field("name") for row in self._rows if row.field("kind") == "uncert"}
         return found.union(*(lines_taken_by(row) for row in self._rows if row.field("kind") == "bind"))
+
+    @functools.cached_property
+    def _taken(self):
+        return {record_taken_by(row) for row in self._rows if row.field("kind") == "bind"}
 
     @functools.cached_property
     def _bound(self):

@@ -235,22 +235,32 @@ def uncertainty_of_record(row, after):
     return at_row(row, f"{cause}{made}; an uncertainty is of a line", "name"), after.without([row])
 
 
+def misnamed_line(bound, line, after):
+    """A line that nothing names, where its bindings and other rows name one that is not there: it goes on
+    under that name. Else None.
+    """
+    meant, holder = bound.field("subject"), after.book.lines[line]
+    is_odd = after.ahead.is_named(meant) and not after.ahead.is_named(line)
+    if not is_odd or not after.is_own(holder) or after.book.bindings.get(line):
+        return None
+    cause = f"its bindings and other rows name {meant}"
+    return at_row(holder, cause, "name", meant), after.changed(holder, name=meant)
+
+
 def of_line_above(bound, line, after):
     """A binding of no line, below a line that lacks it. It goes on as that line's."""
-    parameter = bound.field("name")
+    renamed, parameter = misnamed_line(bound, line, after), bound.field("name")
+    if renamed:
+        return renamed
     cause = f"there is no line {bound.field('subject')}; the line above is {line}, which has no binding of"
     return at_row(bound, f"{cause} {parameter}", "subject", line), after.changed(bound, subject=line)
 
 
 def misspelt_line(bound, line, after):
-    """A binding whose line is most likely another, which lacks it. It goes on as that line's, or the line
-    goes on under the name that its bindings and other rows have.
-    """
-    meant, holder = bound.field("subject"), after.book.lines[line]
-    is_odd = after.ahead.is_named(meant) and not after.ahead.is_named(line)
-    if is_odd and after.is_own(holder) and not after.book.bindings.get(line):
-        cause = f"its bindings and other rows name {meant}"
-        return at_row(holder, cause, "name", meant), after.changed(holder, name=meant)
+    """A binding whose line is most likely another, which lacks it. It goes on as that line's."""
+    renamed = misnamed_line(bound, line, after)
+    if renamed:
+        return renamed
     cause = f"there is no line {bound.field('subject')}{after.nearest_line([line])}"
     return at_row(bound, cause, "subject"), after.changed(bound, subject=line)
 
@@ -315,6 +325,10 @@ def without_binding(holder, wanted, after):
     misspelt = [row for other, row in bound.items() if other not in parameters and after.is_own(row)]
     if misspelt:
         return without_parameter(holder, misspelt[0], parameters, after)
+    below = [row for row in after.rows[1:] if row.field("kind") == "bind" and line_above(row) == line]
+    renamed = misnamed_line(below[0], line, after) if below else None
+    if renamed:
+        return renamed
     own = after.acts_on("bind", name, ("enter",))
     astray = [row for row in own if is_astray(row, line, after)]
     if astray:

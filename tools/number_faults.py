@@ -248,7 +248,18 @@ class NumberFaults(PercentFaults):
         mended = of_two_digits(mended, self.span())
         other = f", and no other row is of {lacking}" if lacking else ""
         candidates = [(cause_of(mended.causes), mended.text, True)]
-        return self.first_taken(row, column, candidates, f"no year; a year is {year_form()}{other}")
+        otherwise = f"no year; a year is {year_form()}{other}"
+        fault, changed = self.first_taken(row, column, candidates, otherwise)
+        return fault, changed or self.of_first_year(row)
+
+    def of_first_year(self, row):
+        """The row of a factor in the first year of the span, so that what takes it is seen, where no row
+        enters that; or None.
+        """
+        if row.field("kind") != "factor" or not self.span():
+            return None
+        first = row.with_fields(year=str(self.span()[0]))
+        return first if not self.ahead.is_entered(first) and self.takes(first, "year") else None
 
     def year_of_span(self, row, column, mended):
         """One of the three years of a span. It goes on with its first year as the base, or the other way

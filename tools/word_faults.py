@@ -76,7 +76,8 @@ class WordFaults(UnitFaults, TargetFaults):
 
     def lost(self, row, column):
         """An empty kind of a row whose rest is that of one kind, an empty act of one of a record that is not
-        there, or an empty line of a binding below a line that lacks it; or None.
+        there, an empty line of a binding below a line that lacks it, or an empty name of the one factor that
+        lines take and that is not there; or None.
         """
         if row.field(column).strip():
             return None
@@ -84,6 +85,11 @@ class WordFaults(UnitFaults, TargetFaults):
         if above and row.field("name") in self.ahead.parameters_left(above):
             cause = f"empty; the line above is {above}, which has no binding of {row.field('name')}"
             return self.first_taken(row, column, [(cause, above, True)], cause)
+        is_factor = (row.field("kind"), column) == ("factor", "name")
+        lacking = self.ahead.names_lacking("factor", row.field("unit")) if is_factor else []
+        if len(lacking) == 1:
+            cause = "empty; no row enters this name, which is taken"
+            return self.first_taken(row, column, [(cause, lacking[0], True)], cause)
         kind = kind_by_its_rest(row) if column == "kind" else None
         if kind in ("line", "bind"):
             cause = f"empty; the rest of the row is that of {article(kind)}"
@@ -129,10 +135,6 @@ class WordFaults(UnitFaults, TargetFaults):
         code = vocabulary.same_code(text) if row.field("kind") in ("bind", "uncert") else None
         if code:
             return self.category_for_line(row, column, code)
-        lacking = self.ahead.names_lacking(row.field("kind"), row.field("unit")) if not text.strip() else []
-        if len(lacking) == 1:
-            cause = "empty; no row enters this name, which is taken"
-            return self.first_taken(row, column, [(cause, lacking[0], True)], cause)
         mended = causes.name(text)
         otherwise = name_otherwise(mended.text, what)
         return self.first_taken(row, column, [(cause_of(mended.causes), mended.text, True)], otherwise)
@@ -187,6 +189,10 @@ class WordFaults(UnitFaults, TargetFaults):
         named = [name for name in unbound if is_said_of(line.field("value"), name, words)] if words else []
         if len(named) == 1:
             candidates.append(("here stands the code of the parameter", named[0], True))
+        measures = self.ahead.measured_by(row)
+        fitting = [name for name in unbound if vocabulary.record_of(known[name]) == measures]
+        if len(fitting) == 1:
+            candidates.append((f"no parameter; {fitting[0]} has no binding", fitting[0], True))
         return self.first_taken(row, column, candidates, otherwise)
 
     def category(self, row, column):
