@@ -47,6 +47,11 @@ def record_of_another_kind(bound, wanted, after):
     if measures in (None, wanted["measures"]):
         return at_row(bound, cause, "value", other)
     cause += f" in {record.field('unit')}, and {said_of_wanted(wanted)} is taken here"
+    left = [found for found in after.records_left(wanted) if found[0] == kind]
+    if len(left) == 1:
+        after.refused.meant_records.add(left[0])
+        place = after.book.some_record(*left[0]).place
+        cause += f"; {kind} {left[0][1]} ({place}) measures that, and no line takes it"
     return at_row(bound, cause, "low")
 
 

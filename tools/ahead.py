@@ -74,10 +74,15 @@ class Ahead:
         return row if row and any(row.sheet is sheet for sheet in self.waiting) else None
 
     def measured_by(self, bound):
-        """What the record measures that a binding takes, by the row that enters it, or None."""
-        taken = record_taken_by(bound)
-        record = self.row_of(*taken) if taken else None
-        return vocabulary.measured_by(record.field("unit")) if record else None
+        """What the record or the first line measures that a binding takes, by the row that enters it, or
+        None.
+        """
+        taken, lines = record_taken_by(bound), lines_taken_by(bound)
+        row = self.row_of(*taken) if taken else self.row_of("line", lines[0]) if lines else None
+        if row is None or taken:
+            return vocabulary.measured_by(row.field("unit")) if row else None
+        code = row.field("value")
+        return vocabulary.given_by(code) if code in vocabulary.equations() else None
 
     def is_bound(self, line, parameter):
         """Tells whether some row of any file binds a parameter of a line."""

@@ -114,10 +114,12 @@ class Asking:
 
 
 def kind_by_its_rest(row):
-    """The kind that a row has by its unit or its value, or None."""
-    value = causes.without_blanks(row.field("value")).text
+    """The kind that a row has by its unit, its value or its two numbers, or None."""
+    value, low = (causes.without_blanks(row.field(column)).text for column in ("value", "low"))
     if causes.without_blanks(row.field("unit")).text:
         return "factor"
+    if row.field("name") and all(re.fullmatch(r"\d+(\.\d+)?", text) for text in (value, low)):
+        return "uncert"
     if value.casefold() in vocabulary.words()["forms"]:
         return "bind"
     return "line" if re.fullmatch(r"[Qq]\d+", value) else None

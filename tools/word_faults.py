@@ -91,7 +91,7 @@ class WordFaults(UnitFaults, TargetFaults):
             cause = "empty; no row enters this name, which is taken"
             return self.first_taken(row, column, [(cause, lacking[0], True)], cause)
         kind = kind_by_its_rest(row) if column == "kind" else None
-        if kind in ("line", "bind"):
+        if kind in ("line", "bind", "uncert"):
             cause = f"empty; the rest of the row is that of {article(kind)}"
             return self.first_taken(row, column, [(cause, kind, True)], cause)
         name = row.field("name") if column == "kind" and row.field("unit").strip() else None
