@@ -4,6 +4,7 @@ They are judged with all rows of a file applied. What stands where is looked up 
 To find the next fault, the row at fault is taken out, or a binding takes NE in its place, so that its line
 stays and is blank.
 """
+import itertools
 import re
 
 from tools import absent_records, line_targets, other_equation, swapped_bindings, units, vocabulary
@@ -56,6 +57,12 @@ class After:
     def bindings_of(self, line):
         """The file's own rows on bindings of a line."""
         return [row for row in self.rows[1:] if row.field("kind") == "bind" and row.field("subject") == line]
+
+    def bindings_below(self, holder):
+        """The file's own rows of bindings between the row of a line and that of the next one."""
+        below = holder.sheet.rows_below(holder.line)
+        lines = {row.line for row in itertools.takewhile(lambda row: row.field("kind") != "line", below)}
+        return [row for row in self.rows[1:] if row.line in lines and row.field("kind") == "bind"]
 
     def in_later_file(self, kind, name):
         """That a later file enters what is not there, or nothing."""
@@ -320,25 +327,9 @@ def without_binding(holder, wanted, after):
     if refused:
         cause = f"{needs}, and the row that binds it was refused"
         return at_row(holder, cause, "name", follows=refused.place), with_blank
-    parameters = vocabulary.parameters_of(code)
-    bound = after.book.bindings.get(line, {})
-    misspelt = [row for other, row in bound.items() if other not in parameters and after.is_own(row)]
-    if misspelt:
-        return without_parameter(holder, misspelt[0], parameters, after)
-    below = [row for row in after.rows[1:] if row.field("kind") == "bind" and line_above(row) == line]
-    renamed = misnamed_line(below[0], line, after) if below else None
-    if renamed:
-        return renamed
-    own = after.acts_on("bind", name, ("enter",))
-    astray = [row for row in own if is_astray(row, line, after)]
+    astray = binding_astray(holder, name, after)
     if astray:
-        return misspelt_line(astray[0], line, after)
-    for row in [row for row in own if line_above(row) == line]:
-        other = after.book.lines.get(row.field("subject"))
-        if other and name not in vocabulary.parameters_of(other.field("value")):
-            return without_parameter(other, row, vocabulary.parameters_of(other.field("value")), after)
-        if not other and not after.in_later_file("line", row.field("subject")):
-            return of_line_above(row, line, after)
+        return astray
     later = after.ahead.later_binding(line, name)
     if later:
         cause = f"{needs}, and a later file binds it ({later.place}); put that row into this file"
@@ -349,6 +340,31 @@ def without_binding(holder, wanted, after):
     if other:
         write += f"; or write {other_equation.said_of([other])} in value, which takes what is bound"
     return at_row(holder, f"{needs}, and no row binds it", "name", write), with_blank
+
+
+def binding_astray(holder, name, after):
+    """The fault of the row that is meant to bind a parameter of a line, and binds another one or another
+    line's; or None.
+    """
+    line, parameters = holder.field("name"), vocabulary.parameters_of(holder.field("value"))
+    bound, below = after.book.bindings.get(line, {}), after.bindings_below(holder)
+    misspelt = [row for other, row in bound.items() if other not in parameters and after.is_own(row)]
+    if misspelt:
+        return without_parameter(holder, misspelt[0], parameters, after)
+    renamed = misnamed_line(below[0], line, after) if below else None
+    if renamed:
+        return renamed
+    astray = [row for row in after.acts_on("bind", name, ("enter",)) if is_astray(row, line, after)]
+    if astray:
+        return misspelt_line(astray[0], line, after)
+    for row in [row for row in below if row.field("name") == name and row.field("act") == "enter"]:
+        other = after.book.lines.get(row.field("subject"))
+        of_other = vocabulary.parameters_of(other.field("value")) if other else {}
+        if other and name not in of_other:
+            return without_parameter(other, row, of_other, after)
+        if not other and not after.in_later_file("line", row.field("subject")):
+            return of_line_above(row, line, after)
+    return None
 
 
 def target_left(wanted, line, after):
