@@ -124,20 +124,38 @@ def lines_of(bindings):
 
 
 def holes(book, refused, first, last):
-    """Activities that lines take and that lack years between others, but for those of which another name is
-    told to be this one.
+    """Activities that lines take and that lack years of the span, but for those of which another name is told
+    to be this one.
     """
     found, taken = [], book.taken()
     told = [taken_like(book, "activity", name) for name in untaken(book, refused, "activity")]
+    last = reached(book, refused, last)
     for name, years in sorted(book.years["activity"].items()):
-        between = range(max(min(years), first), min(max(years), last) + 1)
         elsewhere = {year for near, lacked in told for year in lacked if near == name}
-        lacking = [year for year in between if year not in years and year not in elsewhere]
+        known = elsewhere.union(years)
+        lacking = years_lacking(known, first, last)
         if lacking and ("activity", name) in taken and not refused.that_enters("activity", name):
             blank = f"{lines_of(taken['activity', name])} blank there"
             cause = f"activity {name} has no record of {years_said(lacking)}; {blank}"
             found.append(warn(years[min(years)], cause))
     return found
+
+
+def years_lacking(known, first, last):
+    """The years of a span that an activity lacks, where it has years before and after one of them, or most
+    years of the span. One that has few is taken to begin or to end there.
+    """
+    span = range(first, last + 1)
+    lacking = [year for year in span if year not in known]
+    is_between = any(min(known) < year < max(known) for year in lacking)
+    return lacking if is_between or len(lacking) < len(span) - len(lacking) else []
+
+
+def reached(book, refused, last):
+    """The last year of the span of which some activity has a record, or was meant to have one."""
+    if refused.has_activity_of(last):
+        return last
+    return min(last, max(map(max, book.years["activity"].values()), default=last))
 
 
 def late_factors(book, refused, first, last):
