@@ -52,7 +52,7 @@ class Ahead:
         return any(entry.key == row.key for entry in self._entered.get((row.key[0], row.field("name")), []))
 
     def years_of(self, activity):
-        """The years of an activity that rows of any file enter or correct, as texts."""
+        """The years of an activity that rows of any file enter, as texts. A correction enters none."""
         return self._years.get(activity, set())
 
     def lines_at(self, code):
@@ -165,7 +165,7 @@ class Ahead:
     def _years(self):
         found = {}
         for row in self._rows:
-            if row.field("kind") == "activity" and row.field("act") != "withdraw":
+            if row.field("kind") == "activity" and row.field("act") not in ("correct", "withdraw"):
                 found.setdefault(row.field("name"), set()).add(row.field("year"))
         return found
 

@@ -37,11 +37,17 @@ class Asking:
 
     def year_lacking(self, row):
         """The one year of the span that no row enters of the activity of a row, or None."""
+        lacking = self.years_lacking(row)
+        return lacking[0] if len(lacking) == 1 else None
+
+    def years_lacking(self, row):
+        """The years of the span that no row enters of the activity of a row, as texts in their order."""
         if row.field("kind") != "activity" or not self.span():
-            return None
+            return []
         first, last = self.span()
-        lacking = set(map(str, range(first, last + 1))) - self.ahead.years_of(row.field("name"))
-        return min(lacking) if len(lacking) == 1 else None
+        name = row.field("name")
+        known = self.ahead.years_of(name).union(map(str, self.book.years["activity"].get(name, [])))
+        return [year for year in map(str, range(first, last + 1)) if year not in known]
 
     def measured(self, row):
         """What the record of a row measures in another year, or for the parameters that take it, or None."""

@@ -66,6 +66,10 @@ class Refused:
         return next((row for row in self.entering if row.field("kind").strip().lower() not in others
                      and any(mended_name(field).text == name for field in row.fields)), None)
 
+    def that_doubles(self, key, book):
+        """A refused row of the name of a key whose own record is there already, or None."""
+        return next((row for row in self.entering if row.key[:2] == key[:2] and row.key in book.rows), None)
+
     def where_else(self):
         """Where a name may stand that is not there, as the end of a sentence; or nothing."""
         named = listed(self.unread, "and")

@@ -196,6 +196,9 @@ class Explainer(WordFaults, NumberFaults, Shifts):
             return at_row(row, f"{cause}, with the same figures; take one of the two out"), None
         other = "take one of the two out"
         if key[0] in ("activity", "factor"):
+            meant = self.not_dragged_on(row, entered, cause)
+            if meant:
+                return meant
             other = "give this one another name or year"
             between, lacking = year_between(row), self.year_lacking(row)
             names = self.ahead.names_lacking(key[0], row.field("unit"))
@@ -209,6 +212,35 @@ class Explainer(WordFaults, NumberFaults, Shifts):
         elif key[0] == "line":
             other = "give this one another name, here and in its bindings"
         return at_row(row, f"{cause}; to change it use correct, else {other}"), None
+
+    def not_dragged_on(self, row, entered, cause):
+        """A second figure that one file has of a year, where the next year lacks: that is the one meant. Where
+        another year lacks, one of the two may be of that. Else None.
+        """
+        lacking = self.years_lacking(row) if entered and entered.sheet is row.sheet else []
+        meant = {"between the rows beside it is": year_between(row), "no row is of": self.year_behind(row)}
+        for why, year in meant.items():
+            changed = row.with_fields(year=year) if year in lacking else None
+            if changed and self.takes(changed, None):
+                return at_row(row, f"{cause}, and {why} {year}", "year", year), changed
+        if len(lacking) != 1:
+            return None
+        cause += f", and no row is of {lacking[0]}; where one of the two is of {lacking[0]}, write that there"
+        return at_row(row, f"{cause}, else take one of them out"), None
+
+    def year_behind(self, row):
+        """The year that follows the row above, where that is of the same name and no year before it lacks; in
+        a file that goes backwards, the one before. Else None.
+        """
+        same = itertools.takewhile(lambda above: above.key[:2] == row.key[:2], row.sheet.rows_above(row.line))
+        records = self.book.years[row.field("kind")].get(row.field("name"), {})
+        years = {record.line: year for year, record in records.items() if record.sheet is row.sheet}
+        above = [years.get(other.line) for other in itertools.islice(same, 2)]
+        if not above or above[0] is None:
+            return None
+        step = -1 if above[1:] == [above[0] + 1] else 1
+        left = [int(year) for year in self.years_lacking(row)]
+        return None if any((year - above[0]) * step < 0 for year in left) else str(above[0] + step)
 
     def bound_for_another(self, row, cause):
         """A binding that is entered already, of a row that is meant for the line above it, or for the one
@@ -233,6 +265,9 @@ class Explainer(WordFaults, NumberFaults, Shifts):
         if entered and not (gone and is_below(gone, entered)):
             cause = f"there is no {said_of_key(key)} to {act}, since its row was refused"
             return at_row(row, cause, follows=entered.place), None
+        doubled = self.refused.that_doubles(key, self.book) if key[-1] in self.years_lacking(row) else None
+        if doubled:
+            return at_row(row, f"there is no {said_of_key(key)} to {act}", follows=doubled.place), None
         behind = self.ahead.entry_behind(row)
         if behind:
             return at_row(row, entered_behind(row, behind)), None
