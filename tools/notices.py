@@ -228,8 +228,8 @@ def without_last_year(book, span, last):
 
 
 def warn_left(left):
-    """The files that ORDER.txt leaves out."""
-    return [f"{name} warning: {order} does not list this file, and it is left out" for name, order in left]
+    """The files that ORDER.txt leaves out, and what a folder has that is not read."""
+    return [f"{name} warning: {why}" for name, why in left]
 
 
 class Nothing:

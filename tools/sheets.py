@@ -22,6 +22,12 @@ ANY_KEY = ["subject", "name", "year"]
 KEY_AT = {kind: [COLUMN_AT[column] for column in columns] for kind, columns in COLUMNS_OF_KEY.items()}
 
 
+# The files that spreadsheets keep, and text files that may hold rows; how a header or a row of an act begins.
+SPREADSHEETS = {".xlsx", ".xlsm", ".xlsb", ".xls", ".ods", ".numbers"}
+OTHER_TEXTS = {".txt", ".tsv", ".tab"}
+BEGIN_OF_ROWS = re.compile(r"[\s\"]*(act|enter|correct|withdraw)\"?[,;\t|]", re.IGNORECASE)
+
+
 class FolderFault(Exception):
     """A folder that cannot be read as a workbook."""
 
@@ -217,13 +223,58 @@ def names_in(folder):
     return names, left
 
 
+def has_rows(path):
+    """Tells whether a text file begins with a header or a row of an act."""
+    try:
+        with path.open("rb") as file:
+            return BEGIN_OF_ROWS.match(file.read(200).decode("utf-8-sig", "replace")) is not None
+    except OSError:
+        return False
+
+
+def unread_in(folder, named):
+    """What a folder has that is most likely meant and that is not read, with what to do: the files of
+    spreadsheets that no CSV file is saved of, the rows of other text files, and the folders below with CSV
+    files of rows that are not named themselves.
+    """
+    found = []
+    for path in sorted(folder.iterdir(), key=lambda path: natural(path.name)):
+        ending = path.suffix.lower()
+        if path.name.startswith((".", "~")) or ending == ".csv":
+            continue
+        if path.is_dir() and path.resolve() not in named:
+            count = sum(below.suffix.lower() == ".csv" and has_rows(below) for below in files_below(path))
+            files, them = ("1 CSV file", "the file") if count == 1 else (f"{count} CSV files", "the files")
+            if count:
+                what = f"this folder has {files}, and is not read"
+                found.append((path.name, f"{what}; move {them} up, or give the folder to the command too"))
+        elif ending in SPREADSHEETS and not path.with_suffix(".csv").exists():
+            what = "this file of a spreadsheet is not read"
+            found.append((path.name, f"{what}; save each of its sheets as CSV UTF-8"))
+        elif ending in OTHER_TEXTS and has_rows(path):
+            what = "this file has rows, and is not read; save it as CSV UTF-8 with commas"
+            found.append((path.name, f"{what}, under a name that ends with .csv"))
+    return found
+
+
+def files_below(folder):
+    """The files of a folder, or none where it cannot be read."""
+    try:
+        return list(folder.iterdir())
+    except OSError:
+        return []
+
+
 def read_folders(paths):
-    """The files of folders, in their order, and the names of files that are left out."""
+    """The files of folders, in their order, and the names of what is left out, each with the reason."""
     sheets, left = [], []
+    named = {pathlib.Path(path).resolve() for path in paths}
     for path in map(pathlib.Path, paths):
         names, others = names_in(path)
         shown = (lambda name: name) if len(paths) == 1 else (lambda name: str(path / name))
-        left += [(shown(name), shown("ORDER.txt")) for name in others]
+        unlisted = f"{shown('ORDER.txt')} does not list this file, and it is left out"
+        left += [(shown(name), unlisted) for name in others]
+        left += [(shown(name), why) for name, why in unread_in(path, named)]
         for name in names:
             if not (path / name).is_file():
                 raise FolderFault(f"{path / name} is no file")
