@@ -50,9 +50,9 @@ class Explainer(WordFaults, NumberFaults, Shifts):
             return at_row(row, "an empty row; take it out"), None
         if is_total(row):
             return at_row(row, "a row of totals; take it out"), None
-        if fields[0].count(";") > len(COLUMNS) // 2:
-            fault = at_row(row, f"{cause}: semicolons between the fields; write commas")
-            return fault, of_rest(row, row.raw.decode("utf-8", "replace").split(";"))
+        marked = self.of_other_marks(row, cause)
+        if marked:
+            return marked
         if count == len(COLUMNS):
             return at_row(row, "no row of ten fields of UTF-8"), None
         if count == 1:
@@ -70,6 +70,19 @@ class Explainer(WordFaults, NumberFaults, Shifts):
         cause += f": a comma in {'the note' if in_note else 'a field'}; put it in quotes"
         noted = fields[:9] + [",".join(fields[9:])]
         return at_row(row, cause), self.of_ten(row, noted) or (of_rest(row, noted) if fields[8] else None)
+
+    def of_other_marks(self, row, cause):
+        """Semicolons or tabs between the fields, or None. Commas among them are those of numbers."""
+        text = row.raw.decode("utf-8", "replace")
+        for mark, marks in ((";", "semicolons"), ("\t", "tabs")):
+            if text.count(mark) > max(len(COLUMNS) // 2, text.count(",")):
+                fields = text.split(mark)
+                fields += [""] * (len(COLUMNS) - len(fields))
+                changed = self.of_ten(row, fields)
+                write = f", as {changed.raw.decode('utf-8', 'replace')}" if changed else ""
+                fault = at_row(row, f"{cause}: {marks} between the fields; write commas{write}")
+                return fault, changed or of_rest(row, fields)
+        return None
 
     def comma_within(self, row, cause):
         """One comma too many within a row of eleven fields, where the program takes it without that one and
