@@ -2,7 +2,7 @@
 import re
 
 from tools import vocabulary
-from tools.book import record_taken_by
+from tools.book import lines_taken_by, record_taken_by
 from tools.faults import warn
 from tools.vocabulary import MEMOS, are, listed
 
@@ -113,13 +113,13 @@ def flows_of_last_year(book):
 
 
 def always_blank(book):
-    """Lines that take an activity, and are blank since another parameter is bound to NE."""
+    """Lines that take an activity or a line, and are blank since another parameter is bound to NE."""
     found = []
     for row in by_place(book):
         bound = list(book.bindings.get(row.field("name"), {}).values())
         blank = [other for other in bound if (other.field("value"), other.field("low")) == ("key", "NE")]
         blank = [other for other in blank if not other.has_other_figure]
-        if blank and any(other.field("value") == "activity" for other in bound):
+        if blank and any(other.field("value") == "activity" or lines_taken_by(other) for other in bound):
             names = listed([other.field("name") for other in blank], "and")
             cause = f"line {row.field('name')} is blank in all years: {names} {are(blank)} bound to NE"
             found.append(warn(blank[0], f"{cause}; NO, NA and IE are zero"))

@@ -73,7 +73,10 @@ class Shifts(Asking):
             return at_row(row, *said_of_swapped(meant, "act", "kind")), meant
         if len(row.fields) != len(COLUMNS):
             return None
-        for one, other in itertools.combinations(COLUMNS[:-1], 2):
+        pairs = list(itertools.combinations(COLUMNS[:-1], 2))
+        if row.field("note") in vocabulary.units():
+            pairs.append(("unit", "note"))
+        for one, other in pairs:
             meant = row.with_fields(**{one: row.field(other), other: row.field(one)})
             if meant.fields != row.fields and self.has_known_words(meant) and self.takes(meant, None):
                 return at_row(row, *said_of_swapped(meant, one, other)), meant
