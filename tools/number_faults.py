@@ -315,7 +315,8 @@ class NumberFaults(PercentFaults):
             changed = row.with_fields(low=high, high=low)
             write = f"{high} in low and {low} in high"
             return at_row(row, "low and high are swapped", "low", write), changed
-        if least > most:
+        column, cause = ten_times_off(number, least, most)
+        if least > most and not column:
             inner = sorted((least, number, most))
             order = "in order they are {1} with low {0} and high {2}".format(*map(written, inner))
             fault = at_row(row, f"low {low} is above high {high}; {order}", "low")
@@ -326,6 +327,8 @@ class NumberFaults(PercentFaults):
             bounds = listed([written(EXACT.multiply(number, bound)) for bound in (least, most)], "and")
             cause = f"low and high are bounds, and no factors of the value; of these they are {bounds}"
             fault = at_row(row, cause, "low")
+        elif column:
+            fault = at_row(row, cause, column)
         else:
             side, bound = ("low", "above") if least > number else ("high", "below")
             advice = way_to_bounds(number, least, most)
@@ -378,6 +381,22 @@ def year_between(row):
     if not (first.isdecimal() and last.isdecimal()) or int(last) - int(first) != 2:
         return None
     return str(int(first) + 1)
+
+
+def ten_times_off(number, least, most):
+    """The column of the one figure of three that looks ten times too big or too small, since they are in order
+    and near each other once its point has moved, and what is said of it; or nothing twice.
+    """
+    found, figures = [], {"value": number, "low": least, "high": most}
+    for column, figure in figures.items():
+        others = listed([f"{name} {written(other)}" for name, other in figures.items() if name != column], "and")
+        for power, size in ((-1, "big"), (1, "small")):
+            meant = {**figures, column: figure.scaleb(power)}
+            value, low, high = meant.values()
+            if 0 < low <= value <= high <= 3 * low and low < high:
+                cause = f"looks ten times too {size} beside {others}; is it {written(meant[column])}?"
+                found.append((column, cause))
+    return found[0] if len(found) == 1 else ("", "")
 
 
 def way_to_bounds(number, least, most):
