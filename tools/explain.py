@@ -227,8 +227,9 @@ class Explainer(WordFaults, NumberFaults, Shifts):
         return at_row(row, f"{cause}; to change it use correct, else {other}"), None
 
     def not_dragged_on(self, row, entered, cause):
-        """A second figure that one file has of a year, where the next year lacks: that is the one meant. Where
-        another year lacks, one of the two may be of that. Else None.
+        """A second figure that one file has of a year, where the next year lacks: that is the one meant.
+
+        Where another year lacks, one of the two may be of that. Else None.
         """
         lacking = self.years_lacking(row) if entered and entered.sheet is row.sheet else []
         meant = {"between the rows beside it is": year_between(row), "no row is of": self.year_behind(row)}

@@ -9,6 +9,14 @@ from tools.faults import counted, warn
 OF_FUELS = {"net calorific value": (1, 150), "carbon content of fuel": (5, 100)}
 # What CO2 of fuels burnt is in kg/TJ.
 CO2_OF_FUELS = (20000, 300000)
+# The ratios that are no share of anything, by equation: corrections, emission factors of metals, biomass below
+# ground to that above, and scales of rice, soils and wastewater. None is near this.
+NO_SHARES = {
+    "Q32": {"CF"}, "Q33": {"CF"}, "Q40": {"EFB", "EFE", "EFO"}, "Q41": {"EFP", "EFS"},
+    "Q76": {"SFW", "SFP", "SFO", "SFS"}, "Q78": {"R"}, "Q79": {"R"}, "Q80": {"R"}, "Q81": {"R"}, "Q82": {"R"},
+    "Q85": {"FLU", "FMG", "FI"}, "Q99": {"I"}, "Q102": {"FNON", "FIND"},
+}
+MOST_OF_NO_SHARE = 10
 # The changes of stocks of the reference approach have a sign.
 SIGNED = {"SC"}
 
@@ -50,16 +58,28 @@ def odd_records(book, is_odd):
 
 
 def ratios(book):
-    """Ratios outside 0 to 1: once for each name."""
+    """Ratios outside 0 to 1, or beyond what those may be that are no shares: once for each name."""
+    taken = book.taken()
+
+    def most(row):
+        bound = taken.get((row.field("kind"), row.field("name")), [])
+        return MOST_OF_NO_SHARE if any(is_no_share(book, binding) for binding in bound) else 1
+
     def is_odd(row, measures):
-        return measures == "ratio" and any(not 0 <= figure <= 1 for figure in figures(row))
+        return measures == "ratio" and any(not 0 <= figure <= most(row) for figure in figures(row))
 
     for kind, name, row, others in odd_records(book, is_odd):
         low, high = row.field("low"), row.field("high")
         bounds = f" ({low} to {high})" if low else ""
         more = f", and {others} more of its records" if others else ""
         figure = f"{row.field('value')}{bounds} {row.field('unit')}"
-        yield warn(row, f"{kind} {name} is a ratio outside 0 to 1: {figure}{more}")
+        yield warn(row, f"{kind} {name} is a ratio outside 0 to {most(row)}: {figure}{more}")
+
+
+def is_no_share(book, bound):
+    """Tells whether a binding is of a ratio that may be above 1."""
+    line = book.lines.get(bound.field("subject"))
+    return bool(line) and bound.field("name") in NO_SHARES.get(line.field("value"), ())
 
 
 def negatives(book):

@@ -384,18 +384,18 @@ def year_between(row):
 
 
 def ten_times_off(number, least, most):
-    """The column of the one figure of three that looks ten times too big or too small, since they are in order
-    and near each other once its point has moved, and what is said of it; or nothing twice.
+    """The column of the one figure of three that looks ten times too big or too small, since they are in
+    order and near each other once its point has moved, and what is said of it; or nothing twice.
     """
     found, figures = [], {"value": number, "low": least, "high": most}
     for column, figure in figures.items():
-        others = listed([f"{name} {written(other)}" for name, other in figures.items() if name != column], "and")
+        others = [f"{name} {written(other)}" for name, other in figures.items() if name != column]
         for power, size in ((-1, "big"), (1, "small")):
             meant = {**figures, column: figure.scaleb(power)}
             value, low, high = meant.values()
             if 0 < low <= value <= high <= 3 * low and low < high:
-                cause = f"looks ten times too {size} beside {others}; is it {written(meant[column])}?"
-                found.append((column, cause))
+                cause = f"looks ten times too {size} beside {listed(others, 'and')}"
+                found.append((column, f"{cause}; is it {written(meant[column])}?"))
     return found[0] if len(found) == 1 else ("", "")
 
 
