@@ -72,10 +72,10 @@ class Explainer(WordFaults, NumberFaults, Shifts):
         return at_row(row, cause), self.of_ten(row, noted) or (of_rest(row, noted) if fields[8] else None)
 
     def of_other_marks(self, row, cause):
-        """Semicolons or tabs between the fields, or None. Commas among them are those of numbers."""
+        """Semicolons or tabs between the fields, or None. A comma behind them is one of a number."""
         text = row.raw.decode("utf-8", "replace")
         for mark, marks in ((";", "semicolons"), ("\t", "tabs")):
-            if text.count(mark) > max(len(COLUMNS) // 2, text.count(",")):
+            if row.fields[0].count(mark) >= COLUMNS.index("value"):
                 fields = text.split(mark)
                 fields += [""] * (len(COLUMNS) - len(fields))
                 changed = self.of_ten(row, fields)
