@@ -4,7 +4,7 @@ use Rattle.std.proofs.lemmas.Int.{ints}
 use Rattle.std.specs.List.{list_all, list_any}
 use Rattle.std.specs.Option.{option_map_or}
 use Rattle.ghg_categories.specs.declared.category.Category.{Category}
-use Rattle.ghg_categories.specs.declared.category.Category.TheVariants.{National, C1, C2, C3, C3A, C3C, C3D, C4, C5, MB, MC, RA}
+use Rattle.ghg_categories.specs.declared.category.Category.TheVariants.{National, C1, C2, C3A, C3C, C3D, C4, C5, MB, MC, RA}
 use Rattle.ghg_categories.specs.Laws.{IsUnder, itself, by_parent}
 use Rattle.ghg_categories.specs.Tree.{is_same, parent_of, stands_under, tree}
 use Rattle.ghg_categories.proofs.Levels.{level, level-parent}
@@ -15,7 +15,7 @@ use Rattle.ghg_cell.specs.Values.{zero}
 use Rattle.ghg_interval.specs.Bounds.{Bounds, sum}
 use Rattle.ghg_definitions.specs.Compilation.{counts_in_gross, is_in_tree}
 use Rattle.ghg_definitions.specs.Listed.{IsListed}
-use Rattle.ghg_affected.specs.Subtotals.{children, gross_parts}
+use Rattle.ghg_affected.specs.Subtotals.{children, gross_parts, is_above_parts}
 use Rattle.ghg_definitions.proofs.Alike.{first_so, second_so}
 use Rattle.ghg_definitions.proofs.Depth.{or_else}
 use Rattle.ghg_definitions.proofs.Listed.{from_any, from_filter, from_map, listed, listed_filter}
@@ -265,21 +265,18 @@ alone_true (true ∷ bs) v e = ap (plus v)
     (none_true bs v (never_so _ (λ so. true_not_false (sym e ∙ ap not so)))) ∙ plus_zero v
 alone_true (false ∷ bs) v e = ap (plus zero) (alone_true bs v e) ∙ zero_plus _
 
-is_above : Category → Bool
-is_above k = is_same k National || is_same k C3
-
 -- whether it is above the parts, and whether it stands under each of them
 places_of : Category → List Bool
-places_of k = is_above k ∷ stands_under k C1 ∷ stands_under k C2 ∷ stands_under k C3A ∷ stands_under k C3C ∷
+places_of k = is_above_parts k ∷ stands_under k C1 ∷ stands_under k C2 ∷ stands_under k C3A ∷ stands_under k C3C ∷
     stands_under k C3D ∷ stands_under k C4 ∷ stands_under k C5 ∷ []
 
 one_place : (k : Category) → alone (places_of k) ≡ true
-unfolding alone places_of is_above stands_under
+unfolding alone places_of stands_under
 one_place National = refl
 one_place _ = refl
 
 counted_place : (k : Category) → list_any (λ b. b) (places_of k) ≡ counts_in_gross k
-unfolding places_of is_above stands_under
+unfolding places_of stands_under
 counted_place National = refl
 counted_place _ = refl
 
@@ -308,12 +305,12 @@ part_in_tree c i = all_in_tree gross_parts refl c i
     all_in_tree (d ∷ cs) e c (inl is) = ap is_in_tree is ∙ first_so (is_in_tree d) _ e
     all_in_tree (d ∷ cs) e c (inr i) = all_in_tree cs (second_so (is_in_tree d) _ e) c i
 
-pub gross_split : IsSplit gross_parts counts_in_gross (λ k. is_same k National || is_same k C3)
-unfolding places_of is_above plus
+pub gross_split : IsSplit gross_parts counts_in_gross is_above_parts
+unfolding places_of plus
 gross_split = record {
   counts = λ k v. plus_turned (sum_all (map (λ c. where_so (stands_under k c) v) gross_parts))
-      (where_so (is_above k) v) ∙ alone_true (places_of k) v (one_place k)
+      (where_so (is_above_parts k) v) ∙ alone_true (places_of k) v (one_place k)
       ∙ ap (λ b. where_so b v) (counted_place k);
-  among = λ k e. some_place k gross_parts (is_same k National || is_same k C3) (counted_place k ∙ e);
+  among = λ k e. some_place k gross_parts (is_above_parts k) (counted_place k ∙ e);
   in_tree = part_in_tree;
 }

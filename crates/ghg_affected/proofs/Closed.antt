@@ -30,6 +30,7 @@ use Rattle.ghg_definitions.proofs.Alike.{both, first_so, second_so}
 use Rattle.ghg_definitions.proofs.Listed.{from_filter, from_flat, from_map, listed}
 use Rattle.ghg_definitions.proofs.NodeLists.{emitting}
 use Rattle.ghg_definitions.proofs.Rings.{all_listed, binding_sound, present}
+use Rattle.ghg_affected.specs.Closed.{InputsAreNodes}
 
 -- ---- the lines that a binding names
 
@@ -150,7 +151,7 @@ module _ (m : Data) (is : IsWorkbook m) where
       let emitted = from_filter (emits m) from.0 (line_names m) passes.0 in
       subst (λ j. is_node m j ≡ true) (sym from.2) (both _ _ emitted.1 in_span)
 
-  pub closed : (k n : Node) → IsInput (sheet_of m) k n → is_node m k ≡ true
+  closed : (k n : Node) → IsInput (sheet_of m) k n → is_node m k ≡ true
   closed k (node.Line name year) i =
       line_is name year (second_so (is_some (line m name)) _ i.node) (line m name) k (listed _ k i.among)
   closed k (node.Equiv name year) i = elim (listed (node.Line name year ∷ []) k i.among) [
@@ -161,3 +162,6 @@ module _ (m : Data) (is : IsWorkbook m) where
   closed k (node.Total c year) i =
       sum_is (λ d. stands_under d c) year (second_so _ _ i.node) k (listed _ k i.among)
   closed k (node.Gross year) i = sum_is counts_in_gross year i.node k (listed _ k i.among)
+
+pub inputs_are_nodes : InputsAreNodes
+inputs_are_nodes m is k n i = closed m is k n i

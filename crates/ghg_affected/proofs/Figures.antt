@@ -1,6 +1,5 @@
 -- Data that differ in figures alone have the same nodes with the same inputs.
-use Rattle.std.proofs.Common.{◌≡◌, inl, inr, ℕ, Bool, true, false, ◌&&◌, List, [], ◌∷◌, ◌++◌, map, flat_map, is_some, Option, Some, None, refl, sym, ap, ap₂, ◌∙◌, subst}
-use Rattle.std.specs.FinMap.{get}
+use Rattle.std.proofs.Common.{◌≡◌, ℕ, Bool, false, List, [], ◌∷◌, ◌++◌, map, flat_map, is_some, Option, Some, None, refl, sym, ap, ap₂, ◌∙◌, subst}
 use Rattle.ghg_categories.specs.declared.category.Category.{Category}
 use Rattle.ghg_categories.specs.Tree.{stands_under}
 use Rattle.ghg_equations.specs.declared.eq_id.EqId.{EqId}
@@ -15,19 +14,12 @@ use Rattle.ghg_definitions.specs.Compilation.{bound_to, counts_in_gross, first_y
 use Rattle.ghg_definitions.specs.Data.{Data, Name, as_binding, as_line, as_span, binding, line, line_names, span}
 use Rattle.ghg_definitions.specs.Formulas.{inputs, nodes_in}
 use Rattle.ghg_definitions.specs.Rings.{IsAcyclic, IsRing, Leads, Takes, TakesBinding}
-use Rattle.ghg_definitions.specs.Trials.{IsInput}
-use Rattle.ghg_definitions.proofs.Alike.{first_so, second_so}
-use Rattle.ghg_definitions.proofs.Depth.{or_else}
-use Rattle.ghg_affected.specs.Affected.{IsAffected}
-use Rattle.ghg_affected.specs.Dependence.{Reads, StandsBy}
+use Rattle.ghg_affected.specs.Dependence.{StandsBy}
 use Rattle.ghg_affected.specs.Figures.{DifferInFigures, NodesStayInPlace, is_figure_key}
-use Rattle.ghg_affected.specs.Marks.{DifferAt}
-use Rattle.ghg_affected.proofs.Bools.{true_not_false}
 use Rattle.ghg_affected.proofs.Dependence.{emitters_at, emitters_same, same_names, stands_same}
-use Rattle.ghg_affected.proofs.Marks.{affected_nodes_are_marked}
 
 -- a node is there by no figure
-stands_by_none : (n : Node) (k : RecordKey) → StandsBy n k → is_figure_key k ≡ false
+pub stands_by_none : (n : Node) (k : RecordKey) → StandsBy n k → is_figure_key k ≡ false
 stands_by_none n key.Span h = refl
 stands_by_none n (key.Line name) h = refl
 stands_by_none n (key.Bind name parameter) h = refl
@@ -99,9 +91,12 @@ module _ (old new : Data) (differ : DifferInFigures old new) where
 
   -- ---- rings
 
-  takes_before : (k name : Name) → Takes new k name → Takes old k name
+  pub same_line : (name : Name) → line old name ≡ line new name
+  same_line name = ap as_line (differ.others (key.Line name) refl)
+
+  pub takes_before : (k name : Name) → Takes new k name → Takes old k name
   takes_before k name t = record {
-    present = ap (λ o. is_some (as_line o)) (differ.others (key.Line k) refl) ∙ t.present;
+    present = ap is_some (same_line k) ∙ t.present;
     parameter = t.parameter;
     bound = subst (λ o. TakesBinding (as_binding o) name)
         (sym (differ.others (key.Bind k t.parameter) refl)) t.bound;
@@ -118,31 +113,6 @@ module _ (old new : Data) (differ : DifferInFigures old new) where
 
   pub stays_acyclic : IsAcyclic old → IsAcyclic new
   stays_acyclic acyclic names h = acyclic names (ring_before names h)
-
-  -- ---- marks
-
-  -- it is enough that marks hold what reads an edited figure
-  pub marks_reach_affected : (edited : RecordKey → Bool)
-      → ((k : RecordKey) → edited k ≡ false → get old k ≡ get new k)
-      → (marked : Node → Bool)
-      → ((n : Node) (k : RecordKey) → is_node new n ≡ true → edited k ≡ true → is_figure_key k ≡ true
-      → Reads new n k → marked n ≡ true)
-      → ((k n : Node) → marked k ≡ true → IsInput (sheet_of new) k n → marked n ≡ true)
-      → (n : Node) → IsAffected old new n → marked n ≡ true
-  marks_reach_affected edited kept marked reached onward =
-      affected_nodes_are_marked old new (λ k. edited k && is_figure_key k) differ_at marked (record {
-        reached = λ n is k on touches. elim touches [
-          | inl reads ↦ reached n k is (first_so (edited k) _ on) (second_so (edited k) _ on) reads
-          | inr stands ↦ absurd (true_not_false (sym (second_so (edited k) _ on) ∙ stands_by_none n k stands))
-        ];
-        onward = λ k n i on. onward k n on i;
-      })
-    where
-      differ_at : DifferAt (λ k. edited k && is_figure_key k) old new
-      differ_at k off = elim (or_else (edited k)) [
-        | inl on ↦ differ.others k (subst (λ b. b && is_figure_key k ≡ false) on off)
-        | inr same ↦ kept k same
-      ]
 
 pub nodes_stay_in_place : NodesStayInPlace
 nodes_stay_in_place old new differ n = record {

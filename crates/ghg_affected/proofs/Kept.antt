@@ -16,7 +16,7 @@ use Rattle.ghg_affected.proofs.Affected.{affected_or_not, itself, through, uncha
 use Rattle.ghg_definitions.proofs.Agreement.{formula_agrees}
 use Rattle.ghg_definitions.proofs.Alike.{first_so}
 use Rattle.ghg_affected.proofs.Bools.{true_not_false}
-use Rattle.ghg_affected.proofs.Closed.{closed}
+use Rattle.ghg_affected.proofs.Closed.{inputs_are_nodes}
 use Rattle.ghg_definitions.proofs.Depth.{or_else}
 use Rattle.ghg_definitions.proofs.Grounded.{acyclic_grounded}
 use Rattle.ghg_definitions.proofs.Least.{least_found, none_found}
@@ -42,7 +42,7 @@ module _ (old new : Data) (is : IsWorkbook new) (before : IsAcyclic old) (after 
             ∙ ap Some (formula_agrees (given new) (λ k. or_blank (compilation old k))
             (λ k. or_blank (compilation new k)) (formula new (first_year (span new)) n)
             (λ k i. let input : IsInput (sheet_of new) k n = record { node = node; among = i } in
-            ap or_blank (keeps_from k (below k input) (closed new is k n input)
+            ap or_blank (keeps_from k (below k input) (inputs_are_nodes new is k n input)
             (λ a. free (through old new k n a input))).1))
             ∙ sym ((compilation_trial new after).by_formula n node),
       )

@@ -8,5 +8,4 @@ pub mod Once
 pub mod Children
 pub mod Subtotals
 pub mod Dependence
-pub mod Marks
 pub mod Figures

@@ -1,9 +1,8 @@
 -- The total of a category is the sum of its subtotals.
-use Rattle.std.proofs.Common.{◌≡◌, inl, inr, ℕ, Bool, true, false, cond, ◌||◌, List, [], ◌∷◌, ◌++◌, map, filter, Contains, Option, Some, None, Result, Ok, Err, refl, sym, ap, ap₂, ◌∙◌, subst}
-use Rattle.std.specs.List.{cons_option, filter_map}
+use Rattle.std.proofs.Common.{◌≡◌, inl, inr, ℕ, Bool, true, false, cond, not, ◌&&◌, List, [], ◌∷◌, ◌++◌, map, filter, Contains, Option, Some, None, Result, Ok, Err, refl, sym, ap, ap₂, ◌∙◌, subst}
+use Rattle.std.specs.List.{cons_option, filter_map, list_any}
 use Rattle.std.specs.Option.{option_map_or}
 use Rattle.ghg_categories.specs.declared.category.Category.{Category}
-use Rattle.ghg_categories.specs.declared.category.Category.TheVariants.{National, C3}
 use Rattle.ghg_categories.specs.Tree.{is_same, stands_under}
 use Rattle.ghg_cell.specs.declared.figures.Figures.{Figures}
 use Rattle.ghg_cell.specs.declared.input.Input.{Input}
@@ -18,11 +17,12 @@ use Rattle.ghg_definitions.specs.Data.{Data, Name, category, span}
 use Rattle.ghg_definitions.specs.Formulas.{Outcome, gather}
 use Rattle.ghg_definitions.specs.Listed.{IsListed}
 use Rattle.ghg_definitions.specs.Rings.{IsAcyclic}
-use Rattle.ghg_affected.specs.Subtotals.{GrossTotalsAreOfSubtotals, TotalsAreOfSubtotals, children, gross_parts}
+use Rattle.ghg_affected.specs.Subtotals.{TotalsAreOfSubtotals, children, gross_parts, is_above_parts}
 use Rattle.ghg_definitions.specs.Trials.{is_over, or_blank}
 use Rattle.ghg_definitions.proofs.Alike.{both, second_so}
+use Rattle.ghg_affected.proofs.Bools.{never_so, true_not_false}
 use Rattle.ghg_affected.proofs.Children.{IsSplit, changed_places, counts_nowhere, gross_split, plus, sum_append, sum_each, tree_split, where_so, zero_plus}
-use Rattle.ghg_definitions.proofs.Listed.{contained, from_filter, listed_filter, listed_left, listed_map, listed_right, from_map, map_agree}
+use Rattle.ghg_definitions.proofs.Listed.{contained, from_any, from_filter, from_map, listed_filter, listed_left, listed_map, listed_right, map_agree}
 use Rattle.ghg_definitions.proofs.OneTrial.{compilation_trial}
 
 -- ---- what outcomes give
@@ -188,6 +188,15 @@ module _ (m : Data) (acyclic : IsAcyclic m) (year : ℕ) where
       by (Some (Ok x)) f = refl
       by (Some (Err e)) f = f
 
+  at_fits : (k : Node) → Fits (at k) → is_over (compilation m k) ≡ false
+  unfolding at
+  at_fits k h = by (compilation m k) h
+    where
+      by : (o : Option Outcome) → is_over (Some (or_blank o)) ≡ false → is_over o ≡ false
+      by None f = refl
+      by (Some (Ok x)) f = refl
+      by (Some (Err e)) f = f
+
   map_twice : {A B C : Type 0} (f : A → B) (g : B → C) (xs : List A)
       → map g (map f xs) ≡ map (λ x. g (f x)) xs
   map_twice f g [] = refl
@@ -289,6 +298,23 @@ module _ (m : Data) (acyclic : IsAcyclic m) (year : ℕ) where
           | inr on ↦ (child_total on.0 on.1).0 name (listed_at (λ k. stands_under k on.0) k e on.2)
         ]
 
+    -- so none of the equivalents that are added up is over
+    none_over : list_any (λ k. is_over (compilation m k)) (map (λ name. node.Equiv name year) all) ≡ false
+    none_over = never_so _ (λ e.
+        let found = from_any (λ k. is_over (compilation m k)) (map (λ name. node.Equiv name year) all) e in
+        let from = from_map (λ name. node.Equiv name year) found.0 all found.1 in
+        true_not_false (sym found.2 ∙ ap (λ k. is_over (compilation m k)) from.2
+        ∙ at_fits (node.Equiv from.0 year) (line_fits from.0 from.1)))
+
+    over_alone : (n : Node) → is_over (compilation m n)
+        && not (list_any (λ k. is_over (compilation m k)) (map (λ name. node.Equiv name year) all))
+        ≡ is_over (compilation m n)
+    over_alone n = ap (λ b. is_over (compilation m n) && not b) none_over ∙ and_true (is_over (compilation m n))
+      where
+        and_true : (b : Bool) → (b && true) ≡ b
+        and_true true = refl
+        and_true false = refl
+
     outcome_fits : (o : Outcome) → IsListed o (outcomes all) → Fits o
     unfolding outcomes
     outcome_fits o i =
@@ -336,14 +362,19 @@ module _ (m : Data) (acyclic : IsAcyclic m) (year : ℕ) where
 
 pub totals_are_of_subtotals : TotalsAreOfSubtotals
 unfolding at own all under outcomes totals equivalents
-totals_are_of_subtotals m acyclic top year is fit =
-    total_is m acyclic year top is
-    ∙ ap Some (of_parts m acyclic year (children top) (λ k. stands_under k top) (λ k. is_same k top)
-    (tree_split top) (second_so (is_in_tree top) _ is) fit)
-
-pub gross_totals_are_of_subtotals : GrossTotalsAreOfSubtotals
-unfolding at own all under outcomes totals equivalents
-gross_totals_are_of_subtotals m acyclic year is fit =
-    (compilation_trial m acyclic).by_formula (node.Gross year) is
-    ∙ ap Some (of_parts m acyclic year gross_parts counts_in_gross (λ k. is_same k National || is_same k C3)
-    gross_split is fit)
+totals_are_of_subtotals m acyclic (node.Line name year) sums is fit = absurd (true_not_false (sym sums))
+totals_are_of_subtotals m acyclic (node.Equiv name year) sums is fit = absurd (true_not_false (sym sums))
+totals_are_of_subtotals m acyclic (node.Total top year) sums is fit =
+    let in_span = second_so (is_in_tree top) _ is in
+    let split = tree_split top in record {
+      sum = total_is m acyclic year top is
+          ∙ ap Some (of_parts m acyclic year (children top) (λ k. stands_under k top) (λ k. is_same k top) split in_span fit);
+      breaks_where_over = over_alone m acyclic year (children top) (λ k. stands_under k top) (λ k. is_same k top)
+          split in_span fit (node.Total top year);
+    }
+totals_are_of_subtotals m acyclic (node.Gross year) sums is fit = record {
+  sum = (compilation_trial m acyclic).by_formula (node.Gross year) is
+      ∙ ap Some (of_parts m acyclic year gross_parts counts_in_gross is_above_parts gross_split is fit);
+  breaks_where_over = over_alone m acyclic year gross_parts counts_in_gross is_above_parts gross_split is fit
+      (node.Gross year);
+}

@@ -1,8 +1,8 @@
 pub mod Equalities
 pub mod Affected
+pub mod Closed
 pub mod Patches
 pub mod Counts
 pub mod Subtotals
 pub mod Dependence
-pub mod Marks
 pub mod Figures

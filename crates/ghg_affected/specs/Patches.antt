@@ -1,16 +1,16 @@
 -- What is said of affected nodes, and of outcomes of which these alone are evaluated anew.
-use Rattle.std.specs.Prelude.{◌≡◌, ⊤, Bool, true, false, not, ◌&&◌, fold, filter, if◌then◌else◌, List, [], ◌∷◌, Option, Some, None}
-use Rattle.std.specs.List.{Contains, list_any}
+use Rattle.std.specs.Prelude.{◌≡◌, ⊤, true, false, fold, filter, if◌then◌else◌, List, [], ◌∷◌, Option, Some, None}
+use Rattle.std.specs.List.{Contains}
 use Rattle.ghg_units.specs.declared.node.Node.{Node}
 use Rattle.ghg_affected.specs.Affected.{IsAffected, affected_nodes}
 use Rattle.ghg_definitions.specs.Compilation.{compilation, is_node, overflow, sheet_of}
 use Rattle.ghg_definitions.specs.Data.{Data}
 use Rattle.ghg_affected.specs.Equalities.{same_node}
-use Rattle.ghg_definitions.specs.Formulas.{Outcome, inputs, map_formula, outcome_of}
-use Rattle.ghg_definitions.specs.Nodes.{least_node, lesser_node}
+use Rattle.ghg_definitions.specs.Formulas.{Outcome, map_formula, outcome_of}
+use Rattle.ghg_definitions.specs.Nodes.{least_node}
 use Rattle.ghg_definitions.specs.Rings.{IsAcyclic}
 use Rattle.ghg_definitions.specs.Sound.{IsWorkbook}
-use Rattle.ghg_definitions.specs.Trials.{IsInput, Outcomes, Sheet, breaks, is_over, or_blank}
+use Rattle.ghg_definitions.specs.Trials.{IsInput, Outcomes, Sheet, breaks, or_blank}
 
 -- The affected nodes that are listed are all of them, and no other is listed.
 abbrev pub AffectedNodesAreListed : Type 0
@@ -46,12 +46,15 @@ IsInTurn sheet [] = ⊤
 IsInTurn sheet (n ∷ ns) =
     (sheet.is_node n ≡ true) × ((k : Node) → IsInput sheet k n → Contains (n ∷ ns) k → ⊥) × IsInTurn sheet ns
 
+-- the outcomes are the others but at the nodes of the list
+abbrev pub AgreeBut : Outcomes → List Node → Outcomes → Type 0
+AgreeBut others ns outcomes = (n : Node) → (Contains ns n → ⊥) → outcomes n ≡ others n
+
 -- Outcomes that are those of the compilation but at the nodes of a list become the compilation once these are
 -- evaluated in turn.
 abbrev pub RestIsEvaluated : Type 0
-RestIsEvaluated = (m : Data) → IsAcyclic m →
-    (ns : List Node) → IsInTurn (sheet_of m) ns →
-    (outcomes : Outcomes) → ((n : Node) → (Contains ns n → ⊥) → outcomes n ≡ compilation m n) →
+RestIsEvaluated = (m : Data) → IsAcyclic m → (ns : List Node) → IsInTurn (sheet_of m) ns →
+    (outcomes : Outcomes) → AgreeBut (compilation m) ns outcomes →
     fold (evaluated (sheet_of m)) outcomes ns ≡ compilation m
 
 -- ---- evaluation of the affected nodes
@@ -72,13 +75,6 @@ PatchesAreCompilations = (old new : Data) → IsWorkbook new → IsAcyclic old �
     (ns : List Node) → IsPatch old new ns → (outcomes : Outcomes) → IsKept old new ns outcomes →
     fold (evaluated (sheet_of new)) outcomes ns ≡ compilation new
 
--- Of a list of all nodes of the new data in turn, what passes a test that all affected nodes pass is a patch.
-abbrev pub PartsArePatches : Type 0
-PartsArePatches = (old new : Data) →
-    (ns : List Node) → IsInTurn (sheet_of new) ns → ((n : Node) → is_node new n ≡ true → Contains ns n) →
-    (passes : Node → Bool) → ((n : Node) → IsAffected old new n → passes n ≡ true) →
-    IsPatch old new (filter passes ns)
-
 -- ---- what breaks
 
 -- Where nothing was over, each node that breaks is affected.
@@ -87,37 +83,13 @@ BreaksAreAffected = (old new : Data) →
     IsWorkbook new → IsAcyclic old → IsAcyclic new → overflow old ≡ None →
     (n : Node) → breaks (sheet_of new) (compilation new) n ≡ true → IsAffected old new n
 
+-- the least node of the list that breaks
+abbrev pub least_break : Data → List Node → Option Node
+least_break m ns = least_node (filter (breaks (sheet_of m) (compilation m)) ns)
+
 -- So the node that is named is the least that breaks of any list of nodes with all affected ones.
 abbrev pub OverflowsAreInPatches : Type 0
 OverflowsAreInPatches = (old new : Data) →
     IsWorkbook new → IsAcyclic old → IsAcyclic new → overflow old ≡ None →
     (ns : List Node) → ((n : Node) → IsAffected old new n → Contains ns n) →
-    overflow new ≡ least_node (filter (breaks (sheet_of new) (compilation new)) ns)
-
--- ---- the two at once
-
--- the node's outcome is over the outcomes over, and that of none of its inputs is
-abbrev pub breaks_over : {Source : Type 0} → Sheet Source → Outcomes → Node → Bool
-breaks_over sheet outcomes n =
-    is_over (Some (outcome_over sheet outcomes n))
-    && not (list_any (λ k. is_over (outcomes k)) (inputs (sheet.formula n)))
-
--- outcomes, and the least node that broke on the way to them
-pub record Progress : Type 0 where
-  pub outcomes : Outcomes
-  pub least : Option Node
-
-abbrev pub one_further : {Source : Type 0} → Sheet Source → Progress → Node → Progress
-one_further sheet p n = record {
-  outcomes = evaluated sheet p.outcomes n;
-  least = if breaks_over sheet p.outcomes n then Some (lesser_node n p.least) else p.least;
-}
-
--- The affected nodes alone, evaluated in turn over the old outcomes, of which none is over, give the
--- compilation of the new data and the least node that breaks in it.
-abbrev pub PatchesFindOverflows : Type 0
-PatchesFindOverflows = (old new : Data) →
-    IsWorkbook new → IsAcyclic old → IsAcyclic new → overflow old ≡ None →
-    (ns : List Node) → IsPatch old new ns → (outcomes : Outcomes) → IsKept old new ns outcomes →
-    fold (one_further (sheet_of new)) (record { outcomes = outcomes; least = None }) ns
-    ≡ record { outcomes = compilation new; least = overflow new }
+    overflow new ≡ least_break new ns

@@ -1,5 +1,5 @@
 -- What is known of a proposal or of a refusal leads to more.
-use Rattle.std.proofs.Common.{List, Result, Ok, Err}
+use Rattle.std.proofs.Common.{List, Result, Ok, Err, IfOk}
 use Rattle.std.specs.Prelude.{MatchResult}
 use Rattle.ghg_units.specs.declared.node.Node.{Node}
 use Rattle.ghg_definitions.specs.Containment.{HoldsExactValues}
@@ -10,6 +10,10 @@ use Rattle.ghg_engine.specs.declared.proposal.Made.TheVariants as made
 use Rattle.ghg_engine.specs.declared.refusal.EngineRefusal.{EngineRefusal}
 use Rattle.ghg_engine.specs.declared.refusal.EngineRefusal.TheVariants as refusal
 use Rattle.ghg_engine.specs.Proposals.{IfOverflow, IsMade}
+
+pub if_ok : {A E : Type 0} {P Q : A → Type 0} (r : Result A E) → ((x : A) → P x → Q x) → IfOk r P → IfOk r Q
+if_ok (Ok x) h p = h x p
+if_ok (Err e) h p = p
 
 pub if_over : (P Q : Node → Type 0) → ((n : Node) → P n → Q n) → (r : EngineRefusal) → IfOverflow P r → IfOverflow Q r
 if_over P Q f (refusal.Overflow n) h = f n h

@@ -1,27 +1,25 @@
 -- What an evaluation of nodes in turn has at its end is the compilation, or the node that is over.
-use Rattle.std.proofs.Common.{◌≡◌, List, [], Some, None, sym, ap, ◌∙◌, subst}
+use Rattle.std.proofs.Common.{◌≡◌, inl, inr, List, Some, None, sym, ap, ◌∙◌, subst}
 use Rattle.std.proofs.Math.Path.{fun_ext}
-use Rattle.std.specs.FinMap.{empty, get, get-empty}
+use Rattle.std.specs.FinMap.{empty}
 use Rattle.ghg_units.specs.declared.node.Node.{Node}
-use Rattle.ghg_affected.specs.Patches.{IsKept, IsPatch}
+use Rattle.ghg_affected.specs.Patches.{AgreeBut, least_break}
 use Rattle.ghg_affected.proofs.Affected.{affected_is_node}
-use Rattle.ghg_affected.proofs.Patched.{patches_find_overflows}
+use Rattle.ghg_affected.proofs.Kept.{overflows_are_in_patches}
 use Rattle.ghg_definitions.specs.declared.record.Record.{Record}
-use Rattle.ghg_definitions.specs.Compilation.{compilation, overflow, sheet_of}
+use Rattle.ghg_definitions.specs.Compilation.{compilation, is_node, overflow}
 use Rattle.ghg_definitions.specs.Data.{Data, key_cmp}
-use Rattle.ghg_definitions.specs.Formulas.{Outcome}
-use Rattle.ghg_definitions.specs.Nodes.{node_cmp}
 use Rattle.ghg_definitions.specs.Rings.{IsAcyclic}
 use Rattle.ghg_definitions.specs.Sound.{IsWorkbook}
 use Rattle.ghg_definitions.specs.Trials.{Outcomes}
+use Rattle.ghg_definitions.proofs.Depth.{or_else}
 use Rattle.ghg_definitions.proofs.Exactness.{compilations_contain}
-use Rattle.ghg_definitions.proofs.OneTrial.{overflows_break}
+use Rattle.ghg_definitions.proofs.OneTrial.{compilation_trial, overflows_break}
 use Rattle.ghg_data.proofs.Empty.{is_acyclic, is_workbook}
-use Rattle.ghg_engine.specs.Cells.{CellsOf, found_in}
-use Rattle.ghg_engine.specs.Evaluation.{IsEvaluatedOver, in_turn_over}
-use Rattle.ghg_engine.specs.Orders.{IsOrder}
+use Rattle.ghg_engine.specs.Cells.{found_in, no_outcomes}
+use Rattle.ghg_engine.specs.Evaluation.{IsEvaluatedOver}
+use Rattle.ghg_graph.specs.NodeOrders.{ListsNodes}
 use Rattle.ghg_engine.specs.Compiled.{IsCompiled}
-use Rattle.ghg_engine.proofs.InOrder.{in_turn}
 use Rattle.ghg_engine.proofs.Nothing.{nothing_found, nothing_over}
 use Rattle.ghg_engine.proofs.Turns.{nothing_kept}
 
@@ -35,40 +33,36 @@ module _ (m : Data) (workbook : IsWorkbook m) (acyclic : IsAcyclic m) where
     contained = compilations_contain m workbook acyclic;
   }
 
-  -- the evaluation of these nodes over the outcomes gives the compilation
-  module _ (outcomes : Outcomes) (ns : List Node) (ends : in_turn_over m outcomes ns ≡ record { outcomes = compilation m; least = overflow m }) where
-    pub ends_compiled : (fresh : CellsOf) → IsEvaluatedOver m outcomes ns fresh → IsCompiled m (found_in fresh outcomes)
-    ends_compiled fresh is = is_compiled (sym (ap (λ p. p.least) ends) ∙ is.none) (found_in fresh outcomes) (sym is.found ∙ ap (λ p. p.outcomes) ends)
+  -- the evaluation of nodes, where the overflow is at the least of them that breaks
+  module _ (outcomes : Outcomes) (ns : List Node) (over : overflow m ≡ least_break m ns) where
+    pub ends_compiled : (fresh : Outcomes) → IsEvaluatedOver m outcomes ns fresh → IsCompiled m (found_in fresh outcomes)
+    ends_compiled fresh is = is_compiled (over ∙ is.none) (found_in fresh outcomes) is.found
 
-    pub ends_over : (n : Node) → (in_turn_over m outcomes ns).least ≡ Some n → overflow m ≡ Some n
-    ends_over n e = sym (ap (λ p. p.least) ends) ∙ e
+    pub ends_over : (n : Node) → least_break m ns ≡ Some n → overflow m ≡ Some n
+    ends_over n e = over ∙ e
 
-  -- so does that of all nodes over none: all are affected where there was no record
-  module _ (ns : List Node) (order : IsOrder (sheet_of m) ns) where
-    patch : IsPatch (empty {X = Record} {R = key_cmp}) m ns
-    patch = record {
-      in_turn = in_turn (sheet_of m) [] ns order.in_order;
-      complete = λ n a. order.complete n (affected_is_node empty m n a);
-    }
+  -- so it is of all nodes: all are affected where there was no record
+  module _ (ns : List Node) (lists : ListsNodes m ns) where
+    pub whole_breaks : overflow m ≡ least_break m ns
+    whole_breaks = overflows_are_in_patches empty m workbook is_acyclic acyclic nothing_over ns
+        (λ n a. lists.complete n (affected_is_node empty m n a))
 
-    kept : IsKept (empty {X = Record} {R = key_cmp}) m ns (get (empty {X = Outcome} {R = node_cmp}))
-    kept = record {
-      kept = λ n node off. absurd (off (order.complete n node));
-      nowhere_else = λ n none. get-empty node_cmp n;
-    }
+    -- nothing is kept, and there is nothing but at the nodes
+    pub whole_kept : (kept_cells : Outcomes) → kept_cells ≡ no_outcomes → AgreeBut (compilation m) ns kept_cells
+    whole_kept kept_cells none n off = ap (λ (c : Outcomes). c n) none ∙ sym (elim (or_else (is_node m n)) [
+      | inl node ↦ absurd (off (lists.complete n node))
+      | inr nowhere ↦ (compilation_trial m acyclic).nowhere_else n nowhere
+    ])
 
-    pub whole_ends : in_turn_over m (get (empty {X = Outcome} {R = node_cmp})) ns ≡ record { outcomes = compilation m; least = overflow m }
-    whole_ends = patches_find_overflows empty m workbook is_acyclic acyclic nothing_over ns patch (get empty) kept
-
-    pub whole_compiled : (kept_cells fresh : CellsOf) → kept_cells ≡ empty → IsEvaluatedOver m (get kept_cells) ns fresh → IsCompiled m (get fresh)
+    pub whole_compiled : (kept_cells fresh : Outcomes) → kept_cells ≡ no_outcomes → IsEvaluatedOver m kept_cells ns fresh → IsCompiled m fresh
     whole_compiled kept_cells fresh none is =
         subst (IsCompiled m) (nothing_kept fresh)
-        (ends_compiled (get empty) ns whole_ends fresh (subst (λ c. IsEvaluatedOver m (get c) ns fresh) none is))
+        (ends_compiled no_outcomes ns whole_breaks fresh (subst (λ c. IsEvaluatedOver m c ns fresh) none is))
 
-    pub whole_over : (kept_cells : CellsOf) → kept_cells ≡ empty → (n : Node) → (in_turn_over m (get kept_cells) ns).least ≡ Some n → overflow m ≡ Some n
-    whole_over kept_cells none n e = ends_over (get empty) ns whole_ends n (subst (λ c. (in_turn_over m (get c) ns).least ≡ Some n) none e)
+    pub whole_over : (n : Node) → least_break m ns ≡ Some n → overflow m ≡ Some n
+    whole_over n e = whole_breaks ∙ e
 
-pub nothing_compiled : (m : Data) (cells : CellsOf) → m ≡ empty → cells ≡ empty → IsCompiled m (get cells)
+pub nothing_compiled : (m : Data) (cells : Outcomes) → m ≡ empty → cells ≡ no_outcomes → IsCompiled m cells
 nothing_compiled m cells e f =
-    subst (λ x. IsCompiled x (get cells)) (sym e) (subst (λ c. IsCompiled (empty {X = Record} {R = key_cmp}) (get c)) (sym f)
-    (is_compiled (empty {X = Record} {R = key_cmp}) is_workbook is_acyclic nothing_over (get empty) (fun_ext (λ n. get-empty node_cmp n ∙ sym (nothing_found n)))))
+    subst (λ x. IsCompiled x cells) (sym e) (subst (λ c. IsCompiled (empty {X = Record} {R = key_cmp}) c) (sym f)
+    (is_compiled (empty {X = Record} {R = key_cmp}) is_workbook is_acyclic nothing_over no_outcomes (fun_ext (λ n. sym (nothing_found n)))))

@@ -7,28 +7,18 @@ use Rattle.std.proofs.lemmas.List.{length-map}
 use Rattle.ghg_categories.specs.declared.category.Category.{Category}
 use Rattle.ghg_units.specs.declared.row.Binding.{Binding}
 use Rattle.ghg_units.specs.declared.row.Binding.TheVariants as bound
-use Rattle.ghg_units.specs.declared.row.Span.{Span}
 use Rattle.ghg_units.specs.declared.rule.Limit.{Limit}
 use Rattle.ghg_units.specs.declared.rule.Limit.TheVariants.{Lines}
-use Rattle.ghg_units.specs.WellFormed.{IsBinding, IsSpan}
+use Rattle.ghg_units.specs.WellFormed.{IsBinding}
 use Rattle.ghg_definitions.specs.declared.record.Record.{Record}
 use Rattle.ghg_definitions.specs.declared.record.Record.TheVariants as entry
 use Rattle.ghg_definitions.specs.declared.record.RecordKey.TheVariants as key
 use Rattle.ghg_definitions.specs.Compilation.{bound_to, emits, gas_lines, gas_lines_at, previous}
-use Rattle.ghg_definitions.specs.Data.{Data, Name, as_binding, as_span, binding, category, line_names, span}
+use Rattle.ghg_definitions.specs.Data.{Data, Name, as_binding, binding, category, line_names}
 use Rattle.ghg_definitions.specs.Formulas.{map_operand, nodes_in}
 use Rattle.ghg_definitions.specs.Lookups.{given}
 use Rattle.ghg_definitions.specs.Rules.{most_lines, passed_limit}
 use Rattle.ghg_definitions.specs.Sound.{IsWorkbook}
-
--- the years of a workbook
-pub span_is : (m : Data) (s : Span) → IsWorkbook m → span m ≡ Some s → IsSpan s
-span_is m s workbook e = by (get m key.Span) refl e
-  where
-    by : (r : Option Record) → get m key.Span ≡ r → as_span r ≡ Some s → IsSpan s
-    by None is e = absurd (cc)
-    by (Some (entry.Span t)) is e = let same : t ≡ s = cc in subst IsSpan same (workbook.records key.Span (entry.Span t) is)
-    by (Some _) is e = absurd (cc)
 
 -- what a parameter is bound to
 pub binding_is : (m : Data) (line parameter : Name) (b : Binding) → IsWorkbook m → binding m line parameter ≡ Some b → IsBinding b

@@ -1,7 +1,7 @@
 -- Outcomes that are gathered, of which one may be over.
-use Rattle.std.proofs.Common.{◌≡◌, ℕ, Bool, true, false, not, ◌&&◌, ◌||◌, List, [], ◌∷◌, ◌++◌, map, flat_map, Option, Some, None, Result, Ok, Err, is_err, refl, sym, ap, ap₂, ◌∙◌, subst, arith, length-append}
+use Rattle.std.proofs.Common.{◌≡◌, ℕ, ◌+◌, ◌<◌, Bool, true, false, not, ◌&&◌, ◌||◌, List, [], ◌∷◌, ◌++◌, length, get_or, take, drop, map, flat_map, Option, Some, None, Result, Ok, Err, is_err, refl, sym, ap, ap₂, ◌∙◌, subst, arith, length-append}
 use Rattle.std.specs.List.{list_any}
-use Rattle.std.proofs.lemmas.List.{map-append}
+use Rattle.std.proofs.lemmas.List.{append-nil, append_assoc, map-append, take-append-drop, take_more}
 use Rattle.std.proofs.lemmas.List.Folds.{list_any-append}
 use Rattle.ghg_cell.specs.declared.input.Input.{Input}
 use Rattle.ghg_cell.specs.Totals.{equation_outcome, summed, sum_input}
@@ -9,14 +9,15 @@ use Rattle.ghg_cell.specs.Values.{then}
 use Rattle.ghg_equations.specs.declared.eq_id.EqId.{EqId}
 use Rattle.ghg_interval.specs.declared.Over.{Over}
 use Rattle.ghg_units.specs.declared.node.Node.{Node}
-use Rattle.ghg_definitions.specs.Data.{Name}
 use Rattle.ghg_definitions.specs.Formulas.{Computed, Formula, Given, Operand, Outcome, Summed, SumOf, ValueOf, gather, inputs, map_formula, map_operand, nodes_in, operand_outcome, outcome_of}
 use Rattle.ghg_definitions.specs.Trials.{Outcomes, Sheet, is_over, or_blank}
 use Rattle.ghg_engine.specs.declared.evaluated.Evaluated.{Evaluated}
-use Rattle.ghg_engine.specs.Evaluation.{IsEvaluatedAt, IsEvaluatedSum}
+use Rattle.ghg_engine.specs.Evaluation.{IsEvaluatedAt, IsEvaluatedSum, IsFittingSum}
 use Rattle.ghg_engine.specs.Cells.{outcome_in}
-use Rattle.ghg_engine.specs.declared.parts.Part.{Part}
-use Rattle.ghg_engine.specs.Parts.{AreParts, node_for, nodes_for}
+use Rattle.ghg_engine.specs.Parts.{AreAdded, AreParts}
+
+false_not_true : ◌≡◌ {A = Bool} false true → ⊥
+false_not_true e = cc
 
 then_ok : {A B : Type 0} (f : A → B) (r : Result A Over) → is_err (then r (λ x. Ok (f x))) ≡ is_err r
 then_ok f (Ok x) = refl
@@ -116,36 +117,78 @@ module _ (cells : Outcomes) where
   abbrev outcomes : List Node → List Outcome
   outcomes ns = map (outcome_in cells) ns
 
-  pub no_parts : AreParts cells [] [] true
+  no_parts : AreParts cells [] [] true
   no_parts = record { gathered = refl; count = λ e. refl }
 
-  pub one_part : (ns : List Node) (n : Node) (parts : List Input) (p : Input) → AreParts cells ns parts true → outcome_in cells n ≡ Ok p → AreParts cells (ns ++ n ∷ []) (parts ++ p ∷ []) true
-  one_part ns n parts p held is = record {
-    gathered = ap gather (map-append (outcome_in cells) ns (n ∷ [])) ∙ gather_more (outcomes ns) parts (outcome_in cells n) held.gathered ∙ ap (λ x. then x (λ q. Ok (parts ++ q ∷ []))) is;
-    count = λ e. simp length-append (omega (arith, held.count refl));
+  -- what is added to none are all
+  pub all_added : (ns : List Node) (before after : List Input) (whole : Bool) → before ≡ []
+      → AreAdded cells ns before after whole → AreParts cells ns after whole
+  all_added ns before after whole none added = added [] (subst (λ ps. AreParts cells [] ps true) (sym none) no_parts)
+
+  pub nothing_added : (before : List Input) → AreAdded cells [] before before true
+  nothing_added before ns are = subst (λ ms. AreParts cells ms before true) (sym (append-nil ns)) are
+
+  -- some, and more behind them
+  pub more_added : (xs ys : List Node) (before between after : List Input) (whole : Bool)
+      → AreAdded cells xs before between true → AreAdded cells ys between after whole
+      → AreAdded cells (xs ++ ys) before after whole
+  more_added xs ys before between after whole first second ns are =
+      subst (λ ms. AreParts cells ms after whole) (append_assoc ns xs ys) (second (ns ++ xs) (first ns are))
+
+  -- one of some is over, whatever follows
+  pub over_added : (xs ys : List Node) (before after others : List Input)
+      → AreAdded cells xs before after false → AreAdded cells (xs ++ ys) before others false
+  over_added xs ys before after others over ns are =
+      subst (λ ms. AreParts cells ms others false) (append_assoc ns xs ys) (record {
+        gathered = ap gather (map-append (outcome_in cells) (ns ++ xs) ys)
+            ∙ gathered_behind (outcomes (ns ++ xs)) (outcomes ys) (record {}) (over ns are).gathered;
+        count = λ e. absurd (false_not_true e);
+      })
+
+  pub one_added : (n : Node) (before : List Input) (p : Input) → outcome_in cells n ≡ Ok p
+      → AreAdded cells (n ∷ []) before (before ++ p ∷ []) true
+  one_added n before p is ns are = record {
+    gathered = ap gather (map-append (outcome_in cells) ns (n ∷ []))
+        ∙ gather_more (outcomes ns) before (outcome_in cells n) are.gathered
+        ∙ ap (λ x. then x (λ q. Ok (before ++ q ∷ []))) is;
+    count = λ e. simp length-append (omega (arith, are.count refl));
   }
 
-  pub part_over : (ns more : List Node) (n : Node) (parts others : List Input) → AreParts cells ns parts true → outcome_in cells n ≡ Err (record {}) → AreParts cells ((ns ++ n ∷ []) ++ more) others false
-  part_over ns more n parts others held is = record {
-    gathered =
-        ap gather (map-append (outcome_in cells) (ns ++ n ∷ []) more ∙ ap (λ xs. xs ++ outcomes more) (map-append (outcome_in cells) ns (n ∷ [])))
-        ∙ gather_stops (outcomes ns) (outcomes more) parts (outcome_in cells n) held.gathered is;
-    count = λ e. absurd (clash e);
+  pub one_over : (n : Node) (before others : List Input) → outcome_in cells n ≡ Err (record {})
+      → AreAdded cells (n ∷ []) before others false
+  one_over n before others is ns are = record {
+    gathered = ap gather (map-append (outcome_in cells) ns (n ∷ []))
+        ∙ gather_more (outcomes ns) before (outcome_in cells n) are.gathered
+        ∙ ap (λ x. then x (λ q. Ok (before ++ q ∷ []))) is;
+    count = λ e. absurd (false_not_true e);
   }
-    where
-      clash : ◌≡◌ {A = Bool} false true → ⊥
-      clash e = cc
 
-  -- the same of the nodes of lines
-  pub one_name : (p : Part) (names : List Name) (name : Name) (year : ℕ) (parts : List Input) (i : Input) → AreParts cells (nodes_for p names year) parts true → outcome_in cells (node_for p name year) ≡ Ok i → AreParts cells (nodes_for p (names ++ name ∷ []) year) (parts ++ i ∷ []) true
-  one_name p names name year parts i held is =
-      subst (λ ns. AreParts cells ns (parts ++ i ∷ []) true) (sym (map-append (λ k. node_for p k year) names (name ∷ []))) (one_part (nodes_for p names year) (node_for p name year) parts i held is)
+  -- ---- of a list that is gone through
 
-  pub name_over : (p : Part) (front back : List Name) (name : Name) (year : ℕ) (parts others : List Input) → AreParts cells (nodes_for p front year) parts true → outcome_in cells (node_for p name year) ≡ Err (record {}) → AreParts cells (nodes_for p ((front ++ name ∷ []) ++ back) year) others false
-  name_over p front back name year parts others held is =
-      subst (λ ns. AreParts cells ns others false)
-      (sym (map-append (λ k. node_for p k year) (front ++ name ∷ []) back ∙ ap (λ ns. ns ++ nodes_for p back year) (map-append (λ k. node_for p k year) front (name ∷ []))))
-      (part_over (nodes_for p front year) (nodes_for p back year) (node_for p name year) parts others held is)
+  module _ {A : Type 0} (to : A → Node) (xs : List A) (i : ℕ) (x : A) (within : i < length xs)
+      (is : x ≡ get_or xs i x) where
+    nodes_more : map to (take i xs) ++ to x ∷ [] ≡ map to (take (i + 1) xs)
+    nodes_more = sym (map-append to (take i xs) (x ∷ []))
+        ∙ ap (map to) (ap (λ y. take i xs ++ y ∷ []) is ∙ sym (take_more xs i x within))
+
+    pub next_added : (n : Node) → n ≡ to x → (before between after : List Input)
+        → AreAdded cells (map to (take i xs)) before between true → AreAdded cells (n ∷ []) between after true
+        → AreAdded cells (map to (take (i + 1) xs)) before after true
+    next_added n same before between after so_far one =
+        subst (λ ms. AreAdded cells ms before after true) (ap (λ k. map to (take i xs) ++ k ∷ []) same ∙ nodes_more)
+        (more_added (map to (take i xs)) (n ∷ []) before between after true so_far one)
+
+    pub next_over : (n : Node) → n ≡ to x → (before between after : List Input)
+        → AreAdded cells (map to (take i xs)) before between true → AreAdded cells (n ∷ []) between after false
+        → AreAdded cells (map to xs) before after false
+    next_over n same before between after so_far one =
+        subst (λ ms. AreAdded cells ms before after false)
+        (ap (λ ms. ms ++ map to (drop (i + 1) xs)) (ap (λ k. map to (take i xs) ++ k ∷ []) same ∙ nodes_more)
+        ∙ sym (map-append to (take (i + 1) xs) (drop (i + 1) xs)) ∙ ap (map to) (take-append-drop (i + 1) xs))
+        (over_added (map to (take i xs) ++ n ∷ []) (map to (drop (i + 1) xs)) before after after
+        (more_added (map to (take i xs)) (n ∷ []) before between after false so_far one))
+
+  -- ---- sums
 
   -- a part is over, and so is the sum, which does not break
   pub sum_passed_on : (ns : List Node) (parts : List Input) (e : Evaluated) → AreParts cells ns parts false → e.outcome ≡ Err (record {}) → e.breaks ≡ false → IsEvaluatedSum cells ns e
@@ -168,3 +211,10 @@ module _ (cells : Outcomes) where
       and_true : (b : Bool) {c : Bool} → c ≡ true → (b && c) ≡ b
       and_true true e = e
       and_true false e = refl
+
+  -- so the sum of what fits
+  pub fitting_sum : (ns : List Node) (parts : List Input) (e : Evaluated) → AreParts cells ns parts true → e.outcome ≡ summed parts → e.breaks ≡ is_over (Some (summed parts)) → IsFittingSum cells ns e
+  fitting_sum ns parts e held outcome breaks = record {
+    none_over = sym (gather_over ns) ∙ ap is_err held.gathered;
+    sum = sum_of_parts ns parts e held outcome breaks;
+  }

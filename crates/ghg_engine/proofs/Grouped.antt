@@ -11,8 +11,10 @@ use Rattle.ghg_categories.proofs.Levels.{level, level-parent}
 use Rattle.ghg_definitions.specs.Compilation.{counts_in_gross, gas_lines}
 use Rattle.ghg_definitions.specs.Data.{Data, Name, category}
 use Rattle.ghg_definitions.proofs.NodeLists.{category_same}
+use Rattle.ghg_graph.proofs.Pushed.{item_pushed, items_in}
+use Rattle.ghg_affected.specs.Subtotals.{is_above_parts}
 use Rattle.ghg_engine.specs.declared.groups.Groups.{Groups}
-use Rattle.ghg_engine.specs.Grouping.{IsGrouping, code_order, group_of}
+use Rattle.ghg_engine.specs.Grouping.{IsGrouping, code_order, group_at}
 
 -- the name, where the test passes
 abbrev pub name_if : Bool → Name → List Name
@@ -75,8 +77,10 @@ abbrev pub passes : Data → (Category → Bool) → Name → Bool
 passes m test name = option_map_or test (category m name) false
 
 pub record IsGroupedSoFar (m : Data) (names : List Name) (groups : Groups) : Type 0 where
-  pub so_far : (c : Category) → group_of groups c ≡ filter (passes m (λ k. stands_under k c)) names
+  pub under_so_far : (c : Category) → group_at groups.under c ≡ filter (passes m (λ k. stands_under k c)) names
+  pub at_so_far : (c : Category) → group_at groups.at c ≡ filter (passes m (λ k. is_same k c)) names
   pub gross_so_far : groups.gross.items ≡ filter (passes m counts_in_gross) names
+  pub above_so_far : groups.above.items ≡ filter (passes m is_above_parts) names
 
 filter_one : (p : Name → Bool) (name : Name) → filter p (name ∷ []) ≡ name_if (p name) name
 filter_one p name = by (p name)
@@ -92,22 +96,29 @@ none_more : (m : Data) (test : Category → Bool) (names : List Name) (name : Na
 none_more m test names name is = filter-append (passes m test) names (name ∷ []) ∙ ap (λ ys. filter (passes m test) names ++ ys) (filter_one (passes m test) name ∙ ap (λ o. name_if (option_map_or test o false) name) is) ∙ append-nil _
 
 pub grouped_more : (m : Data) (names : List Name) (name : Name) (c : Category) (old new : Groups) → IsGroupedSoFar m names old → category m name ≡ Some c →
-    ((d : Category) → group_of new d ≡ group_of old d ++ name_if (stands_under c d) name) → new.gross.items ≡ old.gross.items ++ name_if (counts_in_gross c) name → IsGroupedSoFar m (names ++ name ∷ []) new
-grouped_more m names name c old new held is groups gross = record {
-  so_far = λ d. groups d ∙ ap (λ xs. xs ++ name_if (stands_under c d) name) (held.so_far d) ∙ sym (one_more m (λ k. stands_under k d) names name c is);
+    ((d : Category) → group_at new.under d ≡ group_at old.under d ++ name_if (stands_under c d) name) → ((d : Category) → group_at new.at d ≡ group_at old.at d ++ name_if (is_same c d) name) →
+    new.gross.items ≡ old.gross.items ++ name_if (counts_in_gross c) name → new.above.items ≡ old.above.items ++ name_if (is_above_parts c) name → IsGroupedSoFar m (names ++ name ∷ []) new
+grouped_more m names name c old new held is under at gross above = record {
+  under_so_far = λ d. under d ∙ ap (λ xs. xs ++ name_if (stands_under c d) name) (held.under_so_far d) ∙ sym (one_more m (λ k. stands_under k d) names name c is);
+  at_so_far = λ d. at d ∙ ap (λ xs. xs ++ name_if (is_same c d) name) (held.at_so_far d) ∙ sym (one_more m (λ k. is_same k d) names name c is);
   gross_so_far = gross ∙ ap (λ xs. xs ++ name_if (counts_in_gross c) name) held.gross_so_far ∙ sym (one_more m counts_in_gross names name c is);
+  above_so_far = above ∙ ap (λ xs. xs ++ name_if (is_above_parts c) name) held.above_so_far ∙ sym (one_more m is_above_parts names name c is);
 }
 
 pub grouped_same : (m : Data) (names : List Name) (name : Name) (groups : Groups) → IsGroupedSoFar m names groups → category m name ≡ None → IsGroupedSoFar m (names ++ name ∷ []) groups
 grouped_same m names name groups held is = record {
-  so_far = λ d. held.so_far d ∙ sym (none_more m (λ k. stands_under k d) names name is);
+  under_so_far = λ d. held.under_so_far d ∙ sym (none_more m (λ k. stands_under k d) names name is);
+  at_so_far = λ d. held.at_so_far d ∙ sym (none_more m (λ k. is_same k d) names name is);
   gross_so_far = held.gross_so_far ∙ sym (none_more m counts_in_gross names name is);
+  above_so_far = held.above_so_far ∙ sym (none_more m is_above_parts names name is);
 }
 
 pub grouped_all : (m : Data) (names : List Name) (groups : Groups) → IsGroupedSoFar m names groups → names ≡ gas_lines m → IsGrouping m groups
 grouped_all m names groups held is = record {
-  categories = λ c. held.so_far c ∙ ap (filter (passes m (λ k. stands_under k c))) is;
+  under = λ c. held.under_so_far c ∙ ap (filter (passes m (λ k. stands_under k c))) is;
+  at = λ c. held.at_so_far c ∙ ap (filter (passes m (λ k. is_same k c))) is;
   gross = held.gross_so_far ∙ ap (filter (passes m counts_in_gross)) is;
+  above = held.above_so_far ∙ ap (filter (passes m is_above_parts)) is;
 }
 
 -- ---- one more in the group of a category
@@ -117,24 +128,17 @@ tied a c = is_eq-slice_cmp (code_of a) (code_of c)
 
 -- the group's names, of which there are none where there is no group
 abbrev pub names_in : Option (Vec Name Global) → List Name
-names_in o = option_map_or (λ (names : Vec Name Global). names.items) o []
+names_in = items_in
 
 pub pushed : (old new : Option (Vec Name Global)) (before now : Vec Name Global) (at : Option (Vec Name Global)) (a c : Category) (name : Name) →
     new ≡ cond (is_at (code_order a) c) (Some now) old → (a ≡ c → at ≡ old) → UnwrapsOrElse at (λ x. (x.items ≡ []) × (vec_len x ≡ 0)) before → now.items ≡ before.items ++ name ∷ [] → names_in new ≡ names_in old ++ name_if (is_same a c) name
-pushed old new before now at a c name is same unwraps items = by (is_same a c) refl
-  where
-    before_is : (o : Option (Vec Name Global)) → UnwrapsOrElse o (λ x. (x.items ≡ []) × (vec_len x ≡ 0)) before → before.items ≡ names_in o
-    before_is None h = h.0
-    before_is (Some x) h = ap (λ (v : Vec Name Global). v.items) h
-
-    by : (b : Bool) → is_same a c ≡ b → names_in new ≡ names_in old ++ name_if b name
-    by true e = ap names_in (is ∙ ap (λ t. cond t (Some now) old) (tied a c ∙ e)) ∙ items ∙ ap (λ xs. xs ++ name ∷ []) (before_is at unwraps ∙ ap names_in (same (same_is a c e)))
-    by false e = ap names_in (is ∙ ap (λ t. cond t (Some now) old) (tied a c ∙ e)) ∙ sym (append-nil (names_in old))
+pushed old new before now at a c name is same unwraps items =
+    item_pushed old new at before now (is_same a c) name (is ∙ ap (λ t. cond t (Some now) old) (tied a c)) (λ e. same (same_is a c e)) unwraps items
 
 -- ---- where nothing is put
 
-pub nothing_grouped : (m : Data) (groups : Groups) → ((c : Category) → group_of groups c ≡ []) → groups.gross.items ≡ [] → IsGroupedSoFar m [] groups
-nothing_grouped m groups e g = record { so_far = e; gross_so_far = g }
+pub nothing_grouped : (m : Data) (groups : Groups) → ((c : Category) → group_at groups.under c ≡ []) → ((c : Category) → group_at groups.at c ≡ []) → groups.gross.items ≡ [] → groups.above.items ≡ [] → IsGroupedSoFar m [] groups
+nothing_grouped m groups under at gross above = record { under_so_far = under; at_so_far = at; gross_so_far = gross; above_so_far = above }
 
 pub on_ok : {A E P Q : Type 0} (r : Result A E) → (P → Q) → OnOk r P → OnOk r Q
 on_ok (Ok x) f p = f p

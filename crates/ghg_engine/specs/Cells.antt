@@ -1,20 +1,33 @@
--- The outcomes of nodes.
-use Rattle.std.specs.Prelude.{if◌then◌else◌, Some}
-use Rattle.std.specs.FinMap.{FinMap, get}
-use Rattle.std.specs.Option.{option_or}
+-- The outcomes of nodes, and where they are kept.
+use Rattle.std.specs.Prelude.{◌≡◌, true, if◌then◌else◌, is_some, Option, Some, None, Result, Ok, Err}
+use Rattle.std.specs.Option.{option_and_then, option_map, option_or}
+use Rattle.std.specs.Borrow.{Bor}
+use Rattle.std.specs.BTreeMap.{BTreeMap, get, is_at}
+use Rattle.std.specs.declared.cmp.Ordering.{Ordering}
+use Rattle.ghg_cell.specs.declared.input.Input.{Input}
+use Rattle.ghg_interval.specs.declared.Over.{Over}
 use Rattle.ghg_units.specs.declared.node.Node.{Node}
+use Rattle.ghg_units.specs.declared.node.Node.TheVariants as node
+use Rattle.ghg_units.specs.contracts.node.NodeOrd.TheImpl as derived_of_nodes
 use Rattle.ghg_affected.specs.Equalities.{same_node}
 use Rattle.ghg_definitions.specs.Formulas.{Outcome}
-use Rattle.ghg_definitions.specs.Nodes.{node_cmp}
+use Rattle.ghg_definitions.specs.Nodes.{year_in}
 use Rattle.ghg_definitions.specs.Trials.{Outcomes, or_blank}
+use Rattle.ghg_engine.specs.declared.cells.Cells.{Cells}
+use Rattle.ghg_engine.specs.declared.series.Series.{Series}
+use Rattle.ghg_engine.specs.declared.series.Series.TheVariants as series
+use Rattle.ghg_engine.specs.contracts.series.SeriesOrd.TheImpl as derived_of_series
+use Rattle.ghg_engine.specs.Columns.{Run, value_in}
 
--- the outcomes of finitely many nodes
-abbrev pub CellsOf : Type 0
-CellsOf = FinMap node_cmp Outcome
+-- ---- outcomes
 
--- the outcome of a node in the fresh cells, else in what is kept
-abbrev pub found_in : CellsOf → Outcomes → Outcomes
-found_in fresh kept n = option_or (get fresh n) (kept n)
+-- no node has one
+abbrev pub no_outcomes : Outcomes
+no_outcomes n = None
+
+-- the outcome of a node in the fresh ones, else in what is kept
+abbrev pub found_in : Outcomes → Outcomes → Outcomes
+found_in fresh kept n = option_or (fresh n) (kept n)
 
 -- the outcome of a node, which is blank where it has none
 abbrev pub outcome_in : Outcomes → Node → Outcome
@@ -23,3 +36,50 @@ outcome_in outcomes n = or_blank (outcomes n)
 -- the outcomes with this one at the node
 abbrev pub with_outcome : Outcomes → Node → Outcome → Outcomes
 with_outcome outcomes n outcome k = if same_node k n then Some outcome else outcomes k
+
+-- the outcome that is told by a reference to the value
+abbrev pub outcome_behind : Result (Bor Input) Over → Outcome
+outcome_behind (Ok value) = Ok value.now
+outcome_behind (Err over) = Err over
+
+-- each node with an outcome in the first has one in the second
+abbrev pub AreWithin : Outcomes → Outcomes → Type 0
+AreWithin fresh kept = (n : Node) → is_some (fresh n) ≡ true → is_some (kept n) ≡ true
+
+-- ---- columns
+
+-- the orders that the code has
+abbrev pub node_order : Node → Node → Ordering
+node_order = (derived_of_nodes.ghosts).cmp
+
+abbrev pub series_order : Series → Series → Ordering
+series_order = (derived_of_series.ghosts).cmp
+
+abbrev pub series_of : Node → Series
+series_of (node.Line name year) = series.Line name
+series_of (node.Equiv name year) = series.Equivalent name
+series_of (node.Total category year) = series.Total category
+series_of (node.Gross year) = series.Gross
+
+-- what a series has in the year of the node
+abbrev pub in_year_of : Node → Run → Option Outcome
+in_year_of n run = option_map Ok (value_in run (year_in n))
+
+-- what one series has for its nodes
+abbrev pub in_series : Series → Run → Outcomes
+in_series s run n = if is_at (series_order s) (series_of n) then in_year_of n run else None
+
+-- what columns have for nodes
+abbrev pub in_columns : BTreeMap Series Run → Outcomes
+in_columns columns n = option_and_then (in_year_of n) (get series_order columns (series_of n))
+
+-- the value stands at the node; or it is handed back, as none stands there, and all is as it was
+abbrev pub IsPut : Outcomes → Outcomes → Node → Input → Option Input → Type 0
+IsPut old new n value None = new ≡ with_outcome old n (Ok value)
+IsPut old new n value (Some rest) = (old n ≡ None) × (new ≡ old) × (rest ≡ value)
+
+-- ---- cells
+
+-- the outcome of a node that has a cell: the one that stands aside, else the one in its column
+abbrev pub cell_at : Cells → Outcomes
+cell_at cells n = option_or (get node_order cells.aside n) (in_columns cells.columns n)

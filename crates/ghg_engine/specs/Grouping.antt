@@ -4,10 +4,12 @@ use Rattle.std.specs.Option.{option_map_or}
 use Rattle.std.specs.BTreeMap.{get}
 use Rattle.std.specs.declared.cmp.Ordering.{Ordering}
 use Rattle.ghg_categories.specs.declared.category.Category.{Category}
-use Rattle.ghg_categories.specs.Tree.{stands_under}
+use Rattle.ghg_categories.specs.Tree.{is_same, stands_under}
 use Rattle.ghg_categories.specs.contracts.category.CategoryOrd.TheImpl as derived
 use Rattle.ghg_definitions.specs.Compilation.{counts_in_gross, gas_lines_at}
 use Rattle.ghg_definitions.specs.Data.{Data, Name}
+use Rattle.ghg_affected.specs.Subtotals.{is_above_parts}
+use Rattle.ghg_engine.specs.declared.groups.ByCategory.{ByCategory}
 use Rattle.ghg_engine.specs.declared.groups.Groups.{Groups}
 
 -- the order of the codes' bytes
@@ -15,9 +17,13 @@ abbrev pub code_order : Category → Category → Ordering
 code_order = (derived.ghosts).cmp
 
 -- the names in the group of a category
-abbrev pub group_of : Groups → Category → List Name
-group_of groups c = option_map_or (λ names. names.items) (get code_order groups.by_category c) []
+abbrev pub group_at : ByCategory → Category → List Name
+group_at lines c = option_map_or (λ names. names.items) (get code_order lines.groups c) []
 
+-- for each category the lines at and under it, and those at it; the lines that count in the gross total, and
+-- those of them above its parts
 pub record IsGrouping (m : Data) (groups : Groups) : Type 0 where
-  pub categories : (c : Category) → group_of groups c ≡ gas_lines_at (λ k. stands_under k c) m
+  pub under : (c : Category) → group_at groups.under c ≡ gas_lines_at (λ k. stands_under k c) m
+  pub at : (c : Category) → group_at groups.at c ≡ gas_lines_at (λ k. is_same k c) m
   pub gross : groups.gross.items ≡ gas_lines_at counts_in_gross m
+  pub above : groups.above.items ≡ gas_lines_at is_above_parts m

@@ -1,9 +1,8 @@
+pub mod Columns
 pub mod Cells
 pub mod Overlays
 pub mod Compiled
-pub mod Orders
 pub mod Breaking
-pub mod Years
 pub mod Grouping
 pub mod Layouts
 pub mod Parts

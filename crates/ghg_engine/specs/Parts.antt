@@ -1,10 +1,11 @@
 -- The parts of sums.
-use Rattle.std.specs.Prelude.{◌≡◌, ℕ, Bool, true, if◌then◌else◌, List, map, length, Ok, Err}
+use Rattle.std.specs.Prelude.{◌≡◌, ℕ, Bool, true, if◌then◌else◌, List, ◌++◌, map, length, Ok, Err}
 use Rattle.ghg_cell.specs.declared.input.Input.{Input}
 use Rattle.ghg_units.specs.declared.node.Node.{Node}
 use Rattle.ghg_units.specs.declared.node.Node.TheVariants as node
 use Rattle.ghg_definitions.specs.Data.{Name}
 use Rattle.ghg_definitions.specs.Formulas.{gather}
+use Rattle.ghg_engine.specs.declared.parts.Addends.{Addends}
 use Rattle.ghg_engine.specs.declared.parts.Part.{Part}
 use Rattle.ghg_engine.specs.declared.parts.Part.TheVariants as part
 use Rattle.ghg_definitions.specs.Trials.{Outcomes}
@@ -18,7 +19,20 @@ node_for part.Equivalent name year = node.Equiv name year
 abbrev pub nodes_for : Part → List Name → ℕ → List Node
 nodes_for p names year = map (λ name. node_for p name year) names
 
+-- the totals and the equivalents that a total adds
+abbrev pub addends_for : Addends → ℕ → List Node
+addends_for a year = map (λ c. node.Total c year) a.categories.now ++ nodes_for part.Equivalent a.own.now year
+
+-- the equivalents of all lines under it
+abbrev pub all_for : Addends → ℕ → List Node
+all_for a year = nodes_for part.Equivalent a.all.now year
+
 -- the parts are what the nodes give, where none of these is over
 pub record AreParts (outcomes : Outcomes) (ns : List Node) (parts : List Input) (whole : Bool) : Type 0 where
   pub gathered : gather (map (outcome_in outcomes) ns) ≡ (if whole then Ok parts else Err (record {}))
   pub count : whole ≡ true → length parts ≡ length ns
+
+-- behind the parts of any nodes come those of more nodes
+abbrev pub AreAdded : Outcomes → List Node → List Input → List Input → Bool → Type 0
+AreAdded outcomes more before after whole =
+    (ns : List Node) → AreParts outcomes ns before true → AreParts outcomes (ns ++ more) after whole

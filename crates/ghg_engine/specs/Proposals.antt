@@ -1,6 +1,5 @@
 -- What is proposed, and what is not.
 use Rattle.std.specs.Prelude.{◌≡◌, ⊤, true, List}
-use Rattle.std.specs.FinMap.{get}
 use Rattle.ghg_units.specs.declared.node.Node.{Node}
 use Rattle.ghg_definitions.specs.Compilation.{compilation}
 use Rattle.ghg_definitions.specs.Data.{Data}
@@ -12,7 +11,7 @@ use Rattle.ghg_engine.specs.declared.proposal.Made.TheVariants as made
 use Rattle.ghg_engine.specs.declared.proposal.Proposal.{Proposal}
 use Rattle.ghg_engine.specs.declared.refusal.EngineRefusal.{EngineRefusal}
 use Rattle.ghg_engine.specs.declared.refusal.EngineRefusal.TheVariants as refusal
-use Rattle.ghg_engine.specs.Cells.{found_in}
+use Rattle.ghg_engine.specs.Cells.{cell_at, found_in}
 use Rattle.ghg_engine.specs.Compiled.{IsCompiled}
 use Rattle.ghg_graph.specs.Corrections.{are_of_figures}
 use Rattle.ghg_engine.specs.Layouts.{IsLayout}
@@ -26,9 +25,9 @@ pub record IsArranged (shelf : Shelf) (edits : List Change) : Type 0 where
 -- over which the compilation of the data is the one that the edits lead to
 abbrev pub IsMade : Data → List Change → Made → Type 0
 IsMade m edits (made.Whole cells layout) =
-    IsCompiled (applied m edits) (get cells) × IsLayout (applied m edits) layout
+    IsCompiled (applied m edits) (cell_at cells) × IsLayout (applied m edits) layout
 IsMade m edits (made.Patch fresh) =
-    (are_of_figures edits ≡ true) × IsCompiled (applied m edits) (found_in fresh (compilation m))
+    (are_of_figures edits ≡ true) × IsCompiled (applied m edits) (found_in (cell_at fresh) (compilation m))
 
 -- the edits were planned on the book as it stands, and the cells are those that they lead to
 pub record IsProposed (shelf : Shelf) (proposal : Proposal) : Type 0 where

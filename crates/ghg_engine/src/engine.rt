@@ -40,8 +40,8 @@ pub struct Engine {
 
 impl Model for Engine {
     ghost use Rattle.std.specs.Coded.{codes};
-    ghost use Rattle.std.specs.FinMap.{get};
     ghost use Rattle.ghg_data.specs.Shelf.{Shelf, shelf_code};
+    ghost use Rattle.ghg_engine.specs.Cells.{cell_at};
     ghost use Rattle.ghg_engine.specs.Compiled.{IsCompiled};
     ghost use Rattle.ghg_engine.specs.Layouts.{IsLayout};
 
@@ -51,7 +51,7 @@ impl Model for Engine {
 
     ghost view = { λ e. e.book };
 
-    ghost invariant = { λ e. IsCompiled e.book.content (get e.cells) × IsLayout e.book.content e.layout };
+    ghost invariant = { λ e. IsCompiled e.book.content (cell_at e.cells) × IsLayout e.book.content e.layout };
 }
 
 impl ghg_graph::Cells for Engine {
@@ -178,12 +178,8 @@ impl Engine {
         ensures made { MatchResult result (IsMade self.now.content edits.now)
             (IfOverflow (λ n. overflow (applied self.now.content edits.now) ≡ Some n)) }
     {
-        let Layout {
-            lines,
-            emitters,
-            groups,
-        } = &self.layout;
-        let nodes = affected_by_figures(alloc, &self.book, edits, lines, emitters)?;
+        let Layout { index, groups } = &self.layout;
+        let nodes = affected_by_figures(alloc, &self.book, edits, index)?;
         let permits = take(nodes.len() as u64, steps);
         let records = after(&self.book, edits);
         match evaluate_all(alloc, &records, groups, &self.cells, &nodes, permits) {

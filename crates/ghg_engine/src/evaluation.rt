@@ -1,20 +1,21 @@
 //! The evaluation of nodes, each once and behind its inputs: of all, or of those that a correction affects.
 
-ghost use Rattle.std.specs.FinMap.{get};
 ghost use Rattle.std.specs.Prelude.{◌≡◌, ◌≤◌, ◌+◌, IfOk, MatchResult, Some, length};
-ghost use Rattle.ghg_definitions.specs.Compilation.{first_year, nodes, overflow, sheet_of};
+ghost use Rattle.ghg_definitions.specs.Compilation.{compilation, first_year, nodes, overflow, sheet_of};
 ghost use Rattle.ghg_definitions.specs.Data.{span};
 ghost use Rattle.ghg_definitions.specs.Nodes.{lesser_node};
 ghost use Rattle.ghg_definitions.specs.Rings.{IsAcyclic};
 ghost use Rattle.ghg_definitions.specs.Sound.{IsWorkbook};
 ghost use Rattle.ghg_definitions.specs.Rules.{most_lines};
+ghost use Rattle.ghg_affected.specs.Patches.{AgreeBut, least_break};
+ghost use Rattle.ghg_graph.specs.NodeOrders.{AreInOrder};
 ghost use Rattle.ghg_engine.specs.Breaking.{least_with};
+ghost use Rattle.ghg_engine.specs.Cells.{cell_at};
 ghost use Rattle.ghg_engine.specs.Compiled.{IsCompiled};
-ghost use Rattle.ghg_engine.specs.Evaluation.{IsEvaluatedAt, IsEvaluatedOver, IsEvaluatedSum, in_turn_over};
+ghost use Rattle.ghg_engine.specs.Evaluation.{IsEvaluatedAt, IsEvaluatedOver, IsOutcomeOf, IsReady, IsTotalOf};
 ghost use Rattle.ghg_engine.specs.Grouping.{IsGrouping};
 ghost use Rattle.ghg_engine.specs.Layouts.{IsLayout};
 ghost use Rattle.ghg_engine.specs.Overlays.{outcomes_of};
-ghost use Rattle.ghg_engine.specs.Parts.{nodes_for};
 ghost use Rattle.ghg_engine.specs.Proposals.{IfOverflow};
 
 use crate::arguments::Arguments;
@@ -22,13 +23,12 @@ use crate::cells::Cells;
 use crate::evaluated::Evaluated;
 use crate::groups::Groups;
 use crate::layout::Layout;
-use crate::order::order;
 use crate::overlay::Overlay;
-use crate::parts::{Part, gather_parts};
+use crate::parts::{Addends, Part, gather_addends, gather_parts};
 use crate::refusal::EngineRefusal;
-use ghg_cell::{Input, Permits, Ticket, equiv, take, total};
+use ghg_cell::{Input, MOST_PARTS, Permits, Ticket, equiv, take, total};
 use ghg_data::Records;
-use ghg_graph::{first_year, potential};
+use ghg_graph::{first_year, nodes_in_order, potential};
 use ghg_interval::Over;
 use ghg_steps::Steps;
 use ghg_units::{Name, Node};
@@ -47,18 +47,18 @@ pub(crate) fn compile<R: Records, L: Ledger>(
     requires workbook { IsWorkbook (R.content records.now) }
     requires acyclic { IsAcyclic (R.content records.now) }
     requires layout { IsLayout (R.content records.now) layout.now }
-    ensures compiled { MatchResult result (λ cells. IsCompiled (R.content records.now) (get cells))
+    ensures compiled { MatchResult result (λ cells. IsCompiled (R.content records.now) (cell_at cells))
         (IfOverflow (λ n. overflow (R.content records.now) ≡ Some n)) }
     ensures steps { steps.new ≤ steps.old + length (nodes (R.content records.now)) }
 {
-    let nodes = order(alloc, records, &layout.lines, &layout.emitters)?;
+    let nodes = nodes_in_order(alloc, records, &layout.index.lines, &layout.index.emitters)?;
     let permits = take(nodes.len() as u64, steps);
     let none = Cells::new(alloc);
     evaluate_all(alloc, records, &layout.groups, &none, &nodes, permits)
 }
 
-/// The cells of nodes, each evaluated in its turn over the others and over cells that are kept; or the least
-/// of them that is over while none of its inputs is.
+/// The cells of nodes, each evaluated in its turn over the others and over cells that are kept, which are
+/// right at all other nodes; or the least of them that is over while none of its inputs is.
 pub(crate) fn evaluate_all<R: Records>(
     alloc: Global,
     records: &R,
@@ -68,10 +68,14 @@ pub(crate) fn evaluate_all<R: Records>(
     permits: Permits,
 ) -> Result<Cells, EngineRefusal>
     requires workbook { IsWorkbook (R.content records.now) }
+    requires acyclic { IsAcyclic (R.content records.now) }
     requires groups { IsGrouping (R.content records.now) groups.now }
+    requires order { AreInOrder (R.content records.now) nodes.now }
+    requires kept { AgreeBut (compilation (R.content records.now)) nodes.now (cell_at kept.now) }
     requires paid { permits ≡ length nodes.now }
-    ensures { MatchResult result (IsEvaluatedOver (R.content records.now) (get kept.now) nodes.now)
-        (IfOverflow (λ n. (in_turn_over (R.content records.now) (get kept.now) nodes.now).least ≡ Some n)) }
+    ensures { MatchResult result
+        (λ fresh. IsEvaluatedOver (R.content records.now) (cell_at kept.now) nodes.now (cell_at fresh))
+        (IfOverflow (λ n. least_break (R.content records.now) nodes.now ≡ Some n)) }
 {
     let first = first_year(records);
     let mut permits = permits;
@@ -126,7 +130,8 @@ fn lesser(node: &Node, least: &Option<Node>) -> Node
     }
 }
 
-// Evaluates a node over the cells of its inputs. `first` is the first year of the inventory.
+// Evaluates a node over the cells of its inputs and its subtotals. `first` is the first year of the
+// inventory.
 fn evaluate<R: Records>(
     records: &R,
     groups: &Groups,
@@ -137,27 +142,21 @@ fn evaluate<R: Records>(
     buffers: &mut Buffers,
 ) -> Result<Evaluated, AllocError>
     requires workbook { IsWorkbook (R.content records.now) }
+    requires acyclic { IsAcyclic (R.content records.now) }
     requires groups { IsGrouping (R.content records.now) groups.now }
     requires first { first ≡ first_year (span (R.content records.now)) }
-    ensures { IfOk result (IsEvaluatedAt (sheet_of (R.content records.now)) (outcomes_of cells.now)
-        node.now) }
+    requires ready { IsReady (R.content records.now) (outcomes_of cells.now) node.now }
+    ensures { IfOk result (IsOutcomeOf (R.content records.now) node.now) }
 {
+    let parts = &mut buffers.parts;
     match node {
         Node::Line(name, year) => {
             let arguments = &mut buffers.arguments;
             line(records, cells, first, name, *year, ticket, arguments)
         }
         Node::Equiv(name, year) => Ok(equivalent(records, cells, name, *year, ticket)),
-        Node::Total(category, year) => {
-            sum(
-                cells,
-                groups.at(*category),
-                *year,
-                ticket,
-                &mut buffers.parts,
-            )
-        }
-        Node::Gross(year) => sum(cells, groups.gross(), *year, ticket, &mut buffers.parts),
+        Node::Total(category, year) => sum(cells, &groups.total(*category), *year, ticket, parts),
+        Node::Gross(year) => sum(cells, &groups.gross(), *year, ticket, parts),
     }
 }
 
@@ -203,19 +202,22 @@ fn equivalent<R: Records>(
     }
 }
 
-// Evaluates the sum of the equivalents of lines in a year.
+// Evaluates a total in a year: the sum of what it adds, where none of that is over and it is no more than a
+// total may add; else of the equivalents of all lines under it.
 fn sum(
     cells: &Overlay<'_>,
-    names: &[Name],
+    addends: &Addends<'_>,
     year: u32,
     ticket: Ticket,
     parts: &mut Vec<Input>,
 ) -> Result<Evaluated, AllocError>
-    requires { length names.now ≤ most_lines }
-    ensures { IfOk result (IsEvaluatedSum (outcomes_of cells.now)
-        (nodes_for Part.Equivalent names.now year)) }
+    requires { length addends.now.all.now ≤ most_lines }
+    ensures { IfOk result (IsTotalOf (outcomes_of cells.now) addends.now year) }
 {
-    if gather_parts(cells, Part::Equivalent, names, year, parts)? {
+    if gather_addends(cells, addends, year, parts)? && parts.len() <= MOST_PARTS {
+        return Ok(Evaluated::of(total(ticket, parts)));
+    }
+    if gather_parts(cells, Part::Equivalent, addends.all, year, parts)? {
         Ok(Evaluated::of(total(ticket, parts)))
     } else {
         Ok(Evaluated::passed_on())

@@ -4,8 +4,11 @@ ghost use Rattle.std.specs.Prelude.{◌≡◌, IfOk, OnOk, [], ◌∷◌, ◌++�
 ghost use Rattle.ghg_categories.specs.Tree.{is_same, stands_under, stands_within};
 ghost use Rattle.ghg_categories.specs.declared.category.Category.{Category};
 ghost use Rattle.ghg_definitions.specs.Compilation.{counts_in_gross, gas_lines};
-ghost use Rattle.ghg_engine.specs.Grouping.{IsGrouping, group_of};
+ghost use Rattle.ghg_affected.specs.Subtotals.{children, gross_parts, is_above_parts};
+ghost use Rattle.ghg_engine.specs.Grouping.{IsGrouping, group_at};
 
+use crate::children::{GROSS_PARTS, children};
+use crate::parts::Addends;
 use ghg_categories::{Category, DEPTH, parent};
 use ghg_data::Records;
 use ghg_graph::counts_in_gross;
@@ -13,23 +16,77 @@ use ghg_units::Name;
 use std::alloc::{AllocError, Global};
 use std::collections::BTreeMap;
 
-/// The lines that emit a gas, by name, in a group for each category: those at it and under it. Each line
-/// stands in five groups at most.
+/// Names of lines in a group for each category.
+#[derive(Drop)]
+struct ByCategory {
+    groups: BTreeMap<Category, Vec<Name>>,
+}
+
+impl ByCategory {
+    fn new(alloc: Global) -> ByCategory
+        ensures { (c : Category) → group_at result c ≡ [] }
+    {
+        ByCategory {
+            groups: BTreeMap::new(alloc),
+        }
+    }
+
+    // The names in the group of a category.
+    fn at(&self, category: Category) -> &[Name]
+        ensures { result.now ≡ group_at self.now category }
+    {
+        match self.groups.get(&category) {
+            Some(names) => names.as_slice(),
+            None => &[],
+        }
+    }
+
+    // Puts a name into the group of a category.
+    fn put(&mut self, category: Category, name: &Name) -> Result<(), AllocError>
+        ensures { OnOk result ((c : Category) → group_at self.new c ≡ group_at self.old c ++
+            (if is_same category c then name.now ∷ [] else [])) }
+    {
+        self.groups.entry(category)?.or_default().push(*name)?;
+        Ok(())
+    }
+
+    // Puts a name into the group of a category, and of those above it by so many levels.
+    fn put_up(&mut self, levels: u8, category: Category, name: &Name) -> Result<(), AllocError>
+        ensures { OnOk result ((c : Category) → group_at self.new c ≡ group_at self.old c ++
+            (if stands_within levels category c then name.now ∷ [] else [])) }
+    {
+        self.put(category, name)?;
+        match parent(category) {
+            Some(above) if levels > 0 => self.put_up(levels - 1, above, name),
+            _ => Ok(()),
+        }
+    }
+}
+
+/// The lines that emit a gas, by name, in groups for each category: those at it, and those at it and under
+/// it. Each line stands in at most five of the latter.
 #[derive(Drop)]
 pub(crate) struct Groups {
-    by_category: BTreeMap<Category, Vec<Name>>,
+    under: ByCategory,
+    at: ByCategory,
+    // Those that count in the gross total, and those of them that stand above its parts.
     gross: Vec<Name>,
+    above: Vec<Name>,
 }
 
 impl Groups {
     /// No groups. It takes no memory.
     pub(crate) fn new(alloc: Global) -> Groups
-        ensures categories { (c : Category) → group_of result c ≡ [] }
+        ensures under { (c : Category) → group_at result.under c ≡ [] }
+        ensures at { (c : Category) → group_at result.at c ≡ [] }
         ensures gross { result.gross.items ≡ [] }
+        ensures above { result.above.items ≡ [] }
     {
         Groups {
-            by_category: BTreeMap::new(alloc),
+            under: ByCategory::new(alloc),
+            at: ByCategory::new(alloc),
             gross: Vec::new(alloc),
+            above: Vec::new(alloc),
         }
     }
 
@@ -51,57 +108,58 @@ impl Groups {
         Ok(groups)
     }
 
-    /// The lines at a category and under it.
-    pub(crate) fn at(&self, category: Category) -> &[Name]
-        ensures { result.now ≡ group_of self.now category }
+    /// What the total of a category adds.
+    pub(crate) fn total(&self, category: Category) -> Addends<'_>
+        ensures categories { result.categories.now ≡ children category }
+        ensures own { result.own.now ≡ group_at self.now.at category }
+        ensures all { result.all.now ≡ group_at self.now.under category }
     {
-        match self.by_category.get(&category) {
-            Some(names) => names.as_slice(),
-            None => &[],
+        Addends {
+            categories: children(category),
+            own: self.at.at(category),
+            all: self.under.at(category),
         }
     }
 
-    /// The lines that the gross total counts.
-    pub(crate) fn gross(&self) -> &[Name]
-        ensures { result.now ≡ self.now.gross.items }
+    /// What the gross total adds.
+    pub(crate) fn gross(&self) -> Addends<'_>
+        ensures categories { result.categories.now ≡ gross_parts }
+        ensures own { result.own.now ≡ self.now.above.items }
+        ensures all { result.all.now ≡ self.now.gross.items }
     {
-        self.gross.as_slice()
+        Addends {
+            categories: &GROSS_PARTS,
+            own: self.above.as_slice(),
+            all: self.gross.as_slice(),
+        }
     }
 
     // Puts a line that stands at a category into its groups.
     #[tactic(auto, unfolding(ghg_categories::specs::Tree::stands_under))]
     fn put(&mut self, category: Category, name: &Name) -> Result<(), AllocError>
-        ensures groups { OnOk result ((c : Category) → group_of self.new c ≡ group_of self.old c ++
+        ensures under { OnOk result ((c : Category) → group_at self.new.under c ≡ group_at self.old.under c ++
             (if stands_under category c then name.now ∷ [] else [])) }
+        ensures at { OnOk result ((c : Category) → group_at self.new.at c ≡ group_at self.old.at c ++
+            (if is_same category c then name.now ∷ [] else [])) }
         ensures gross { OnOk result (self.new.gross.items ≡ self.old.gross.items ++
             (if counts_in_gross category then name.now ∷ [] else [])) }
+        ensures above { OnOk result (self.new.above.items ≡ self.old.above.items ++
+            (if is_above_parts category then name.now ∷ [] else [])) }
     {
         if counts_in_gross(category) {
             self.gross.push(*name)?;
         }
-        self.put_up(DEPTH, category, name)
-    }
-
-    // Puts a line into the group of one category.
-    fn push(&mut self, category: Category, name: &Name) -> Result<(), AllocError>
-        ensures groups { OnOk result ((c : Category) → group_of self.new c ≡ group_of self.old c ++
-            (if is_same category c then name.now ∷ [] else [])) }
-        ensures gross { OnOk result (self.new.gross.items ≡ self.old.gross.items) }
-    {
-        self.by_category.entry(category)?.or_default().push(*name)?;
-        Ok(())
-    }
-
-    // Puts a line into the group of a category, and of those above it by so many levels.
-    fn put_up(&mut self, levels: u8, category: Category, name: &Name) -> Result<(), AllocError>
-        ensures groups { OnOk result ((c : Category) → group_of self.new c ≡ group_of self.old c ++
-            (if stands_within levels category c then name.now ∷ [] else [])) }
-        ensures gross { OnOk result (self.new.gross.items ≡ self.old.gross.items) }
-    {
-        self.push(category, name)?;
-        match parent(category) {
-            Some(above) if levels > 0 => self.put_up(levels - 1, above, name),
-            _ => Ok(()),
+        if is_above_parts(category) {
+            self.above.push(*name)?;
         }
+        self.at.put(category, name)?;
+        self.under.put_up(DEPTH, category, name)
     }
+}
+
+// Whether a category stands above parts of the gross total, and is none itself.
+fn is_above_parts(category: Category) -> bool
+    ensures { result ≡ is_above_parts category }
+{
+    matches!(category, Category::National | Category::C3)
 }

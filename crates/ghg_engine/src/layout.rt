@@ -1,6 +1,6 @@
 //! What the evaluation of nodes needs beside their records.
 
-ghost use Rattle.std.specs.Prelude.{◌≡◌, IfOk};
+ghost use Rattle.std.specs.Prelude.{IfOk};
 ghost use Rattle.std.specs.FinMap.{empty};
 ghost use Rattle.ghg_definitions.specs.declared.record.Record.{Record};
 ghost use Rattle.ghg_definitions.specs.Data.{key_cmp};
@@ -8,18 +8,15 @@ ghost use Rattle.ghg_definitions.specs.Rings.{IsAcyclic};
 ghost use Rattle.ghg_engine.specs.Layouts.{IsLayout};
 
 use crate::groups::Groups;
-use crate::order::acyclic_order;
 use ghg_data::Records;
-use ghg_graph::emitters;
-use ghg_units::Name;
+use ghg_graph::{LineIndex, acyclic_order};
 use std::alloc::{AllocError, Global};
 
-/// The lines of a workbook in an order, each behind those that it takes; those that emit a gas, by name; and
-/// the groups of these. They change with the lines and their bindings alone.
+/// The lines of a workbook in an order, and the groups of those that emit a gas. They change with the lines
+/// and their bindings alone.
 #[derive(Drop)]
 pub(crate) struct Layout {
-    pub(crate) lines: Vec<Name>,
-    pub(crate) emitters: Vec<Name>,
+    pub(crate) index: LineIndex,
     pub(crate) groups: Groups,
 }
 
@@ -29,8 +26,7 @@ impl Layout {
         ensures { IsLayout (empty {X = Record} {R = key_cmp}) result }
     {
         Layout {
-            lines: Vec::new(alloc),
-            emitters: Vec::new(alloc),
+            index: LineIndex::new(alloc),
             groups: Groups::new(alloc),
         }
     }
@@ -40,14 +36,9 @@ impl Layout {
         requires { IsAcyclic (R.content records.now) }
         ensures { IfOk result (IsLayout (R.content records.now)) }
     {
-        let names = records.lines(alloc)?;
-        let emitters = emitters(alloc, records, &names)?;
-        let groups = Groups::of(alloc, records, &emitters)?;
         let lines = acyclic_order(alloc, records)?;
-        Ok(Layout {
-            lines,
-            emitters,
-            groups,
-        })
+        let index = LineIndex::of(alloc, records, lines)?;
+        let groups = Groups::of(alloc, records, &index.emitters)?;
+        Ok(Layout { index, groups })
     }
 }

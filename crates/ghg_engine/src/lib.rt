@@ -3,17 +3,19 @@
 
 mod arguments;
 mod cells;
+mod children;
+mod column;
 mod engine;
 mod equations;
 mod evaluated;
 mod evaluation;
 mod groups;
 mod layout;
-mod order;
 mod overlay;
 mod parts;
 mod proposal;
 mod refusal;
+mod series;
 
 pub use engine::Engine;
 pub use proposal::Proposal;

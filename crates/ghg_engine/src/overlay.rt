@@ -1,8 +1,8 @@
 //! Fresh cells over cells that are kept.
 
-ghost use Rattle.std.specs.Prelude.{◌≡◌, OnOk, option_copied};
-ghost use Rattle.std.specs.FinMap as finite;
-ghost use Rattle.ghg_engine.specs.Cells.{outcome_in, with_outcome};
+ghost use Rattle.std.specs.Prelude.{◌≡◌, OnOk};
+ghost use Rattle.std.specs.Option.{option_map};
+ghost use Rattle.ghg_engine.specs.Cells.{cell_at, no_outcomes, outcome_behind, outcome_in, with_outcome};
 ghost use Rattle.ghg_engine.specs.Overlays.{outcomes_of};
 
 use crate::cells::Cells;
@@ -21,7 +21,7 @@ pub(crate) struct Overlay<'a> {
 impl<'a> Overlay<'a> {
     /// No fresh cells yet. It takes no memory.
     pub(crate) fn over(alloc: Global, kept: &'a Cells) -> Overlay<'a>
-        ensures fresh { result.fresh ≡ finite.empty }
+        ensures fresh { cell_at result.fresh ≡ no_outcomes }
         ensures kept { result.kept.now ≡ kept.now }
     {
         Overlay {
@@ -42,8 +42,8 @@ impl<'a> Overlay<'a> {
     }
 
     // The outcome of a node, where it has a cell.
-    fn get(&self, node: &Node) -> Option<&Result<Value, Over>>
-        ensures { option_copied result ≡ outcomes_of self.now node.now }
+    fn get(&self, node: &Node) -> Option<Result<&Value, Over>>
+        ensures { option_map outcome_behind result ≡ outcomes_of self.now node.now }
     {
         match self.fresh.get(node) {
             Some(outcome) => Some(outcome),

@@ -1,10 +1,11 @@
 //! The parts of sums.
 
-ghost use Rattle.std.specs.Prelude.{◌≡◌, IfOk};
+ghost use Rattle.std.specs.Prelude.{◌≡◌, ◌∷◌, [], IfOk, map};
 ghost use Rattle.ghg_engine.specs.Overlays.{outcomes_of};
-ghost use Rattle.ghg_engine.specs.Parts.{AreParts, node_for, nodes_for};
+ghost use Rattle.ghg_engine.specs.Parts.{AreAdded, AreParts, addends_for, node_for, nodes_for};
 
 use crate::overlay::Overlay;
+use ghg_categories::Category;
 use ghg_cell::Input;
 use ghg_interval::Over;
 use ghg_units::{Name, Node};
@@ -30,6 +31,15 @@ impl Part {
     }
 }
 
+/// What a total adds: the totals of categories, and the equivalents of its own lines.
+#[derive(Clone, Copy, Drop)]
+pub(crate) struct Addends<'a> {
+    pub(crate) categories: &'a [Category],
+    pub(crate) own: &'a [Name],
+    /// All lines under it, of which those of the categories are a part.
+    pub(crate) all: &'a [Name],
+}
+
 /// Gathers what is added of lines in a year, in a buffer that all sums share. Answers whether none of it is
 /// over.
 pub(crate) fn gather_parts(
@@ -42,11 +52,68 @@ pub(crate) fn gather_parts(
     ensures { IfOk result (AreParts (outcomes_of cells.now) (nodes_for part names.now year) parts.new.items) }
 {
     parts.clear();
-    for name in names {
-        match cells.outcome(&part.node(name, year)) {
-            Ok(input) => parts.push(input)?,
-            Err(Over) => return Ok(false),
+    add_lines(cells, part, names, year, parts)
+}
+
+/// Gathers the totals and the equivalents that a total adds, in the same buffer. Answers whether none of them
+/// is over.
+pub(crate) fn gather_addends(
+    cells: &Overlay<'_>,
+    addends: &Addends<'_>,
+    year: u32,
+    parts: &mut Vec<Input>,
+) -> Result<bool, AllocError>
+    ensures { IfOk result (AreParts (outcomes_of cells.now) (addends_for addends.now year) parts.new.items) }
+{
+    parts.clear();
+    if !add_totals(cells, addends.categories, year, parts)? {
+        return Ok(false);
+    }
+    add_lines(cells, Part::Equivalent, addends.own, year, parts)
+}
+
+fn add_totals(
+    cells: &Overlay<'_>,
+    categories: &[Category],
+    year: u32,
+    parts: &mut Vec<Input>,
+) -> Result<bool, AllocError>
+    ensures { IfOk result (AreAdded (outcomes_of cells.now) (map (λ c. Node.Total c year) categories.now)
+        parts.old.items parts.new.items) }
+{
+    for category in categories {
+        if !add_part(cells, &Node::Total(*category, year), parts)? {
+            return Ok(false);
         }
+    }
+    Ok(true)
+}
+
+fn add_lines(
+    cells: &Overlay<'_>,
+    part: Part,
+    names: &[Name],
+    year: u32,
+    parts: &mut Vec<Input>,
+) -> Result<bool, AllocError>
+    ensures { IfOk result (AreAdded (outcomes_of cells.now) (nodes_for part names.now year)
+        parts.old.items parts.new.items) }
+{
+    for name in names {
+        if !add_part(cells, &part.node(name, year), parts)? {
+            return Ok(false);
+        }
+    }
+    Ok(true)
+}
+
+// Adds what a node gives to the parts. Answers whether it is not over.
+fn add_part(cells: &Overlay<'_>, node: &Node, parts: &mut Vec<Input>) -> Result<bool, AllocError>
+    ensures { IfOk result (AreAdded (outcomes_of cells.now) (node.now ∷ []) parts.old.items parts.new.items) }
+{
+    match cells.outcome(node) {
+        Ok(input) => parts.push(input)?,
+        Err(Over) => return Ok(false),
     }
     Ok(true)
 }

@@ -2,21 +2,18 @@
 use Rattle.std.proofs.Common.{◌≡◌, inl, inr, true, ◌&&◌, List, [], ◌∷◌, map, is_some, refl, sym, ap, ◌∙◌, subst}
 use Rattle.std.specs.FinMap.{get}
 use Rattle.std.specs.List.{Contains, list_all}
-use Rattle.ghg_units.specs.declared.node.Node.{Node}
 use Rattle.ghg_definitions.specs.declared.record.RecordKey.{RecordKey}
-use Rattle.ghg_definitions.specs.declared.record.RecordKey.TheVariants as key
-use Rattle.ghg_definitions.specs.Data.{Data, Name, as_binding, as_line, line}
+use Rattle.ghg_definitions.specs.Data.{Data, Name}
 use Rattle.ghg_definitions.specs.Listed.{IsListed}
-use Rattle.ghg_definitions.specs.Rings.{Takes, TakesBinding}
 use Rattle.ghg_definitions.proofs.Alike.{first_so, second_so}
 use Rattle.ghg_definitions.proofs.Listed.{contained}
 use Rattle.ghg_affected.specs.Figures.{DifferInFigures, is_figure_key}
-use Rattle.ghg_affected.specs.Patches.{IsPatch}
 use Rattle.ghg_affected.proofs.Bools.{true_not_false}
+use Rattle.ghg_affected.proofs.Figures.{same_line, takes_before}
 use Rattle.ghg_data.specs.Changes.{Change, applied}
 use Rattle.ghg_data.proofs.Covered.{changed_or_kept}
 use Rattle.ghg_data.proofs.Faults.{IsAmong}
-use Rattle.ghg_graph.specs.Corrections.{ListsAffected, are_of_figures}
+use Rattle.ghg_graph.specs.Corrections.{are_of_figures}
 use Rattle.ghg_graph.specs.Ordering.{IsBehind, IsLineOrder}
 
 among : (k : RecordKey) (ks : List RecordKey) → IsAmong k ks → IsListed k ks
@@ -54,23 +51,12 @@ differ_in_figures m cs e = record {
 -- ---- orders
 
 module _ (old new : Data) (differ : DifferInFigures old new) where
-  same_line : (name : Name) → line old name ≡ line new name
-  same_line name = ap as_line (differ.others (key.Line name) refl)
-
-  takes_as_before : (k name : Name) → Takes new k name → Takes old k name
-  takes_as_before k name t = record {
-    present = ap is_some (same_line k) ∙ t.present;
-    parameter = t.parameter;
-    bound = subst (λ o. TakesBinding (as_binding o) name)
-        (sym (differ.others (key.Bind k t.parameter) refl)) t.bound;
-  }
-
   behind_still : (done names : List Name) → IsBehind old done names → IsBehind new done names
   behind_still done [] behind = tt
   behind_still done (name ∷ names) behind = (
-    sym (ap is_some (same_line name)) ∙ behind.0,
+    sym (ap is_some (same_line old new differ name)) ∙ behind.0,
     behind.1,
-    λ k t. behind.2 k (takes_as_before name k t),
+    λ k t. behind.2 k (takes_before old new differ name k t),
     behind_still (name ∷ done) names behind.3,
   )
 
@@ -78,10 +64,5 @@ module _ (old new : Data) (differ : DifferInFigures old new) where
   pub same_order : (names : List Name) → IsLineOrder old names → IsLineOrder new names
   same_order names order = record {
     behind = behind_still [] names order.behind;
-    complete = λ name is. order.complete name (ap is_some (same_line name) ∙ is);
+    complete = λ name is. order.complete name (ap is_some (same_line old new differ name) ∙ is);
   }
-
--- ---- patches
-
-pub lists_patch : {old new : Data} (ns : List Node) → ListsAffected old new ns → IsPatch old new ns
-lists_patch ns lists = record { in_turn = lists.in_turn; complete = lists.complete }

@@ -19,7 +19,7 @@ use Rattle.ghg_definitions.proofs.Rings.{taken_present, takes}
 use Rattle.ghg_data.specs.Parameters.{quantity}
 use Rattle.ghg_graph.specs.Slots.{slot_of, slots_of}
 
-flat_named : (f : Name → List Name) (ps : List Param) → flat_map (λ (q : Quantity). f q.name) (map quantity ps) ≡ flat_map (λ (p : Param). f p.name.now) ps
+pub flat_named : (f : Name → List Name) (ps : List Param) → flat_map (λ (q : Quantity). f q.name) (map quantity ps) ≡ flat_map (λ (p : Param). f p.name.now) ps
 flat_named f [] = refl
 flat_named f (p ∷ ps) = ap (λ xs. f p.name.now ++ xs) (flat_named f ps)
 

@@ -1,11 +1,11 @@
 -- A line that is not selected is reached in no year.
-use Rattle.std.proofs.Common.{◌≡◌, inl, inr, ℕ, Bool, true, false, ◌||◌, nat_le, List, [], ◌∷◌, map, filter, is_some, Option, Some, None, refl, sym, ap, ◌∙◌, subst}
+use Rattle.std.proofs.Common.{◌≡◌, inl, inr, ℕ, Bool, true, false, ◌||◌, nat_le, List, [], ◌∷◌, map, filter, flat_map, is_some, Option, Some, None, refl, sym, ap, ◌∙◌, subst}
 use Rattle.std.specs.BTreeSet.{BTreeSet, contains}
 use Rattle.std.specs.FinMap.{get}
-use Rattle.std.specs.List.{Contains, list_any}
+use Rattle.std.specs.List.{Contains}
 use Rattle.std.specs.Option.{option_map_or}
 use Rattle.ghg_equations.specs.declared.eq_id.EqId.{EqId}
-use Rattle.ghg_equations.specs.Table.{parameters}
+use Rattle.ghg_equations.specs.Table.{Quantity, parameters}
 use Rattle.ghg_units.specs.Name.{potential_name}
 use Rattle.ghg_units.specs.declared.node.Node.{Node}
 use Rattle.ghg_units.specs.declared.node.Node.TheVariants as node
@@ -23,20 +23,21 @@ use Rattle.ghg_definitions.specs.Rules.{binds_parameter}
 use Rattle.ghg_definitions.specs.Sound.{IsWorkbook}
 use Rattle.ghg_definitions.specs.Trials.{IsInput}
 use Rattle.ghg_definitions.proofs.Depth.{or_else}
-use Rattle.ghg_definitions.proofs.Listed.{from_flat, from_map, listed, listed_any}
+use Rattle.ghg_definitions.proofs.Listed.{from_flat, from_map, listed, listed_flat}
 use Rattle.ghg_definitions.proofs.Rings.{binding_sound, found_parameter}
 use Rattle.ghg_affected.specs.Affected.{EndsWith, IsChanged}
 use Rattle.ghg_affected.specs.Dependence.{Reads, StandsBy}
 use Rattle.ghg_affected.specs.Figures.{DifferInFigures, is_figure_key}
 use Rattle.ghg_affected.proofs.Bools.{never_so, or_first, true_not_false}
 use Rattle.ghg_affected.proofs.Dependence.{untouched_are_unchanged}
+use Rattle.ghg_affected.proofs.Figures.{stands_by_none}
 use Rattle.ghg_graph.specs.Ordering.{IsLineOrder}
-use Rattle.ghg_graph.specs.Reached.{IsGasWalk, IsWalk, is_reached, year_nodes}
-use Rattle.ghg_graph.specs.Selections.{HasFigures, IsSelection, has_figure, is_selected, is_weighed, takes_any}
-use Rattle.ghg_graph.specs.declared.selections.Selection.{Selection}
+use Rattle.ghg_graph.specs.Reached.{IsGasWalk, IsWalk, is_reached}
+use Rattle.ghg_graph.specs.Years.{year_nodes}
+use Rattle.ghg_graph.specs.Selections.{HasFigures, IsSelection, has_figure, is_selected, is_weighed}
+use Rattle.ghg_graph.specs.Takers.{figures_taken, lines_taken, named_by}
 use Rattle.ghg_graph.proofs.Marking.{equivalents_same, lines_same}
 use Rattle.ghg_graph.proofs.YearParts.{year_same}
-use Rattle.ghg_graph.proofs.Quiet.{stands_by_no_figure}
 use Rattle.ghg_graph.proofs.Reaching.{reached_affected}
 
 either_false : (a b : Bool) → (a || b) ≡ false → (a ≡ false) × (b ≡ false)
@@ -50,39 +51,50 @@ binding_record (Some r) b e = (r, refl)
 module _ (old new : Data) (differ : DifferInFigures old new) (workbook : IsWorkbook new) (keys : List RecordKey)
     (kept : (k : RecordKey) → (Contains keys k → ⊥) → get old k ≡ get new k)
     (figures : BTreeSet Name) (has : HasFigures keys figures)
-    (lines : List Name) (order : IsLineOrder new lines) (s : Selection)
+    (lines : List Name) (order : IsLineOrder new lines) (s : List Name)
     (closed : IsSelection new figures lines s) where
   -- ---- what a line that is not selected takes
 
-  takes_none : (name : Name) (e : EqId) → line new name ≡ Some e → is_selected s name ≡ false
-      → list_any (λ q. takes_any figures s (binding new name q.name)) (parameters e) ≡ false
-  takes_none name e is off =
-      sym (ap (λ o. option_map_or (λ e. list_any (λ q. takes_any figures s (binding new name q.name)) (parameters e)) o false) is)
-      ∙ closed name (order.complete name (ap is_some is)) off
+  -- what a binding of a parameter names
+  named_in : (names : Option Binding → List Name) (name : Name) (e : EqId) → line new name ≡ Some e
+      → (q : Quantity) → IsListed q (parameters e) → (k : Name) → IsListed k (names (binding new name q.name))
+      → IsListed k (named_by names new name)
+  named_in names name e is q i k j =
+      subst (λ o. IsListed k (option_map_or (λ e. flat_map (λ q. names (binding new name q.name)) (parameters e)) o []))
+      (sym is) (listed_flat (λ q. names (binding new name q.name)) q k (parameters e) i j)
 
-  bound_none : (name parameter : Name) (b : Binding) → is_selected s name ≡ false
-      → binding new name parameter ≡ Some b → takes_any figures s (Some b) ≡ false
-  bound_none name parameter b off is = by (line new name) refl (binding_sound new workbook name parameter record_is.0 record_is.1)
+  figure_off : (name parameter : Name) (b : Binding) → is_selected s name ≡ false
+      → binding new name parameter ≡ Some b → (figure : Name) → IsListed figure (figures_taken (Some b))
+      → contains name_cmp figures figure ≡ false
+  figure_off name parameter b off is figure i =
+      by (line new name) refl (binding_sound new workbook name parameter record_is.0 record_is.1)
     where
       record_is : (r : Record) × (get new (key.Bind name parameter) ≡ Some r)
       record_is = binding_record (get new (key.Bind name parameter)) b is
 
       by : (o : Option EqId) → line new name ≡ o
           → option_map_or (λ e. binds_parameter new e parameter (binding new name parameter)) o false ≡ true
-          → takes_any figures s (Some b) ≡ false
+          → contains name_cmp figures figure ≡ false
       by None e h = absurd (cc)
       by (Some e) there h =
           let q = found_parameter new e parameter (binding new name parameter) h in
-          never_so (takes_any figures s (Some b)) (λ on. true_not_false (sym
-          (listed_any (λ q. takes_any figures s (binding new name q.name)) q.0 (parameters e) q.1
-          (ap (λ p. takes_any figures s (binding new name p)) q.2 ∙ ap (takes_any figures s) is ∙ on))
-          ∙ takes_none name e there off))
+          never_so (contains name_cmp figures figure) (λ on. true_not_false (sym
+          (closed.by_figure name figure (order.complete name (ap is_some there))
+          (named_in figures_taken name e there q.0 q.1 figure
+          (subst (λ o. IsListed figure (figures_taken o)) (sym (ap (binding new name) q.2 ∙ is)) i)) on)
+          ∙ off))
+
+  line_off : (name : Name) (e : EqId) → line new name ≡ Some e → is_selected s name ≡ false
+      → (q : Quantity) → IsListed q (parameters e) → (k : Name) → IsListed k (lines_taken (binding new name q.name))
+      → is_selected s k ≡ false
+  line_off name e is off q i k j = never_so (is_selected s k) (λ on. true_not_false (sym
+      (closed.by_line name k (order.complete name (ap is_some is)) (named_in lines_taken name e is q i k j) on) ∙ off))
 
   -- ---- nodes that may be reached
 
   abbrev may_be : Node → Bool
   may_be (node.Line name year) = is_selected s name
-  may_be (node.Equiv name year) = is_weighed new figures s name
+  may_be (node.Equiv name year) = is_weighed new figures (is_selected s) name
   may_be (node.Total c year) = true
   may_be (node.Gross year) = true
 
@@ -95,14 +107,15 @@ module _ (old new : Data) (differ : DifferInFigures old new) (workbook : IsWorkb
   line_reads name year off (key.Line other) r = differ.others (key.Line other) refl
   line_reads name year off (key.Bind other parameter) r = differ.others (key.Bind other parameter) refl
   line_reads name year off (key.Activity other when) r =
-      unedited (key.Activity other when) refl (bound_none name r.1.parameter (bound.Activity other) off r.1.bound)
+      unedited (key.Activity other when) refl
+      (figure_off name r.1.parameter (bound.Activity other) off r.1.bound other (inl refl))
   line_reads name year off (key.Factor other start) r = unedited (key.Factor other start) refl (elim r.1.bound [
-    | inl is ↦ bound_none name r.1.parameter (bound.Factor other) off is
-    | inr is ↦ bound_none name r.1.parameter (bound.Decay other) off is
+    | inl is ↦ figure_off name r.1.parameter (bound.Factor other) off is other (inl refl)
+    | inr is ↦ figure_off name r.1.parameter (bound.Decay other) off is other (inl refl)
   ])
   line_reads name year off (key.Uncert other) r = absurd r
 
-  equivalent_reads : (name : Name) (year : ℕ) → is_weighed new figures s name ≡ false → (k : RecordKey)
+  equivalent_reads : (name : Name) (year : ℕ) → is_weighed new figures (is_selected s) name ≡ false → (k : RecordKey)
       → Reads new (node.Equiv name year) k → get old k ≡ get new k
   equivalent_reads name year off key.Span r = absurd r
   equivalent_reads name year off (key.Line other) r = differ.others (key.Line other) refl
@@ -118,7 +131,7 @@ module _ (old new : Data) (differ : DifferInFigures old new) (workbook : IsWorkb
   stands n k h = by (is_figure_key k) refl
     where
       by : (b : Bool) → is_figure_key k ≡ b → get old k ≡ get new k
-      by true f = absurd (stands_by_no_figure n k f h)
+      by true f = absurd (true_not_false (sym f ∙ stands_by_none n k h))
       by false f = differ.others k f
 
   changed_may : (n : Node) → IsChanged old new n → may_be n ≡ true
@@ -127,7 +140,7 @@ module _ (old new : Data) (differ : DifferInFigures old new) (workbook : IsWorkb
     | inr off ↦ absurd (untouched_are_unchanged old new (node.Line name year) (line_reads name year off)
         (stands (node.Line name year)) c)
   ]
-  changed_may (node.Equiv name year) c = elim (or_else (is_weighed new figures s name)) [
+  changed_may (node.Equiv name year) c = elim (or_else (is_weighed new figures (is_selected s) name)) [
     | inl on ↦ on
     | inr off ↦ absurd (untouched_are_unchanged old new (node.Equiv name year) (equivalent_reads name year off)
         (stands (node.Equiv name year)) c)
@@ -143,37 +156,34 @@ module _ (old new : Data) (differ : DifferInFigures old new) (workbook : IsWorkb
   previous_off false k year n off (inl e) = ap may_be e ∙ off
   previous_off false k year n off (inr i) = absurd i
 
-  bound_off : (first year : ℕ) (b : Option Binding) (n : Node) → takes_any figures s b ≡ false
+  bound_off : (first year : ℕ) (b : Option Binding) (n : Node)
+      → ((k : Name) → IsListed k (lines_taken b) → is_selected s k ≡ false)
       → IsListed n (nodes_in (bound_to new first year b)) → may_be n ≡ false
   bound_off first year None n off i = absurd i
   bound_off first year (Some (bound.Activity name)) n off i = absurd i
   bound_off first year (Some (bound.Factor name)) n off i = absurd i
-  bound_off first year (Some (bound.Line k)) n off (inl e) = ap may_be e ∙ off
+  bound_off first year (Some (bound.Line k)) n off (inl e) = ap may_be e ∙ off k (inl refl)
   bound_off first year (Some (bound.Line k)) n off (inr i) = absurd i
-  bound_off first year (Some (bound.Prev k)) n off i = previous_off (nat_le year first) k year n off i
+  bound_off first year (Some (bound.Prev k)) n off i = previous_off (nat_le year first) k year n (off k (inl refl)) i
   bound_off first year (Some (bound.Sum ks)) n off i =
-      let from = from_map (λ k. node.Line k year) n ks i in
-      ap may_be from.2 ∙ never_so (is_selected s from.0) (λ on. true_not_false
-      (sym (listed_any (is_selected s) from.0 ks from.1 on) ∙ off))
+      let from = from_map (λ k. node.Line k year) n ks i in ap may_be from.2 ∙ off from.0 from.1
   bound_off first year (Some (bound.Decay name)) n off i = absurd i
   bound_off first year (Some (bound.Key notation)) n off i = absurd i
 
-  line_off : (name : Name) (year : ℕ) → is_selected s name ≡ false → (o : Option EqId) → line new name ≡ o → (n : Node)
+  inputs_off : (name : Name) (year : ℕ) → is_selected s name ≡ false → (o : Option EqId) → line new name ≡ o → (n : Node)
       → IsListed n (inputs (line_formula new (first_year (span new)) name year o)) → may_be n ≡ false
-  line_off name year off None is n i = absurd i
-  line_off name year off (Some e) is n i =
+  inputs_off name year off None is n i = absurd i
+  inputs_off name year off (Some e) is n i =
       let first = first_year (span new) in
       let operand = from_flat (nodes_in {A = Source}) n (map (λ q. bound_to new first year (binding new name q.name)) (parameters e)) i in
       let from = from_map (λ q. bound_to new first year (binding new name q.name)) operand.0 (parameters e) operand.1 in
-      bound_off first year (binding new name from.0.name) n
-      (never_so (takes_any figures s (binding new name from.0.name)) (λ on. true_not_false
-      (sym (listed_any (λ q. takes_any figures s (binding new name q.name)) from.0 (parameters e) from.1 on) ∙ takes_none name e is off)))
+      bound_off first year (binding new name from.0.name) n (line_off name e is off from.0 from.1)
       (subst (λ (o : Operand Source). IsListed n (nodes_in o)) from.2 operand.2)
 
   input_may : (k n : Node) → IsInput (sheet_of new) k n → may_be k ≡ true → may_be n ≡ true
   input_may k (node.Line name year) i on = elim (or_else (is_selected s name)) [
     | inl so ↦ so
-    | inr off ↦ absurd (true_not_false (sym on ∙ line_off name year off (line new name) refl k (listed _ k i.among)))
+    | inr off ↦ absurd (true_not_false (sym on ∙ inputs_off name year off (line new name) refl k (listed _ k i.among)))
   ]
   input_may k (node.Equiv name year) i on = elim (listed (node.Line name year ∷ []) k i.among) [
     | inl e ↦ or_first (is_selected s name) _ (ap may_be (sym e) ∙ on)
@@ -194,37 +204,38 @@ module _ (old new : Data) (differ : DifferInFigures old new) (workbook : IsWorkb
   idle_line name off year = never_so (is_reached old new (node.Line name year))
       (λ e. true_not_false (sym (reached_may (node.Line name year) e) ∙ off))
 
-  pub idle_equivalent : (name : Name) → is_weighed new figures s name ≡ false → (year : ℕ)
+  pub idle_equivalent : (name : Name) → is_weighed new figures (is_selected s) name ≡ false → (year : ℕ)
       → is_reached old new (node.Equiv name year) ≡ false
   idle_equivalent name off year = never_so (is_reached old new (node.Equiv name year))
       (λ e. true_not_false (sym (reached_may (node.Equiv name year) e) ∙ off))
 
   -- ---- so it is enough to go over the others
 
-  pub walk_is : (names : List Name) → names ≡ filter (is_selected s) lines → IsWalk old new names
-  walk_is names e = record {
+  pub walk_is : IsWalk old new s
+  walk_is = record {
     lines = lines;
     order = order;
     test = is_selected s;
-    names_are = e;
+    names_are = closed.among;
     idle = λ name i off year. idle_line name off year;
   }
 
   pub gas_walk_is : (emitters names : List Name) → emitters ≡ gas_lines new
-      → names ≡ filter (is_weighed new figures s) emitters → IsGasWalk old new names
+      → names ≡ filter (is_weighed new figures (is_selected s)) emitters → IsGasWalk old new names
   gas_walk_is emitters names all e = record {
-    test = is_weighed new figures s;
-    names_are = e ∙ ap (filter (is_weighed new figures s)) all;
+    test = is_weighed new figures (is_selected s);
+    names_are = e ∙ ap (filter (is_weighed new figures (is_selected s))) all;
     idle = λ name i off year. idle_equivalent name off year;
   }
 
-  pub whole_year : (emitters walked weighed : List Name) → emitters ≡ gas_lines new
-      → walked ≡ filter (is_selected s) lines → weighed ≡ filter (is_weighed new figures s) emitters → (year : ℕ)
+  pub whole_year : (emitters walked weighed : List Name) → emitters ≡ gas_lines new → walked ≡ s
+      → weighed ≡ filter (is_weighed new figures (is_selected s)) emitters → (year : ℕ)
       → filter (is_reached old new) (year_nodes walked weighed year)
       ≡ filter (is_reached old new) (year_nodes lines emitters year)
   unfolding walk_is
   whole_year emitters walked weighed all first second year =
-      year_same old new year lines emitters walked weighed
-      (lines_same old new walked (walk_is walked first) year)
+      ap (λ ns. filter (is_reached old new) (year_nodes ns weighed year)) first
+      ∙ year_same old new year lines emitters s weighed
+      (lines_same old new s walk_is year)
       (equivalents_same old new weighed (gas_walk_is emitters weighed all second) year
       ∙ ap (λ es. filter (is_reached old new) (map (λ name. node.Equiv name year) es)) (sym all))

@@ -16,4 +16,10 @@ pub mod Corrected
 pub mod InTurn
 pub mod Idle
 pub mod Selecting
+pub mod Membership
+pub mod Pushed
+pub mod Taking
+pub mod Worklists
+pub mod Weighing
+pub mod Indexing
 pub mod Falling

@@ -205,10 +205,10 @@ categories_same old new names walk year =
 
 -- ---- the set of those that are reached
 
-names_equal : (x k : Name) → is_eq (name_cmp x k) ≡ true → x ≡ k
+pub names_equal : (x k : Name) → is_eq (name_cmp x k) ≡ true → x ≡ k
 names_equal x k e = names_same x k (equal_by _ e)
 
-equal_itself : (x : Name) → is_eq (name_cmp x x) ≡ true
+pub equal_itself : (x : Name) → is_eq (name_cmp x x) ≡ true
 equal_itself x = ap is_eq (tied_itself nat_list_cmp_total x)
 
 module _ (old new : Data) (year : ℕ) where

@@ -1,6 +1,6 @@
 -- Marks of lines, and elements by their places.
 use Rattle.std.proofs.Common.{◌≡◌, ℕ, zero, suc, ◌+◌, ◌<◌, Bool, true, false, List, [], ◌∷◌, ◌++◌, length, get_or, set, reverse, get_or-set_same, get_or-set_other, refl, sym, ◌∙◌, subst, inl, inr, arith}
-use Rattle.std.proofs.lemmas.List.{get_or_default, reverse-append}
+use Rattle.std.proofs.lemmas.List.{get_or_default, reverse-append, reverse-reverse}
 use native.Mathlib.Decide.{ℕ_discrete}
 use Prim.{yes, no}
 use Rattle.ghg_definitions.specs.Listed.{IsListed}
@@ -60,12 +60,15 @@ place_of xs x i = let c = contained xs x i in (c.0, c.1, get_or_default xs c.0 0
 pub reverse_push : {A : Type 0} (xs : List A) (x : A) → reverse (xs ++ x ∷ []) ≡ x ∷ reverse xs
 reverse_push xs x = reverse-append xs (x ∷ [])
 
-pub from_reverse : (x : ℕ) (xs : List ℕ) → IsListed x (reverse xs) → IsListed x xs
+pub from_reverse : {A : Type 0} (x : A) (xs : List A) → IsListed x (reverse xs) → IsListed x xs
 from_reverse x [] i = i
 from_reverse x (y ∷ xs) i = elim (in_either x (reverse xs) (y ∷ []) (subst (IsListed x) (reverse-append (y ∷ []) xs) i)) [
   | inl j ↦ inr (from_reverse x xs j)
   | inr j ↦ elim j [ inl e ↦ inl e | inr none ↦ absurd none ]
 ]
+
+pub listed_reverse : {A : Type 0} (x : A) (xs : List A) → IsListed x xs → IsListed x (reverse xs)
+listed_reverse x xs i = from_reverse x (reverse xs) (subst (IsListed x) (sym (reverse-reverse xs)) i)
 
 -- a line that takes something has a list
 pub link_inside : (ls : Links) (i j : ℕ) → IsLink ls i j → i < length ls

@@ -37,7 +37,7 @@ less_at (x ∷ xs) h zero (suc j) l b = first_is_less x xs j h.0 (omega arith)
 less_at (x ∷ xs) h (suc i) zero l b = absurd (omega arith)
 less_at (x ∷ xs) h (suc i) (suc j) l b = less_at xs h.1 i j (omega arith) (omega arith)
 
-less_or_not : (i j : ℕ) → (i < j) ⊎ ((i ≡ j) ⊎ (j < i))
+pub less_or_not : (i j : ℕ) → (i < j) ⊎ ((i ≡ j) ⊎ (j < i))
 less_or_not i j = grind arith
 
 not_tied : (x y : Name) → x ≡ y → name_cmp x y ≡ Less → ⊥
@@ -59,17 +59,17 @@ one_number xs sorted i j a b e = elim (less_or_not i j) [
   | inr rest ↦ elim rest [ inl same ↦ same | inr l ↦ absurd (not_tied _ _ (sym e) (less_at xs sorted j i l a)) ]
 ]
 
-at_name : (xs : List Name) (k : ℕ) → k < length xs → IsListed (name_at xs k) xs
+pub at_name : (xs : List Name) (k : ℕ) → k < length xs → IsListed (name_at xs k) xs
 at_name [] k h = absurd (omega arith)
 at_name (x ∷ xs) zero h = inl refl
 at_name (x ∷ xs) (suc k) h = inr (at_name xs k (omega arith))
 
 -- the place of a name
-number_in : List Name → Name → ℕ
+pub number_in : List Name → Name → ℕ
 number_in [] name = 0
 number_in (x ∷ xs) name = if bytes_eq x name then 0 else suc (number_in xs name)
 
-number_is : (xs : List Name) (name : Name) → IsListed name xs → (number_in xs name < length xs) × (name_at xs (number_in xs name) ≡ name)
+pub number_is : (xs : List Name) (name : Name) → IsListed name xs → (number_in xs name < length xs) × (name_at xs (number_in xs name) ≡ name)
 unfolding number_in
 number_is [] name i = absurd i
 number_is (x ∷ xs) name i = by (bytes_eq x name) refl i (number_is xs name)

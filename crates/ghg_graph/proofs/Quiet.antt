@@ -22,12 +22,14 @@ use Rattle.ghg_definitions.specs.Nodes.{year_in}
 use Rattle.ghg_definitions.specs.Trials.{IsInput}
 use Rattle.ghg_definitions.proofs.Listed.{from_flat, from_map, listed, listed_any}
 use Rattle.ghg_affected.specs.Affected.{EndsWith, IsAffected}
-use Rattle.ghg_affected.specs.Dependence.{Reads, StandsBy}
+use Rattle.ghg_affected.specs.Dependence.{Reads}
 use Rattle.ghg_affected.specs.Figures.{DifferInFigures, is_figure_key}
 use Rattle.ghg_affected.proofs.Affected.{through}
 use Rattle.ghg_affected.proofs.Bools.{never_so, true_not_false}
 use Rattle.ghg_affected.proofs.Dependence.{untouched_are_unchanged}
-use Rattle.ghg_graph.specs.Reached.{HasBefore, is_read_in, is_reached, year_nodes}
+use Rattle.ghg_affected.proofs.Figures.{stands_by_none}
+use Rattle.ghg_graph.specs.Reached.{HasBefore, is_read_in, is_reached}
+use Rattle.ghg_graph.specs.Years.{year_nodes}
 use Rattle.ghg_graph.proofs.YearNodes.{none_pass, of_this_year}
 use Rattle.ghg_graph.proofs.YearParts.{year_turned}
 use Rattle.ghg_graph.proofs.Reaching.{affected_reached, reached_affected}
@@ -94,23 +96,6 @@ reads_in m (node.Equiv name year) (key.Uncert other) f r = absurd r
 reads_in m (node.Total c year) (key.Uncert other) f r = absurd r
 reads_in m (node.Gross year) (key.Uncert other) f r = absurd r
 
-pub stands_by_no_figure : (n : Node) (k : RecordKey) → is_figure_key k ≡ true → StandsBy n k → ⊥
-stands_by_no_figure n key.Span f h = true_not_false (sym f)
-stands_by_no_figure n (key.Line name) f h = true_not_false (sym f)
-stands_by_no_figure n (key.Bind name parameter) f h = true_not_false (sym f)
-stands_by_no_figure (node.Line other when) (key.Activity name year) f h = h
-stands_by_no_figure (node.Equiv other when) (key.Activity name year) f h = h
-stands_by_no_figure (node.Total c when) (key.Activity name year) f h = h
-stands_by_no_figure (node.Gross when) (key.Activity name year) f h = h
-stands_by_no_figure (node.Line other when) (key.Factor name start) f h = h
-stands_by_no_figure (node.Equiv other when) (key.Factor name start) f h = h
-stands_by_no_figure (node.Total c when) (key.Factor name start) f h = h
-stands_by_no_figure (node.Gross when) (key.Factor name start) f h = h
-stands_by_no_figure (node.Line other when) (key.Uncert name) f h = h
-stands_by_no_figure (node.Equiv other when) (key.Uncert name) f h = h
-stands_by_no_figure (node.Total c when) (key.Uncert name) f h = h
-stands_by_no_figure (node.Gross when) (key.Uncert name) f h = h
-
 module _ (old new : Data) (differ : DifferInFigures old new) (keys : List RecordKey)
     (kept : (k : RecordKey) → (Contains keys k → ⊥) → get old k ≡ get new k)
     (year : ℕ) (unread : list_any (is_read_in year) keys ≡ false)
@@ -142,7 +127,7 @@ module _ (old new : Data) (differ : DifferInFigures old new) (keys : List Record
   quiet n at a = led_on a.first a.others n (record { first = a.first; others = []; changed = a.changed; leads = refl })
       (λ here. untouched_are_unchanged old new a.first
       (λ k r. same_record k (is_figure_key k) refl (λ f. subst (λ y. is_read_in y k ≡ true) here (reads_in new a.first k f r)))
-      (λ k s. same_record k (is_figure_key k) refl (λ f. absurd (stands_by_no_figure a.first k f s))) a.changed)
+      (λ k s. same_record k (is_figure_key k) refl (λ f. absurd (true_not_false (sym f ∙ stands_by_none a.first k s)))) a.changed)
       a.leads at
 
   pub quiet_node : (n : Node) → year_in n ≡ year → is_reached old new n ≡ false

@@ -1,22 +1,30 @@
 -- Lines that are selected by what they take.
-use Rattle.std.proofs.Common.{◌≡◌, inl, inr, ℕ, ◌+◌, ◌<◌, Bool, true, false, cond, not, ◌&&◌, List, [], ◌∷◌, length, get_or, map, take, is_eq, Option, Some, refl, sym, ap, ◌∙◌, subst}
+use Rattle.std.proofs.Common.{◌≡◌, ◌⊎◌, inl, inr, ℕ, zero, suc, ◌+◌, ◌<◌, ◌≤◌, Bool, true, false, cond, List, [], ◌∷◌, length, map, filter, drop, take, get_or, is_eq, Less, refl, sym, ap, ◌∙◌, subst, arith}
+use Rattle.std.proofs.lemmas.List.{drop_all, drop_more}
+use Rattle.std.proofs.lemmas.Map.Keys.{sorted_head, sorted_tail}
+use Rattle.std.proofs.lemmas.Map.Lookups.{exact_bytes}
 use Rattle.std.specs.BTreeSet.{BTreeSet, Updates, contains}
-use Rattle.std.specs.List.{list_any}
-use Rattle.std.specs.Option.{option_map_or}
-use Rattle.ghg_equations.specs.declared.eq_id.EqId.{EqId}
-use Rattle.ghg_equations.specs.declared.row.Param.{Param}
-use Rattle.ghg_equations.specs.Table.{Quantity, parameters}
-use Rattle.ghg_units.specs.declared.row.Binding.{Binding}
+use Rattle.std.specs.Cmp.Lexicographic.{nat_list_cmp_total}
+use Rattle.std.specs.List.{AllByRecursion, Contains}
+use Rattle.std.specs.List.Sorted.{IsStrictlySortedBy}
+use Rattle.std.specs.Ordering.{nat_cmp}
 use Rattle.ghg_definitions.specs.declared.record.RecordKey.{RecordKey}
 use Rattle.ghg_definitions.specs.declared.record.RecordKey.TheVariants as key
-use Rattle.ghg_definitions.specs.Data.{Data, Name, binding, line, name_cmp}
+use Rattle.ghg_definitions.specs.Data.{Data, Name, name_cmp}
 use Rattle.ghg_definitions.specs.Listed.{IsListed}
-use Rattle.ghg_definitions.proofs.Listed.{in_either, listed_any}
-use Rattle.ghg_data.specs.Parameters.{quantity}
-use Rattle.ghg_graph.specs.Selections.{has_figure, line_takes, takes_any}
-use Rattle.ghg_graph.specs.declared.selections.Selection.{Selection}
-use Rattle.ghg_graph.proofs.EquationParameters.{any_named, at_place}
+use Rattle.ghg_definitions.proofs.Listed.{contained, from_map, in_either, listed, listed_map}
+use Rattle.ghg_affected.proofs.Bools.{true_not_false}
+use Rattle.ghg_graph.specs.Index.{IsLineIndex}
+use Rattle.ghg_graph.specs.Numbers.{name_at}
+use Rattle.ghg_graph.specs.Ordering.{IsBehind}
+use Rattle.ghg_graph.specs.Selections.{IsSelection, has_figure, is_selected}
+use Rattle.ghg_graph.specs.Takers.{figures_taken, lines_taken, named_by, places_of}
+use Rattle.ghg_graph.specs.Worklists.{AreClosed, IsIn}
+use Rattle.ghg_graph.specs.declared.index.LineIndex.{LineIndex}
+use Rattle.ghg_graph.proofs.Membership.{key_listed, listed_key}
+use Rattle.ghg_graph.proofs.Named.{at_name, less_or_not, number_in, number_is}
 use Rattle.ghg_graph.proofs.Numbering.{take_next}
+use Rattle.ghg_graph.proofs.Worklists.{is_key, key_of}
 
 -- ---- one element more of a list that is gone through
 
@@ -46,27 +54,156 @@ figure_kept s t name updates k = by k
     by (key.Bind other parameter) e = refl
     by (key.Uncert other) e = refl
 
--- ---- lines
+-- ---- places in order
 
-module _ (m : Data) (figures : BTreeSet Name) (s : Selection) (name : Name) (e : EqId) (ps : List Param)
-    (at : Some e ≡ line m name) (all : map quantity ps ≡ parameters e) where
-  by_params : line_takes m figures s name ≡ list_any (λ (p : Param). takes_any figures s (binding m name p.name.now)) ps
-  by_params =
-      ap (λ o. option_map_or (λ e. list_any (λ (q : Quantity). takes_any figures s (binding m name q.name)) (parameters e)) o false) (sym at)
-      ∙ ap (list_any (λ (q : Quantity). takes_any figures s (binding m name q.name))) (sym all)
-      ∙ any_named (λ k. takes_any figures s (binding m name k)) ps
+below : (x y : ℕ) → nat_cmp x y ≡ Less → x < y
+below x y e = grind (arith, e)
 
-  pub one_takes : (i : ℕ) (d : Param) → i < length ps → (b : Option Binding)
-      → b ≡ binding m name (get_or ps i d).name.now → takes_any figures s b ≡ true → line_takes m figures s name ≡ true
-  one_takes i d h b from on =
-      by_params ∙ listed_any (λ (p : Param). takes_any figures s (binding m name p.name.now)) (get_or ps i d) ps
-      (at_place ps i d h) (ap (takes_any figures s) (sym from) ∙ on)
+of_all : {A : Type 0} (P : A → Type 0) (xs : List A) → AllByRecursion P xs → (x : A) → IsListed x xs → P x
+of_all P [] all x i = absurd i
+of_all P (y ∷ xs) all x (inl e) = subst P (sym e) all.0
+of_all P (y ∷ xs) all x (inr i) = of_all P xs all.1 x i
 
-  pub none_takes : list_any (λ (p : Param). takes_any figures s (binding m name p.name.now)) ps ≡ false
-      → line_takes m figures s name ≡ false
-  none_takes off = by_params ∙ off
+-- the places of those that pass, from one on, lead to those that pass
+module _ (lines : List Name) (test : Name → Bool) where
+  abbrev ArePassing : ℕ → List ℕ → Type 0
+  ArePassing from places = (k : ℕ) → IsListed k places →
+      (from ≤ k) × (k < length lines) × (test (name_at lines k) ≡ true)
 
--- a line that is not due is selected, or takes nothing
-pub not_due : (a b : Bool) → (not a && b) ≡ false → a ≡ false → b ≡ false
-not_due true b e off = absurd (cc)
-not_due false b e off = e
+  abbrev AreAll : ℕ → List ℕ → Type 0
+  AreAll from places = (k : ℕ) → from ≤ k → k < length lines → test (name_at lines k) ≡ true → IsListed k places
+
+  later : (from k : ℕ) → from ≤ k → (from + 1 ≤ k) ⊎ (k ≡ from)
+  later from k h = grind (arith, h)
+
+  -- the first place passes or does not
+  passing_more : (from : ℕ) → from < length lines
+      → ((places : List ℕ) → IsStrictlySortedBy nat_cmp places → ArePassing (from + 1) places
+      → AreAll (from + 1) places → map (name_at lines) places ≡ filter test (drop (from + 1) lines))
+      → (b : Bool) → test (name_at lines from) ≡ b → (places : List ℕ) → IsStrictlySortedBy nat_cmp places
+      → ArePassing from places → AreAll from places
+      → map (name_at lines) places
+      ≡ cond b (name_at lines from ∷ filter test (drop (from + 1) lines)) (filter test (drop (from + 1) lines))
+  passing_more from within step true is [] sorted passing all = absurd (all from (omega arith) within is)
+  passing_more from within step true is (x ∷ places) sorted passing all =
+      ap (λ k. name_at lines k ∷ map (name_at lines) places) (sym first)
+      ∙ ap (λ ns. name_at lines from ∷ ns) (step places (sorted_tail nat_cmp x places sorted)
+      (λ k i. let there = passing k (inr i) in let behind = below x k (of_all _ places after k i) in
+      (omega (arith, behind, first), there.1, there.2))
+      (λ k h inside on. elim (all k (omega (arith, h)) inside on) [
+        | inl same ↦ absurd (omega (arith, same, first, h))
+        | inr i ↦ i
+      ]))
+    where
+      after : AllByRecursion (λ k. nat_cmp x k ≡ Less) places
+      after = sorted_head nat_cmp x places sorted
+
+      first : from ≡ x
+      first = elim (all from (omega arith) within is) [
+        | inl same ↦ same
+        | inr i ↦ let behind = below x from (of_all _ places after from i) in let here = passing x (inl refl) in
+            absurd (omega (arith, behind, here.0))
+      ]
+  passing_more from within step false is places sorted passing all = step places sorted
+      (λ k i. let there = passing k i in (
+        elim (later from k there.0) [
+          | inl behind ↦ behind
+          | inr same ↦ absurd (true_not_false (sym there.2 ∙ ap (λ n. test (name_at lines n)) same ∙ is))
+        ],
+        there.1,
+        there.2,
+      ))
+      (λ k h inside on. all k (omega (arith, h)) inside on)
+
+  passing_from : (rest from : ℕ) → from + rest ≡ length lines → (places : List ℕ)
+      → IsStrictlySortedBy nat_cmp places → ArePassing from places → AreAll from places
+      → map (name_at lines) places ≡ filter test (drop from lines)
+  passing_from zero from e [] sorted passing all = sym (ap (filter test) (drop_all from lines (omega (arith, e))))
+  passing_from zero from e (x ∷ places) sorted passing all =
+      let here = passing x (inl refl) in absurd (omega (arith, here.0, here.1, e))
+  passing_from (suc rest) from e places sorted passing all =
+      passing_more from (omega (arith, e)) (passing_from rest (from + 1) (omega (arith, e)))
+      (test (name_at lines from)) refl places sorted passing all
+      ∙ ap (filter test) (sym (drop_more lines from [] (omega (arith, e))))
+
+-- ---- places of lines
+
+-- a line that is done does not come again
+not_again : (m : Data) (done names : List Name) → IsBehind m done names → (name : Name) → IsListed name names
+    → Contains done name → ⊥
+not_again m done [] behind name i c = absurd i
+not_again m done (n ∷ names) behind name (inl e) c = behind.1 (subst (Contains done) e c)
+not_again m done (n ∷ names) behind name (inr i) c =
+    not_again m (n ∷ done) names behind.3 name i (contained (n ∷ done) name (inr (listed done name c)))
+
+not_twice : (m : Data) (done names : List Name) → IsBehind m done names → (i j : ℕ) → i < j → j < length names
+    → name_at names i ≡ name_at names j → ⊥
+not_twice m done [] behind i j h within e = absurd (omega (arith, within))
+not_twice m done (n ∷ names) behind zero zero h within e = absurd (omega (arith, h))
+not_twice m done (n ∷ names) behind zero (suc j) h within e =
+    not_again m (n ∷ done) names behind.3 (name_at names j) (at_name names j (omega (arith, within)))
+    (contained (n ∷ done) (name_at names j) (inl (sym e)))
+not_twice m done (n ∷ names) behind (suc i) zero h within e = absurd (omega (arith, h))
+not_twice m done (n ∷ names) behind (suc i) (suc j) h within e =
+    not_twice m (n ∷ done) names behind.3 i j (omega (arith, h)) (omega (arith, within)) e
+
+one_place : (m : Data) (names : List Name) → IsBehind m [] names → (i j : ℕ) → i < length names → j < length names
+    → name_at names i ≡ name_at names j → i ≡ j
+one_place m names behind i j a b e = elim (less_or_not i j) [
+  | inl l ↦ absurd (not_twice m [] names behind i j l b e)
+  | inr rest ↦ elim rest [ inl same ↦ same | inr l ↦ absurd (not_twice m [] names behind j i l a (sym e)) ]
+]
+
+-- ---- the lines at places
+
+module _ (m : Data) (index : LineIndex) (is : IsLineIndex m index) (figures : BTreeSet Name) (places : BTreeSet ℕ)
+    (closed : AreClosed index figures places) (names : List Name)
+    (named : names ≡ map (name_at index.lines.items) places.keys) where
+  abbrev lines : List Name
+  lines = index.lines.items
+
+  selected_at : (place : ℕ) → IsIn places place → is_selected names (name_at lines place) ≡ true
+  selected_at place on = listed_key nat_list_cmp_total (name_at lines place) names
+      (subst (IsListed (name_at lines place)) (sym named)
+      (listed_map (name_at lines) place places.keys (key_of places place on)))
+
+  selected_by : (name : Name) → is_selected names name ≡ true → (place : ℕ) × IsIn places place
+      × (name ≡ name_at lines place)
+  selected_by name on =
+      let at = from_map (name_at lines) name places.keys
+      (subst (IsListed name) named (key_listed exact_bytes name names on)) in
+      (at.0, is_key places at.0 at.1, at.2)
+
+  -- a line that is named at its place
+  abbrev place_of : Name → ℕ
+  place_of name = number_in lines name
+
+  taker_selected : (name : Name) → Contains lines name → IsIn places (place_of name) → is_selected names name ≡ true
+  taker_selected name c on =
+      ap (is_selected names) (sym (number_is lines name (listed lines name c)).1) ∙ selected_at (place_of name) on
+
+  pub selection_is : IsSelection m figures lines names
+  selection_is = record {
+    among = named ∙ passing_from lines (is_selected names) (length lines) 0 (omega arith) places.keys closed.ordered
+        (λ k i. (omega arith, closed.within k (is_key places k i), selected_at k (is_key places k i)))
+        (λ k h within on.
+        let at = selected_by (name_at lines k) on in
+        key_of places k (subst (IsIn places)
+        (sym (one_place m lines is.lines.behind k at.0 within (closed.within at.0 at.1) at.2)) at.1));
+    by_figure = λ name figure c i on.
+        let there = number_is lines name (listed lines name c) in
+        taker_selected name c (closed.over_figures figure (place_of name) on
+        ((is.takers.of_figures figure (place_of name)).1 (
+          there.0,
+          subst (λ n. IsListed figure (named_by figures_taken m n)) (sym there.1) i,
+        )));
+    by_line = λ name taken c i on.
+        let there = number_is lines name (listed lines name c) in
+        let at = selected_by taken on in
+        taker_selected name c (closed.over_lines at.0 (place_of name) at.1
+        (subst (λ n. IsListed (place_of name) (places_of index.takers.lines n)) at.2
+        ((is.takers.of_lines taken (place_of name)).1 (
+          there.0,
+          subst (λ n. IsListed taken (named_by lines_taken m n)) (sym there.1) i,
+        ))));
+  }

@@ -1,5 +1,5 @@
 -- The nodes year by year.
-use Rattle.std.proofs.Common.{◌≡◌, inl, inr, ℕ, zero, suc, ◌+◌, ◌-◌, ◌<◌, ◌≤◌, le-leb, Bool, true, false, List, [], ◌∷◌, ◌++◌, map, filter, if◌then◌else◌, Option, Some, None, refl, sym, ap, ◌∙◌, subst, arith}
+use Rattle.std.proofs.Common.{◌≡◌, inl, inr, ℕ, zero, suc, ◌+◌, ◌-◌, ◌<◌, ◌≤◌, le-leb, Bool, true, false, List, [], ◌∷◌, ◌++◌, map, filter, if◌then◌else◌, reverse, Option, Some, None, refl, sym, ap, ◌∙◌, subst, arith}
 use Rattle.std.proofs.lemmas.Grind.{flat_map-append}
 use Rattle.std.proofs.lemmas.List.{append-nil}
 use Rattle.std.proofs.lemmas.List.Elements.{filter-append}
@@ -20,7 +20,7 @@ use Rattle.ghg_definitions.specs.Nodes.{year_in}
 use Rattle.ghg_definitions.specs.Sound.{IsWorkbook}
 use Rattle.ghg_definitions.proofs.Alike.{both}
 use Rattle.ghg_definitions.proofs.Listed.{from_map, in_either}
-use Rattle.ghg_graph.specs.Reached.{nodes_by_year, year_nodes}
+use Rattle.ghg_graph.specs.Years.{nodes_by_year, year_nodes}
 
 -- the years of a workbook
 pub span_is : (m : Data) (s : Span) → IsWorkbook m → span m ≡ Some s → IsSpan s
@@ -44,7 +44,7 @@ years_more first (suc n) =
     let e : first + 1 + n ≡ first + suc n = omega arith in
     ap (λ ys. first ∷ ys) (years_more (first + 1) n ∙ ap (λ y. years_from (first + 1) n ++ y ∷ []) e)
 
-nodes_more : (lines emitters : List Name) (first year : ℕ) → first ≤ year
+pub nodes_more : (lines emitters : List Name) (first year : ℕ) → first ≤ year
     → nodes_by_year lines emitters (years_from first (year + 1 - first))
     ≡ nodes_by_year lines emitters (years_from first (year - first)) ++ year_nodes lines emitters year
 nodes_more lines emitters first year h =
@@ -89,7 +89,7 @@ with_categories lines emitters cs year n i = elim (in_either n (map (λ name. no
 
 pub of_this_year : (lines emitters : List Name) (year : ℕ) (n : Node) → IsListed n (year_nodes lines emitters year)
     → year_in n ≡ year
-of_this_year lines emitters year n i = with_categories lines emitters tree year n i
+of_this_year lines emitters year n i = with_categories lines emitters (reverse tree) year n i
 
 -- where none of them passes, nothing is put behind the others
 pub none_pass : {A : Type 0} (p : A → Bool) (xs : List A) → ((x : A) → IsListed x xs → p x ≡ false)

@@ -1,5 +1,5 @@
 -- The nodes of a year that are reached, part by part.
-use Rattle.std.proofs.Common.{◌≡◌, inl, inr, ℕ, ◌+◌, ◌-◌, ◌<◌, ◌≤◌, Bool, true, false, cond, if◌then◌else◌, nat_le, leb-true, ◌||◌, List, [], ◌∷◌, ◌++◌, length, get_or, map, filter, take, Option, Some, None, refl, sym, ap, ap₂, ◌∙◌, arith}
+use Rattle.std.proofs.Common.{◌≡◌, inl, inr, ℕ, ◌+◌, ◌-◌, ◌<◌, ◌≤◌, Bool, true, false, cond, if◌then◌else◌, nat_le, leb-true, ◌||◌, List, [], ◌∷◌, ◌++◌, length, get_or, map, filter, reverse, take, Option, Some, None, refl, sym, ap, ap₂, ◌∙◌, arith}
 use Rattle.std.proofs.lemmas.Bool.{lt-leb}
 use Rattle.std.proofs.lemmas.List.{append-nil, append_assoc, get_or_default, map-append}
 use Rattle.std.proofs.lemmas.List.Elements.{filter-append}
@@ -18,7 +18,9 @@ use Rattle.ghg_definitions.proofs.Alike.{both, first_so}
 use Rattle.ghg_definitions.proofs.Listed.{contained}
 use Rattle.ghg_definitions.proofs.NodeLists.{tree_is}
 use Rattle.ghg_affected.specs.Figures.{DifferInFigures}
-use Rattle.ghg_graph.specs.Reached.{HasBefore, HasReached, is_reached, reached_categories, year_nodes}
+use Rattle.ghg_graph.specs.Reached.{HasBefore, HasReached, is_reached, reached_categories}
+use Rattle.ghg_graph.specs.Years.{year_nodes}
+use Rattle.ghg_graph.proofs.Marks.{from_reverse}
 use Rattle.ghg_graph.proofs.Numbering.{take_next}
 use Rattle.ghg_graph.proofs.Reaching.{gross_is_reached, total_is_reached}
 
@@ -96,9 +98,9 @@ module _ (old new : Data) (differ : DifferInFigures old new) (year : ℕ)
           ∙ ap (λ b. map (λ c. node.Total c year) (cond b (c ∷ filter (λ top. list_any (λ c. stands_under c top) categories) cs) (filter (λ top. list_any (λ c. stands_under c top) categories) cs)))
           (sym is ∙ same)
 
-  totals_are : filter (is_reached old new) (map (λ c. node.Total c year) tree)
-      ≡ map (λ c. node.Total c year) (filter (λ top. list_any (λ c. stands_under c top) categories) tree)
-  totals_are = totals_by tree (λ c i. (tree_is c).1 (contained tree c i))
+  totals_are : filter (is_reached old new) (map (λ c. node.Total c year) (reverse tree))
+      ≡ map (λ c. node.Total c year) (filter (λ top. list_any (λ c. stands_under c top) categories) (reverse tree))
+  totals_are = totals_by (reverse tree) (λ c i. (tree_is c).1 (contained tree c (from_reverse c tree i)))
 
   gross_is : filter (is_reached old new) (node.Gross year ∷ [])
       ≡ (if list_any counts_in_gross categories then node.Gross year ∷ [] else [])
@@ -109,7 +111,7 @@ module _ (old new : Data) (differ : DifferInFigures old new) (year : ℕ)
       → (none one two three four : List Node)
       → one ≡ none ++ filter (is_reached old new) (map (λ name. node.Line name year) lines)
       → two ≡ one ++ filter (is_reached old new) (map (λ name. node.Equiv name year) emitters)
-      → three ≡ two ++ map (λ c. node.Total c year) (filter (λ top. list_any (λ c. stands_under c top) found) tree)
+      → three ≡ two ++ map (λ c. node.Total c year) (filter (λ top. list_any (λ c. stands_under c top) found) (reverse tree))
       → four ≡ three ++ (if list_any counts_in_gross found then node.Gross year ∷ [] else [])
       → four ≡ none ++ filter (is_reached old new) (year_nodes lines emitters year)
   year_added lines emitters found all which none one two three four first second third fourth =
@@ -117,10 +119,10 @@ module _ (old new : Data) (differ : DifferInFigures old new) (year : ℕ)
       fourth
       ∙ ap₂ (λ (xs ys : List Node). xs ++ ys)
       (third ∙ ap₂ (λ (xs ys : List Node). xs ++ ys) (second ∙ ap (λ xs. xs ++ equivalents) first)
-      (ap (λ cs. map (λ c. node.Total c year) (filter (λ top. list_any (λ c. stands_under c top) cs) tree)) known ∙ sym totals_are))
+      (ap (λ cs. map (λ c. node.Total c year) (filter (λ top. list_any (λ c. stands_under c top) cs) (reverse tree))) known ∙ sym totals_are))
       (ap (λ cs. if list_any counts_in_gross cs then node.Gross year ∷ [] else []) known ∙ sym gross_is)
       ∙ gathered none (map (λ name. node.Line name year) lines) (map (λ name. node.Equiv name year) emitters)
-      (map (λ c. node.Total c year) tree) (node.Gross year ∷ [])
+      (map (λ c. node.Total c year) (reverse tree)) (node.Gross year ∷ [])
     where
       equivalents : List Node
       equivalents = filter (is_reached old new) (map (λ name. node.Equiv name year) emitters)
@@ -146,7 +148,7 @@ pub year_same : (old new : Data) (year : ℕ) (lines emitters walked weighed : L
     → filter (is_reached old new) (year_nodes walked weighed year) ≡ filter (is_reached old new) (year_nodes lines emitters year)
 year_same old new year lines emitters walked weighed first second =
     let p = is_reached old new in
-    let last : List Node = map (λ c. node.Total c year) tree ++ node.Gross year ∷ [] in
+    let last : List Node = map (λ c. node.Total c year) (reverse tree) ++ node.Gross year ∷ [] in
     filter-append p (map (λ name. node.Line name year) walked) (map (λ name. node.Equiv name year) weighed ++ last)
     ∙ ap₂ (λ (xs ys : List Node). xs ++ ys) first
     (filter-append p (map (λ name. node.Equiv name year) weighed) last

@@ -7,7 +7,12 @@ pub mod Refusal
 pub mod Numbers
 pub mod Operands
 pub mod Slots
+pub mod NodeOrders
 pub mod Corrections
+pub mod Years
 pub mod Reached
+pub mod Takers
+pub mod Index
+pub mod Worklists
 pub mod Selections
 pub mod Falling

@@ -1,9 +1,8 @@
 -- Which nodes a correction of figures reaches, told year by year.
-use Rattle.std.specs.Prelude.{◌≡◌, ℕ, Bool, false, not, ◌||◌, nat_eq, nat_le, List, [], ◌∷◌, ◌++◌, filter, map, length, Option}
+use Rattle.std.specs.Prelude.{◌≡◌, ℕ, Bool, false, not, ◌||◌, nat_eq, nat_le, List, filter, length, Option}
 use Rattle.std.specs.BTreeSet.{BTreeSet, contains}
-use Rattle.std.specs.List.{Contains, filter_map, flat_map, list_any}
+use Rattle.std.specs.List.{Contains, filter_map, list_any}
 use Rattle.ghg_categories.specs.declared.category.Category.{Category}
-use Rattle.ghg_categories.specs.Tree.{tree}
 use Rattle.ghg_units.specs.declared.node.Node.{Node}
 use Rattle.ghg_units.specs.declared.node.Node.TheVariants as node
 use Rattle.ghg_units.specs.declared.row.Binding.{Binding}
@@ -16,17 +15,6 @@ use Rattle.ghg_definitions.specs.Lookups.{given}
 use Rattle.ghg_affected.specs.Affected.{affected_within}
 use Rattle.ghg_affected.specs.Equalities.{same_operand}
 use Rattle.ghg_graph.specs.Ordering.{IsLineOrder}
-
--- ---- the nodes year by year
-
--- the lines, their equivalents, the totals, and the gross total
-abbrev pub year_nodes : List Name → List Name → ℕ → List Node
-year_nodes lines emitters year = map (λ name. node.Line name year) lines ++
-    (map (λ name. node.Equiv name year) emitters ++
-    (map (λ c. node.Total c year) tree ++ node.Gross year ∷ []))
-
-abbrev pub nodes_by_year : List Name → List Name → List ℕ → List Node
-nodes_by_year lines emitters years = flat_map (year_nodes lines emitters) years
 
 -- ---- what is reached
 

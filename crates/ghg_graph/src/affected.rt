@@ -2,17 +2,17 @@
 
 ghost use Rattle.std.specs.Prelude.{◌≡◌, true, IfOk};
 ghost use Rattle.std.specs.List.{list_all};
-ghost use Rattle.ghg_definitions.specs.Compilation.{gas_lines};
 ghost use Rattle.ghg_affected.specs.Figures.{is_figure_key};
 ghost use Rattle.ghg_data.specs.Changes.{applied};
 ghost use Rattle.ghg_data.specs.Shelf.{IsPlanned};
 ghost use Rattle.ghg_graph.specs.Corrections.{ListsAffected, are_of_figures};
-ghost use Rattle.ghg_graph.specs.Ordering.{IsLineOrder};
+ghost use Rattle.ghg_graph.specs.Index.{IsLineIndex};
 
+use crate::index::LineIndex;
 use crate::reached::reached_nodes;
 use ghg_data::{Book, Edits, after};
 use ghg_definitions::RecordKey;
-use ghg_units::{Name, Node};
+use ghg_units::Node;
 use std::alloc::{AllocError, Global};
 
 /// Whether edits are of figures and uncertainties alone: then the lines, what they take and the nodes stay as
@@ -39,29 +39,18 @@ fn is_figure_key(key: &RecordKey) -> bool
 }
 
 /// The nodes that edits of figures alone affect, each once and behind its inputs: those whose looked-up
-/// figures differ, and all that these lead to.
-///
-/// `lines` are the book's lines in an order, and `emitters` those of them that emit a gas, by name.
+/// figures differ, and all that these lead to. `index` is that of the book's lines.
 pub fn affected_by_figures(
     alloc: Global,
     book: &Book,
     edits: &Edits,
-    lines: &[Name],
-    emitters: &[Name],
+    index: &LineIndex,
 ) -> Result<Vec<Node>, AllocError>
     requires planned { IsPlanned book.now edits.now }
     requires figures { are_of_figures edits.now ≡ true }
-    requires lines { IsLineOrder book.now.content lines.now }
-    requires emitters { emitters.now ≡ gas_lines book.now.content }
+    requires index { IsLineIndex book.now.content index.now }
     ensures { IfOk result (λ nodes. ListsAffected book.now.content
         (applied book.now.content edits.now) nodes.items) }
 {
-    reached_nodes(
-        alloc,
-        book,
-        &after(book, edits),
-        edits.keys(),
-        lines,
-        emitters,
-    )
+    reached_nodes(alloc, book, &after(book, edits), edits.keys(), index)
 }

@@ -103,8 +103,8 @@ fn taken_at<'a, R: Records>(records: &'a R, line: &Name, param: &Param) -> &'a [
     taken_by(records.bound(line, param))
 }
 
-// The lines whose values of the same year a binding takes.
-fn taken_by(binding: Option<&Binding>) -> &[Name]
+/// The lines whose values of the same year a binding takes.
+pub(crate) fn taken_by(binding: Option<&Binding>) -> &[Name]
     ensures { result.now ≡ taken_by (option_copied binding.entry) }
 {
     match binding {
@@ -121,20 +121,27 @@ fn add_numbers(lines: &[Name], names: &[Name], numbers: &mut Vec<usize>) -> Resu
     ensures { IfOk result (λ _. (before : List Name) → AreNumbers lines.now numbers.old.items before
         → AreNumbers lines.now numbers.new.items (before ++ names.now)) }
 {
+    let mut next = 0;
     for name in names {
-        numbers.push(number_of(lines, name))?;
+        let number = number_of(lines, next, name);
+        numbers.push(number)?;
+        next = number + 1;
     }
     Ok(())
 }
 
-// The number of a line.
-fn number_of(lines: &[Name], name: &Name) -> usize
+// The number of a line. That of the line behind the one looked up before is tried first, since sums are often
+// of lines in their order.
+fn number_of(lines: &[Name], next: usize, name: &Name) -> usize
     requires order { IsStrictlySortedBy name_cmp lines.now }
     requires present { IsListed name.now lines.now }
     ensures within { result < length lines.now }
     ensures name { name_at lines.now result ≡ name.now }
 {
-    lines.binary_search(name).unwrap()
+    match lines.get(next) {
+        Some(line) if line == name => next,
+        _ => lines.binary_search(name).unwrap(),
+    }
 }
 
 /// The names of lines, in the order of the numbers.

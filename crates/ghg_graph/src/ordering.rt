@@ -1,6 +1,6 @@
 //! Orders of a workbook's lines.
 
-ghost use Rattle.std.specs.Prelude.{MatchResult};
+ghost use Rattle.std.specs.Prelude.{IfOk, MatchResult};
 ghost use Rattle.ghg_definitions.specs.Rings.{IsAcyclic};
 ghost use Rattle.ghg_graph.specs.Ordering.{IsLineOrder};
 ghost use Rattle.ghg_graph.specs.Refusal.{IfRing, IsLeastRingOf};
@@ -11,7 +11,7 @@ use crate::rings::{CycleRefusal, Ring};
 use crate::walk::{Stop, order};
 use ghg_data::Records;
 use ghg_units::Name;
-use std::alloc::Global;
+use std::alloc::{AllocError, Global};
 
 /// The lines of a workbook, each behind those whose values of the same year it takes; where there is no such
 /// order, a ring that begins with the least line on any.
@@ -27,6 +27,18 @@ pub fn line_order<R: Records>(alloc: Global, records: &R) -> Result<Vec<Name>, C
             Err(CycleRefusal::Ring(Ring::new(names_of(alloc, &numbered.lines, &ring)?)))
         }
         Err(Stop::Memory) => Err(CycleRefusal::Memory),
+    }
+}
+
+/// The lines of a workbook without a ring, each behind those that it takes.
+pub fn acyclic_order<R: Records>(alloc: Global, records: &R) -> Result<Vec<Name>, AllocError>
+    requires { IsAcyclic (R.content records.now) }
+    ensures { IfOk result (λ names. IsLineOrder (R.content records.now) names.items) }
+{
+    match line_order(alloc, records) {
+        Ok(names) => Ok(names),
+        Err(CycleRefusal::Memory) => Err(AllocError),
+        Err(CycleRefusal::Ring(_)) => unreachable!(),
     }
 }
 

@@ -1,6 +1,6 @@
 //! The nodes that a correction of figures reaches, year by year.
 
-ghost use Rattle.std.specs.Prelude.{◌≡◌, ◌+◌, ◌∷◌, ◌++◌, [], ℕ, true, false, Some, filter, is_some, if◌then◌else◌, map, not, option_copied, IfOk, OnOk};
+ghost use Rattle.std.specs.Prelude.{◌≡◌, ◌+◌, ◌∷◌, ◌++◌, [], ℕ, true, false, Some, filter, is_some, if◌then◌else◌, map, not, option_copied, reverse, IfOk, OnOk};
 ghost use Rattle.std.specs.BTreeSet.{contains};
 ghost use Rattle.std.specs.FinMap.{get};
 ghost use Rattle.std.specs.List.{Contains, list_any};
@@ -14,12 +14,14 @@ ghost use Rattle.ghg_definitions.specs.Lookups.{given};
 ghost use Rattle.ghg_definitions.specs.Rings.{Takes, TakesBinding};
 ghost use Rattle.ghg_affected.specs.Equalities.{same_input};
 ghost use Rattle.ghg_affected.specs.Figures.{DifferInFigures};
-ghost use Rattle.ghg_graph.specs.Ordering.{IsLineOrder};
-ghost use Rattle.ghg_graph.specs.Reached.{HasBefore, HasReached, IsGasWalk, IsWalk, binding_reached, is_read_in, is_reached, nodes_by_year, reached_categories, year_nodes};
+ghost use Rattle.ghg_graph.specs.Index.{IsLineIndex};
+ghost use Rattle.ghg_graph.specs.Reached.{HasBefore, HasReached, IsGasWalk, IsWalk, binding_reached, is_read_in, is_reached, reached_categories};
+ghost use Rattle.ghg_graph.specs.Years.{nodes_by_year, year_nodes};
 
 use crate::gases::potential;
+use crate::index::LineIndex;
 use crate::numbers::equation_of;
-use crate::selections::{figures_of, select_lines, selected, weighed};
+use crate::selections::{Selection, figures_of, select};
 use crate::slots::counts_in_gross;
 use ghg_categories::{Category, is_under};
 use ghg_cell::Input;
@@ -38,23 +40,23 @@ struct Reached {
 }
 
 /// The nodes that are affected where the records differ at the keys alone, and these are of figures: year by
-/// year the lines in their order, the equivalents, the totals and the gross total.
+/// year the lines in their order, the equivalents, the totals, each category behind those under it, and the
+/// gross total.
 pub(crate) fn reached_nodes<R: Records, S: Records>(
     alloc: Global,
     old: &R,
     new: &S,
     keys: &[RecordKey],
-    lines: &[Name],
-    emitters: &[Name],
+    index: &LineIndex,
 ) -> Result<Vec<Node>, AllocError>
     requires figures { DifferInFigures (R.content old.now) (S.content new.now) }
     requires kept { (k : RecordKey) → (Contains keys.now k → ⊥) →
         get (R.content old.now) k ≡ get (S.content new.now) k }
-    requires lines { IsLineOrder (S.content new.now) lines.now }
-    requires emitters { emitters.now ≡ gas_lines (S.content new.now) }
+    requires index { IsLineIndex (S.content new.now) index.now }
     ensures { IfOk result (λ nodes. nodes.items ≡ filter
         (is_reached (R.content old.now) (S.content new.now))
-        (nodes_by_year lines.now emitters.now (years_of (span (S.content new.now))))) }
+        (nodes_by_year index.now.lines.items index.now.emitters.items
+        (years_of (span (S.content new.now))))) }
 {
     let mut reached = Reached {
         nodes: Vec::new(alloc),
@@ -64,12 +66,11 @@ pub(crate) fn reached_nodes<R: Records, S: Records>(
         return Ok(reached.nodes);
     };
     let figures = figures_of(alloc, keys)?;
-    let selection = select_lines(alloc, new, &figures, lines)?;
-    let walked = selected(alloc, &selection, lines)?;
-    let weighed = weighed(alloc, new, &figures, &selection, emitters)?;
+    let selection = select(alloc, new, &figures, index)?;
     for year in span.first..span.last + 1 {
         if !reached.before.is_empty() || is_read(keys, year) {
-            add_year(alloc, old, new, &walked, &weighed, &mut reached, year)?;
+            let Selection { lines, emitters } = &selection;
+            add_year(alloc, old, new, lines, emitters, &mut reached, year)?;
         }
     }
     Ok(reached.nodes)
@@ -308,9 +309,9 @@ fn equivalent_reached<R: Records, S: Records>(
 // Adds the totals of a year at or above one of the categories.
 fn add_totals(categories: &[Category], year: u32, nodes: &mut Vec<Node>) -> Result<(), AllocError>
     ensures { OnOk result (nodes.new.items ≡ nodes.old.items ++ map (λ c. node.Total c year)
-        (filter (λ top. list_any (λ c. stands_under c top) categories.now) tree)) }
+        (filter (λ top. list_any (λ c. stands_under c top) categories.now) (reverse tree))) }
 {
-    for top in ghg_categories::all() {
+    for top in ghg_categories::all().iter().rev() {
         if has_under(categories, *top) {
             nodes.push(Node::Total(*top, year))?;
         }

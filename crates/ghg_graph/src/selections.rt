@@ -1,29 +1,32 @@
 //! The lines to which a correction may lead in some year, so that only these are gone over.
 
-ghost use Rattle.std.specs.Prelude.{◌≡◌, ◌&&◌, true, false, filter, not, Some, option_copied, IfOk, OnOk};
-ghost use Rattle.std.specs.BTreeSet.{Updates, contains};
+ghost use Rattle.std.specs.Prelude.{◌≡◌, ◌<◌, ℕ, true, filter, length, map, IfOk, OnOk};
+ghost use Rattle.std.specs.BTreeSet.{IsFromIterResult, Updates, contains};
 ghost use Rattle.std.specs.List.{list_any};
+ghost use Rattle.ghg_units.specs.Name.{is_potential_name};
 ghost use Rattle.ghg_definitions.specs.declared.record.RecordKey.{RecordKey};
+ghost use Rattle.ghg_definitions.specs.Compilation.{emits, gas_lines};
 ghost use Rattle.ghg_definitions.specs.Data.{name_cmp};
-ghost use Rattle.ghg_graph.specs.Selections.{HasFigures, IsSelection, has_figure, is_selected, is_weighed, line_takes, takes_any};
+ghost use Rattle.ghg_graph.specs.Index.{IsLineIndex};
+ghost use Rattle.ghg_graph.specs.Numbers.{name_at};
+ghost use Rattle.ghg_graph.specs.Selections.{HasFigures, IsSelection, has_figure, is_selected, is_weighed};
+ghost use Rattle.ghg_graph.specs.Worklists.{IsIn};
 
 use crate::gases::line_gas;
-use crate::numbers::equation_of;
-use ghg_data::{Records, params_of};
+use crate::index::LineIndex;
+use crate::numbers::names_of;
+use crate::worklist::reached_places;
+use ghg_data::Records;
 use ghg_definitions::RecordKey;
-use ghg_units::{Binding, Name};
+use ghg_units::{Name, is_potential_name};
 use std::alloc::{AllocError, Global};
 use std::collections::BTreeSet;
 
-// How often lines are gone over before all are selected. A line that takes the year before of a line behind
-// it in the order may need one more time.
-const PASSES: usize = 8;
-
-/// Some of the lines of a workbook, or every line.
+/// Some of the lines of a workbook in their order, and some of the emitters by name.
 #[derive(Drop)]
 pub(crate) struct Selection {
-    pub(crate) every: bool,
-    pub(crate) names: BTreeSet<Name>,
+    pub(crate) lines: Vec<Name>,
+    pub(crate) emitters: Vec<Name>,
 }
 
 /// The activities and factors that keys are of.
@@ -55,130 +58,92 @@ fn add(names: &mut BTreeSet<Name>, name: Name) -> Result<(), AllocError>
     Ok(())
 }
 
-/// The lines that take one of the figures, or a line that is selected.
-pub(crate) fn select_lines<S: Records>(
+/// The lines that take one of the figures, or a line that is selected; and the emitters that are selected, or
+/// whose gas has a warming potential among the figures.
+pub(crate) fn select<S: Records>(
     alloc: Global,
     new: &S,
     figures: &BTreeSet<Name>,
-    lines: &[Name],
+    index: &LineIndex,
 ) -> Result<Selection, AllocError>
-    ensures { IfOk result (IsSelection (S.content new.now) figures.now lines.now) }
+    requires { IsLineIndex (S.content new.now) index.now }
+    ensures lines { IfOk result (λ s. IsSelection (S.content new.now) figures.now index.now.lines.items
+        s.lines.items) }
+    ensures emitters { IfOk result (λ s. s.emitters.items ≡ filter
+        (is_weighed (S.content new.now) figures.now (is_selected s.lines.items)) index.now.emitters.items) }
 {
-    let mut selection = Selection {
-        every: false,
-        names: BTreeSet::new(alloc),
-    };
-    for _ in 0..PASSES {
-        if !go_over(new, figures, lines, &mut selection)? {
-            return Ok(selection);
-        }
-    }
-    selection.every = true;
-    Ok(selection)
+    let places = reached_places(alloc, figures, index)?;
+    let lines = lines_at(alloc, &index.lines, &places)?;
+    let emitters = weighed(alloc, new, figures, &lines, &index.emitters)?;
+    Ok(Selection { lines, emitters })
 }
 
-// Selects lines in their order, and tells whether one was added.
-fn go_over<S: Records>(
-    new: &S,
-    figures: &BTreeSet<Name>,
-    lines: &[Name],
-    selection: &mut Selection,
-) -> Result<bool, AllocError>
-    ensures { IfOk result (λ added. added ≡ false →
-        IsSelection (S.content new.now) figures.now lines.now selection.new) }
-{
-    let mut added = false;
-    for name in lines {
-        if is_due(new, figures, selection, name) {
-            selection.names.insert(*name)?;
-            added = true;
-        }
-    }
-    Ok(added)
-}
-
-fn is_due<S: Records>(new: &S, figures: &BTreeSet<Name>, selection: &Selection, name: &Name) -> bool
-    ensures { result ≡ not (is_selected selection.now name.now) &&
-        line_takes (S.content new.now) figures.now selection.now name.now }
-{
-    !is_selected(selection, name) && line_takes(new, figures, selection, name)
-}
-
-/// Whether a line is selected.
-pub(crate) fn is_selected(selection: &Selection, name: &Name) -> bool
-    ensures { result ≡ is_selected selection.now name.now }
-{
-    selection.every || selection.names.contains(name)
-}
-
-// Whether a parameter of a line's equation takes one of the figures, or a line that is selected.
-fn line_takes<S: Records>(
-    new: &S,
-    figures: &BTreeSet<Name>,
-    selection: &Selection,
-    name: &Name,
-) -> bool
-    ensures { result ≡ line_takes (S.content new.now) figures.now selection.now name.now }
-{
-    let Some(id) = equation_of(new, name) else {
-        return false;
-    };
-    for param in params_of(id) {
-        if takes_any(figures, selection, new.bound(name, param)) {
-            return true;
-        }
-    }
-    false
-}
-
-fn takes_any(figures: &BTreeSet<Name>, selection: &Selection, binding: Option<&Binding>) -> bool
-    ensures { result ≡ takes_any figures.now selection.now (option_copied binding.entry) }
-{
-    match binding {
-        Some(Binding::Activity(name) | Binding::Factor(name) | Binding::Decay(name)) => {
-            figures.contains(name)
-        }
-        Some(Binding::Line(name) | Binding::Prev(name)) => is_selected(selection, name),
-        Some(Binding::Sum(names)) => has_selected(selection, names.as_slice()),
-        Some(Binding::Key(_)) | None => false,
-    }
-}
-
-fn has_selected(selection: &Selection, names: &[Name]) -> bool
-    ensures { result ≡ list_any (is_selected selection.now) names.now }
-{
-    names.iter().any(|name| is_selected(selection, name))
-}
-
-/// Those of the lines that are selected, in their order.
-pub(crate) fn selected(
+// The lines at places, in their order.
+fn lines_at(
     alloc: Global,
-    selection: &Selection,
     lines: &[Name],
+    places: &BTreeSet<usize>,
 ) -> Result<Vec<Name>, AllocError>
-    ensures { IfOk result (λ names. names.items ≡ filter (is_selected selection.now) lines.now) }
+    requires { (place : ℕ) → IsIn places.now place → place < length lines.now }
+    ensures { IfOk result (λ names. names.items ≡ map (name_at lines.now) places.now.keys) }
 {
-    lines
-        .iter()
-        .filter(|name| is_selected(selection, name))
-        .copied()
-        .collect(alloc)
+    let places: Vec<usize> = places.iter().copied().collect(alloc)?;
+    names_of(alloc, lines, &places)
 }
 
-/// Those of the lines that are selected, or whose gas has a warming potential among the figures.
-pub(crate) fn weighed<S: Records>(
+// Those of the emitters that are among the lines, or whose gas has a warming potential among the figures. All
+// are gone over only where there is a warming potential.
+fn weighed<S: Records>(
     alloc: Global,
     new: &S,
     figures: &BTreeSet<Name>,
-    selection: &Selection,
     lines: &[Name],
+    emitters: &[Name],
+) -> Result<Vec<Name>, AllocError>
+    requires { emitters.now ≡ gas_lines (S.content new.now) }
+    ensures { IfOk result (λ names. names.items ≡ filter
+        (is_weighed (S.content new.now) figures.now (is_selected lines.now)) emitters.now) }
+{
+    let selected = set_of(alloc, lines)?;
+    if has_potential(figures) {
+        weighed_among(alloc, new, figures, &selected, emitters)
+    } else {
+        emitting(alloc, new, &selected)
+    }
+}
+
+fn set_of(alloc: Global, names: &[Name]) -> Result<BTreeSet<Name>, AllocError>
+    ensures { IfOk result (IsFromIterResult name_cmp names.now) }
+{
+    names.iter().copied().collect(alloc)
+}
+
+// Whether one of the figures is a warming potential.
+fn has_potential(figures: &BTreeSet<Name>) -> bool
+    ensures { result ≡ list_any is_potential_name figures.now.keys }
+{
+    figures.iter().any(|name| is_potential(name))
+}
+
+fn is_potential(name: &Name) -> bool
+    ensures { result ≡ is_potential_name name.now }
+{
+    is_potential_name(name.as_bytes())
+}
+
+fn weighed_among<S: Records>(
+    alloc: Global,
+    new: &S,
+    figures: &BTreeSet<Name>,
+    selected: &BTreeSet<Name>,
+    emitters: &[Name],
 ) -> Result<Vec<Name>, AllocError>
     ensures { IfOk result (λ names. names.items ≡ filter
-        (is_weighed (S.content new.now) figures.now selection.now) lines.now) }
+        (is_weighed (S.content new.now) figures.now (contains name_cmp selected.now)) emitters.now) }
 {
-    lines
+    emitters
         .iter()
-        .filter(|name| is_weighed(new, figures, selection, name))
+        .filter(|name| is_weighed(new, figures, selected, name))
         .copied()
         .collect(alloc)
 }
@@ -186,14 +151,29 @@ pub(crate) fn weighed<S: Records>(
 fn is_weighed<S: Records>(
     new: &S,
     figures: &BTreeSet<Name>,
-    selection: &Selection,
+    selected: &BTreeSet<Name>,
     name: &Name,
 ) -> bool
-    ensures { result ≡ is_weighed (S.content new.now) figures.now selection.now name.now }
+    ensures { result ≡ is_weighed (S.content new.now) figures.now (contains name_cmp selected.now) name.now }
 {
-    is_selected(selection, name)
+    selected.contains(name)
         || match line_gas(new, name) {
             Some(gas) => figures.contains(&Name::potential(gas)),
             None => false,
         }
+}
+
+// Those of the lines that emit a gas.
+fn emitting<S: Records>(
+    alloc: Global,
+    new: &S,
+    lines: &BTreeSet<Name>,
+) -> Result<Vec<Name>, AllocError>
+    ensures { IfOk result (λ names. names.items ≡ filter (emits (S.content new.now)) lines.now.keys) }
+{
+    lines
+        .iter()
+        .filter(|name| line_gas(new, name).is_some())
+        .copied()
+        .collect(alloc)
 }

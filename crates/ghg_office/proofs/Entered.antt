@@ -14,10 +14,11 @@ use Rattle.ghg_units.specs.declared.node.Node.{Node}
 use Rattle.ghg_units.specs.declared.rule.Limit.TheVariants.{Bytes}
 use Rattle.ghg_units.specs.declared.rule.Rule.{Rule}
 use Rattle.ghg_units.specs.declared.rule.Rule.TheVariants.{Overflow, TooMany}
-use Rattle.ghg_office.specs.declared.reply.Reply.TheVariants.{Accepted, Refused}
+use Rattle.ghg_office.specs.declared.reply.Reply.{Reply}
+use Rattle.ghg_office.specs.declared.reply.Reply.TheVariants.{Accepted, KeeperFault, Memory, NoTable, Refused, Repeated, Table}
 use Rattle.ghg_keeper.specs.declared.row.KeptRow.{KeptRow}
-use Rattle.ghg_office.specs.Office.{IsRead, State, decided, entered, entered_by, submitted}
-use Rattle.ghg_office.specs.Replies.{Answers, is_accepted, plan_reply}
+use Rattle.ghg_office.specs.Office.{Answer, IsRead, State, decided, entered, entered_by, submitted}
+use Rattle.ghg_office.specs.Replies.{Answers, is_accepted, is_failure, plan_reply}
 use Rattle.ghg_office.proofs.Reading.{read_decided}
 
 -- data, where no node of them is beyond the limits
@@ -90,6 +91,16 @@ pub planned_answers : (opened s t : State) (id body : List ℕ) (why : PlanRefus
 planned_answers opened s t id body (refusal.Rule rule) same read e kept =
     refused_answers s t id body rule read (ap (λ u. entered_by u body) (sym same) ∙ e) (kept ∙ same)
 planned_answers opened s t id body refusal.Memory same read e kept = kept ∙ same
+
+-- where the keeper failed or memory ran out, nothing changed
+pub failed_answers : (answer : Answer) (reply : Reply) (s t : State) → is_failure reply ≡ true → t ≡ s → Answers answer reply s t
+failed_answers answer KeeperFault s t e same = same
+failed_answers answer Memory s t e same = same
+failed_answers answer (Accepted seq) s t e same = absurd (cc)
+failed_answers answer (Repeated seq) s t e same = absurd (cc)
+failed_answers answer (Refused rule) s t e same = absurd (cc)
+failed_answers answer (Table text) s t e same = absurd (cc)
+failed_answers answer NoTable s t e same = absurd (cc)
 
 -- a submission that breaks no rule is accepted
 pub accepted_reply : (s : State) (id body : List ℕ) (m : Data) → IsRead s id body → entered_by s body ≡ Ok m → is_accepted (submitted s id body).reply ≡ true

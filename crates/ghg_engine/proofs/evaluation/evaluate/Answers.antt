@@ -1,48 +1,57 @@
-use Rattle.std.proofs.Common.{◌≡◌, ◌∙◌, ℕ, List, Result, Ok, Err, sym, ap, subst, IfOk}
+use Rattle.std.proofs.Common.{◌∙◌, ◌++◌, List, IfOk, map, refl, sym, ap, ap₂, subst}
 use Rattle.ghg_categories.specs.declared.category.Category.{Category}
-use Rattle.ghg_categories.specs.Tree.{stands_under}
 use Rattle.ghg_units.specs.declared.node.Node.TheVariants as node
-use Rattle.ghg_definitions.specs.Compilation.{counts_in_gross, gas_lines_at, sheet_of, sum_formula}
-use Rattle.ghg_definitions.specs.Data.{Data, Name}
+use Rattle.ghg_definitions.specs.Compilation.{sum_formula}
+use Rattle.ghg_definitions.specs.Data.{Name}
+use Rattle.ghg_engine.specs.Evaluation.{IsOutcomeOf, IsReady}
 use Rattle.ghg_engine.specs.Overlays.{outcomes_of}
-use Rattle.ghg_definitions.specs.Trials.{Outcomes}
-use Rattle.ghg_engine.specs.declared.evaluated.Evaluated.{Evaluated}
-use Rattle.ghg_engine.specs.declared.parts.Part.TheVariants.{Equivalent}
-use Rattle.ghg_engine.specs.Evaluation.{IsEvaluatedAt, IsEvaluatedSum}
-use Rattle.ghg_engine.specs.Parts.{nodes_for}
+use Rattle.ghg_engine.proofs.Answered.{if_ok}
 use Rattle.ghg_engine.proofs.Facts.{few_at}
-use Rattle.ghg_engine.proofs.Gathered.{sum_evaluated}
+use Rattle.ghg_engine.proofs.Ready.{of_formula, of_total}
 use Rattle.ghg_engine.proofs.evaluation.evaluate.Goals as goal
 
-if_ok : {A E : Type 0} (P Q : A → Type 0) (r : Result A E) → ((x : A) → P x → Q x) → IfOk r P → IfOk r Q
-if_ok P Q (Ok x) f h = f x h
-if_ok P Q (Err e) f h = tt
-
-module _ (m : Data) (cells : Outcomes) (year : ℕ) where
-  at_total : (c : Category) (names : List Name) → names ≡ gas_lines_at (λ k. stands_under k c) m → (e : Evaluated) → IsEvaluatedSum cells (nodes_for Equivalent names year) e → IsEvaluatedAt (sheet_of m) cells (node.Total c year) e
-  at_total c names are e held = sum_evaluated cells (sheet_of m) (node.Total c year) (nodes_for Equivalent names year) (ap (λ ns. sum_formula ns year) (sym are)) e held
-
-  at_gross : (names : List Name) → names ≡ gas_lines_at counts_in_gross m → (e : Evaluated) → IsEvaluatedSum cells (nodes_for Equivalent names year) e → IsEvaluatedAt (sheet_of m) cells (node.Gross year) e
-  at_gross names are e held = sum_evaluated cells (sheet_of m) (node.Gross year) (nodes_for Equivalent names year) (ap (λ ns. sum_formula ns year) (sym are)) e held
-
 pub sum-requires : goal.sum-requires
-sum-requires g c = rw (c.at.ensures, c.requires.groups.categories) (few_at (g.R.Records.content c.args.records.now) _ c.requires.workbook)
+sum-requires g c = rw (c.total.ensures.all, c.requires.groups.under) (few_at (g.R.Records.content c.args.records.now) _ c.requires.workbook)
 
 pub sum-requires-in-Gross : goal.sum-requires-in-Gross
-sum-requires-in-Gross g c = rw (c.gross.ensures, c.requires.groups.gross) (few_at (g.R.Records.content c.args.records.now) _ c.requires.workbook)
+sum-requires-in-Gross g c = rw (c.gross.ensures.all, c.requires.groups.gross) (few_at (g.R.Records.content c.args.records.now) _ c.requires.workbook)
+
+pub returns-in-Line : goal.returns-in-Line
+returns-in-Line g c =
+    let m = g.R.Records.content c.args.records.now in
+    let cells = outcomes_of c.args.cells.now in
+    let n = node.Line c.in-Line.name c.in-Line.year in
+    subst (λ k. IfOk c.line.result (IsOutcomeOf m k)) (sym c.in-Line.is)
+    (if_ok c.line.result (of_formula m c.requires.acyclic cells n (subst (IsReady m cells) c.in-Line.is c.requires.ready)) c.line.ensures)
+
+pub returns-in-Equiv : goal.returns-in-Equiv
+returns-in-Equiv g c =
+    let m = g.R.Records.content c.args.records.now in
+    let cells = outcomes_of c.args.cells.now in
+    let n = node.Equiv c.in-Equiv.name c.in-Equiv.year in
+    subst (λ k. IsOutcomeOf m k c.equivalent.result) (sym c.in-Equiv.is)
+    (of_formula m c.requires.acyclic cells n (subst (IsReady m cells) c.in-Equiv.is c.requires.ready) c.equivalent.result c.equivalent.ensures)
 
 pub returns-in-Total : goal.returns-in-Total
 returns-in-Total g c =
     let m = g.R.Records.content c.args.records.now in
     let cells = outcomes_of c.args.cells.now in
-    subst (λ n. IfOk c.sum.result (IsEvaluatedAt (sheet_of m) cells n)) (sym c.in-Total.is)
-    (if_ok (IsEvaluatedSum cells (nodes_for Equivalent c.at.result.now c.in-Total.year)) (IsEvaluatedAt (sheet_of m) cells (node.Total c.in-Total.category c.in-Total.year)) c.sum.result
-    (at_total m cells c.in-Total.year c.in-Total.category c.at.result.now (c.at.ensures ∙ c.requires.groups.categories c.in-Total.category)) c.sum.ensures)
+    let year = c.in-Total.year in
+    let n = node.Total c.in-Total.category year in
+    subst (λ k. IfOk c.sum.result (IsOutcomeOf m k)) (sym c.in-Total.is)
+    (if_ok c.sum.result (of_total m c.requires.acyclic cells n (subst (IsReady m cells) c.in-Total.is c.requires.ready) refl c.total.result year
+    (ap₂ (λ (cs : List Category) (names : List Name). map (λ d. node.Total d year) cs ++ map (λ name. node.Equiv name year) names)
+    c.total.ensures.categories (c.total.ensures.own ∙ c.requires.groups.at c.in-Total.category))
+    (ap (λ names. sum_formula names year) (sym (c.total.ensures.all ∙ c.requires.groups.under c.in-Total.category)))) c.sum.ensures)
 
 pub returns-in-Gross : goal.returns-in-Gross
 returns-in-Gross g c =
     let m = g.R.Records.content c.args.records.now in
     let cells = outcomes_of c.args.cells.now in
-    subst (λ n. IfOk c.sum-in-Gross.result (IsEvaluatedAt (sheet_of m) cells n)) (sym c.in-Gross.is)
-    (if_ok (IsEvaluatedSum cells (nodes_for Equivalent c.gross.result.now c.in-Gross.year)) (IsEvaluatedAt (sheet_of m) cells (node.Gross c.in-Gross.year)) c.sum-in-Gross.result
-    (at_gross m cells c.in-Gross.year c.gross.result.now (c.gross.ensures ∙ c.requires.groups.gross)) c.sum-in-Gross.ensures)
+    let year = c.in-Gross.year in
+    let n = node.Gross year in
+    subst (λ k. IfOk c.sum-in-Gross.result (IsOutcomeOf m k)) (sym c.in-Gross.is)
+    (if_ok c.sum-in-Gross.result (of_total m c.requires.acyclic cells n (subst (IsReady m cells) c.in-Gross.is c.requires.ready) refl c.gross.result year
+    (ap₂ (λ (cs : List Category) (names : List Name). map (λ d. node.Total d year) cs ++ map (λ name. node.Equiv name year) names)
+    c.gross.ensures.categories (c.gross.ensures.own ∙ c.requires.groups.above))
+    (ap (λ names. sum_formula names year) (sym (c.gross.ensures.all ∙ c.requires.groups.gross)))) c.sum-in-Gross.ensures)

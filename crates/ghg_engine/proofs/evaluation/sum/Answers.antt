@@ -1,21 +1,33 @@
-use Rattle.std.proofs.Common.{◌∙◌, Some, ap, subst}
+use Rattle.std.proofs.Common.{◌∙◌, inl, inr, Some, ap, subst}
 use Rattle.ghg_cell.specs.Totals.{summed}
 use Rattle.ghg_definitions.specs.Trials.{is_over}
 use Rattle.ghg_engine.specs.Overlays.{outcomes_of}
-use Rattle.ghg_engine.specs.Parts.{AreParts, nodes_for}
-use Rattle.ghg_engine.specs.declared.parts.Part.TheVariants.{Equivalent}
-use Rattle.ghg_engine.proofs.Gathered.{sum_of_parts, sum_passed_on}
+use Rattle.ghg_engine.specs.Parts.{AreParts, addends_for, all_for}
+use Rattle.ghg_engine.proofs.Gathered.{fitting_sum, sum_of_parts, sum_passed_on}
 use Rattle.ghg_engine.proofs.evaluation.sum.Goals as goal
 
-pub returns-then-branch : goal.returns-then-branch
-returns-then-branch c =
-    let ns = nodes_for Equivalent c.args.names.now c.args.year in
-    let parts = c.gather_parts.new.parts.items in
+pub returns-then-len-le-MOST_PARTS : goal.returns-then-len-le-MOST_PARTS
+returns-then-len-le-MOST_PARTS c =
+    let cells = outcomes_of c.args.cells.now in
+    let ns = addends_for c.args.addends.now c.args.year in
+    let parts = c.gather_addends.new.parts.items in
     let total_is = c.total.ensures ∙ ap summed c.deref.ensures.value in
-    sum_of_parts (outcomes_of c.args.cells.now) ns parts c.of.result (subst (AreParts (outcomes_of c.args.cells.now) ns parts) c.if-branch.true c.in_ok-gather_parts.ensures) (c.of.ensures.outcome ∙ total_is) (c.of.ensures.breaks ∙ ap (λ x. is_over (Some x)) total_is)
+    inl (fitting_sum cells ns parts c.of.result (subst (AreParts cells ns parts) c.if-branch.true c.in_ok-gather_addends.ensures)
+    (c.of.ensures.outcome ∙ total_is) (c.of.ensures.breaks ∙ ap (λ x. is_over (Some x)) total_is))
 
-pub returns-else-branch : goal.returns-else-branch
-returns-else-branch c =
-    let ns = nodes_for Equivalent c.args.names.now c.args.year in
+pub returns-then-branch-2 : goal.returns-then-branch-2
+returns-then-branch-2 c =
+    let cells = outcomes_of c.args.cells.now in
+    let ns = all_for c.args.addends.now c.args.year in
     let parts = c.gather_parts.new.parts.items in
-    sum_passed_on (outcomes_of c.args.cells.now) ns parts c.passed_on.result (subst (AreParts (outcomes_of c.args.cells.now) ns parts) c.if-branch.false c.in_ok-gather_parts.ensures) c.passed_on.ensures.outcome c.passed_on.ensures.breaks
+    let total_is = c.total-then-branch-2.ensures ∙ ap summed c.deref-then-branch-2.ensures.value in
+    inr (sum_of_parts cells ns parts c.of-then-branch-2.result (subst (AreParts cells ns parts) c.if-branch-2.true c.in_ok-gather_parts.ensures)
+    (c.of-then-branch-2.ensures.outcome ∙ total_is) (c.of-then-branch-2.ensures.breaks ∙ ap (λ x. is_over (Some x)) total_is))
+
+pub returns-else-branch-2 : goal.returns-else-branch-2
+returns-else-branch-2 c =
+    let cells = outcomes_of c.args.cells.now in
+    let ns = all_for c.args.addends.now c.args.year in
+    let parts = c.gather_parts.new.parts.items in
+    inr (sum_passed_on cells ns parts c.passed_on.result (subst (AreParts cells ns parts) c.if-branch-2.false c.in_ok-gather_parts.ensures)
+    c.passed_on.ensures.outcome c.passed_on.ensures.breaks)

@@ -1,4 +1,4 @@
-use Rattle.std.proofs.Common.{◌∙◌, ◌∷◌, ◌++◌, [], ap, filter, if◌then◌else◌, map}
+use Rattle.std.proofs.Common.{◌∙◌, ◌∷◌, ◌++◌, [], ap, filter, if◌then◌else◌, map, reverse}
 use Rattle.std.specs.List.{list_any}
 use Rattle.ghg_categories.specs.Tree.{stands_under, tree}
 use Rattle.ghg_units.specs.declared.node.Node.TheVariants as node
@@ -17,7 +17,7 @@ returns-clause-nodes g c =
     c.add_totals.new.nodes.items c.add_gross.new.nodes.items
     c.in_ok-now.ensures.nodes c.in_ok-categories.ensures.nodes
     (c.in_ok-add_totals.ensures
-    ∙ ap (λ cs. c.add_equivalents.new.nodes.items ++ map (λ d. node.Total d c.args.year) (filter (λ top. list_any (λ d. stands_under d top) cs) tree)) c.deref.ensures.value)
+    ∙ ap (λ cs. c.add_equivalents.new.nodes.items ++ map (λ d. node.Total d c.args.year) (filter (λ top. list_any (λ d. stands_under d top) cs) (reverse tree))) c.deref.ensures.value)
     (c.in_ok-add_gross.ensures
     ∙ ap (λ cs. c.add_totals.new.nodes.items ++ (if list_any counts_in_gross cs then node.Gross c.args.year ∷ [] else [])) c.deref-2.ensures.value)
 

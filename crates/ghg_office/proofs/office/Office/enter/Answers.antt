@@ -1,4 +1,4 @@
-use Rattle.std.proofs.Common.{◌+◌, sym, ◌∙◌, ◌++◌, ◌∷◌, [], ap, ap₂, length, List}
+use Rattle.std.proofs.Common.{◌+◌, sym, ◌∙◌, ◌++◌, ◌∷◌, [], ap, ap₂, length, List, Err}
 use Rattle.std.proofs.lemmas.Bool.{both_ways}
 use Rattle.std.proofs.lemmas.Result.{err_from_is_err_and}
 use Rattle.ghg_definitions.specs.Data.{Data}
@@ -6,7 +6,7 @@ use Rattle.ghg_data.specs.Changes.{applied}
 use Rattle.ghg_keeper.specs.declared.row.KeptRow.{KeptRow}
 use Rattle.ghg_office.specs.Office.{entered_by, submitted}
 use Rattle.ghg_office.proofs.Calls.{is_appended, unstored}
-use Rattle.ghg_office.proofs.Entered.{accepted_answers, accepted_reply, planned_answers}
+use Rattle.ghg_office.proofs.Entered.{accepted_answers, accepted_reply, failed_answers, planned_answers}
 use Rattle.ghg_office.proofs.Reading.{spent_reading}
 use Rattle.ghg_office.proofs.office.Office.enter.Goals as goal
 
@@ -25,6 +25,17 @@ returns-in_err-from_slice-clause-steps g c = spent_reading _ _ _ _ _ _ c.self.vi
 
 pub returns-in_err-append_row-clause-steps : goal.returns-in_err-append_row-clause-steps
 returns-in_err-append_row-clause-steps g c = spent_reading _ _ _ _ _ _ c.self.view_is c.requires.read c.prepare.ensures.steps
+
+pub returns-in_err-append_row-clause-answer : goal.returns-in_err-append_row-clause-answer
+returns-in_err-append_row-clause-answer g c =
+    let p = err_from_is_err_and c.from_residual-in_err-append_row.result c.from_residual-in_err-append_row.ensures.1 in
+    rw (p.1, p.2) (failed_answers _ c.in_err-append_row.field-0.0 c.args.self.now _ c.in_err-append_row.ensures.failure
+    (ap₂ (λ (m : Data) (l : List KeptRow). record { content = m; accepted = l }) c.prepare.ensures.content c.prepare.ensures.list ∙ c.self.view_is))
+
+pub returns-in_err-append_row-clause-faults : goal.returns-in_err-append_row-clause-faults
+returns-in_err-append_row-clause-faults g c =
+    let p = err_from_is_err_and c.from_residual-in_err-append_row.result c.from_residual-in_err-append_row.ensures.1 in
+    rw (p.1, p.2) (record { later = c.in_err-append_row.ensures.faults.later; rose = λ e. c.in_err-append_row.ensures.faults.rose (ap Err e) })
 
 pub returns-in_err-append_row-clause-fault : goal.returns-in_err-append_row-clause-fault
 returns-in_err-append_row-clause-fault g c =

@@ -1,0 +1,171 @@
+-- Outcomes in which one node's is written or taken out.
+use Rattle.std.proofs.Common.{rules, ◌≡◌, ◌≢◌, ◌<◌, Bool, true, false, cond, if◌then◌else◌, is_some, IsSome, List, [], ◌∷◌, length, Option, Some, None, Ok, Err, refl, sym, ap, ap₂, subst, ◌∙◌, arith}
+use Rattle.std.proofs.Math.Path.{fun_ext}
+use Rattle.std.specs.BTreeMap.{BTreeMap, get, is_at}
+use Rattle.std.specs.Cmp.{eq_by_cmp_equiv}
+use Rattle.std.specs.Map.{lookup}
+use Rattle.std.specs.Option.{option_or}
+use Rattle.ghg_interval.specs.declared.Over.{Over}
+use Rattle.ghg_units.specs.declared.node.Node.{Node}
+use Rattle.ghg_affected.specs.Equalities.{same_node}
+use Rattle.ghg_definitions.specs.Formulas.{Outcome}
+use Rattle.ghg_definitions.specs.Trials.{Outcomes, is_over}
+use Rattle.ghg_definitions.proofs.NodeOrder.{nodes_total}
+use Rattle.ghg_engine.specs.Cells.{AreWithin, found_in, no_outcomes, node_order, with_outcome}
+use Rattle.ghg_engine.proofs.NodeKeys.{node_ties}
+use Rattle.ghg_engine.proofs.Places.{node_same}
+
+-- the outcomes but that of the node
+abbrev pub without : Outcomes → Node → Outcomes
+without outcomes n k = if same_node k n then None else outcomes k
+
+-- ---- outcomes in front of others
+
+module _ (front back : Outcomes) (n : Node) (x : Outcome) where
+  pub put_in_front : found_in (with_outcome front n x) back ≡ with_outcome (found_in front back) n x
+  put_in_front = fun_ext (λ k. by k (same_node k n))
+    where
+      by : (k : Node) (b : Bool) → option_or (cond b (Some x) (front k)) (back k) ≡ cond b (Some x) (option_or (front k) (back k))
+      by k true = refl
+      by k false = refl
+
+  pub put_behind : found_in (without front n) (with_outcome back n x) ≡ with_outcome (found_in front back) n x
+  put_behind = fun_ext (λ k. by k (same_node k n))
+    where
+      by : (k : Node) (b : Bool) → option_or (cond b None (front k)) (cond b (Some x) (back k)) ≡ cond b (Some x) (option_or (front k) (back k))
+      by k true = refl
+      by k false = refl
+
+  -- where there is none in front
+  pub put_through : front n ≡ None → found_in front (with_outcome back n x) ≡ with_outcome (found_in front back) n x
+  put_through none = fun_ext (λ k. by k (same_node k n) refl)
+    where
+      by : (k : Node) (b : Bool) → same_node k n ≡ b → option_or (front k) (cond b (Some x) (back k)) ≡ cond b (Some x) (option_or (front k) (back k))
+      by k true same = ap (λ o. option_or o (Some x)) (ap front (node_same k n same) ∙ none)
+      by k false apart = refl
+
+-- ---- what a map of nodes has once it is updated
+
+module _ (old new : Outcomes) (n : Node) where
+  tied : (k : Node) → is_at (node_order n) k ≡ same_node k n
+  tied k = node_ties n k ∙ (eq_by_cmp_equiv nodes_total).symm n k
+
+  pub updated_with : (x : Outcome) → ((k : Node) → new k ≡ cond (is_at (node_order n) k) (Some x) (old k)) → new ≡ with_outcome old n x
+  updated_with x updates = fun_ext (λ k. updates k ∙ ap (λ b. cond b (Some x) (old k)) (tied k))
+
+  pub updated_without : ((k : Node) → new k ≡ cond (is_at (node_order n) k) None (old k)) → new ≡ without old n
+  updated_without updates = fun_ext (λ k. updates k ∙ ap (λ b. cond b None (old k)) (tied k))
+
+-- ---- a part of the fresh outcomes is moved over those that are kept
+
+some_behind : {A : Type 0} (o p : Option A) → is_some p ≡ true → is_some (option_or o p) ≡ true
+some_behind None p t = t
+some_behind (Some y) p t = refl
+
+module _ (fresh kept part rest : Outcomes) (is_part : Node → Bool) (part_is : (k : Node) → part k ≡ cond (is_part k) (fresh k) None) (rest_is : (k : Node) → rest k ≡ cond (is_part k) None (fresh k)) where
+  pub moved : found_in rest (found_in part kept) ≡ found_in fresh kept
+  moved = fun_ext (λ k. ap₂ (λ a b. option_or a (option_or b (kept k))) (rest_is k) (part_is k) ∙ by k (is_part k) (fresh k))
+    where
+      by : (k : Node) (b : Bool) (o : Option Outcome) → option_or (cond b None o) (option_or (cond b o None) (kept k)) ≡ option_or o (kept k)
+      by k true o = refl
+      by k false o = refl
+
+  pub part_within : AreWithin fresh kept → AreWithin part kept
+  part_within within k there = by (is_part k) (sym (ap is_some (part_is k)) ∙ there)
+    where
+      by : (b : Bool) → is_some (cond b (fresh k) None) ≡ true → is_some (kept k) ≡ true
+      by true t = within k t
+      by false t = absurd (cc)
+
+  pub rest_within : AreWithin fresh kept → AreWithin rest (found_in part kept)
+  rest_within within k there = some_behind (part k) (kept k) (by (is_part k) (sym (ap is_some (rest_is k)) ∙ there))
+    where
+      by : (b : Bool) → is_some (cond b None (fresh k)) ≡ true → is_some (kept k) ≡ true
+      by true t = absurd (cc)
+      by false t = within k t
+
+-- one outcome is such a part
+module _ (fresh kept : Outcomes) (n : Node) (x : Outcome) (there : fresh n ≡ Some x) where
+  alone : Outcomes
+  alone k = if same_node k n then Some x else None
+
+  alone_is : (k : Node) → alone k ≡ cond (same_node k n) (fresh k) None
+  unfolding alone
+  alone_is k = by (same_node k n) refl
+    where
+      by : (b : Bool) → same_node k n ≡ b → cond b (Some x) None ≡ cond b (fresh k) None
+      by true same = sym (ap fresh (node_same k n same) ∙ there)
+      by false apart = refl
+
+  written : found_in alone kept ≡ with_outcome kept n x
+  unfolding alone
+  written = fun_ext (λ k. by k (same_node k n))
+    where
+      by : (k : Node) (b : Bool) → option_or (cond b (Some x) None) (kept k) ≡ cond b (Some x) (kept k)
+      by k true = refl
+      by k false = refl
+
+  pub one_moved : found_in (without fresh n) (with_outcome kept n x) ≡ found_in fresh kept
+  one_moved = ap (found_in (without fresh n)) (sym written) ∙ moved fresh kept alone (without fresh n) (λ k. same_node k n) alone_is (λ k. refl)
+
+  pub one_within : AreWithin fresh kept → AreWithin (without fresh n) (with_outcome kept n x)
+  one_within within = subst (AreWithin (without fresh n)) written (rest_within fresh kept alone (without fresh n) (λ k. same_node k n) alone_is (λ k. refl) within)
+
+-- ---- what is over, and where none is left
+
+pub less_over : (outcomes : Outcomes) (n : Node) → ((k : Node) → is_over (outcomes k) ≡ false) → (k : Node) → is_over (without outcomes n k) ≡ false
+less_over outcomes n none k = by (same_node k n)
+  where
+    by : (b : Bool) → is_over (cond b None (outcomes k)) ≡ false
+    by true = refl
+    by false = none k
+
+pub none_left : {A : Type 0} (xs : List A) → (0 < length xs → false ≡ true) → xs ≡ []
+none_left [] h = refl
+none_left (x ∷ xs) h = absurd (clash (h (omega arith)))
+  where
+    clash : ◌≡◌ {A = Bool} false true → ⊥
+    clash e = cc
+
+pub no_entries : (map : BTreeMap Node Outcome) → map.entries ≡ [] → get node_order map ≡ no_outcomes
+no_entries map e = fun_ext (λ k. ap (lookup (is_at (node_order k))) e)
+
+-- where none that is found is over, none of the fresh is
+pub fits_fresh : (fresh kept : Outcomes) → ((n : Node) (over : Over) → found_in fresh kept n ≢ Some (Err over)) → (n : Node) → is_over (fresh n) ≡ false
+fits_fresh fresh kept fits n = by (fresh n) refl
+  where
+    by : (o : Option Outcome) → fresh n ≡ o → is_over o ≡ false
+    by None is = refl
+    by (Some (Ok x)) is = refl
+    by (Some (Err over)) is = absurd (fits n over (ap (λ o. option_or o (kept n)) is))
+
+-- ---- what stands behind is moved first, and then what stands in front
+
+module _ (front back kept : Outcomes) where
+  pub back_within : AreWithin (found_in front back) kept → AreWithin back kept
+  back_within within n there = within n (some_behind (front n) (back n) there)
+
+  pub front_within : AreWithin (found_in front back) kept → AreWithin front (found_in back kept)
+  front_within within n there = some_behind (back n) (kept n) (within n (by (front n) there))
+    where
+      by : (o : Option Outcome) → is_some o ≡ true → is_some (option_or o (back n)) ≡ true
+      by None t = absurd (cc)
+      by (Some x) t = t
+
+  pub front_fits : ((n : Node) → is_over (found_in front back n) ≡ false) → (n : Node) → is_over (front n) ≡ false
+  front_fits fits n = by (front n) (fits n)
+    where
+      by : (o : Option Outcome) → is_over (option_or o (back n)) ≡ false → is_over o ≡ false
+      by None e = refl
+      by (Some x) e = e
+
+  pub back_then_front : found_in front (found_in back kept) ≡ found_in (found_in front back) kept
+  back_then_front = fun_ext (λ n. by n (front n))
+    where
+      by : (n : Node) (o : Option Outcome) → option_or o (option_or (back n) (kept n)) ≡ option_or (option_or o (back n)) (kept n)
+      by n None = refl
+      by n (Some x) = refl
+
+pub some_is : {A : Type 0} (o : Option A) (x : A) → o ≡ Some x → IsSome o
+some_is None x is = absurd (cc)
+some_is (Some y) x is = search rules

@@ -1,0 +1,115 @@
+//! The values of a series, year by year.
+
+ghost use Rattle.std.specs.Prelude.{◌≡◌, ◌<◌, ◌≤◌, ◌-◌, ℕ, [], ◌∷◌, ◌++◌, true, None, Some, is_ok, is_some, length, if◌then◌else◌, IfNone, IfOk, IfSome, OnSome, SomeIff, option_copied};
+ghost use Rattle.ghg_engine.specs.Columns.{HasIn, IsPutIn, value_in};
+
+use ghg_cell::Value;
+use std::alloc::{AllocError, Global};
+use std::marker::Model;
+use std::mem::size_of;
+
+/// A value takes 80 bytes of a column.
+const _: () = prove!(size_of::<Value>() == 80);
+
+/// For how many more years a column makes room at a time. A compilation has columns of all years, and a
+/// correction mostly columns of one.
+const MORE_YEARS: usize = 32;
+
+/// Values of consecutive years. Contracts see the first of these years, and the values from that year on.
+#[derive(Drop)]
+pub(crate) struct Column {
+    first: u32,
+    values: Vec<Value>,
+}
+
+impl Model for Column {
+    ghost use Rattle.std.specs.Prelude.{◌+◌, ◌≤◌, ◌^◌, length};
+    ghost use Rattle.ghg_engine.specs.Columns.{Run};
+
+    ghost Value = { Run };
+
+    ghost view = { λ c. record { first = c.first; values = c.values.items } };
+
+    ghost invariant = { λ c. c.first + length c.values.items ≤ 2 ^ 32 };
+}
+
+impl Column {
+    /// The value of one year.
+    pub(crate) fn of(alloc: Global, year: u32, value: Value) -> Result<Column, AllocError>
+        ensures { IfOk result (λ column. column ≡ record { first = year; values = value ∷ [] }) }
+    {
+        let mut values = Vec::with_capacity(alloc, 1)?;
+        values.push(value)?;
+        Ok(Column {
+            first: year,
+            values,
+        })
+    }
+
+    /// The value of a year.
+    pub(crate) fn get(&self, year: u32) -> Option<&Value>
+        ensures { option_copied result ≡ value_in self.now year }
+    {
+        let offset = self.offset(year)?;
+        self.values.get(offset)
+    }
+
+    /// Gives a year its value, if it has one or is the next. Else the value is handed back.
+    pub(crate) fn put(&mut self, year: u32, value: Value) -> Result<Option<Value>, AllocError>
+        ensures { IfOk result (IsPutIn self.old self.new year value) }
+    {
+        let Some(offset) = self.offset(year) else {
+            return Ok(Some(value));
+        };
+        if offset > self.values.len() {
+            return Ok(Some(value));
+        }
+        if offset == self.values.len() {
+            append(&mut self.values, value)?;
+        } else {
+            self.values[offset] = value;
+        }
+        Ok(None)
+    }
+
+    /// Gives a year that has a value another one. It takes no memory.
+    pub(crate) fn overwrite(&mut self, year: u32, value: Value)
+        requires { is_some (value_in self.old year) ≡ true }
+        ensures { HasIn self.old self.new year (Some value) }
+    {
+        let offset = (year - self.first) as usize;
+        self.values[offset] = value;
+    }
+
+    /// Takes out the value of the last year.
+    pub(crate) fn pop(&mut self) -> Option<(u32, Value)>
+        ensures none { IfNone result (self.old.values ≡ []) }
+        ensures value { IfSome result (λ p. value_in self.old p.0 ≡ Some p.1) }
+        ensures rest { IfSome result (λ p. HasIn self.old self.new p.0 None) }
+        ensures shorter { OnSome result (length self.new.values < length self.old.values) }
+    {
+        let value = self.values.pop()?;
+        let year = self.first + self.values.len() as u32;
+        Some((year, value))
+    }
+
+    // How many years after the first a year comes.
+    fn offset(&self, year: u32) -> Option<usize>
+        ensures { SomeIff result (self.now.first ≤ year) (year - self.now.first) }
+    {
+        let years = year.checked_sub(self.first)?;
+        Some(years as usize)
+    }
+}
+
+// Adds a value at the end.
+fn append(values: &mut Vec<Value>, value: Value) -> Result<(), AllocError>
+    ensures { values.new.items ≡ (if is_ok result then values.old.items ++ value ∷ [] else
+        values.old.items) }
+{
+    if values.len() == values.capacity() {
+        values.reserve_exact(MORE_YEARS)?;
+    }
+    values.push(value)?;
+    Ok(())
+}

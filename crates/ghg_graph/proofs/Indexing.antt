@@ -1,0 +1,57 @@
+-- Indexes of the lines of data.
+use Rattle.std.proofs.Common.{◌≡◌, true, is_some, [], filter, sym, ap, ◌∙◌, subst}
+use Rattle.std.specs.FinMap.{empty, get-empty}
+use Rattle.ghg_definitions.specs.declared.record.Record.{Record}
+use Rattle.ghg_definitions.specs.declared.record.RecordKey.TheVariants as key
+use Rattle.ghg_definitions.specs.Compilation.{emits, gas_lines}
+use Rattle.ghg_definitions.specs.Data.{Data, Name, as_line, key_cmp, line}
+use Rattle.ghg_affected.specs.Figures.{DifferInFigures}
+use Rattle.ghg_affected.proofs.Bools.{true_not_false}
+use Rattle.ghg_affected.proofs.Figures.{same_gas_lines}
+use Rattle.ghg_data.proofs.Empty.{no_lines}
+use Rattle.ghg_graph.specs.Index.{IsLineIndex}
+use Rattle.ghg_graph.specs.Ordering.{IsLineOrder}
+use Rattle.ghg_graph.specs.Takers.{AreTakers, figures_taken, lines_taken, places_of}
+use Rattle.ghg_graph.specs.declared.index.LineIndex.{LineIndex}
+use Rattle.ghg_graph.specs.declared.takers.Takers.{Takers}
+use Rattle.ghg_graph.proofs.Corrected.{same_order}
+use Rattle.ghg_graph.proofs.Taking.{nothing_indexed, same_takers}
+
+-- ---- without records
+
+pub no_emitters : gas_lines (empty {X = Record} {R = key_cmp}) ≡ []
+no_emitters = ap (filter (emits (empty {X = Record} {R = key_cmp}))) no_lines
+
+no_line : (k : Name) → is_some (line (empty {X = Record} {R = key_cmp}) k) ≡ true → ⊥
+no_line k e = true_not_false (sym e ∙ ap (λ r. is_some (as_line r)) (get-empty key_cmp (key.Line k)))
+
+no_order : IsLineOrder (empty {X = Record} {R = key_cmp}) []
+no_order = record { behind = tt; complete = λ name e. absurd (no_line name e) }
+
+no_takers : (m : Data) (takers : Takers) → ((name : Name) → places_of takers.figures name ≡ [])
+    → ((name : Name) → places_of takers.lines name ≡ []) → AreTakers m [] takers
+no_takers m takers figures lines = record {
+  of_figures = nothing_indexed figures_taken m [] takers.figures figures;
+  of_lines = nothing_indexed lines_taken m [] takers.lines lines;
+}
+
+pub nothing_in_index : (index : LineIndex) → index.lines.items ≡ [] → index.emitters.items ≡ []
+    → ((name : Name) → places_of index.takers.figures name ≡ [])
+    → ((name : Name) → places_of index.takers.lines name ≡ [])
+    → IsLineIndex (empty {X = Record} {R = key_cmp}) index
+nothing_in_index index lines emitters of_figures of_lines = record {
+  lines = subst (IsLineOrder (empty {X = Record} {R = key_cmp})) (sym lines) no_order;
+  emitters = emitters ∙ sym no_emitters;
+  takers = subst (λ ns. AreTakers (empty {X = Record} {R = key_cmp}) ns index.takers) (sym lines)
+      (no_takers (empty {X = Record} {R = key_cmp}) index.takers of_figures of_lines);
+}
+
+-- ---- where figures alone differ
+
+pub same_line_index : (old new : Data) → DifferInFigures old new → (index : LineIndex)
+    → IsLineIndex old index → IsLineIndex new index
+same_line_index old new differ index is = record {
+  lines = same_order old new differ index.lines.items is.lines;
+  emitters = is.emitters ∙ same_gas_lines old new differ;
+  takers = same_takers old new differ index.lines.items index.takers is.takers;
+}

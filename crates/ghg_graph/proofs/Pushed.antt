@@ -1,0 +1,24 @@
+-- One item more in the list that a map has under a key.
+use Rattle.std.proofs.Common.{◌≡◌, Bool, true, false, cond, if◌then◌else◌, List, [], ◌∷◌, ◌++◌, Option, Some, None, Vec, Global, vec_len, refl, sym, ap, ◌∙◌}
+use Rattle.std.proofs.lemmas.List.{append-nil}
+use Rattle.std.specs.Option.{UnwrapsOrElse, option_map_or}
+
+-- the items, of which there are none where there is no list
+abbrev pub items_in : {X : Type 0} → Option (Vec X Global) → List X
+items_in {X} o = option_map_or (λ (v : Vec X Global). v.items) o []
+
+pub item_pushed : {X : Type 0} (old new at : Option (Vec X Global)) (before now : Vec X Global) (b : Bool) (x : X)
+    → new ≡ cond b (Some now) old → (b ≡ true → at ≡ old)
+    → UnwrapsOrElse at (λ v. (v.items ≡ []) × (vec_len v ≡ 0)) before → now.items ≡ before.items ++ x ∷ []
+    → items_in new ≡ items_in old ++ (if b then x ∷ [] else [])
+item_pushed {X} old new at before now b x is same unwraps items = by b is same
+  where
+    before_is : (o : Option (Vec X Global)) → UnwrapsOrElse o (λ v. (v.items ≡ []) × (vec_len v ≡ 0)) before
+        → before.items ≡ items_in o
+    before_is None h = h.0
+    before_is (Some v) h = ap (λ (w : Vec X Global). w.items) h
+
+    by : (b : Bool) → new ≡ cond b (Some now) old → (b ≡ true → at ≡ old)
+        → items_in new ≡ items_in old ++ (if b then x ∷ [] else [])
+    by true is same = ap items_in is ∙ items ∙ ap (λ xs. xs ++ x ∷ []) (before_is at unwraps ∙ ap items_in (same refl))
+    by false is same = ap items_in is ∙ sym (append-nil (items_in old))

@@ -1,0 +1,12 @@
+use Rattle.std.proofs.Common.{List, [], ◌∷◌, subst}
+use Rattle.ghg_definitions.specs.Data.{Data, Name}
+use Rattle.ghg_definitions.specs.Rings.{IsAcyclic}
+use Rattle.ghg_graph.specs.Refusal.{IfRing, IsLeastRingOf}
+use Rattle.ghg_graph.proofs.ordering.acyclic_order.Goals as goal
+
+none : (m : Data) (names : List Name) → IsAcyclic m → IsLeastRingOf m names → ⊥
+none m [] acyclic h = h
+none m (least ∷ others) acyclic h = acyclic (least ∷ others) h.ring
+
+pub unreachable-requires : goal.unreachable-requires
+unreachable-requires g c = none (g.R.Records.content c.args.records.now) c.in-Err-Ring.field-0-0 c.requires (subst (IfRing (IsLeastRingOf (g.R.Records.content c.args.records.now))) c.in-Err-Ring.field-0-is c.in-Err-Ring.ensures)

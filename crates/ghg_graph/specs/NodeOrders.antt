@@ -1,0 +1,20 @@
+-- Nodes in an order in which each can be evaluated over those before it.
+use Rattle.std.specs.Prelude.{◌≡◌, true, List}
+use Rattle.std.specs.List.{Contains}
+use Rattle.ghg_units.specs.declared.node.Node.{Node}
+use Rattle.ghg_definitions.specs.Compilation.{is_node, sheet_of}
+use Rattle.ghg_definitions.specs.Data.{Data}
+use Rattle.ghg_affected.specs.Counts.{StandOnce}
+use Rattle.ghg_affected.specs.Patches.{IsInTurn}
+use Rattle.ghg_affected.specs.Subtotals.{AreBehindSubtotals}
+
+-- the list has nodes, each once, behind its inputs and behind its subtotals
+pub record AreInOrder (m : Data) (ns : List Node) : Type 0 where
+  pub in_turn : IsInTurn (sheet_of m) ns
+  pub behind : AreBehindSubtotals m ns
+  pub once : StandOnce ns
+
+-- the list has all nodes in an order
+pub record ListsNodes (m : Data) (ns : List Node) : Type 0 where
+  pub order : AreInOrder m ns
+  pub complete : (n : Node) → is_node m n ≡ true → Contains ns n

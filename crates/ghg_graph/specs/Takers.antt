@@ -1,0 +1,52 @@
+-- What lines take, and which lines take it.
+use Rattle.std.specs.Prelude.{◌≡◌, ◌⊎◌, ◌↔◌, ℕ, ◌<◌, List, [], ◌∷◌, flat_map, length, Option, Some}
+use Rattle.std.specs.BTreeMap.{get}
+use Rattle.std.specs.Option.{option_map_or}
+use Rattle.ghg_equations.specs.Table.{parameters}
+use Rattle.ghg_units.specs.declared.row.Binding.{Binding}
+use Rattle.ghg_units.specs.declared.row.Binding.TheVariants as bound
+use Rattle.ghg_definitions.specs.Data.{Data, Name, binding, line, name_cmp}
+use Rattle.ghg_definitions.specs.Listed.{IsListed}
+use Rattle.ghg_definitions.specs.Rings.{taken_by}
+use Rattle.ghg_graph.specs.Numbers.{name_at}
+use Rattle.ghg_graph.specs.declared.takers.Places.{Places}
+use Rattle.ghg_graph.specs.declared.takers.Takers.{Takers}
+
+-- ---- what lines take
+
+-- the activity or factor whose figures a binding takes
+abbrev pub figures_taken : Option Binding → List Name
+figures_taken (Some (bound.Activity name)) = name ∷ []
+figures_taken (Some (bound.Factor name)) = name ∷ []
+figures_taken (Some (bound.Decay name)) = name ∷ []
+figures_taken _ = []
+
+-- the lines whose values a binding takes, that of the year before among them
+abbrev pub lines_taken : Option Binding → List Name
+lines_taken (Some (bound.Prev name)) = name ∷ []
+lines_taken b = taken_by b
+
+-- the names of the bindings of a line's parameters
+abbrev pub named_by : (Option Binding → List Name) → Data → Name → List Name
+named_by names m name =
+    option_map_or (λ e. flat_map (λ q. names (binding m name q.name)) (parameters e)) (line m name) []
+
+-- ---- which lines take it
+
+-- the places under a name
+abbrev pub places_of : Places → Name → List ℕ
+places_of places name = option_map_or (λ v. v.items) (get name_cmp places.by_name name) []
+
+-- the place is put under each of the names
+abbrev pub IsPut : List Name → ℕ → Places → Places → Type 0
+IsPut names place old new = (name : Name) (k : ℕ) → IsListed k (places_of new name) ↔
+    (IsListed k (places_of old name) ⊎ ((k ≡ place) × IsListed name names))
+
+-- under each name stand the places of those of the lines that name it
+abbrev pub IsIndex : (Option Binding → List Name) → Data → List Name → Places → Type 0
+IsIndex names m lines places = (name : Name) (place : ℕ) → IsListed place (places_of places name) ↔
+    ((place < length lines) × IsListed name (named_by names m (name_at lines place)))
+
+pub record AreTakers (m : Data) (lines : List Name) (takers : Takers) : Type 0 where
+  pub of_figures : IsIndex figures_taken m lines takers.figures
+  pub of_lines : IsIndex lines_taken m lines takers.lines

@@ -1,0 +1,138 @@
+//! Which lines take an activity, a factor or a line.
+
+ghost use Rattle.std.specs.Prelude.{◌≡◌, ◌++◌, ◌∷◌, [], if◌then◌else◌, option_copied, IfOk, OnOk};
+ghost use Rattle.std.specs.Ordering.{is_eq};
+ghost use Rattle.ghg_definitions.specs.Data.{Name, name_cmp};
+ghost use Rattle.ghg_graph.specs.Takers.{AreTakers, IsPut, figures_taken, lines_taken, named_by, places_of};
+
+use crate::numbers::{equation_of, taken_by};
+use ghg_data::{Records, params_of};
+use ghg_units::{Binding, Name};
+use std::alloc::{AllocError, Global};
+use std::collections::BTreeMap;
+use std::slice;
+
+/// Places of lines, under the names that their bindings give.
+#[derive(Drop)]
+pub(crate) struct Places {
+    by_name: BTreeMap<Name, Vec<usize>>,
+}
+
+impl Places {
+    fn new(alloc: Global) -> Places
+        ensures { (name : Name) → places_of result name ≡ [] }
+    {
+        Places {
+            by_name: BTreeMap::new(alloc),
+        }
+    }
+
+    /// The places under a name.
+    pub(crate) fn at(&self, name: &Name) -> &[usize]
+        ensures { result.now ≡ places_of self.now name.now }
+    {
+        match self.by_name.get(name) {
+            Some(places) => places.as_slice(),
+            None => &[],
+        }
+    }
+
+    // Puts a place under each of the names.
+    fn put_all(&mut self, names: &[Name], place: usize) -> Result<(), AllocError>
+        ensures { OnOk result (IsPut names.now place self.old self.new) }
+    {
+        for name in names {
+            self.put(name, place)?;
+        }
+        Ok(())
+    }
+
+    fn put(&mut self, name: &Name, place: usize) -> Result<(), AllocError>
+        ensures { OnOk result ((q : Name) → places_of self.new q ≡ places_of self.old q ++
+            (if is_eq (name_cmp name.now q) then place ∷ [] else [])) }
+    {
+        self.by_name.entry(*name)?.or_default().push(place)?;
+        Ok(())
+    }
+}
+
+/// For each activity or factor, and for each line, the places of the lines that take it, in the same year or,
+/// of a line, in the year after.
+#[derive(Drop)]
+pub(crate) struct Takers {
+    pub(crate) figures: Places,
+    pub(crate) lines: Places,
+}
+
+impl Takers {
+    /// No takers. It takes no memory.
+    pub(crate) fn new(alloc: Global) -> Takers
+        ensures figures { (name : Name) → places_of result.figures name ≡ [] }
+        ensures lines { (name : Name) → places_of result.lines name ≡ [] }
+    {
+        Takers {
+            figures: Places::new(alloc),
+            lines: Places::new(alloc),
+        }
+    }
+
+    /// The takers among lines, by their places there.
+    pub(crate) fn of<R: Records>(
+        alloc: Global,
+        records: &R,
+        lines: &[Name],
+    ) -> Result<Takers, AllocError>
+        ensures { IfOk result (AreTakers (R.content records.now) lines.now) }
+    {
+        let mut takers = Takers::new(alloc);
+        for (place, line) in lines.iter().enumerate() {
+            takers.put_line(records, line, place)?;
+        }
+        Ok(takers)
+    }
+
+    // Puts the place of a line under all that it takes.
+    fn put_line<R: Records>(
+        &mut self,
+        records: &R,
+        line: &Name,
+        place: usize,
+    ) -> Result<(), AllocError>
+        ensures figures { OnOk result (IsPut (named_by figures_taken (R.content records.now) line.now) place
+            self.old.figures self.new.figures) }
+        ensures lines { OnOk result (IsPut (named_by lines_taken (R.content records.now) line.now) place
+            self.old.lines self.new.lines) }
+    {
+        let Some(id) = equation_of(records, line) else {
+            return Ok(());
+        };
+        for param in params_of(id) {
+            let binding = records.bound(line, param);
+            self.figures.put_all(figures_taken(binding), place)?;
+            self.lines.put_all(lines_taken(binding), place)?;
+        }
+        Ok(())
+    }
+}
+
+// The activity or factor whose figures a binding takes.
+fn figures_taken(binding: Option<&Binding>) -> &[Name]
+    ensures { result.now ≡ figures_taken (option_copied binding.entry) }
+{
+    match binding {
+        Some(Binding::Activity(name) | Binding::Factor(name) | Binding::Decay(name)) => {
+            slice::from_ref(name)
+        }
+        _ => &[],
+    }
+}
+
+// The lines whose values a binding takes, that of the year before among them.
+fn lines_taken(binding: Option<&Binding>) -> &[Name]
+    ensures { result.now ≡ lines_taken (option_copied binding.entry) }
+{
+    match binding {
+        Some(Binding::Prev(name)) => slice::from_ref(name),
+        _ => taken_by(binding),
+    }
+}
