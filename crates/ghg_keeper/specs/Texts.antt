@@ -1,9 +1,10 @@
 -- The statements of the keeper, as they are written in SQL.
-use Rattle.std.specs.Prelude.{ℕ, List, codes}
+use Rattle.std.specs.Prelude.{ℕ, List, ◌++◌, codes}
 
 abbrev pub create_text : List ℕ
 create_text =
-    codes "CREATE TABLE IF NOT EXISTS accepted(seq INTEGER PRIMARY KEY, id TEXT UNIQUE NOT NULL, body BLOB NOT NULL)"
+    codes "CREATE TABLE IF NOT EXISTS accepted"
+    ++ codes "(seq INTEGER PRIMARY KEY, id TEXT UNIQUE NOT NULL, body BLOB NOT NULL)"
 
 abbrev pub insert_text : List ℕ
 insert_text = codes "INSERT INTO accepted(id, body) VALUES (?1, ?2)"

@@ -5,7 +5,7 @@ ghost use Rattle.sqlite.specs.Files.{over_files};
 ghost use Rattle.ghg_outer.specs.Counts.{IsCounted};
 ghost use Rattle.ghg_keeper.specs.Accepted.{has_kept_table};
 ghost use Rattle.ghg_keeper.specs.Databases.{database};
-ghost use Rattle.ghg_keeper.specs.Errors.{HasCause, IsCount, IsKept, Refuses, RefusesRow};
+ghost use Rattle.ghg_keeper.specs.Errors.{CountsRows, HasCause, InsertsRow, IsCount, IsKept, ReadsRow, Refuses, RefusesRow};
 ghost use Rattle.ghg_keeper.specs.Id.{is_id};
 ghost use Rattle.ghg_keeper.specs.Listed.{IsBeforeOrAfter, IsSafe};
 ghost use Rattle.ghg_keeper.specs.Shelf.{Adds, CountsFaults, Keeps};
@@ -94,6 +94,7 @@ impl Keeper for FileKeeper<'_> {
             (after.tells → IfOk result (λ n. n ≡ length before.rows)) × Keeps before after) }
         ensures handed_on { IsHandedOn self.old self.new (λ old new.
             IsSafe old new result (λ db. db ≡ old.now.trees)
+            × IfOk result (CountsRows old new)
             × HasCause result (IsTrue old.in_transaction) (RefusesRow count_text [] old new IsCount)) }
         ensures faults { CountsFaults (file_shelf self.old) (file_shelf self.new) result }
     {
@@ -111,6 +112,7 @@ impl Keeper for FileKeeper<'_> {
             × Keeps before after) }
         ensures handed_on { IsHandedOn self.old self.new (λ old new.
             IsSafe old new result (λ db. db ≡ old.now.trees)
+            × IfOk result (ReadsRow seq old new)
             × HasCause result (IsTrue old.in_transaction ⊎ (2 ^ 63 ≤ seq))
             (RefusesRow row_text (Int (pos seq) ∷ []) old new IsKept)) }
         ensures faults { CountsFaults (file_shelf self.old) (file_shelf self.new) result }
@@ -130,6 +132,7 @@ impl Keeper for FileKeeper<'_> {
             × OnErr result (Keeps before after)) }
         ensures handed_on { IsHandedOn self.old self.new (λ old new.
             IsSafe old new result (IsBeforeOrAfter old.now id.now body.now)
+            × IfOk result (InsertsRow id.now body.now old new)
             × HasCause result (IsTrue old.in_transaction)
             (Refuses insert_text (Text id.now ∷ Blob body.now ∷ []) old new)) }
         ensures faults { CountsFaults (file_shelf self.old) (file_shelf self.new) result }

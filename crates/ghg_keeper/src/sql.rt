@@ -5,7 +5,7 @@ ghost use Rattle.ghg_outer.specs.Counts.{IsCounted};
 ghost use Rattle.ghg_keeper.specs.Id.{is_id};
 ghost use Rattle.ghg_keeper.specs.Shelf.{Adds, CountsFaults, Keeps, KeepsRows};
 ghost use Rattle.ghg_keeper.specs.Accepted.{accepted_schema, has_kept_table};
-ghost use Rattle.ghg_keeper.specs.Errors.{HasAnother, HasCause, IsCount, IsKept, Refuses, RefusesRow, told_of};
+ghost use Rattle.ghg_keeper.specs.Errors.{Acknowledges, CountsRows, HasAnother, HasCause, InsertsRow, IsCount, IsKept, ReadsRow, Refuses, RefusesRow, told_of};
 ghost use Rattle.ghg_keeper.specs.Listed.{IsAsBeforeOrMade, IsBeforeOrAfter, IsSafe};
 ghost use Rattle.ghg_keeper.specs.Texts.{count_text, create_text, insert_text, row_text};
 
@@ -92,6 +92,8 @@ impl<S: Alter> Keeper for SqlKeeper<S> {
             → OnOk result ((database S.Store self.new).now.schema ≡ accepted_schema) }
         // Over any store there is a table of that name, and with the columns of kept submissions.
         ensures table { OnOk result (IsTrue (has_kept_table (database S.Store self.new).now.schema)) }
+        ensures runs { OnOk result
+            (Acknowledges create_text [] (database S.Store self.old) (database S.Store self.new)) }
         ensures safe { IsSafe (database S.Store self.old) (database S.Store self.new) result
             (IsAsBeforeOrMade (database S.Store self.old).now) }
         ensures cause { HasCause result
@@ -118,6 +120,7 @@ impl<S: Alter> Keeper for SqlKeeper<S> {
         ensures faults { CountsFaults (kept_shelf S.Store self.old) (kept_shelf S.Store self.new) result }
         ensures safe { IsSafe (database S.Store self.old) (database S.Store self.new) result
             (λ db. db ≡ (database S.Store self.old).now.trees) }
+        ensures reads { IfOk result (CountsRows (database S.Store self.old) (database S.Store self.new)) }
         ensures cause { HasCause result (IsTrue (database S.Store self.old).in_transaction)
             (RefusesRow count_text [] (database S.Store self.old) (database S.Store self.new) IsCount) }
     {
@@ -139,6 +142,7 @@ impl<S: Alter> Keeper for SqlKeeper<S> {
         ensures faults { CountsFaults (kept_shelf S.Store self.old) (kept_shelf S.Store self.new) result }
         ensures safe { IsSafe (database S.Store self.old) (database S.Store self.new) result
             (λ db. db ≡ (database S.Store self.old).now.trees) }
+        ensures reads { IfOk result (ReadsRow seq (database S.Store self.old) (database S.Store self.new)) }
         ensures cause { HasCause result
             (IsTrue (database S.Store self.old).in_transaction ⊎ (2 ^ 63 ≤ seq))
             (RefusesRow row_text (Int (pos seq) ∷ []) (database S.Store self.old)
@@ -167,6 +171,9 @@ impl<S: Alter> Keeper for SqlKeeper<S> {
         // A crash at the end of the call, with any answer, leaves the rows as they were, or with the new one.
         ensures safe { IsSafe (database S.Store self.old) (database S.Store self.new) result
             (IsBeforeOrAfter (database S.Store self.old).now id.now body.now) }
+        // Also where the rows are not told an acknowledged row was inserted, and got the number that is answered.
+        ensures runs { IfOk result
+            (InsertsRow id.now body.now (database S.Store self.old) (database S.Store self.new)) }
         ensures cause { HasCause result (IsTrue (database S.Store self.old).in_transaction)
             (Refuses insert_text (Text id.now ∷ Blob body.now ∷ []) (database S.Store self.old)
             (database S.Store self.new)) }

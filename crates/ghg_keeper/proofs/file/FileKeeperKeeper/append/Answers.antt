@@ -5,4 +5,4 @@ returns-clause-passed c = rw (c.in-Some.is, c.passed-2.ensures.store, c.passed-2
     (c.append-answer.ensures.ok, c.append-answer.ensures.number, c.append-answer.ensures.err)
 
 pub returns-clause-handed_on : goal.returns-clause-handed_on
-returns-clause-handed_on c = rw (c.in-Some.is, c.passed-2.ensures.store, c.passed-2.ensures.answer) (c.append-answer.ensures.safe, c.append-answer.ensures.cause)
+returns-clause-handed_on c = rw (c.in-Some.is, c.passed-2.ensures.store, c.passed-2.ensures.answer) (c.append-answer.ensures.safe, c.append-answer.ensures.runs, c.append-answer.ensures.cause)

@@ -1,0 +1,7 @@
+//! Tests of an office over a keeper: what was accepted is repeated by an office that is reopened.
+//!
+//! They stand in a crate of their own, above the office and the kit's `sqlite`.
+#![tactic(auto)]
+
+#[cfg(test)]
+mod reopened;
