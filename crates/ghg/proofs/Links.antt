@@ -1,6 +1,7 @@
 -- Links that are served one after the other.
 use Rattle.std.proofs.Common.{◌≡◌, ◌≢◌, ◌∙◌, ◌⊎◌, inl, inr, ℕ, ◌+◌, ◌<◌, ◌≤◌, Bool, true, false, cond, List, [], ◌∷◌, ◌++◌, length, map, option_map, Option, Some, None, IfSome, IsSome, append-nil, add-zero, add_assoc, append_assoc, length-append, refl, sym, ap, subst, arith}
-use Rattle.std.proofs.lemmas.Bool.{eqb-true}
+use Rattle.std.specs.Option.{is_some}
+use Rattle.std.proofs.lemmas.Bool.{eqb-true, false≢true}
 use Rattle.std.proofs.lemmas.List.{map-append, nil_from_length}
 use Rattle.std.proofs.lemmas.List.Sums.{sum_by_push}
 use Rattle.ghg_http.specs.declared.serve.LinkEnd.{LinkEnd}
@@ -105,45 +106,63 @@ unavailable_more links one first before after h counted =
     by true e more = let rose = counted.rose (is_503 one.end e) in rw more (omega (arith, h, rose))
     by false e more = rw more (omega (arith, h, counted.later))
 
--- what was done so far
-pub record ServedSoFar (before after : Station) (number : ℕ) : Type 0 where
+-- and that is never the reply where nothing is stored
+available_more : (links : List ServedLink) (one : ServedLink) → unavailable_count links ≡ 0 → (one.end ≡ Served 503 → ⊥)
+    → unavailable_count (links ++ one ∷ []) ≡ 0
+available_more links one none other =
+    by (is_unavailable one.end) refl (sum_by_push (λ (s : ServedLink). cond (is_unavailable s.end) 1 0) links one)
+  where
+    by : (failed : Bool) → is_unavailable one.end ≡ failed
+        → unavailable_count (links ++ one ∷ []) ≡ unavailable_count links + cond failed 1 0
+        → unavailable_count (links ++ one ∷ []) ≡ 0
+    by true e more = absurd (other (is_503 one.end e))
+    by false e more = omega (arith, none, more)
+
+-- what was done so far, where submissions are stored or not
+pub record ServedSoFar (stored : Bool) (before after : Station) (number : ℕ) : Type 0 where
   pub links : List ServedLink
   pub number_is : length links ≡ number
   pub serving : IsServing before.office links after.office
   pub finished : after.door.finished ≡ option_map (λ all. all ++ map (λ (s : ServedLink). s.link) links) before.door.finished
   pub given : after.door.given ≡ option_map (λ n. n + length links) before.door.given
   pub unavailable : raised_by (unavailable_count links) before.shelf.faults ≤ after.shelf.faults
+  pub available : stored ≡ false → unavailable_count links ≡ 0
 
-pub none_served : (a b : Station) → b.office ≡ a.office → a.shelf.faults ≤ b.shelf.faults → b.door.given ≡ a.door.given
-    → b.door.finished ≡ a.door.finished → ServedSoFar a b 0
-none_served a b office counts given finished = record {
+pub none_served : (stored : Bool) (a b : Station) → b.office ≡ a.office → a.shelf.faults ≤ b.shelf.faults → b.door.given ≡ a.door.given
+    → b.door.finished ≡ a.door.finished → ServedSoFar stored a b 0
+none_served stored a b office counts given finished = record {
   links = [];
   number_is = refl;
   serving = office;
   finished = finished ∙ sym (no_link_more a.door.finished);
   given = given ∙ sym (nothing_more a.door.given);
   unavailable = omega arith;
+  available = λ _. refl;
 }
 
 -- nothing was done since
-pub served_same : (a b c : Station) (number : ℕ) → ServedSoFar a b number → c.office ≡ b.office → b.shelf.faults ≤ c.shelf.faults
-    → c.door.given ≡ b.door.given → c.door.finished ≡ b.door.finished → ServedSoFar a c number
-served_same a b c number so_far office counts given finished = record {
+pub served_same : (stored : Bool) (a b c : Station) (number : ℕ) → ServedSoFar stored a b number → c.office ≡ b.office → b.shelf.faults ≤ c.shelf.faults
+    → c.door.given ≡ b.door.given → c.door.finished ≡ b.door.finished → ServedSoFar stored a c number
+served_same stored a b c number so_far office counts given finished = record {
   links = so_far.links;
   number_is = so_far.number_is;
   serving = subst (IsServing a.office so_far.links) (sym office) so_far.serving;
   finished = finished ∙ so_far.finished;
   given = given ∙ so_far.given;
   unavailable = let before = so_far.unavailable in omega (arith, before, counts);
+  available = so_far.available;
 }
 
-module _ (a b c : Station) (number : ℕ) (one : ServedLink) (so_far : ServedSoFar a b number) (s : ServesNew b.office one c.office)
-    (given : c.door.given ≡ option_map (λ n. n + 1) b.door.given)
-    (counted : IsCounted b.shelf.faults c.shelf.faults (one.end ≡ Served 503)) where
+module _ (stored : Bool) (a b c : Station) (number : ℕ) (one : ServedLink) (so_far : ServedSoFar stored a b number)
+    (s : ServesNew b.office one c.office) (given : c.door.given ≡ option_map (λ n. n + 1) b.door.given)
+    (counted : IsCounted b.shelf.faults c.shelf.faults (one.end ≡ Served 503)) (fault : one.end ≡ Served 503 → stored ≡ true) where
   given_more : c.door.given ≡ option_map (λ n. n + length (so_far.links ++ one ∷ [])) a.door.given
   given_more = rw length-append (given ∙ ap (option_map (λ n. n + 1)) so_far.given ∙ counted_more (length so_far.links) 1 a.door.given)
 
-  pub one_more : c.door.finished ≡ option_map (λ links. links ++ one.link ∷ []) b.door.finished → ServedSoFar a c (number + 1)
+  available_still : stored ≡ false → unavailable_count (so_far.links ++ one ∷ []) ≡ 0
+  available_still plain = available_more so_far.links one (so_far.available plain) (λ e. false≢true (sym plain ∙ fault e))
+
+  pub one_more : c.door.finished ≡ option_map (λ links. links ++ one.link ∷ []) b.door.finished → ServedSoFar stored a c (number + 1)
   one_more finished = record {
     links = so_far.links ++ one ∷ [];
     number_is = length-append so_far.links (one ∷ []) ∙ ap (λ n. n + 1) so_far.number_is;
@@ -152,12 +171,13 @@ module _ (a b c : Station) (number : ℕ) (one : ServedLink) (so_far : ServedSoF
         ∙ links_more (map (λ (s : ServedLink). s.link) so_far.links) (one.link ∷ []) a.door.finished);
     given = given_more;
     unavailable = unavailable_more so_far.links one a.shelf.faults b.shelf.faults c.shelf.faults so_far.unavailable counted;
+    available = available_still;
   }
 
   -- the link could not be taken back
-  pub serving_drops : (service : Service) → c.door.finished ≡ b.door.finished → number < service.connections
-      → (IsSome service.settings.store → Lists c.shelf c.office.state.accepted) → ServesLinks service a c 8
-  serving_drops service finished fewer kept = record {
+  pub serving_drops : (service : Service) → stored ≡ is_some service.settings.store → c.door.finished ≡ b.door.finished
+      → number < service.connections → (IsSome service.settings.store → Lists c.shelf c.office.state.accepted) → ServesLinks service a c 8
+  serving_drops service store finished fewer kept = record {
     taken = so_far.links;
     dropped = one ∷ [];
     serving = serving_more a.office b.office c.office so_far.links one so_far.serving s;
@@ -171,14 +191,15 @@ module _ (a b c : Station) (number : ℕ) (one : ServedLink) (so_far : ServedSoF
     none = λ h. absurd (h refl);
     memory = λ _. inl refl;
     unavailable = unavailable_more so_far.links one a.shelf.faults b.shelf.faults c.shelf.faults so_far.unavailable counted;
+    available = λ none. available_still (store ∙ ap is_some none);
     kept = kept;
   }
 
-pub serving_ends : (service : Service) (a b : Station) (number status : ℕ) → ServedSoFar a b number
-    → (status ≡ 8 → number ≡ 0) → (status ≡ 0) ⊎ ((status ≡ 7) ⊎ (status ≡ 8)) → (status ≡ 0 → number ≡ service.connections)
+pub serving_ends : (stored : Bool) (service : Service) (a b : Station) (number status : ℕ) → ServedSoFar stored a b number
+    → stored ≡ is_some service.settings.store → (status ≡ 8 → number ≡ 0) → (status ≡ 0) ⊎ ((status ≡ 7) ⊎ (status ≡ 8)) → (status ≡ 0 → number ≡ service.connections)
     → (status ≡ 0 → IfSome b.door.port (λ open_port. open_port ≡ service.port)) → (status ≢ 0 → number < service.connections)
     → (IsSome service.settings.store → Lists b.shelf b.office.state.accepted) → ServesLinks service a b status
-serving_ends service a b number status so_far memory kind all port fewer kept =
+serving_ends stored service a b number status so_far store memory kind all port fewer kept =
     let same : so_far.links ++ [] ≡ so_far.links = append-nil so_far.links in
     record {
       taken = so_far.links;
@@ -194,6 +215,7 @@ serving_ends service a b number status so_far memory kind all port fewer kept =
       none = λ _. refl;
       memory = λ e. inr (nil_from_length so_far.links (so_far.number_is ∙ memory e));
       unavailable = rw same so_far.unavailable;
+      available = λ none. rw same (so_far.available (store ∙ ap is_some none));
       kept = kept;
     }
 
@@ -214,6 +236,7 @@ serving_since service a b c status office door counts links = record {
   none = links.none;
   memory = links.memory;
   unavailable = let later = links.unavailable in omega (arith, later, counts);
+  available = links.available;
   kept = links.kept;
 }
 

@@ -1,5 +1,5 @@
 -- `serve`: connections are served.
-use Rattle.std.specs.Prelude.{◌≡◌, ◌≢◌, ◌⊎◌, ℕ, ◌+◌, ◌-◌, ◌^◌, ◌<◌, ◌≤◌, Bool, false, ◌==◌, min, List, [], ◌∷◌, ◌++◌, length, map, count_by, option_map, IfSome, IsSome}
+use Rattle.std.specs.Prelude.{◌≡◌, ◌≢◌, ◌⊎◌, ℕ, ◌+◌, ◌-◌, ◌^◌, ◌<◌, ◌≤◌, Bool, false, ◌==◌, min, List, [], ◌∷◌, ◌++◌, length, map, count_by, None, option_map, IfSome, IsSome}
 use Rattle.ghg_http.specs.declared.serve.LinkEnd.{LinkEnd}
 use Rattle.ghg_http.specs.declared.serve.LinkEnd.TheVariants.{Served}
 use Rattle.ghg_http.specs.Serve.{ServesLink}
@@ -86,8 +86,9 @@ pub record ServesLinks (service : Service) (before after : Station) (status : �
   pub none : status ≢ 8 → dropped ≡ []
   -- With status 8 a link was dropped, or there was no memory before the first one was opened.
   pub memory : status ≡ 8 → (length dropped ≡ 1) ⊎ (taken ≡ [])
-  -- The keeper failed at least as often as that was the reply.
+  -- The keeper failed at least as often as that was the reply, which it never was without a store.
   pub unavailable : raised_by (unavailable_count (taken ++ dropped)) before.shelf.faults ≤ after.shelf.faults
+  pub available : service.settings.store ≡ None → unavailable_count (taken ++ dropped) ≡ 0
   -- Where submissions are stored, the rows that the keeper tells in the end are the accepted submissions.
   pub kept : IsSome service.settings.store → Lists after.shelf after.office.state.accepted
 

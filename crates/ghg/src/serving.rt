@@ -46,7 +46,7 @@ pub fn serve_office<K: Keeper, D: Door, L: Ledger>(
 {
     match routes(alloc) {
         Ok(router) => serve_links(alloc, &router, service, &mut office, keeper, door, steps),
-        Err(_) => Stop::Memory.status(),
+        Err(AllocError) => Stop::Memory.status(),
     }
 }
 

@@ -4,5 +4,6 @@ pub mod Lengths
 pub mod Paths
 pub mod Prefixes
 pub mod Received
+pub mod Repeats
 pub mod Serving
 pub mod Targets

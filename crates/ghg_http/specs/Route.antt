@@ -1,10 +1,10 @@
 -- The routes, and what a path asks for.
-use Rattle.std.specs.Prelude.{ℕ, Bool, List, [], length, drop, nat_eq, nat_lt, ◌==◌, if◌then◌else◌, Option, Some, None, option_map, option_and_then, Result, Ok, Err, codes}
+use Rattle.std.specs.Prelude.{◌≡◌, ℕ, Bool, List, [], length, drop, nat_eq, nat_lt, ◌==◌, if◌then◌else◌, Option, Some, None, option_map, option_and_then, Result, Ok, Err, codes}
 use Rattle.std.specs.List.{starts_with, position_or_len, before_first, after_first}
 use Rattle.matchit.specs.Rows.{RowsOf}
 use Rattle.matchit.specs.Order.{placed}
 use Rattle.matchit.specs.Route.{Scan, parse_route}
-use Rattle.matchit.specs.Router.{RouteOf, route_from}
+use Rattle.matchit.specs.Router.{RouteOf, nearest, route_from}
 use Rattle.matchit.specs.Seek.{first}
 use Rattle.matchit.specs.declared.error.InsertError.{InsertError}
 use Rattle.ghg_http.specs.declared.route.Route.{Route}
@@ -19,6 +19,11 @@ Rows = RowsOf (RouteOf Route)
 abbrev pub with_route : Result Scan InsertError → Route → Rows → Rows
 with_route (Ok s) route rows = placed (s.pattern, route_from s route) rows
 with_route (Err e) route rows = rows
+
+-- the route reads well, and conflicts with none of the rows
+abbrev pub IsAdmitted : Result Scan InsertError → Rows → Type 0
+IsAdmitted (Ok s) rows = nearest s.pattern rows ≡ None
+IsAdmitted (Err e) rows = ⊥
 
 unfoldable pub routes : Rows
 routes =

@@ -1,14 +1,15 @@
 -- What comes of a link that is served: a request is read from it, the office answers, and the reply is
 -- written to it.
-use Rattle.std.specs.Prelude.{◌≡◌, ◌==◌, ⊤, ℕ, ◌+◌, ◌<◌, ◌≤◌, ◌⊎◌, List, [], length, take, Option, Some, None, Result, IfOk, if◌then◌else◌}
+use Rattle.std.specs.Prelude.{◌≡◌, ◌≢◌, ◌==◌, ⊤, ℕ, true, ◌+◌, ◌<◌, ◌≤◌, ◌⊎◌, List, [], length, take, Option, Some, None, Result, IfOk, if◌then◌else◌}
 use Rattle.std.specs.declared.alloc.AllocError.{AllocError}
 use Rattle.std.specs.Io.KnownBytes as known
 use Rattle.ghg_units.specs.Decimal.{number_in}
 use Rattle.ghg_outer.specs.Tape.{Appends, AppendsProperPrefix, IsAtEnd, Rose, Tape}
-use Rattle.ghg_office.specs.Office.{State, evaluations, requested, submitted}
-use Rattle.ghg_office.specs.Replies.{Answers, Shows}
+use Rattle.ghg_office.specs.Office.{IsRead, State, evaluations, requested, submitted}
+use Rattle.ghg_office.specs.Replies.{Answers, Shows, is_accepted}
 use Rattle.ghg_office.specs.declared.reply.Reply.{Reply}
-use Rattle.ghg_office.specs.declared.reply.Reply.TheVariants.{NoTable}
+use Rattle.ghg_office.specs.declared.reply.Reply.TheVariants.{KeeperFault, NoTable}
+use Rattle.ghg_office.specs.declared.reply.Reply.TheVariants.{Memory as OutOfMemory}
 use Rattle.ghg_http.specs.Receive.{EndsEarly, HoldsRequest, IsPrompt}
 use Rattle.ghg_http.specs.Reply.{HttpReply, IsMessageOf, reply_bytes}
 use Rattle.ghg_http.specs.Statuses.{office_reply, refusal_reply}
@@ -29,14 +30,22 @@ abbrev pub shown : State → List ℕ → Option ℕ → Reply
 shown s name None = NoTable
 shown s name (Some year) = requested s name year
 
+-- Which requests the office may fail at: the keeper fails at a new submission that breaks no rule, and memory
+-- runs out for a new submission whose body is read, or for a table that there is. So a repeat meets neither.
+abbrev pub MayFail : State → Request → Reply → Type 0
+MayFail s (Submit id body) KeeperFault = is_accepted (submitted s id body).reply ≡ true
+MayFail s (Submit id body) OutOfMemory = IsRead s id body
+MayFail s (Show name year) OutOfMemory = shown s name (year_of year) ≢ NoTable
+MayFail s request answer = ⊤
+
 -- The office's answer to a request, and the state after it, as the reply that is due. Where the keeper failed
 -- or memory ran out, the reply says so, and the state is as before.
 abbrev pub Replies : State → Request → HttpReply → State → Type 0
 Replies s (Refused reason) due after = (due ≡ refusal_reply reason) × (after ≡ s)
-Replies s (Submit id body) due after =
-    (answer : Reply) × Answers (submitted s id body) answer s after × (due ≡ office_reply answer)
-Replies s (Show name year) due after =
-    (answer : Reply) × Shows (shown s name (year_of year)) answer × (due ≡ office_reply answer) × (after ≡ s)
+Replies s (Submit id body) due after = (answer : Reply) × Answers (submitted s id body) answer s after
+    × MayFail s (Submit id body) answer × (due ≡ office_reply answer)
+Replies s (Show name year) due after = (answer : Reply) × Shows (shown s name (year_of year)) answer
+    × MayFail s (Show name year) answer × (due ≡ office_reply answer) × (after ≡ s)
 
 -- The office answered the request, and where there was memory for it, this is the reply.
 pub record AnswersRequest (s : State) (request : Request) (after : State) (result : Result Message AllocError)

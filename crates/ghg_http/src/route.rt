@@ -1,10 +1,11 @@
 //! The routes, and what a path asks for.
 
-ghost use Rattle.std.specs.Prelude.{◌≡◌, IfOk, option_map};
-ghost use Rattle.ghg_http.specs.Route.{behind, parts_of, path_of, routes, seen, target_of};
+ghost use Rattle.std.specs.Prelude.{◌≡◌, IfOk, OnOk, option_map};
+ghost use Rattle.matchit.specs.Route.{parse_route};
+ghost use Rattle.ghg_http.specs.Route.{IsAdmitted, behind, parts_of, path_of, routes, seen, target_of, with_route};
 
 use matchit::{InsertError, Router};
-use std::alloc::Global;
+use std::alloc::{AllocError, Global};
 
 /// What a route serves.
 #[derive(Clone, Copy, Debug, PartialEq, Eq)]
@@ -22,14 +23,26 @@ pub enum Target<'p> {
     Table { table: &'p str, year: &'p str },
 }
 
-/// The router of the service.
-pub fn routes(alloc: Global) -> Result<Router<Route>, InsertError>
+/// The router of the service. It fails only for want of memory.
+pub fn routes(alloc: Global) -> Result<Router<Route>, AllocError>
     ensures { IfOk result (λ r. r ≡ routes) }
 {
     let mut router = Router::new(alloc);
-    router.insert("/submissions/{id}", Route::Submissions)?;
-    router.insert("/tables/{table}/{year}", Route::Tables)?;
+    add_route(&mut router, "/submissions/{id}", Route::Submissions)?;
+    add_route(&mut router, "/tables/{table}/{year}", Route::Tables)?;
     Ok(router)
+}
+
+// Adds a route that reads well and conflicts with none that the router has.
+fn add_route(router: &mut Router<Route>, path: &str, route: Route) -> Result<(), AllocError>
+    requires { IsAdmitted (parse_route path.now) router.old }
+    ensures { OnOk result (router.new ≡ with_route (parse_route path.now) route router.old) }
+{
+    match router.insert(path, route) {
+        Ok(()) => Ok(()),
+        Err(InsertError::OutOfMemory) => Err(AllocError),
+        Err(_) => unreachable!(),
+    }
 }
 
 // The text behind a prefix.

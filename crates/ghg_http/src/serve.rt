@@ -108,6 +108,7 @@ fn answer<K: Keeper, L: Ledger>(
 fn show(alloc: Global, office: &Office, table: &[u8], year: &[u8]) -> Reply
     ensures table { Shows (shown office.now table.now (year_of year.now)) result }
     ensures fault { result ≢ Reply.KeeperFault }
+    ensures memory { result ≡ Reply.Memory → shown office.now table.now (year_of year.now) ≢ Reply.NoTable }
 {
     match read_year(year) {
         Some(year) => office.show(alloc, table, year),

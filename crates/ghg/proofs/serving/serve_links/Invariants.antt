@@ -7,7 +7,7 @@ use Rattle.ghg.proofs.serving.serve_links.Given as goal
 
 abbrev pub invariant-links : goal.invariant-links
 invariant-links g l = record {
-  served : ServedSoFar
+  served : ServedSoFar l.stored
       (station (office_at l.fn.office l.fn.steps) (g.K.Keeper.shelf l.fn.keeper)
       (register_of g.D.Link.Told.tape (g.D.Door.register l.fn.door)))
       (station (office_at l.office l.steps) (g.K.Keeper.shelf l.keeper)
