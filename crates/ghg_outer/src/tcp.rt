@@ -12,7 +12,7 @@ use std::alloc::AllocError;
 use std::io;
 use std::io::{ErrorKind, Read, Write};
 use std::net::{Ipv4Addr, Net, OpenListener, OpenStream, Shutdown, TcpListener};
-use std::time::Duration;
+use std::time::{Clock, Duration, Instant};
 
 /// A connection over TCP, with a count of its errors. A call that a signal interrupted is made again, and is
 /// no error. Where the peer takes nothing of a piece, that is an error.
@@ -91,7 +91,7 @@ impl<S: Write + Drop> Sink for TcpLink<S> {
 /// nothing of its links. It is proved that the count rose where an error is answered.
 #[derive(Drop)]
 pub struct TcpDoor<R: Net + Drop> {
-    net: R,
+    runtime: R,
     // The listener, and the port that it was opened at.
     listening: Option<(R::Listener, u16)>,
     faults: u64,
@@ -102,19 +102,19 @@ impl<R: Net + Drop> TcpDoor<R> {
     ghost use Rattle.ghg_outer.specs.Tcp.{tcp_register};
 
     /// A door whose port is closed, with no fault yet.
-    pub fn new(net: R) -> TcpDoor<R>
+    pub fn new(runtime: R) -> TcpDoor<R>
         ensures port { (tcp_register result).port ≡ None }
         ensures faults { (tcp_register result).faults ≡ 0 }
     {
         TcpDoor {
-            net,
+            runtime,
             listening: None,
             faults: 0,
         }
     }
 }
 
-impl<R: Net + Drop> Door for TcpDoor<R> {
+impl<R: Net + Clock + Drop> Door for TcpDoor<R> {
     type Link = TcpLink<R::Stream>;
 
     ghost use Rattle.ghg_outer.specs.Tcp.{tcp_register};
@@ -128,7 +128,7 @@ impl<R: Net + Drop> Door for TcpDoor<R> {
         ensures counted { IsCounted (tcp_register self.old).faults (tcp_register self.new).faults
             (IsErr result) }
     {
-        match TcpListener::bind(&self.net, (Ipv4Addr::LOCALHOST, port)) {
+        match TcpListener::bind(&self.runtime, (Ipv4Addr::LOCALHOST, port)) {
             Ok(listener) => {
                 self.listening = Some((listener, port));
                 Ok(())
@@ -160,8 +160,7 @@ impl<R: Net + Drop> Door for TcpDoor<R> {
     {
         let mut stream = link.stream;
         let _ = stream.shutdown(Shutdown::Write);
-        let _ = stream.set_read_timeout(Some(Duration::from_secs(FAREWELL)));
-        read_past(&mut stream);
+        let _ = read_past(&self.runtime, &mut stream);
         Ok(())
     }
 }
@@ -170,8 +169,8 @@ impl<R: Net + Drop> Door for TcpDoor<R> {
 // that stays silent would keep all others waiting.
 const PATIENCE: u64 = 30;
 
-// How many seconds the end of a connection waits for what the peer still sends.
-const FAREWELL: u64 = 1;
+// How many seconds the end of a connection waits in all for what the peer still sends.
+const FAREWELL: u64 = 2;
 
 // The next connection. One that a signal interrupted, or that its peer gave up, is passed over.
 // Where that was so 2^64 - 1 times, the call timed out.
@@ -190,14 +189,21 @@ fn accept_again<L: OpenListener>(listener: &L) -> io::Result<L::Stream>
     Err(io::Error::from(ErrorKind::TimedOut))
 }
 
-// Reads what a peer still sends, up to its end or 8 MiB. A connection that is closed with bytes unread is
-// reset, and a reset may take the reply away before the peer reads it.
-fn read_past<S: Read>(stream: &mut S) {
+// Reads what a peer still sends, up to its end or while the farewell lasts by the clock. A connection that
+// is closed with bytes unread is reset, and a reset may take the reply away before the peer reads it.
+fn read_past<C: Clock, S: Read + OpenStream>(clock: &C, stream: &mut S) -> io::Result<()> {
+    let start = Instant::now(clock)?;
     let mut buf = [0; 16_384];
-    for _ in 0..512 {
-        match read_again(stream, &mut buf) {
-            Ok(count) if count > 0 => {}
-            _ => return,
+    for _ in 0..u64::MAX {
+        let Some(left) = Duration::from_secs(FAREWELL).checked_sub(start.elapsed(clock)?) else {
+            return Ok(());
+        };
+        stream.set_read_timeout(Some(left))?;
+        match stream.read(&mut buf) {
+            Ok(0) => return Ok(()),
+            Err(error) if error.kind() != ErrorKind::Interrupted => return Err(error),
+            _ => {}
         }
     }
+    Ok(())
 }
