@@ -1,9 +1,0 @@
-//! Laws of sessions.
-
-ghost use Rattle.ghg.specs.Laws.{RepliesAreSound};
-
-/// The bounds that a session prints hold the exact values of the data in force.
-#[tactic(auto, using(crate::proofs::Held::sound_replies))]
-pub fn replies_are_sound()
-    ensures { RepliesAreSound }
-{}

@@ -1,0 +1,244 @@
+-- Links that are served one after the other.
+use Rattle.std.proofs.Common.{◌≡◌, ◌≢◌, ◌∙◌, ◌⊎◌, inl, inr, ℕ, ◌+◌, ◌<◌, ◌≤◌, Bool, true, false, cond, List, [], ◌∷◌, ◌++◌, length, map, option_map, Option, Some, None, IfSome, IsSome, append-nil, add-zero, add_assoc, append_assoc, length-append, refl, sym, ap, subst, arith}
+use Rattle.std.specs.Option.{is_some}
+use Rattle.std.proofs.lemmas.Bool.{eqb-true, false≢true}
+use Rattle.std.proofs.lemmas.List.{map-append, nil_from_length}
+use Rattle.std.proofs.lemmas.List.Sums.{sum_by_push}
+use Rattle.ghg_http.specs.declared.serve.LinkEnd.{LinkEnd}
+use Rattle.ghg_http.specs.declared.serve.LinkEnd.TheVariants.{Served, Cut, LinkFault, Memory}
+use Rattle.ghg_office.specs.Keeping.{Lists}
+use Rattle.ghg_outer.specs.Counts.{IsCounted, raised}
+use Rattle.ghg_outer.specs.Doors.{GivesLink, IsKept, Opens, Register, TakesBack}
+use Rattle.ghg_outer.specs.Tape.{Tape}
+use Rattle.ghg_words.specs.declared.command.Service.{Service}
+use Rattle.ghg_run.specs.Serve.{IsServing, OfficeAt, ServedLink, ServesLinks, ServesNew, Station, is_unavailable, raised_by, unavailable_count}
+use Rattle.ghg_run.specs.World.{register_of}
+
+-- ---- what a door tells, with each link by what that tells
+
+-- the same port, so many links given, and these finished
+pub record Tells (before after : Register Tape) (given : Option ℕ) (finished : Option (List Tape)) : Type 0 where
+  pub port_is : after.port ≡ before.port
+  pub given_is : after.given ≡ given
+  pub finished_is : after.finished ≡ finished
+
+module _ {Link : Type 0} (tape : Link → Tape) (a b : Register Link) where
+  pub tells_same : IsKept a b → Tells (register_of tape a) (register_of tape b) (register_of tape a).given (register_of tape a).finished
+  tells_same e = record {
+    port_is = ap (λ (r : Register Link). r.port) e;
+    given_is = ap (λ (r : Register Link). r.given) e;
+    finished_is = ap (λ (r : Register Link). option_map (map tape) r.finished) e;
+  }
+
+  pub tells_opened : (port : ℕ) → Opens a b port
+      → ((register_of tape b).given ≡ (register_of tape a).given) × ((register_of tape b).finished ≡ (register_of tape a).finished)
+  tells_opened port opened = (
+    ap (λ (r : Register Link). r.given) opened.rest,
+    ap (λ (r : Register Link). option_map (map tape) r.finished) opened.rest,
+  )
+
+  pub tells_given : GivesLink a b
+      → Tells (register_of tape a) (register_of tape b) (option_map (λ n. n + 1) a.given) (register_of tape a).finished
+  tells_given e = record {
+    port_is = ap (λ (r : Register Link). r.port) e;
+    given_is = ap (λ (r : Register Link). r.given) e;
+    finished_is = ap (λ (r : Register Link). option_map (map tape) r.finished) e;
+  }
+
+  pub tells_taken : (link : Link) → TakesBack a b link
+      → Tells (register_of tape a) (register_of tape b) a.given
+      (option_map (λ links. links ++ tape link ∷ []) (register_of tape a).finished)
+  tells_taken link e = record {
+    port_is = ap (λ (r : Register Link). r.port) e;
+    given_is = ap (λ (r : Register Link). r.given) e;
+    finished_is = ap (λ (r : Register Link). option_map (map tape) r.finished) e ∙ mapped a.finished;
+  }
+    where
+      mapped : (finished : Option (List Link))
+          → option_map (map tape) (option_map (λ links. links ++ link ∷ []) finished)
+          ≡ option_map (λ links. links ++ tape link ∷ []) (option_map (map tape) finished)
+      mapped None = refl
+      mapped (Some links) = ap Some (map-append tape links (link ∷ []))
+
+-- ---- lists that grow
+
+nothing_more : (o : Option ℕ) → option_map (λ n. n + 0) o ≡ o
+nothing_more None = refl
+nothing_more (Some n) = ap Some (add-zero n)
+
+no_link_more : (o : Option (List Tape)) → option_map (λ links. links ++ []) o ≡ o
+no_link_more None = refl
+no_link_more (Some links) = ap Some (append-nil links)
+
+counted_more : (k m : ℕ) (o : Option ℕ) → option_map (λ n. n + m) (option_map (λ n. n + k) o) ≡ option_map (λ n. n + (k + m)) o
+counted_more k m None = refl
+counted_more k m (Some n) = ap Some (add_assoc n k m)
+
+links_more : (xs ys : List Tape) (o : Option (List Tape))
+    → option_map (λ links. links ++ ys) (option_map (λ links. links ++ xs) o) ≡ option_map (λ links. links ++ (xs ++ ys)) o
+links_more xs ys None = refl
+links_more xs ys (Some links) = ap Some (append_assoc links xs ys)
+
+-- ---- a serving
+
+pub serving_more : (a b c : OfficeAt) (links : List ServedLink) (one : ServedLink) → IsServing a links b → ServesNew b one c
+    → IsServing a (links ++ one ∷ []) c
+serving_more a b c [] one e s = (c, subst (λ (o : OfficeAt). ServesNew o one c) e s, refl)
+serving_more a b c (first ∷ links) one all s = (all.0, all.1, serving_more all.0 b c links one all.2 s)
+
+is_503 : (end : LinkEnd) → is_unavailable end ≡ true → end ≡ Served 503
+is_503 (Served code) e = ap Served (eqb-true code 503 e)
+is_503 Cut e = absurd cc
+is_503 LinkFault e = absurd cc
+is_503 Memory e = absurd cc
+
+-- the keeper failed at least as often as that was the reply
+unavailable_more : (links : List ServedLink) (one : ServedLink) (first before after : ℕ)
+    → raised_by (unavailable_count links) first ≤ before → IsCounted before after (one.end ≡ Served 503)
+    → raised_by (unavailable_count (links ++ one ∷ [])) first ≤ after
+unavailable_more links one first before after h counted =
+    let more = sum_by_push (λ (s : ServedLink). cond (is_unavailable s.end) 1 0) links one in
+    by (is_unavailable one.end) refl more
+  where
+    by : (failed : Bool) → is_unavailable one.end ≡ failed
+        → unavailable_count (links ++ one ∷ []) ≡ unavailable_count links + cond failed 1 0
+        → raised_by (unavailable_count (links ++ one ∷ [])) first ≤ after
+    by true e more = let rose = counted.rose (is_503 one.end e) in rw more (omega (arith, h, rose))
+    by false e more = rw more (omega (arith, h, counted.later))
+
+-- and that is never the reply where nothing is stored
+available_more : (links : List ServedLink) (one : ServedLink) → unavailable_count links ≡ 0 → (one.end ≡ Served 503 → ⊥)
+    → unavailable_count (links ++ one ∷ []) ≡ 0
+available_more links one none other =
+    by (is_unavailable one.end) refl (sum_by_push (λ (s : ServedLink). cond (is_unavailable s.end) 1 0) links one)
+  where
+    by : (failed : Bool) → is_unavailable one.end ≡ failed
+        → unavailable_count (links ++ one ∷ []) ≡ unavailable_count links + cond failed 1 0
+        → unavailable_count (links ++ one ∷ []) ≡ 0
+    by true e more = absurd (other (is_503 one.end e))
+    by false e more = omega (arith, none, more)
+
+-- what was done so far, where submissions are stored or not
+pub record ServedSoFar (stored : Bool) (before after : Station) (number : ℕ) : Type 0 where
+  pub links : List ServedLink
+  pub number_is : length links ≡ number
+  pub serving : IsServing before.office links after.office
+  pub finished : after.door.finished ≡ option_map (λ all. all ++ map (λ (s : ServedLink). s.link) links) before.door.finished
+  pub given : after.door.given ≡ option_map (λ n. n + length links) before.door.given
+  pub unavailable : raised_by (unavailable_count links) before.shelf.faults ≤ after.shelf.faults
+  pub available : stored ≡ false → unavailable_count links ≡ 0
+
+pub none_served : (stored : Bool) (a b : Station) → b.office ≡ a.office → a.shelf.faults ≤ b.shelf.faults → b.door.given ≡ a.door.given
+    → b.door.finished ≡ a.door.finished → ServedSoFar stored a b 0
+none_served stored a b office counts given finished = record {
+  links = [];
+  number_is = refl;
+  serving = office;
+  finished = finished ∙ sym (no_link_more a.door.finished);
+  given = given ∙ sym (nothing_more a.door.given);
+  unavailable = omega arith;
+  available = λ _. refl;
+}
+
+-- nothing was done since
+pub served_same : (stored : Bool) (a b c : Station) (number : ℕ) → ServedSoFar stored a b number → c.office ≡ b.office → b.shelf.faults ≤ c.shelf.faults
+    → c.door.given ≡ b.door.given → c.door.finished ≡ b.door.finished → ServedSoFar stored a c number
+served_same stored a b c number so_far office counts given finished = record {
+  links = so_far.links;
+  number_is = so_far.number_is;
+  serving = subst (IsServing a.office so_far.links) (sym office) so_far.serving;
+  finished = finished ∙ so_far.finished;
+  given = given ∙ so_far.given;
+  unavailable = let before = so_far.unavailable in omega (arith, before, counts);
+  available = so_far.available;
+}
+
+module _ (stored : Bool) (a b c : Station) (number : ℕ) (one : ServedLink) (so_far : ServedSoFar stored a b number)
+    (s : ServesNew b.office one c.office) (given : c.door.given ≡ option_map (λ n. n + 1) b.door.given)
+    (counted : IsCounted b.shelf.faults c.shelf.faults (one.end ≡ Served 503)) (fault : one.end ≡ Served 503 → stored ≡ true) where
+  given_more : c.door.given ≡ option_map (λ n. n + length (so_far.links ++ one ∷ [])) a.door.given
+  given_more = rw length-append (given ∙ ap (option_map (λ n. n + 1)) so_far.given ∙ counted_more (length so_far.links) 1 a.door.given)
+
+  available_still : stored ≡ false → unavailable_count (so_far.links ++ one ∷ []) ≡ 0
+  available_still plain = available_more so_far.links one (so_far.available plain) (λ e. false≢true (sym plain ∙ fault e))
+
+  pub one_more : c.door.finished ≡ option_map (λ links. links ++ one.link ∷ []) b.door.finished → ServedSoFar stored a c (number + 1)
+  one_more finished = record {
+    links = so_far.links ++ one ∷ [];
+    number_is = length-append so_far.links (one ∷ []) ∙ ap (λ n. n + 1) so_far.number_is;
+    serving = serving_more a.office b.office c.office so_far.links one so_far.serving s;
+    finished = rw map-append (finished ∙ ap (option_map (λ links. links ++ one.link ∷ [])) so_far.finished
+        ∙ links_more (map (λ (s : ServedLink). s.link) so_far.links) (one.link ∷ []) a.door.finished);
+    given = given_more;
+    unavailable = unavailable_more so_far.links one a.shelf.faults b.shelf.faults c.shelf.faults so_far.unavailable counted;
+    available = available_still;
+  }
+
+  -- the link could not be taken back
+  pub serving_drops : (service : Service) → stored ≡ is_some service.settings.store → c.door.finished ≡ b.door.finished
+      → number < service.connections → (IsSome service.settings.store → Lists c.shelf c.office.state.accepted) → ServesLinks service a c 8
+  serving_drops service store finished fewer kept = record {
+    taken = so_far.links;
+    dropped = one ∷ [];
+    serving = serving_more a.office b.office c.office so_far.links one so_far.serving s;
+    finished = finished ∙ so_far.finished;
+    given = given_more;
+    few = omega arith;
+    kind = inr (inr refl);
+    all = λ e. absurd cc;
+    port = λ e. absurd cc;
+    fewer = λ _. omega (arith, fewer, so_far.number_is);
+    none = λ h. absurd (h refl);
+    memory = λ _. inl refl;
+    unavailable = unavailable_more so_far.links one a.shelf.faults b.shelf.faults c.shelf.faults so_far.unavailable counted;
+    available = λ none. available_still (store ∙ ap is_some none);
+    kept = kept;
+  }
+
+pub serving_ends : (stored : Bool) (service : Service) (a b : Station) (number status : ℕ) → ServedSoFar stored a b number
+    → stored ≡ is_some service.settings.store → (status ≡ 8 → number ≡ 0) → (status ≡ 0) ⊎ ((status ≡ 7) ⊎ (status ≡ 8)) → (status ≡ 0 → number ≡ service.connections)
+    → (status ≡ 0 → IfSome b.door.port (λ open_port. open_port ≡ service.port)) → (status ≢ 0 → number < service.connections)
+    → (IsSome service.settings.store → Lists b.shelf b.office.state.accepted) → ServesLinks service a b status
+serving_ends stored service a b number status so_far store memory kind all port fewer kept =
+    let same : so_far.links ++ [] ≡ so_far.links = append-nil so_far.links in
+    record {
+      taken = so_far.links;
+      dropped = [];
+      serving = rw same so_far.serving;
+      finished = so_far.finished;
+      given = rw same so_far.given;
+      few = omega arith;
+      kind = kind;
+      all = λ e. so_far.number_is ∙ all e;
+      port = port;
+      fewer = λ h. rw so_far.number_is (fewer h);
+      none = λ _. refl;
+      memory = λ e. inr (nil_from_length so_far.links (so_far.number_is ∙ memory e));
+      unavailable = rw same so_far.unavailable;
+      available = λ none. rw same (so_far.available (store ∙ ap is_some none));
+      kept = kept;
+    }
+
+-- a count that is lower to begin with
+pub serving_since : (service : Service) (a b c : Station) (status : ℕ) → b.office ≡ a.office → b.door ≡ a.door
+    → a.shelf.faults ≤ b.shelf.faults → ServesLinks service b c status → ServesLinks service a c status
+serving_since service a b c status office door counts links = record {
+  taken = links.taken;
+  dropped = links.dropped;
+  serving = subst (λ (o : OfficeAt). IsServing o (links.taken ++ links.dropped) c.office) office links.serving;
+  finished = links.finished ∙ ap (λ (r : Register Tape). option_map (λ all. all ++ map (λ (s : ServedLink). s.link) links.taken) r.finished) door;
+  given = links.given ∙ ap (λ (r : Register Tape). option_map (λ n. n + length (links.taken ++ links.dropped)) r.given) door;
+  few = links.few;
+  kind = links.kind;
+  all = links.all;
+  port = links.port;
+  fewer = links.fewer;
+  none = links.none;
+  memory = links.memory;
+  unavailable = let later = links.unavailable in omega (arith, later, counts);
+  available = links.available;
+  kept = links.kept;
+}
+
+pub port_stays : (port : ℕ) (before after : Option ℕ) → after ≡ before → IfSome before (λ p. p ≡ port) → IfSome after (λ p. p ≡ port)
+port_stays port before after e h = subst (λ (o : Option ℕ). IfSome o (λ p. p ≡ port)) (sym e) h

@@ -1,0 +1,59 @@
+use Rattle.std.proofs.Common.{◌≡◌, ◌∙◌, ℕ, inl, inr, ap, refl, sym, Err, arith}
+use Rattle.ghg_run.specs.Opening.{kept_line}
+use Rattle.ghg_run.specs.World.{world}
+use Rattle.ghg_run.proofs.Quiet.{quiet_acts, row_acts}
+use Rattle.ghg_run.proofs.Stored.{opens_nothing}
+use Rattle.ghg_run.proofs.opening.open_store.Goals as goal
+
+-- ---- the store is not attached
+
+pub returns-in-Err-Failed-clause-opened : goal.returns-in-Err-Failed-clause-opened
+returns-in-Err-Failed-clause-opened g c = λ input door.
+    opens_nothing (world input (g.W.Told.tape c.args.out.now) (g.K.Keeper.shelf c.args.keeper.now) door c.args.steps.now)
+    (world input (g.W.Told.tape c.args.out.now) (g.K.Keeper.shelf c.attach.new.self) door c.args.steps.now)
+    (g.K.Keeper.shelf c.args.keeper.now).rows _ (λ t. (c.attach.ensures.rows.told t, refl)) c.attach.ensures.rows refl refl refl
+    (omega arith) (inl c.status.ensures)
+
+pub returns-in-Err-Memory-clause-opened : goal.returns-in-Err-Memory-clause-opened
+returns-in-Err-Memory-clause-opened g c = λ input door.
+    opens_nothing (world input (g.W.Told.tape c.args.out.now) (g.K.Keeper.shelf c.args.keeper.now) door c.args.steps.now)
+    (world input (g.W.Told.tape c.args.out.now) (g.K.Keeper.shelf c.attach.new.self) door c.args.steps.now)
+    (g.K.Keeper.shelf c.args.keeper.now).rows _ (λ t. (c.attach.ensures.rows.told t, refl)) c.attach.ensures.rows refl refl refl
+    (omega arith) (inr c.status-in-Err-Memory.ensures)
+
+pub returns-in-Err-Memory-clause-outside : goal.returns-in-Err-Memory-clause-outside
+returns-in-Err-Memory-clause-outside g c = λ input door.
+    quiet_acts _ _ _ refl refl
+    (record { later = c.attach.ensures.faults.later; rose = λ six. absurd (let same : ◌≡◌ {A = ℕ} 8 6 = sym c.status-in-Err-Memory.ensures ∙ six in cc) }) (omega arith)
+    (inr (inr c.status-in-Err-Memory.ensures))
+
+-- ---- its rows are replayed
+
+pub returns-in-Ok-reopen-clause-outside : goal.returns-in-Ok-reopen-clause-outside
+returns-in-Ok-reopen-clause-outside g c = λ input door.
+    quiet_acts _ _ 0 refl refl
+    (record { later = omega (arith, c.attach.ensures.faults.later, c.reopen.ensures.faults.later); rose = λ six. absurd cc }) (omega arith)
+    (inl refl)
+
+pub returns-in-Err-Kept-clause-outside : goal.returns-in-Err-Kept-clause-outside
+returns-in-Err-Kept-clause-outside g c = λ input door.
+    row_acts _ _ (kept_line c.in-Err-Kept.seq c.in-Err-Kept.reply) _ refl
+    (omega (arith, c.attach.ensures.faults.later, c.reopen.ensures.faults.later)) (omega arith) c.refuse_row.ensures
+
+pub returns-in-Err-KeeperFault-clause-outside : goal.returns-in-Err-KeeperFault-clause-outside
+returns-in-Err-KeeperFault-clause-outside g c = λ input door.
+    quiet_acts _ _ _ refl refl
+    (record {
+      later = omega (arith, c.attach.ensures.faults.later, c.reopen.ensures.faults.later);
+      rose = λ six. omega (arith, c.attach.ensures.faults.later, c.in-Err-KeeperFault.ensures.faults.rose (ap Err c.in-Err-KeeperFault.field-0-is));
+    }) (omega arith)
+    (inr (inl c.status-in-Err-KeeperFault.ensures))
+
+pub returns-in-Err-Memory-reopen-clause-outside : goal.returns-in-Err-Memory-reopen-clause-outside
+returns-in-Err-Memory-reopen-clause-outside g c = λ input door.
+    quiet_acts _ _ _ refl refl
+    (record {
+      later = omega (arith, c.attach.ensures.faults.later, c.reopen.ensures.faults.later);
+      rose = λ six. absurd (let same : ◌≡◌ {A = ℕ} 8 6 = sym c.status-in-Err-Memory-reopen.ensures ∙ six in cc);
+    }) (omega arith)
+    (inr (inr c.status-in-Err-Memory-reopen.ensures))

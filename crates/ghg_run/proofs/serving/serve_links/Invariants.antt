@@ -1,0 +1,21 @@
+use Rattle.std.proofs.Common.{◌≡◌, ◌≤◌, true, false, IfSome}
+use Rattle.ghg_office.specs.Keeping.{KeepsAccepted}
+use Rattle.ghg_run.specs.Serve.{office_at, station}
+use Rattle.ghg_run.specs.World.{register_of}
+use Rattle.ghg_run.proofs.Links.{ServedSoFar}
+use Rattle.ghg_run.proofs.serving.serve_links.Given as goal
+
+abbrev pub invariant-links : goal.invariant-links
+invariant-links g l = record {
+  served : ServedSoFar l.stored
+      (station (office_at l.fn.office l.fn.steps) (g.K.Keeper.shelf l.fn.keeper)
+      (register_of g.D.Link.Told.tape (g.D.Door.register l.fn.door)))
+      (station (office_at l.office l.steps) (g.K.Keeper.shelf l.keeper)
+      (register_of g.D.Link.Told.tape (g.D.Door.register l.door))) l._served;
+  kept : l.stored ≡ true
+      → KeepsAccepted (g.K.Keeper.shelf l.fn.keeper) (g.K.Keeper.shelf l.keeper) l.office.accepted;
+  untouched : l.stored ≡ false → l.keeper ≡ l.fn.keeper;
+  counts : (g.K.Keeper.shelf l.fn.keeper).faults ≤ (g.K.Keeper.shelf l.keeper).faults;
+  door : (g.D.Door.register l.fn.door).faults ≤ (g.D.Door.register l.door).faults;
+  port : IfSome (g.D.Door.register l.door).port (λ open_port. open_port ≡ l.service.port);
+}

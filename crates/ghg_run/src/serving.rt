@@ -1,0 +1,94 @@
+//! Connections, one after the other.
+
+ghost use Rattle.std.specs.Prelude.{◌≡◌, ◌≤◌, None, IsSome};
+ghost use Rattle.ghg_run.specs.Serve.{ServesLinks, office_at, station};
+ghost use Rattle.ghg_run.specs.World.{register_of};
+ghost use Rattle.ghg_http.specs.Route.{routes};
+ghost use Rattle.ghg_office.specs.Keeping.{KeepsAccepted, Lists};
+ghost use Rattle.ghg_office.specs.Office.{State};
+ghost use Rattle.ghg_outer.specs.Counts.{IsCounted};
+
+use ghg_http::{Route, routes, serve_one};
+use ghg_keeper::Keeper;
+use ghg_office::Office;
+use ghg_outer::{Door, Failed};
+use ghg_session::Stop;
+use ghg_steps::Steps;
+use ghg_words::Service;
+use matchit::Router;
+use std::alloc::{AllocError, Global};
+use std::sync::ledger::Ledger;
+
+/// Opens the port, and serves as many connections as are asked for, by an office. However a connection ends,
+/// the next one is served.
+///
+/// The result is the status that the program ends with: 0, 7 where the door failed, or 8.
+pub fn serve_office<K: Keeper, D: Door, L: Ledger>(
+    alloc: Global,
+    service: &Service<'_>,
+    mut office: Office,
+    keeper: &mut K,
+    door: &mut D,
+    steps: &mut Steps<L>,
+) -> u8
+    requires some { 1 ≤ service.now.connections }
+    requires same { IsSome service.now.settings.store → Lists (K.shelf keeper.old) office.accepted }
+    ensures links { (last : State) × ServesLinks service.now
+        (station (office_at office steps.old) (K.shelf keeper.old)
+        (register_of D.Link.Told.tape (D.register door.old)))
+        (station (office_at last steps.new) (K.shelf keeper.new)
+        (register_of D.Link.Told.tape (D.register door.new))) result
+        × (IsSome service.now.settings.store
+        → KeepsAccepted (K.shelf keeper.old) (K.shelf keeper.new) last.accepted) }
+    ensures unkept { service.now.settings.store ≡ None → keeper.new ≡ keeper.old }
+    ensures counts { (K.shelf keeper.old).faults ≤ (K.shelf keeper.new).faults }
+    ensures counted { IsCounted (D.register door.old).faults (D.register door.new).faults (result ≡ 7) }
+{
+    match routes(alloc) {
+        Ok(router) => serve_links(alloc, &router, service, &mut office, keeper, door, steps),
+        Err(AllocError) => Stop::Memory.status(),
+    }
+}
+
+// The same, once there is a router.
+fn serve_links<K: Keeper, D: Door, L: Ledger>(
+    alloc: Global,
+    router: &Router<Route>,
+    service: &Service<'_>,
+    office: &mut Office,
+    keeper: &mut K,
+    door: &mut D,
+    steps: &mut Steps<L>,
+) -> u8
+    requires router { router.now ≡ routes }
+    requires some { 1 ≤ service.now.connections }
+    requires same { IsSome service.now.settings.store → Lists (K.shelf keeper.old) office.old.accepted }
+    ensures links { ServesLinks service.now
+        (station (office_at office.old steps.old) (K.shelf keeper.old)
+        (register_of D.Link.Told.tape (D.register door.old)))
+        (station (office_at office.new steps.new) (K.shelf keeper.new)
+        (register_of D.Link.Told.tape (D.register door.new))) result }
+    ensures kept { IsSome service.now.settings.store
+        → KeepsAccepted (K.shelf keeper.old) (K.shelf keeper.new) office.new.accepted }
+    ensures unkept { service.now.settings.store ≡ None → keeper.new ≡ keeper.old }
+    ensures counts { (K.shelf keeper.old).faults ≤ (K.shelf keeper.new).faults }
+    ensures counted { IsCounted (D.register door.old).faults (D.register door.new).faults (result ≡ 7) }
+{
+    let stored = service.settings.store.is_some();
+    if let Err(Failed) = door.listen(service.port) {
+        return DOOR_FAILED;
+    }
+    'links: for _served in 0..service.connections {
+        let Ok(mut link) = door.next() else {
+            return DOOR_FAILED;
+        };
+        serve_one(alloc, router, &mut link, office, keeper, stored, steps);
+        if let Err(AllocError) = door.finish(link) {
+            return Stop::Memory.status();
+        }
+    }
+    0
+}
+
+// The status where the door failed.
+const DOOR_FAILED: u8 = 7;

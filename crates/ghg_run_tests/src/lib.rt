@@ -1,0 +1,7 @@
+//! Tests of the public calls that do all that the program does.
+//!
+//! They stand apart from `ghg_run`, so that it is not proved again with them.
+#![tactic(auto)]
+
+#[cfg(test)]
+mod runs;

@@ -1,0 +1,173 @@
+//! Runs whose input, output or store fails, and words that are no command. Sessions without faults are stored
+//! in `tests/`.
+
+use ghg_keeper::{Keeper, KeptRow, MemoryKeeper};
+use ghg_outer::{MemoryDoor, MemorySink, MemorySource};
+use ghg_run::run_counted;
+use std::alloc::{AllocError, Global};
+use std::marker::Brand;
+use std::process::Abort;
+use std::sync::ledger::Blank;
+use std::test::Fail;
+
+// A run over an input, an output and a keeper in memory.
+#[derive(Drop)]
+struct Case {
+    // The words, with a space between them.
+    words: &'static str,
+    input: &'static str,
+    // How many rows are kept: `FIRST` under `a`, and then an empty body under `b`.
+    kept: usize,
+    // The number of the read, the write and the call of the keeper that fails, from 1, or 0 where none does.
+    failing_read: u64,
+    failing_write: u64,
+    failing_keep: u64,
+    status: u8,
+    output: &'static str,
+    // How many rows are kept in the end.
+    rows: u64,
+}
+
+// Nothing is read, and nothing fails.
+const CALM: Case = Case {
+    words: "compile",
+    input: "END\n",
+    kept: 0,
+    failing_read: 0,
+    failing_write: 0,
+    failing_keep: 0,
+    status: 0,
+    output: "",
+    rows: 0,
+};
+
+const FIRST: &str = "act,kind,subject,name,year,value,low,high,unit,note\n";
+
+// `FIRST` under `a`, and a table.
+const SCRIPT: &str =
+    "SUBMIT a 52\nact,kind,subject,name,year,value,low,high,unit,note\nSHOW cells 1990\nEND\n";
+
+fn check(rt: &(impl Abort + AllocGlobal), case: &Case) -> Result<(), Fail> {
+    let alloc = rt.alloc();
+    let mut words = Vec::new(alloc);
+    for word in case.words.split_whitespace() {
+        words.push(String::from_str(alloc, word)?)?;
+    }
+    let text = case.input.as_bytes().to_vec(alloc)?;
+    let mut input = MemorySource::new(text, [case.failing_read].to_vec(alloc)?);
+    let mut out = MemorySink::new(alloc, [case.failing_write].to_vec(alloc)?);
+    let rows = kept_rows(alloc, case.kept)?;
+    let mut keeper = MemoryKeeper::new(alloc, rows, [case.failing_keep].to_vec(alloc)?);
+    let mut door = MemoryDoor::new(alloc, Vec::new(alloc), Vec::new(alloc));
+    let status = run_counted::<_, _, _, _, Brand>(
+        alloc,
+        &words,
+        &mut input,
+        &mut out,
+        &mut keeper,
+        &mut door,
+        Blank::new(1),
+    );
+    assert_eq!(rt; status, case.status);
+    assert_eq!(rt; out.bytes(), case.output.as_bytes());
+    assert!(rt; keeper.count() == Ok(case.rows));
+    Ok(())
+}
+
+// So many rows.
+fn kept_rows(alloc: Global, count: usize) -> Result<Vec<KeptRow>, AllocError> {
+    let mut rows = Vec::new(alloc);
+    for (id, body) in [("a", FIRST), ("b", "")].iter().take(count) {
+        rows.push(KeptRow::new(alloc, id.as_bytes(), body.as_bytes())?)?;
+    }
+    Ok(rows)
+}
+
+// Words that are no command, and the read or the write that fails.
+#[test]
+fn words_and_faults(rt: HostRuntime) -> Result<(), Fail> {
+    for (words, failing_read, failing_write, status, output) in [
+        ("", 0, 0, 2, "bad command line\n"),
+        ("compile x", 1, 0, 2, "bad command line\n"),
+        ("compiler", 0, 0, 2, "bad command line\n"),
+        ("compile --store s --store s", 1, 0, 2, "bad command line\n"),
+        ("compile --store .x", 0, 0, 2, "bad command line\n"),
+        ("compile --store", 0, 0, 2, "bad command line\n"),
+        ("compile --workers 0", 0, 0, 2, "bad command line\n"),
+        ("compile --workers 65", 0, 0, 2, "bad command line\n"),
+        ("serve --port 8000", 0, 0, 2, "bad command line\n"),
+        (
+            "serve --port 8000 --connections 0",
+            0,
+            0,
+            2,
+            "bad command line\n",
+        ),
+        // No link is left to be given.
+        ("serve --port 8000 --connections 2", 1, 1, 7, ""),
+        ("compile x", 0, 1, 5, ""),
+        ("compile", 2, 0, 4, ""),
+        ("compile --workers=1 --store s", 2, 0, 4, ""),
+        ("compile", 0, 1, 5, ""),
+    ] {
+        let case = Case {
+            words,
+            input: "END",
+            failing_read,
+            failing_write,
+            status,
+            output,
+            ..CALM
+        };
+        check(&rt, &case)?;
+    }
+    Ok(())
+}
+
+// The reading of a body and of a line fails, and the writing of a second reply.
+#[test]
+fn a_fault_ends_the_session(rt: HostRuntime) -> Result<(), Fail> {
+    for (failing_read, failing_write, status, output) in [
+        (13, 0, 4, ""),
+        (20, 0, 4, "accepted 1\n"),
+        (0, 2, 5, "accepted 1\n"),
+    ] {
+        let case = Case {
+            input: SCRIPT,
+            failing_read,
+            failing_write,
+            status,
+            output,
+            ..CALM
+        };
+        check(&rt, &case)?;
+    }
+    Ok(())
+}
+
+// The keeper is attached, tells how many rows it has, gives each of them, and then keeps what is accepted.
+#[test]
+fn a_store_outlives_the_run(rt: HostRuntime) -> Result<(), Fail> {
+    for (kept, failing_keep, status, output, rows) in [
+        (0, 0, 0, "accepted 1\nno table\n", 1),
+        (0, 1, 6, "", 0),
+        (0, 2, 6, "", 0),
+        (0, 3, 6, "", 0),
+        (1, 0, 0, "repeated 1\nno table\n", 1),
+        (1, 3, 6, "", 1),
+        (2, 0, 9, "kept row 2 refused 4 BadShape row 0\n", 2),
+    ] {
+        let case = Case {
+            words: "compile --store s",
+            input: SCRIPT,
+            kept,
+            failing_keep,
+            status,
+            output,
+            rows,
+            ..CALM
+        };
+        check(&rt, &case)?;
+    }
+    Ok(())
+}
