@@ -22,12 +22,8 @@ def explain(bound, wanted, after):
 
 def refused_record(bound, _, after):
     """The row that enters the record was refused."""
-    kind, name = record_taken_by(bound)
-    refused = after.refused.that_enters(kind, name)
-    if not refused:
-        return None
-    cause = f"there is no {kind} {name}, since its row was refused"
-    return at_row(bound, cause, "low", follows=refused.place)
+    refused = after.refused.that_enters(*record_taken_by(bound))
+    return lost_with(refused, bound, "its row was refused")
 
 
 def record_of_another_kind(bound, wanted, after):
@@ -82,12 +78,17 @@ def later_record(bound, _, after):
 
 def name_in_a_refused_row(bound, _, after):
     """The name stands in a row that was refused, in whatever column."""
-    kind, name = record_taken_by(bound)
+    _, name = record_taken_by(bound)
     refused = after.refused.that_has(name)
+    return lost_with(refused, bound, "the row in which this name stands was refused")
+
+
+def lost_with(refused, bound, why):
+    """The record is not there because of this row that was refused, if there is one."""
     if not refused:
         return None
-    cause = f"there is no {kind} {name}, since the row in which this name stands was refused"
-    return at_row(bound, cause, "low", follows=refused.place)
+    kind, name = record_taken_by(bound)
+    return at_row(bound, f"there is no {kind} {name}, since {why}", "low", follows=refused.place)
 
 
 def no_such_name(bound, wanted, after):

@@ -171,7 +171,7 @@ impl<S: Alter> Keeper for SqlKeeper<S> {
         // A crash at the end of the call, with any answer, leaves the rows as they were, or with the new one.
         ensures safe { IsSafe (database S.Store self.old) (database S.Store self.new) result
             (IsBeforeOrAfter (database S.Store self.old).now id.now body.now) }
-        // Also where the rows are not told an acknowledged row was inserted, and got the number that is answered.
+        // An acknowledged row was inserted, also where no rows are told, and got the number that is answered.
         ensures runs { IfOk result
             (InsertsRow id.now body.now (database S.Store self.old) (database S.Store self.new)) }
         ensures cause { HasCause result (IsTrue (database S.Store self.old).in_transaction)

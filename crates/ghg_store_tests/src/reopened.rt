@@ -31,7 +31,8 @@ fn submit<K: Keeper, L: Ledger>(
     Some(office.submit(alloc, b"plant", PLANT, keeper, true, steps))
 }
 
-// Whether the plant is accepted under the first number, then repeated under it, and is the one row in the end.
+// Whether the plant is accepted under the first number, then repeated under it, and is the only row at the
+// end.
 fn keeps_the_plant<K: Keeper, L: Ledger>(
     alloc: Global,
     keeper: &mut K,
