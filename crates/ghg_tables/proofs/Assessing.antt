@@ -10,6 +10,7 @@ use Rattle.std.proofs.lemmas.List.Elements.{All-get_or, All-head, All-tail, Cont
 use Rattle.std.proofs.lemmas.List.Folds.{flat_map-map}
 use Rattle.std.proofs.lemmas.List.Sorted.{Contains-permutation, IsPermutation-sym}
 use Rattle.std.proofs.lemmas.List.Sums.{sum_by-cons}
+use Rattle.ghg_uncertainty.proofs.Rounded.{some_magnitude}
 use Rattle.ghg_definitions.specs.Listed.{IsListed}
 use Rattle.ghg_definitions.proofs.Listed.{listed}
 use Rattle.ghg_keycat.specs.declared.KeyRow.{KeyRow}
@@ -97,15 +98,11 @@ levels_bounded rows keys within ranking = ranking_bounded level_size rows keys r
 
 -- ---- the trend assessment
 
-no_zero : (z : ℤ) → z ≢ pos 0 → unsigned_abs z ≡ 0 → ⊥
-no_zero (pos n) h e = h (ap pos e)
-no_zero (negsuc n) h e = omega (arith, e)
-
 pub trends_are : (rows : List Pair) (keys : List KeyRow) (denominator : ℕ) → AreDistinct rows → base_sum rows ≢ pos 0 → IsRanking (trend_of rows) rows keys → denominator ≡ trend_denominator rows → flat_map (trend_key_row denominator) keys ≡ trend_rows rows
 unfolding trend_rows trend_key_row trend_row
 trends_are rows keys denominator distinct some ranking is =
     ranked_rows (trend_of rows) rows keys (trend_key_row denominator) (trend_row rows) distinct ranking row
-    ∙ sym (ap (λ b. if b then flat_map untrended_row rows else flat_map (trend_row rows) (in_order (trend_of rows) rows)) (ne_eqb (unsigned_abs (base_sum rows)) 0 (no_zero (base_sum rows) some)))
+    ∙ sym (ap (λ b. if b then flat_map untrended_row rows else flat_map (trend_row rows) (in_order (trend_of rows) rows)) (ne_eqb (unsigned_abs (base_sum rows)) 0 (λ e. omega (arith, some_magnitude (base_sum rows) some, e))))
   where
     row : (key : KeyRow) → IsKeyRow (trend_of rows) rows key → trend_key_row denominator key ≡ trend_row rows key.pair
     row key each = rw (shares_are (trend_of rows) rows key each, each.size_is, is) refl
@@ -124,10 +121,6 @@ positive_product (suc a) (suc b) h k = omega arith
 
 pub some_denominator : (rows : List Pair) → sum_by gross rows ≤ gross_limit → base_sum rows ≢ pos 0 → 1 ≤ trend_denominator rows
 some_denominator rows within some =
-    let net : 0 < unsigned_abs (base_sum rows) = positive (unsigned_abs (base_sum rows)) (no_zero (base_sum rows) some) in
+    let net : 0 < unsigned_abs (base_sum rows) = some_magnitude (base_sum rows) some in
     let size : 0 < base_size rows = let most = (small rows within).base_net in omega (arith, net, most) in
     positive_product (base_size rows) (unsigned_abs (base_sum rows)) size net
-  where
-    positive : (n : ℕ) → (n ≡ 0 → ⊥) → 0 < n
-    positive zero h = absurd (h refl)
-    positive (suc n) h = omega arith

@@ -6,8 +6,10 @@ ghost use Rattle.std.specs.Option.{option_map_or};
 ghost use Rattle.ghg_categories.specs.Tree.{stands_under};
 ghost use Rattle.ghg_categories.specs.declared.category.Category.TheVariants.{National};
 ghost use Rattle.ghg_definitions.specs.Compilation.{compilation};
+ghost use Rattle.ghg_definitions.specs.Rules.{most_lines};
+ghost use Rattle.ghg_units.specs.Uncertainty.{greatest_uncertainty};
 ghost use Rattle.ghg_uncertainty.specs.Brackets.{largest_bound};
-ghost use Rattle.ghg_uncertainty.specs.Totals.{IsShare, amount_limit, most_rows, net, percentage_limit};
+ghost use Rattle.ghg_uncertainty.specs.Totals.{IsShare, amount_limit, net};
 ghost use Rattle.ghg_definitions.specs.Data.{line_names, uncertainty};
 ghost use Rattle.ghg_tables.specs.Analyses.{bounds_text, emission_words, record_text, total_bracket, total_row, uncertainties_text, uncertainty_row, value_text};
 ghost use Rattle.ghg_tables.specs.Tables.{emitter_row, emitters, lacks_record, line_tonnes, share_of, uncertainty_text};
@@ -55,7 +57,7 @@ pub(crate) fn print_uncertainty<C: Cells>(
 // The lines in the tree that emit a gas, by name.
 fn emitters<C: Cells>(alloc: Global, cells: &C) -> Result<Vec<Name>, AllocError>
     ensures lines { IfOk result (λ lines. lines.items ≡ emitters (C.content cells.now)) }
-    ensures few { IfOk result (λ lines. length lines.items ≤ most_rows) }
+    ensures few { IfOk result (λ lines. length lines.items ≤ most_lines) }
 {
     let names = cells.book().lines(alloc)?;
     in_tree(alloc, cells, &names)
@@ -122,7 +124,7 @@ fn append_emitter<C: Cells>(
 // The percentages of a line's activity and factor, in hundredths; `None` exactly where it has no record.
 fn uncertainty<R: Records>(records: &R, line: &Name) -> Option<(u32, u32)>
     ensures value { result ≡ uncertainty (R.content records.now) line.now }
-    ensures small { IfSome result (λ p. (p.0 ≤ percentage_limit) × (p.1 ≤ percentage_limit)) }
+    ensures small { IfSome result (λ p. (p.0 ≤ greatest_uncertainty) × (p.1 ≤ greatest_uncertainty)) }
 {
     match records.get(&RecordKey::Uncert(*line)) {
         Some(Record::Uncert(activity, factor)) => Some((*activity, *factor)),
@@ -138,7 +140,7 @@ fn append_uncertainty(
     value: &Input,
     percentages: Option<(u32, u32)>,
 ) -> Result<(), AllocError>
-    requires { IfSome percentages (λ p. (p.0 ≤ percentage_limit) × (p.1 ≤ percentage_limit)) }
+    requires { IfSome percentages (λ p. (p.0 ≤ greatest_uncertainty) × (p.1 ≤ greatest_uncertainty)) }
     ensures { OnOk result (out.new.items ≡ out.old.items ++
         uncertainty_row name.now pair value.now percentages) }
 {
@@ -179,7 +181,7 @@ fn append_uncertainties(
     out: &mut Vec<u8>,
     percentages: Option<(u32, u32)>,
 ) -> Result<(), AllocError>
-    requires { IfSome percentages (λ p. (p.0 ≤ percentage_limit) × (p.1 ≤ percentage_limit)) }
+    requires { IfSome percentages (λ p. (p.0 ≤ greatest_uncertainty) × (p.1 ≤ greatest_uncertainty)) }
     ensures { OnOk result (out.new.items ≡ out.old.items ++ uncertainties_text percentages) }
 {
     match percentages {
@@ -190,8 +192,8 @@ fn append_uncertainties(
 
 #[tactic(auto, unfolding(crate::specs::Analyses::record_text))]
 fn append_record(out: &mut Vec<u8>, activity: u32, factor: u32) -> Result<(), AllocError>
-    requires activity_in { activity ≤ percentage_limit }
-    requires factor_in { factor ≤ percentage_limit }
+    requires activity_in { activity ≤ greatest_uncertainty }
+    requires factor_in { factor ≤ greatest_uncertainty }
     ensures { OnOk result (out.new.items ≡ out.old.items ++ record_text activity factor) }
 {
     let (low, high) = combined(activity, factor);
@@ -263,7 +265,7 @@ fn lacks_record<C: Cells>(cells: &C, name: &Name, year: u32) -> bool
 
 #[tactic(auto, unfolding(crate::specs::Analyses::total_row))]
 fn append_total(out: &mut Vec<u8>, lacks: bool, shares: &[Share]) -> Result<(), AllocError>
-    requires count { length shares.now ≤ most_rows }
+    requires count { length shares.now ≤ most_lines }
     requires each { All IsShare shares.now }
     ensures { OnOk result (out.new.items ≡ out.old.items ++ total_row lacks shares.now) }
 {
@@ -277,7 +279,7 @@ fn append_total(out: &mut Vec<u8>, lacks: bool, shares: &[Share]) -> Result<(), 
 
 // The uncertainty of the total, if it has one.
 fn append_bracket(out: &mut Vec<u8>, lacks: bool, shares: &[Share]) -> Result<(), AllocError>
-    requires count { length shares.now ≤ most_rows }
+    requires count { length shares.now ≤ most_lines }
     requires each { All IsShare shares.now }
     ensures { OnOk result (out.new.items ≡ out.old.items ++ total_bracket lacks shares.now) }
 {

@@ -1,16 +1,11 @@
 -- The uncertainty of a total holds its root.
-use Rattle.std.proofs.Common.{◌≡◌, ◌<◌, ◌/◌, ℕ, zero, suc, ℤ, pos, negsuc, unsigned_abs, refl, sym, ◌∙◌, arith}
+use Rattle.std.proofs.Common.{◌≡◌, ◌<◌, ◌/◌, ℕ, unsigned_abs, sym, ◌∙◌, arith}
 use Rattle.std.specs.Int.{div_ceil}
 use Rattle.std.proofs.lemmas.Int.{ints}
 use Rattle.ghg_uncertainty.specs.declared.TotalUncertainty.TheVariants.{Bracket, Undefined}
 use Rattle.ghg_uncertainty.specs.Brackets.{TotalsHoldRoots}
 use Rattle.ghg_uncertainty.specs.Totals.{net}
-use Rattle.ghg_uncertainty.proofs.Rounded.{floor_natural, ceil_natural, low_holds, high_holds}
-
-some_magnitude : (z : ℤ) → (z ≡ pos 0 → ⊥) → 0 < unsigned_abs z
-some_magnitude (pos zero) h = absurd (h refl)
-some_magnitude (pos (suc n)) h = omega arith
-some_magnitude (negsuc n) h = omega arith
+use Rattle.ghg_uncertainty.proofs.Rounded.{floor_natural, ceil_natural, low_holds, high_holds, some_magnitude}
 
 pub totals_hold : TotalsHoldRoots
 totals_hold rows (Bracket low high) h =

@@ -1,18 +1,19 @@
 -- The bracket of a root is the root rounded down and rounded up, and that of a total is small.
-use Rattle.std.proofs.Common.{◌≡◌, ℕ, zero, suc, ◌+◌, ◌*◌, ◌<◌, ◌≤◌, Bool, true, false, nat_le, ◌==◌, if◌then◌else◌, List, length, refl, sym, ap, subst, ◌∙◌, arith, pos, mul-le-mul, mul-le-mul_right, ℤ, negsuc, ◌≢◌, unsigned_abs}
+use Rattle.std.proofs.Common.{◌≡◌, ℕ, zero, suc, ◌+◌, ◌*◌, ◌<◌, ◌≤◌, Bool, true, false, nat_le, ◌==◌, if◌then◌else◌, List, length, refl, sym, ap, subst, ◌∙◌, arith, mul-le-mul, mul-le-mul_right, unsigned_abs}
 use Rattle.std.proofs.Math.Nat.{div-le_self}
 use Rattle.std.proofs.lemmas.Bool.{leb-true, leb-false, eqb-true, eqb-false}
 use Rattle.std.specs.Int.{div_ceil}
-use Rattle.std.specs.List.{All, sum_by}
+use Rattle.std.specs.List.{All}
 use Rattle.std.proofs.lemmas.List.Elements.{All-weaker}
 use Rattle.std.proofs.lemmas.List.Sums.{sum_by-le}
+use Rattle.ghg_cell.specs.declared.totals.TheConstants.{MOST_PARTS}
 use Rattle.ghg_roots.specs.Roots.{IsRootBracket}
+use Rattle.ghg_units.specs.Uncertainty.{greatest_uncertainty}
 use Rattle.ghg_uncertainty.specs.declared.Share.{Share}
-use Rattle.ghg_uncertainty.specs.declared.TotalUncertainty.{TotalUncertainty}
 use Rattle.ghg_uncertainty.specs.declared.TotalUncertainty.TheVariants.{Bracket, Undefined}
-use Rattle.ghg_uncertainty.specs.Brackets.{BracketsAreRoots, IsSmall, TotalsAreSmall, high_root, largest_bound, low_root, root_up_to}
-use Rattle.ghg_uncertainty.specs.Totals.{IsShare, IsTotal, amount_limit, largest_square_sum, largest_variance, most_rows, net, percentage_limit, spread, square, square_sum, variance}
-use Rattle.ghg_uncertainty.proofs.Rounded.{ceil_natural}
+use Rattle.ghg_uncertainty.specs.Brackets.{BracketsAreRoots, TotalsAreSmall, high_root, low_root, root_up_to}
+use Rattle.ghg_uncertainty.specs.Totals.{IsShare, amount_limit, largest_square_sum, largest_variance, net, spread, square, square_sum, variance}
+use Rattle.ghg_uncertainty.proofs.Rounded.{ceil_natural, some_magnitude}
 use native.Mathlib.Decide.{dec_lt}
 use Prim.{yes, no}
 
@@ -92,26 +93,21 @@ roots_are n low high bracket =
 
 small_variance : (s : Share) → IsShare s → variance s ≤ largest_variance
 small_variance s is =
-    let activity : square s.activity ≤ square percentage_limit = squares_rise s.activity percentage_limit is.activity in
-    let factor : square s.factor ≤ square percentage_limit = squares_rise s.factor percentage_limit is.factor in
+    let activity : square s.activity ≤ square greatest_uncertainty = squares_rise s.activity greatest_uncertainty is.activity in
+    let factor : square s.factor ≤ square greatest_uncertainty = squares_rise s.factor greatest_uncertainty is.factor in
     let tonnes : square (unsigned_abs s.tonnes) ≤ square amount_limit = squares_rise (unsigned_abs s.tonnes) amount_limit is.tonnes in
     let sum : square_sum s.activity s.factor ≤ largest_square_sum = omega (arith, activity, factor) in
     let all : variance s ≤ largest_square_sum * square amount_limit = mul-le-mul sum tonnes in
     omega (arith, all)
 
-small_spread : (rows : List Share) → length rows ≤ most_rows → All IsShare rows → spread rows ≤ most_rows * largest_variance
+small_spread : (rows : List Share) → length rows ≤ MOST_PARTS → All IsShare rows → spread rows ≤ MOST_PARTS * largest_variance
 small_spread rows few shares =
     let each = sum_by-le variance largest_variance rows (All-weaker IsShare (λ s. variance s ≤ largest_variance) small_variance rows shares) in
     omega (arith, each, mul-le-mul_right largest_variance few)
 
 -- the square of a number that is no more than the spread of a total
-root_within : (root : ℕ) (rows : List Share) → length rows ≤ most_rows → All IsShare rows → square root ≤ spread rows → root ≤ 10_000_000_000_000_000_000
+root_within : (root : ℕ) (rows : List Share) → length rows ≤ MOST_PARTS → All IsShare rows → square root ≤ spread rows → root ≤ 10_000_000_000_000_000_000
 root_within root rows few shares h = roots_rise root 10_000_000_000_000_000_000 (omega (arith, h, small_spread rows few shares))
-
-no_zero : (z : ℤ) → z ≢ pos 0 → 0 < unsigned_abs z
-no_zero (pos zero) h = absurd (h refl)
-no_zero (pos (suc n)) h = omega arith
-no_zero (negsuc n) h = omega arith
 
 pub totals_small : TotalsAreSmall
 totals_small rows (Bracket low high) few shares is =
@@ -119,7 +115,7 @@ totals_small rows (Bracket low high) few shares is =
     let size : ℕ = unsigned_abs (net rows) in
     let root : over.root_low ≤ 10_000_000_000_000_000_000 = root_within over.root_low rows few shares over.root.below in
     let down : low ≤ over.root_low = rw (ap unsigned_abs over.low_is) (div-le_self over.root_low size) in
-    let positive : 0 < size = no_zero (net rows) is.0 in
+    let positive : 0 < size = some_magnitude (net rows) is.0 in
     let up : high ≡ div_ceil over.root_high size = ap unsigned_abs (over.high_is ∙ sym (ceil_natural size over.root_high positive)) in
     (omega (arith, root, down), omega (arith, root, over.root.close, up, div-le_self over.root_high size))
 totals_small rows Undefined few shares is = tt

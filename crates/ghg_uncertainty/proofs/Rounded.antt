@@ -1,5 +1,5 @@
 -- The bounds of a root over a size.
-use Rattle.std.proofs.Common.{◌≡◌, ℕ, zero, suc, ◌*◌, ◌/◌, ◌<◌, ◌≤◌, pos, refl, ap, arith, mul-le-mul, mul-le-mul_right, div-mul-le_self}
+use Rattle.std.proofs.Common.{◌≡◌, ◌≢◌, ℕ, zero, suc, ◌*◌, ◌/◌, ◌<◌, ◌≤◌, ℤ, pos, negsuc, unsigned_abs, refl, ap, arith, mul-le-mul, mul-le-mul_right, div-mul-le_self}
 use Rattle.std.proofs.lemmas.Grind.{div_ceil_times}
 use Rattle.std.proofs.Math.Nat.{lt-div-mul-add, zero-div, zero-mod}
 use Rattle.std.specs.Int.{div_ceil}
@@ -42,3 +42,10 @@ pub high_holds : (size root n : ℕ) → 0 < size → n ≤ square root → n �
 high_holds size root n positive h =
     let more : root ≤ div_ceil root size * size = (div_ceil_times root size positive).0 in
     omega (arith, h, mul-le-mul more more)
+
+-- ---- a number that is not zero
+
+pub some_magnitude : (z : ℤ) → z ≢ pos 0 → 0 < unsigned_abs z
+some_magnitude (pos zero) h = absurd (h refl)
+some_magnitude (pos (suc n)) h = omega arith
+some_magnitude (negsuc n) h = omega arith

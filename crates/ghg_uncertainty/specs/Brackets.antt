@@ -1,11 +1,12 @@
 -- The brackets of error propagation as functions.
 use Rattle.std.specs.Prelude.{ℕ, zero, suc, ◌≡◌, ◌+◌, ◌≤◌, ◌==◌, nat_le, if◌then◌else◌, List, length}
 use Rattle.std.specs.List.{All}
+use Rattle.ghg_cell.specs.declared.totals.TheConstants.{MOST_PARTS}
 use Rattle.ghg_roots.specs.Roots.{IsRootBracket}
 use Rattle.ghg_uncertainty.specs.declared.Share.{Share}
 use Rattle.ghg_uncertainty.specs.declared.TotalUncertainty.{TotalUncertainty}
 use Rattle.ghg_uncertainty.specs.declared.TotalUncertainty.TheVariants.{Bracket, Undefined}
-use Rattle.ghg_uncertainty.specs.Totals.{HoldsTotal, IsShare, IsTotal, most_rows, square}
+use Rattle.ghg_uncertainty.specs.Totals.{HoldsTotal, IsShare, IsTotal, square}
 
 -- the greatest number up to a limit whose square is no more than n
 unfoldable pub root_up_to : (n most : ℕ) → ℕ
@@ -35,7 +36,7 @@ IsSmall Undefined = Unit {0}
 -- The bounds of the uncertainty of a total are within a limit.
 abbrev pub TotalsAreSmall : Type 0
 TotalsAreSmall = (rows : List Share) (total : TotalUncertainty) →
-    length rows ≤ most_rows → All IsShare rows → IsTotal rows total → IsSmall total
+    length rows ≤ MOST_PARTS → All IsShare rows → IsTotal rows total → IsSmall total
 
 -- The uncertainty of a total holds its root: the spread is between the squares of both bounds times the
 -- magnitude of the sum.

@@ -4,25 +4,19 @@ use Rattle.std.specs.Prelude.{ℕ, ◌≡◌, ◌≢◌, ◌+◌, ◌*◌, ◌�
 use Rattle.std.specs.List.{fold, sum_by}
 use Rattle.ghg_interval.specs.Rounding.{floor_by, ceil_by}
 use Rattle.ghg_roots.specs.Roots.{IsRootBracket}
+use Rattle.ghg_units.specs.Uncertainty.{greatest_uncertainty}
 use Rattle.ghg_uncertainty.specs.declared.Share.{Share}
 use Rattle.ghg_uncertainty.specs.declared.TotalUncertainty.{TotalUncertainty}
 use Rattle.ghg_uncertainty.specs.declared.TotalUncertainty.TheVariants.{Bracket, Undefined}
-
--- the greatest uncertainty: 1000 percent
-abbrev pub percentage_limit : ℕ
-percentage_limit = 100_000
 
 -- the greatest amount, in tonnes
 abbrev pub amount_limit : ℕ
 amount_limit = 1_000_000_000_000
 
-abbrev pub most_rows : ℕ
-most_rows = 5_000
-
 pub record IsShare (s : Share) : Type 0 where
   pub tonnes : unsigned_abs s.tonnes ≤ amount_limit
-  pub activity : s.activity ≤ percentage_limit
-  pub factor : s.factor ≤ percentage_limit
+  pub activity : s.activity ≤ greatest_uncertainty
+  pub factor : s.factor ≤ greatest_uncertainty
 
 abbrev pub square : ℕ → ℕ
 square n = n * n

@@ -7,8 +7,10 @@
 mod laws;
 
 ghost use Rattle.std.specs.Prelude.{◌≡◌, ◌≤◌, All, length};
+ghost use Rattle.ghg_cell.specs.declared.totals.TheConstants.{MOST_PARTS};
 ghost use Rattle.ghg_roots.specs.Roots.{IsRootBracket};
-ghost use Rattle.ghg_uncertainty.specs.Totals.{HoldsTotal, IsShare, IsTotal, largest_square_sum, largest_variance, most_rows, net, percentage_limit, spread, square_sum, variance};
+ghost use Rattle.ghg_units.specs.Uncertainty.{greatest_uncertainty};
+ghost use Rattle.ghg_uncertainty.specs.Totals.{HoldsTotal, IsShare, IsTotal, largest_square_sum, largest_variance, net, spread, square_sum, variance};
 
 use ghg_roots::sqrt_bracket;
 pub use laws::{brackets_are_roots, totals_are_small, totals_hold_roots};
@@ -36,8 +38,8 @@ pub enum TotalUncertainty {
 /// The uncertainty of the product of activity data and emission factor (Equation 3.1): the root of the sum of
 /// both squares. All are in hundredths of a percent.
 pub fn combined(activity: u32, factor: u32) -> (u32, u32)
-    requires activity_in { activity ≤ percentage_limit }
-    requires factor_in { factor ≤ percentage_limit }
+    requires activity_in { activity ≤ greatest_uncertainty }
+    requires factor_in { factor ≤ greatest_uncertainty }
     ensures { IsRootBracket (square_sum activity factor) result.0 result.1 }
 {
     let (low, high) = sqrt_bracket(square_sum(activity, factor));
@@ -47,7 +49,7 @@ pub fn combined(activity: u32, factor: u32) -> (u32, u32)
 /// The uncertainty of the sum of all amounts (Equation 3.2): each amount times its uncertainty, squared and
 /// added up, and the root of that over the magnitude of the sum.
 pub fn total(rows: &[Share]) -> TotalUncertainty
-    requires count { length rows.now ≤ most_rows }
+    requires count { length rows.now ≤ MOST_PARTS }
     requires shares { All IsShare rows.now }
     ensures total { IsTotal rows.now result }
     ensures holds { HoldsTotal rows.now result }
@@ -67,7 +69,7 @@ pub fn total(rows: &[Share]) -> TotalUncertainty
 
 /// The sum of the amounts.
 pub fn net(rows: &[Share]) -> i128
-    requires count { length rows.now ≤ most_rows }
+    requires count { length rows.now ≤ MOST_PARTS }
     requires shares { All IsShare rows.now }
     ensures { result ≡ net rows.now }
 {
@@ -80,7 +82,7 @@ pub fn net(rows: &[Share]) -> i128
 
 // The sum of the variances.
 fn spread(rows: &[Share]) -> u128
-    requires count { length rows.now ≤ most_rows }
+    requires count { length rows.now ≤ MOST_PARTS }
     requires shares { All IsShare rows.now }
     ensures { result ≡ spread rows.now }
 {
@@ -104,8 +106,8 @@ impl Share {
 }
 
 fn square_sum(activity: u32, factor: u32) -> u128
-    requires activity_in { activity ≤ percentage_limit }
-    requires factor_in { factor ≤ percentage_limit }
+    requires activity_in { activity ≤ greatest_uncertainty }
+    requires factor_in { factor ≤ greatest_uncertainty }
     ensures value { result ≡ square_sum activity factor }
     ensures small { result ≤ largest_square_sum }
 {
