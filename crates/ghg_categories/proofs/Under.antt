@@ -1,8 +1,10 @@
 -- Up by levels, and up by parents.
-use Rattle.std.proofs.Common.{◌≡◌, ◌≤◌, ℕ, zero, suc, Bool, true, false, ◌||◌, ◌⊎◌, inl, inr, Option, Some, None, refl, ap, sym, ◌∙◌, subst, arith}
+use Rattle.std.proofs.Common.{◌≡◌, ◌≤◌, ℕ, zero, suc, Bool, true, false, ◌||◌, inl, inr, Option, Some, None, refl, ap, sym, ◌∙◌, subst, arith}
 use Rattle.std.specs.Option.{option_map_or}
 use Rattle.std.specs.Bool.{Decides}
 use Rattle.std.proofs.lemmas.Slice.Eq.{bytes_eq-Decides}
+use Rattle.std.proofs.lemmas.Bool.{or_cases}
+use Rattle.std.proofs.lemmas.Option.{same_Some}
 use Rattle.ghg_categories.specs.declared.category.Category.{Category}
 use Rattle.ghg_categories.specs.declared.tree.TheConstants.{DEPTH}
 use Rattle.ghg_categories.specs.Tree.{code_of, parent_of, named_in, is_same, stands_within, stands_under}
@@ -10,18 +12,11 @@ use Rattle.ghg_categories.specs.Laws.{IsUnder, itself, by_parent}
 use Rattle.ghg_categories.proofs.Levels.{level, level-parent, level-le}
 use Rattle.ghg_categories.proofs.Table.{named_by_code}
 
-some_is : {A : Type 0} {x y : A} → Some x ≡ Some y → x ≡ y
-some_is e = cc
-
 same_is : (c d : Category) → is_same c d ≡ true → c ≡ d
-same_is c d e = let codes_are : code_of c ≡ code_of d = (bytes_eq-Decides (code_of c) (code_of d)).0 e in some_is (sym (named_by_code c) ∙ ap named_in codes_are ∙ named_by_code d)
+same_is c d e = let codes_are : code_of c ≡ code_of d = (bytes_eq-Decides (code_of c) (code_of d)).0 e in same_Some _ _ (sym (named_by_code c) ∙ ap named_in codes_are ∙ named_by_code d)
 
 is_itself : (c : Category) → is_same c c ≡ true
 is_itself c = (bytes_eq-Decides (code_of c) (code_of c)).1 refl
-
-either : (p q : Bool) → p || q ≡ true → (p ≡ true) ⊎ (q ≡ true)
-either true q e = inl refl
-either false q e = inr e
 
 or_true : (p : Bool) → p || true ≡ true
 or_true true = refl
@@ -33,7 +28,7 @@ over_parent n c above (Some p) below is e = by_parent is (below p e)
 
 climbs : (n : ℕ) (c above : Category) → stands_within n c above ≡ true → IsUnder c above
 climbs zero c above e = subst (λ (d : Category). IsUnder c d) (same_is c above e) itself
-climbs (suc n) c above e = elim (either (is_same c above) _ e) [ inl same ↦ subst (λ (d : Category). IsUnder c d) (same_is c above same) itself | inr up ↦ over_parent n c above (parent_of c) (λ p q. climbs n p above q) refl up ]
+climbs (suc n) c above e = elim (or_cases (is_same c above) _ e) [ inl same ↦ subst (λ (d : Category). IsUnder c d) (same_is c above same) itself | inr up ↦ over_parent n c above (parent_of c) (λ p q. climbs n p above q) refl up ]
 
 reached : (n : ℕ) (c above : Category) → IsUnder c above → level c ≤ n → stands_within n c above ≡ true
 reached zero c _ itself h = is_itself c

@@ -2,8 +2,9 @@
 use Rattle.std.proofs.Common.{◌≡◌, Bool, true, false, cond, List, [], ◌∷◌, ◌++◌, Option, Some, None, Result, Ok, Err, OnOk, refl, sym, ap, ap₂, ◌∙◌}
 use Rattle.std.specs.Ordering.{eq_by_cmp}
 use Rattle.std.specs.Cmp.{eq_by_cmp_equiv}
-use Rattle.std.specs.FinMap.{find, get, get-insert, get-remove, same_map}
+use Rattle.std.specs.FinMap.{find, get, same_map}
 use Rattle.std.specs.Map.{lookup}
+use Rattle.ghg_definitions.proofs.Consistent.{get-with_record}
 use Rattle.ghg_definitions.specs.declared.record.Record.{Record}
 use Rattle.ghg_definitions.specs.declared.record.RecordKey.{RecordKey}
 use Rattle.ghg_definitions.specs.Data.{Data, key_cmp}
@@ -16,10 +17,6 @@ use Rattle.ghg_data.specs.Changes.{Change, applied}
 abbrev pub over : Option (Option Record) → Option Record → Option Record
 over None r = r
 over (Some c) r = c
-
-pub get-with_record : (m : Data) (k : RecordKey) (c : Option Record) (q : RecordKey) → get (with_record m k c) q ≡ cond (eq_by_cmp key_cmp q k) c (get m q)
-get-with_record m k None q = get-remove keys_total m k q
-get-with_record m k (Some r) q = get-insert keys_total m k r q
 
 over_cond : (b : Bool) (c r : Option Record) (o : Option (Option Record)) → cond b c (over o r) ≡ over (cond b (Some c) o) r
 over_cond true c r o = refl

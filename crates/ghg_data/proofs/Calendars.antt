@@ -5,6 +5,7 @@ use Rattle.std.specs.Option.{is_none}
 use Rattle.std.specs.Cmp.{eq_by_cmp_equiv}
 use Rattle.std.specs.FinMap.{find, get}
 use Rattle.std.specs.Map.{lookup}
+use Rattle.ghg_definitions.proofs.Consistent.{get-with_record}
 use Rattle.ghg_definitions.specs.declared.record.Record.{Record}
 use Rattle.ghg_definitions.specs.declared.record.RecordKey.{RecordKey}
 use Rattle.ghg_definitions.specs.Data.{Data, key_cmp}
@@ -17,7 +18,7 @@ use Rattle.ghg_data.specs.Calendar.{IsCalendarOf, has_date, is_put, is_taken}
 use Rattle.ghg_data.specs.Series.{dated}
 use Rattle.ghg_data.specs.Changes.{Change, applied}
 use Rattle.ghg_units.specs.Year.{is_year}
-use Rattle.ghg_data.proofs.Applied.{get-applied, get-with_record, over}
+use Rattle.ghg_data.proofs.Applied.{get-applied, over}
 
 over_note : {A : Type 0} (passes : A → Bool) (in_time here : Bool) (x f : A) (present old : Bool) → present ≡ passes x → old ≡ in_time && passes f → cond (in_time && here) present old ≡ in_time && passes (cond here x f)
 over_note passes true true x f present old p o = p

@@ -5,6 +5,7 @@ use Rattle.std.specs.FinMap.{contains_key-keys, find as find_key, get, keys}
 use Rattle.std.specs.List.{cons_option, filter_map, find, list_any}
 use Rattle.std.specs.Option.{option_map_or}
 use Rattle.std.specs.Str.{bytes_eq}
+use Rattle.std.proofs.lemmas.Bool.{or_cases, or_left}
 use Rattle.ghg_equations.specs.declared.eq_id.EqId.{EqId}
 use Rattle.ghg_equations.specs.Table.{Quantity, parameters}
 use Rattle.ghg_definitions.specs.declared.place.Place.{Place}
@@ -21,7 +22,7 @@ use Rattle.ghg_data.specs.Changes.{Change, applied}
 use Rattle.ghg_data.specs.Faults.{is_fault, is_place, key_places, line_places, places_about, takes}
 use Rattle.ghg_data.proofs.Applied.{get-applied, over}
 use Rattle.ghg_data.proofs.EquationParameters.{uncertain_at}
-use Rattle.ghg_data.proofs.Faults.{IsAmong, IsLeastFault, among_flat, among_left, among_right, either, held_line, least_fault, or_left, place_parameter, place_uncertain, takes_among, uncertain_place, with_equation}
+use Rattle.ghg_data.proofs.Faults.{IsAmong, IsLeastFault, among_flat, among_left, among_right, held_line, least_fault, place_parameter, place_uncertain, takes_among, uncertain_place, with_equation}
 
 -- ---- keys
 
@@ -139,7 +140,7 @@ module _ (m : Data) (w : IsWorkbook m) (cs : List Change) where
       ]
 
   by_parameter : (p : Place) → is_uncertainty p ≡ false → is_fault (applied m cs) p ≡ true → IsAmong p (flat_map (line_places m) (line_names m) ++ flat_map (key_places (applied m cs)) (map (λ d. d.0) cs))
-  by_parameter p u h = elim (either (is_some (binding (applied m cs) p.line p.parameter)) _ (sym (place_parameter (applied m cs) p u) ∙ first_so (is_place (applied m cs) p) _ h)) [
+  by_parameter p u h = elim (or_cases (is_some (binding (applied m cs) p.line p.parameter)) _ (sym (place_parameter (applied m cs) p u) ∙ first_so (is_place (applied m cs) p) _ h)) [
     | inl bound ↦ elim (changed_or_kept m cs (key.Bind p.line p.parameter)) [
       | inl changed ↦ by_key p (key.Bind p.line p.parameter) changed (inl refl)
       | inr kept ↦

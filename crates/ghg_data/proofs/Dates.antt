@@ -5,6 +5,8 @@ use Rattle.std.specs.Cmp.Lexicographic.{texts_ties}
 use Rattle.std.specs.Map.{lookup}
 use Rattle.std.specs.Ordering.{eq_by_cmp}
 use Rattle.std.specs.Str.{bytes_eq}
+use Rattle.std.proofs.lemmas.Option.{same_Some}
+use Rattle.std.proofs.Math.Bool.{and-false}
 use Rattle.ghg_definitions.specs.declared.record.RecordKey.{RecordKey}
 use Rattle.ghg_definitions.specs.declared.record.RecordKey.TheVariants as key
 use Rattle.ghg_definitions.specs.Data.{Name, key_cmp}
@@ -72,13 +74,10 @@ each_has_a_year old new k given some h each s set e = by (series_eq k s) (sym (h
 
 -- ---- a key is noted
 
-same_date : (p q : Series × ℕ) → Some p ≡ Some q → p ≡ q
-same_date p q e = cc
-
 pub key_of_date : (k : RecordKey) (t : Series) (z : ℕ) → date_of k ≡ Some (t, z) → k ≡ dated t z
 key_of_date key.Span t z e = absurd (cc)
-key_of_date (key.Activity name year) t z e = ap (λ p. dated p.0 p.1) (same_date (series.Activity name, year) (t, z) e)
-key_of_date (key.Factor name start) t z e = ap (λ p. dated p.0 p.1) (same_date (series.Factor name, start) (t, z) e)
+key_of_date (key.Activity name year) t z e = ap (λ p. dated p.0 p.1) (same_Some (series.Activity name, year) (t, z) e)
+key_of_date (key.Factor name start) t z e = ap (λ p. dated p.0 p.1) (same_Some (series.Factor name, start) (t, z) e)
 key_of_date (key.Line name) t z e = absurd (cc)
 key_of_date (key.Bind line parameter) t z e = absurd (cc)
 key_of_date (key.Uncert line) t z e = absurd (cc)
@@ -92,10 +91,6 @@ dates_tie (series.Factor a) (series.Factor b) z y = refl
 date_tied : (k : RecordKey) (t : Series) (z : ℕ) → date_of k ≡ Some (t, z) → (s : Series) (y : ℕ) → eq_by_cmp key_cmp (dated s y) k ≡ same_series t s && (z == y)
 date_tied k t z e s y = ap (eq_by_cmp key_cmp (dated s y)) (key_of_date k t z e) ∙ (eq_by_cmp_equiv keys_total).symm (dated s y) (dated t z) ∙ sym (key_ties (dated t z) (dated s y)) ∙ dates_tie t s z y
 
-never : (b : Bool) → b && false ≡ false
-never true = refl
-never false = refl
-
 same_year : (y z : ℕ) → is_year z && (y == z) ≡ is_year y && (z == y)
 same_year y z = by (y == z) refl
   where
@@ -105,7 +100,7 @@ same_year y z = by (y == z) refl
       where
         by_other : (b : Bool) → (z == y) ≡ b → is_year z && (y == z) ≡ is_year y && (z == y)
         by_other true f = let q : z ≡ y = eqb-true _ _ f in ap (λ x. is_year x && (y == x)) q ∙ ap (λ x. is_year y && (x == y)) (sym q)
-        by_other false f = ap (λ b. is_year z && b) e ∙ never (is_year z) ∙ sym (ap (λ b. is_year y && b) f ∙ never (is_year y))
+        by_other false f = ap (λ b. is_year z && b) e ∙ and-false (is_year z) ∙ sym (ap (λ b. is_year y && b) f ∙ and-false (is_year y))
 
 module _ (old : Calendar) (k : RecordKey) (present : Bool) where
   pub noted : (t : Series) (z : ℕ) → date_of k ≡ Some (t, z) → (s : Series) (y : ℕ)
@@ -114,4 +109,4 @@ module _ (old : Calendar) (k : RecordKey) (present : Bool) where
     where
       by : (b : Bool) → same_series t s ≡ b → cond b (cond (is_year z && (y == z)) present (has_date old t y)) (has_date old s y) ≡ cond (is_year y && (b && (z == y))) present (has_date old s y)
       by true is = ap (λ x. cond (is_year z && (y == z)) present (has_date old x y)) (series_same t s is) ∙ ap (λ b. cond b present (has_date old s y)) (same_year y z)
-      by false is = ap (λ b. cond b present (has_date old s y)) (sym (never (is_year y)))
+      by false is = ap (λ b. cond b present (has_date old s y)) (sym (and-false (is_year y)))

@@ -4,6 +4,7 @@ use Rattle.std.specs.List.{AllByRecursion, find, list_all, list_any}
 use Rattle.std.specs.Option.{option_map, option_map_or}
 use Rattle.std.specs.Str.{bytes_eq}
 use Rattle.std.specs.Cmp.Lexicographic.{bytes_decides}
+use Rattle.std.proofs.lemmas.Bool.{both_ways}
 use Rattle.ghg_equations.specs.declared.eq_id.EqId.{EqId}
 use Rattle.ghg_equations.specs.declared.eq_id.EqId.TheVariants.{Q10}
 use Rattle.ghg_equations.specs.declared.quantity.Dim.{Dim}
@@ -15,7 +16,7 @@ use Rattle.ghg_units.specs.declared.row.Binding.{Binding}
 use Rattle.ghg_definitions.specs.declared.place.Place.{Place}
 use Rattle.ghg_definitions.specs.Data.{Data, Name, binding, line, uncertainty}
 use Rattle.ghg_definitions.specs.Rules.{binds_parameter, is_bound, is_sound, is_uncertainty}
-use Rattle.ghg_definitions.proofs.Alike.{first_so, met, second_so}
+use Rattle.ghg_definitions.proofs.Alike.{first_so, second_so}
 use Rattle.ghg_data.specs.Faults.{dim_of_place, is_fault, is_parameter_place, takes}
 use Rattle.ghg_data.specs.Parameters.{quantity}
 
@@ -96,7 +97,7 @@ pub parameter_apart : (n : Name) → is_parameter n ≡ true → bytes_eq n unce
 parameter_apart n h = by (bytes_eq n uncertainty_word) refl
   where
     by : (b : Bool) → bytes_eq n uncertainty_word ≡ b → b ≡ false
-    by true e = absurd (met (is_parameter n) (ap is_parameter ((bytes_decides n uncertainty_word).0 e)) h)
+    by true e = absurd (both_ways (is_parameter n) (ap is_parameter ((bytes_decides n uncertainty_word).0 e)) h)
     by false e = refl
 
 named_by : (n : Name) (qs : List Quantity) → list_all (λ q. is_parameter q.name) qs ≡ true → list_any (λ q. bytes_eq q.name n) qs ≡ true → is_parameter n ≡ true

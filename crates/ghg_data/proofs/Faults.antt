@@ -9,6 +9,7 @@ use Rattle.std.specs.Option.{option_map_or}
 use Rattle.std.specs.Str.{bytes_eq}
 use Rattle.std.proofs.lemmas.Cmp.{on_total, then_total, tied_itself, upto}
 use Rattle.std.proofs.lemmas.List.Folds.{list_any-append}
+use Rattle.std.proofs.lemmas.Bool.{or_cases, false_from_ne_true, or_left, or_right, both_ways}
 use Rattle.ghg_equations.specs.declared.eq_id.EqId.{EqId}
 use Rattle.ghg_equations.specs.Table.{Quantity, parameters}
 use Rattle.ghg_definitions.specs.declared.place.Place.{Place}
@@ -19,7 +20,7 @@ use Rattle.ghg_definitions.specs.declared.record.RecordKey.TheVariants as key
 use Rattle.ghg_definitions.specs.Data.{Data, Name, as_binding, as_line, as_uncertainty, binding, first_name, line, uncertainty}
 use Rattle.ghg_definitions.specs.Rules.{is_sound, is_uncertainty, least_place, lesser_place, place_cmp, places, places_in, unsound_place}
 use Rattle.ghg_definitions.specs.Sound.{IsConsistent, IsRecord}
-use Rattle.ghg_definitions.proofs.Alike.{both, first_so, met, second_so}
+use Rattle.ghg_definitions.proofs.Alike.{both, first_so, second_so}
 use Rattle.ghg_definitions.proofs.Keys.{both_equal, equal_by, keys_same, keys_total, names_same}
 use Rattle.ghg_definitions.proofs.Members.{any_entry, entry_any}
 use Rattle.ghg_units.specs.Parameter.{is_parameter, uncertainty_word}
@@ -65,7 +66,7 @@ filter_among test x (y ∷ ys) h e = step (test y) refl h (λ i. filter_among te
     step : (b : Bool) → test y ≡ b → IsAmong x (y ∷ ys) → (IsAmong x ys → IsAmong x (filter test ys)) → IsAmong x (cond b (y ∷ filter test ys) (filter test ys))
     step true t (inl is) rest = inl is
     step true t (inr i) rest = inr (rest i)
-    step false t (inl is) rest = absurd (met (test y) t (ap test (sym is) ∙ e))
+    step false t (inl is) rest = absurd (both_ways (test y) t (ap test (sym is) ∙ e))
     step false t (inr i) rest = rest i
 
 pub among_filter : {A : Type 0} (test : A → Bool) (x : A) (xs : List A) → IsAmong x (filter test xs) → IsAmong x xs × (test x ≡ true)
@@ -100,9 +101,9 @@ pub upto_both : (p q : Place) → Upto p q → Upto q p → p ≡ q
 upto_both p q a b = by (place_cmp p q) refl a (ap is_gt (sym (places_total.antisymm q p)) ∙ b)
   where
     by : (o : Ordering) → place_cmp p q ≡ o → is_gt o ≡ false → is_gt (ordering_reverse (place_cmp p q)) ≡ false → p ≡ q
-    by Less e a b = absurd (met _ b (ap (λ o. is_gt (ordering_reverse o)) e))
+    by Less e a b = absurd (both_ways _ b (ap (λ o. is_gt (ordering_reverse o)) e))
     by Equal e a b = places_same p q e
-    by Greater e a b = absurd (met true a refl)
+    by Greater e a b = absurd (both_ways true a refl)
 
 lesser_either : (p q : Place) → (lesser_place p (Some q) ≡ p) ⊎ (lesser_place p (Some q) ≡ q)
 lesser_either p q = by (place_cmp p q)
@@ -165,14 +166,6 @@ any_among p (q ∷ qs) e = by (eq_by_cmp place_cmp p q) refl e (any_among p qs)
     by true is e rest = inl (places_same p q (equal_by _ is))
     by false is e rest = inr (rest e)
 
-pub or_right : (a b : Bool) → b ≡ true → a || b ≡ true
-or_right true b e = refl
-or_right false b e = e
-
-pub or_left : (a b : Bool) → a ≡ true → a || b ≡ true
-or_left true b e = refl
-or_left false b e = absurd (cc)
-
 among_any : (p : Place) (ps : List Place) → IsAmong p ps → list_any (same p) ps ≡ true
 unfolding same
 among_any p [] h = absurd h
@@ -201,10 +194,6 @@ any_flat f p (x ∷ xs) = list_any-append p (f x) (flat_map f xs) ∙ ap (λ b. 
 
 places_of : Data → RecordKey × Record → List Place
 places_of m e = places_in e.0 (line m (first_name e.0))
-
-pub either : (a b : Bool) → a || b ≡ true → (a ≡ true) ⊎ (b ≡ true)
-either true b e = inl refl
-either false b e = inr e
 
 held_binding : (o : Option Record) → is_some (as_binding o) ≡ true → (r : Record) × (o ≡ Some r)
 held_binding None e = absurd (cc)
@@ -239,7 +228,7 @@ listed_at m p k r at h = any_among p (places m) (any_flat (places_of m) (same p)
 
 parameter_listed : (m : Data) (p : Place) → is_parameter_place m p ≡ true → IsAmong p (places m)
 unfolding places_of
-parameter_listed m p h = elim (either (is_some (binding m p.line p.parameter)) _ h) [
+parameter_listed m p h = elim (or_cases (is_some (binding m p.line p.parameter)) _ h) [
   | inl bound ↦ let r = held_binding (get m (key.Bind p.line p.parameter)) bound in listed_at m p (key.Bind p.line p.parameter) r.0 r.1 (inl refl)
   | inr taken ↦
       let e = with_equation (line m p.line) p.parameter taken in
@@ -303,10 +292,6 @@ abbrev pub IsLeastFault : Data → Option Place → Type 0
 IsLeastFault m None = (p : Place) → is_fault m p ≡ false
 IsLeastFault m (Some q) = (is_fault m q ≡ true) × ((p : Place) → is_fault m p ≡ true → is_gt (place_cmp q p) ≡ false)
 
-pub not_true : (b : Bool) → (b ≡ true → ⊥) → b ≡ false
-not_true true h = absurd (h refl)
-not_true false h = refl
-
 unsound : Data → Place → Bool
 unsound m p = not (is_sound m p)
 
@@ -320,7 +305,7 @@ among_fault {m} is p h = let parts = among_filter (unsound m) p (places m) h in 
 
 least_by : {m : Data} → IsConsistent m → (r : Option Place) → IsLeastAmong (filter (unsound m) (places m)) r → IsLeastFault m r
 unfolding IsLeastAmong
-least_by {m} is None none = λ p. not_true (is_fault m p) (λ h. none p (fault_among m p h))
+least_by {m} is None none = λ p. false_from_ne_true (is_fault m p) (λ h. none p (fault_among m p h))
 least_by {m} is (Some q) least = (among_fault is q least.0, λ p h. least.1 p (fault_among m p h))
 
 pub least_fault : {m : Data} → IsConsistent m → IsLeastFault m (unsound_place m)
@@ -329,8 +314,8 @@ least_fault {m} is = least_by is (least_place (filter (unsound m) (places m))) (
 
 one_least : (m : Data) (r s : Option Place) → IsLeastFault m r → IsLeastFault m s → r ≡ s
 one_least m None None f g = refl
-one_least m None (Some q) f g = absurd (met _ (f q) g.0)
-one_least m (Some p) None f g = absurd (met _ (g p) f.0)
+one_least m None (Some q) f g = absurd (both_ways _ (f q) g.0)
+one_least m (Some p) None f g = absurd (both_ways _ (g p) f.0)
 one_least m (Some p) (Some q) f g = ap Some (upto_both p q (f.1 q g.0) (g.1 p f.0))
 
 -- ---- the least fault among places that are looked at in turn
@@ -388,7 +373,7 @@ all_sure m (p ∷ ps) r s = all_sure m ps (considered m r p) (sure_kept m r p s)
 
 seen_least : (m : Data) (r : Option Place) → Sure m r → ((p : Place) → is_fault m p ≡ true → Below r p) → IsLeastFault m r
 unfolding Sure Below
-seen_least m None s h = λ p. not_true (is_fault m p) (h p)
+seen_least m None s h = λ p. false_from_ne_true (is_fault m p) (h p)
 seen_least m (Some q) s h = (s, h)
 
 -- looking at places that have each fault among them finds the least

@@ -3,6 +3,7 @@ use Rattle.std.proofs.Common.{◌≡◌, ◌⊎◌, inl, inr, Bool, true, false,
 use Rattle.std.specs.FinMap.{entries, get}
 use Rattle.std.specs.List.{cons_option, filter_map, list_all, list_any}
 use Rattle.std.specs.Option.{option_map_or}
+use Rattle.std.proofs.lemmas.Bool.{false_from_ne_true, not-false, or_parts, both_ways}
 use Rattle.ghg_equations.specs.declared.quantity.Dim.{Dim}
 use Rattle.ghg_equations.specs.Quantity.{same_dim}
 use Rattle.ghg_units.specs.declared.row.Figure.{Figure}
@@ -13,13 +14,12 @@ use Rattle.ghg_definitions.specs.declared.record.RecordKey.TheVariants as key
 use Rattle.ghg_definitions.specs.Data.{Data, Name, as_figure, figure, first_name, kind, year_of}
 use Rattle.ghg_definitions.specs.Rules.{activities, activity_figure, are_of, factor_figure, factors, has_dimension, is_alike, is_other_year}
 use Rattle.ghg_definitions.specs.Sound.{IsConsistent}
-use Rattle.ghg_definitions.proofs.Alike.{alike_back, alike_joined, alike_parts, both, first_so, held, met, not_so, one_dimension, other_alike, second_so, so_not}
+use Rattle.ghg_definitions.proofs.Alike.{alike_back, alike_joined, alike_parts, both, first_so, held, not_so, one_dimension, other_alike, second_so, so_not}
 use Rattle.ghg_definitions.proofs.Consistent.{figure_dated}
 use Rattle.ghg_definitions.proofs.Dims.{dim_same, same_dim-itself}
 use Rattle.ghg_definitions.proofs.Keys.{keys_same, keys_total}
 use Rattle.ghg_definitions.proofs.Members.{any_entry, entry_any}
 use Rattle.ghg_data.specs.Settling.{name_keeps}
-use Rattle.ghg_data.proofs.Faults.{not_true}
 
 abbrev Entry : Type 0
 Entry = RecordKey × Record
@@ -83,21 +83,13 @@ some_left h (x ∷ xs) e = by (h x) e (some_left h xs)
 of_dim : Dim → Figure → Bool
 of_dim d f = same_dim d (dim_of f.unit)
 
-or_none : (a b : Bool) → a || b ≡ false → (a ≡ false) × (b ≡ false)
-or_none true b e = absurd (cc)
-or_none false b e = (refl, e)
-
-not_not : (b : Bool) → not b ≡ false → b ≡ true
-not_not true e = refl
-not_not false e = absurd (cc)
-
 all_left : {A : Type 0} (d : Dim) (h : A → Option Figure) (xs : List A) → list_any (λ x. option_map_or (λ g. not (of_dim d g)) (h x) false) xs ≡ false → list_all (of_dim d) (filter_map h xs) ≡ true
 all_left d h [] e = refl
-all_left d h (x ∷ xs) e = by (h x) (or_none _ _ e) (all_left d h xs)
+all_left d h (x ∷ xs) e = by (h x) (or_parts _ _ e) (all_left d h xs)
   where
     by : (o : Option Figure) → (option_map_or (λ g. not (of_dim d g)) o false ≡ false) × (list_any (λ x. option_map_or (λ g. not (of_dim d g)) (h x) false) xs ≡ false) → (list_any (λ x. option_map_or (λ g. not (of_dim d g)) (h x) false) xs ≡ false → list_all (of_dim d) (filter_map h xs) ≡ true) → list_all (of_dim d) (cons_option o (filter_map h xs)) ≡ true
     by None e rest = rest e.1
-    by (Some f) e rest = both _ _ (not_not _ e.0) (rest e.1)
+    by (Some f) e rest = both _ _ (not-false _ e.0) (rest e.1)
 
 -- ---- figures that are all of one dimension
 
@@ -134,17 +126,17 @@ differing d (Some g) e = (g, refl, not_so _ e)
 
 differs : (f g : Figure) → dim_of f.unit ≡ dim_of g.unit → of_dim (dim_of f.unit) g ≡ false → ⊥
 unfolding of_dim
-differs f g one e = met _ e (same_dim-itself _ _ one)
+differs f g one e = both_ways _ e (same_dim-itself _ _ one)
 
 module _ {m : Data} (is : IsConsistent m) (k : RecordKey) (unyeared : year_of k ≡ 0) where
   -- each figure of the name is of another year
   of_other_year : (q : RecordKey) (g : Figure) → figure m q ≡ Some g → is_alike k q ≡ true → is_other_year k q ≡ true
   of_other_year q g e a =
       let year = (figure_dated is q g e).0 in
-      both _ _ a (so_not _ (not_true (year_of k == year_of q) (λ h. let y : year_of k ≡ year_of q = eqb-true _ _ h in absurd (omega arith))))
+      both _ _ a (so_not _ (false_from_ne_true (year_of k == year_of q) (λ h. let y : year_of k ≡ year_of q = eqb-true _ _ h in absurd (omega arith))))
 
   pub figures_none : (d : Dim) → ((q : RecordKey) → is_other_year k q ≡ true → figure m q ≡ None) → are_of d (figures m k) ≡ false
-  figures_none d none = ap (are_of d) (none_left (of_name k) (entries m) (not_true _ (λ h.
+  figures_none d none = ap (are_of d) (none_left (of_name k) (entries m) (false_from_ne_true _ (λ h.
       let found = any_entry keys_total keys_same (λ (e : Entry). is_some (of_name k e)) m h in
       let g = some_figure (of_name k (found.0, found.1)) found.3 in
       let parts = alike_figure (is_alike k found.0) (as_figure (Some found.1)) g.0 g.1 in
@@ -156,7 +148,7 @@ module _ {m : Data} (is : IsConsistent m) (k : RecordKey) (unyeared : year_of k 
 
   pub figures_some : (d : Dim) (q : RecordKey) (f : Figure) → figure m q ≡ Some f → is_other_year k q ≡ true → are_of d (figures m k) ≡ same_dim d (dim_of f.unit)
   figures_some d q f e o = one_answers (dim_of f.unit) d (figures m k)
-      (all_left (dim_of f.unit) (of_name k) (entries m) (not_true _ (λ h.
+      (all_left (dim_of f.unit) (of_name k) (entries m) (false_from_ne_true _ (λ h.
       let found = any_entry keys_total keys_same (λ (e : Entry). option_map_or (λ g. not (of_dim (dim_of f.unit) g)) (of_name k e) false) m h in
       let g = differing (dim_of f.unit) (of_name k (found.0, found.1)) found.3 in
       let parts = alike_figure (is_alike k found.0) (as_figure (Some found.1)) g.0 g.1 in
@@ -176,7 +168,7 @@ module _ {m : Data} (is : IsConsistent m) (k : RecordKey) (unyeared : year_of k 
           let at : figure m found.0 ≡ Some g.0 = ap as_figure found.2 ∙ parts.1 in
           let other = of_other_year found.0 g.0 at parts.0 in
           (found.0, g.0, at, other, sym (figures_some d found.0 g.0 at other) ∙ all)
-      by false h = absurd (met _ (ap (are_of d) (none_left (of_name k) (entries m) h)) all)
+      by false h = absurd (both_ways _ (ap (are_of d) (none_left (of_name k) (entries m) h)) all)
 
 pub activities_none : {m : Data} → IsConsistent m → (name : Name) (d : Dim) → ((q : RecordKey) → is_other_year (key.Activity name 0) q ≡ true → figure m q ≡ None) → are_of d (activities m name) ≡ false
 activities_none {m} is name d none = ap (are_of d) (activities_are m name) ∙ figures_none is (key.Activity name 0) refl d none

@@ -3,6 +3,7 @@ use Rattle.std.proofs.Common.{◌≡◌, ◌≤◌, ◌<◌, ◌∙◌, ℕ, Boo
 use Rattle.std.specs.FinMap.{get}
 use Rattle.std.specs.Option.{option_map}
 use Rattle.std.proofs.lemmas.Bool.{and_from as both, le-leb}
+use Rattle.std.proofs.Math.Bool.{and-false}
 use Rattle.ghg_units.specs.Year.{is_year}
 use Rattle.ghg_units.specs.declared.row.Figure.{Figure}
 use Rattle.ghg_definitions.specs.declared.record.Record.{Record}
@@ -17,10 +18,6 @@ record_starts : (name : Name) (start : ℕ) (r : Record) → IsRecord (key.Facto
 record_starts name start (entry.Factor g) h = sym (both _ _ (both _ _ (le-leb 1900 start h.1.0) (le-leb start 2100 h.1.1)) refl)
 record_starts name start _ h = absurd h
 
-never : (b : Bool) → b && false ≡ false
-never true = refl
-never false = refl
-
 none_so : (o : Option Figure) → is_some o ≡ false → o ≡ None
 none_so None e = refl
 none_so (Some f) e = absurd (cc)
@@ -31,7 +28,7 @@ module _ (m : Data) (w : IsWorkbook m) (name : Name) where
   begins_dated year = by (get m (key.Factor name year)) refl
     where
       by : (o : Option Record) → get m (key.Factor name year) ≡ o → is_some (as_figure o) ≡ is_year year && is_some o
-      by None e = sym (never (is_year year))
+      by None e = sym (and-false (is_year year))
       by (Some r) e = record_starts name year r (w.records (key.Factor name year) r e)
 
   -- what a search in the factor's years finds

@@ -7,6 +7,7 @@ use Rattle.std.specs.FinMap.{contains_key-keys, get, keys}
 use Rattle.std.specs.List.{AllByRecursion, cons_option, filter_map, list_any}
 use Rattle.std.specs.List.Sorted.{IsStrictlySortedBy}
 use Rattle.std.proofs.lemmas.Cmp.{tied_itself}
+use Rattle.std.proofs.lemmas.Bool.{both_ways, or_left, or_right}
 use Rattle.ghg_units.specs.declared.row.Act.{Act}
 use Rattle.ghg_units.specs.declared.row.Act.TheVariants.{Enter, Correct, Withdraw}
 use Rattle.ghg_units.specs.declared.row.Row.{Row}
@@ -25,7 +26,7 @@ use Rattle.ghg_data.specs.Counts.{count_after, line_count_after, line_count_of}
 use Rattle.ghg_data.specs.Names.{names_after, placed, with_name, without_name}
 use Rattle.ghg_data.proofs.Counts.{keeps_presence, shape}
 use Rattle.ghg_data.proofs.Covered.{found_key, line_named}
-use Rattle.ghg_data.proofs.Faults.{IsAmong, or_left, or_right}
+use Rattle.ghg_data.proofs.Faults.{IsAmong}
 use Rattle.ghg_data.proofs.Lines.{line_names-with_record}
 use Rattle.ghg_data.proofs.Placed.{above, none_taken}
 
@@ -98,9 +99,6 @@ module _ (m : Data) (l : Name) where
 
 -- ---- after a row
 
-apart : (b : Bool) → b ≡ true → b ≡ false → ⊥
-apart b e f = cc
-
 taken_one : (a b : ℕ) → suc a ≡ b → a ≡ b - 1
 taken_one a b e = omega arith
 
@@ -109,7 +107,7 @@ more a = omega arith
 
 line_counted : (m : Data) (l : Name) (c : Option Record) (n : ℕ) (act : Act) (b : Bool) → is_some (get m (key.Line l)) ≡ b → presence_fault n act b ≡ None → is_some c ≡ not (withdraws act)
     → length (names_after (key.Line l) (is_some c) (line_names m)) ≡ count_after act (length (line_names m))
-line_counted m l (Some r) n Enter false at e f = put_first l (line_names m) (λ i. apart _ (named_present m l i) at) ∙ more _
+line_counted m l (Some r) n Enter false at e f = put_first l (line_names m) (λ i. both_ways _ at (named_present m l i)) ∙ more _
 line_counted m l (Some r) n Correct true at e f = put_again l (line_names m) (lines_sorted m) (present_named m l at)
 line_counted m l None n Withdraw true at e f = taken_one _ _ (taken_out l (line_names m) (lines_sorted m) (present_named m l at))
 line_counted m l None n Enter b at e f = absurd (cc)

@@ -1,16 +1,17 @@
 -- What a change of a record does to the names of the lines.
-use Rattle.std.proofs.Common.{◌≡◌, ℕ, zero, suc, ◌<◌, arith, drop, slice_get, Bool, true, false, cond, not, ◌&&◌, List, [], ◌∷◌, map, Option, Some, None, refl, sym, ap, ◌∙◌, subst, Ordering, Less, Equal, Greater, is_eq, is_some, T}
+use Rattle.std.proofs.Common.{◌≡◌, ℕ, zero, suc, ◌<◌, arith, drop, slice_get, Bool, true, false, cond, not, List, [], ◌∷◌, map, Option, Some, None, refl, sym, ap, ◌∙◌, subst, Ordering, Less, Equal, Greater, is_eq, is_some, T}
 use Rattle.std.specs.Ordering.{eq_by_cmp, is_lt, ordering_then}
 use Rattle.std.specs.List.{cons_option, filter_map}
 use Rattle.std.specs.FinMap.{entries, entries-insert, entries_sorted, insert, is_sorted, put, remove}
 use Rattle.std.specs.FinMap.Entries.{below_all, by_order, where_key}
+use Rattle.std.proofs.lemmas.Option.{same_Some}
 use Rattle.ghg_definitions.specs.declared.record.Record.{Record}
 use Rattle.ghg_definitions.specs.declared.record.RecordKey.{RecordKey}
 use Rattle.ghg_definitions.specs.declared.record.RecordKey.TheVariants as key
 use Rattle.ghg_definitions.specs.Data.{Data, Name, key_cmp, kind, line_name, line_names, name_cmp}
 use Rattle.ghg_definitions.specs.Rows.{with_record}
 use Rattle.ghg_definitions.proofs.Keys.{equal_by, keys_same, keys_total}
-use Rattle.ghg_definitions.proofs.Members.{entries-remove}
+use Rattle.ghg_definitions.proofs.Members.{entries-remove, first, second}
 use Rattle.ghg_data.specs.Names.{names_after, placed, with_name, without_name}
 
 abbrev Entries : Type 0
@@ -18,14 +19,6 @@ Entries = List (RecordKey × Record)
 
 abbrev names : Entries → List Name
 names es = filter_map line_name (map (λ e. e.0) es)
-
-first : (a b : Bool) → T (a && b) → T a
-first true b p = tt
-first false b p = p
-
-second : (a b : Bool) → T (a && b) → T b
-second true b p = p
-second false b p = absurd p
 
 -- ---- a record that is put
 
@@ -138,10 +131,7 @@ line_names-with_record m (key.Uncert l) None = taken_names m (key.Uncert l) _ (t
 
 -- ---- a change by its number
 
-same_some : {A : Type 0} (a b : A) → Some a ≡ Some b → a ≡ b
-same_some a b e = cc
-
 pub drop_at : {A : Type 0} (xs : List A) (i : ℕ) (x : A) → slice_get xs i ≡ Some x → drop i xs ≡ x ∷ drop (suc i) xs
 drop_at [] i x e = absurd (cc)
-drop_at (y ∷ ys) zero x e = ap (λ z. z ∷ ys) (same_some y x e)
+drop_at (y ∷ ys) zero x e = ap (λ z. z ∷ ys) (same_Some y x e)
 drop_at (y ∷ ys) (suc i) x e = drop_at ys i x e

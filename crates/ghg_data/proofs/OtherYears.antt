@@ -11,12 +11,13 @@ use Rattle.ghg_definitions.specs.declared.record.RecordKey.TheVariants as key
 use Rattle.ghg_definitions.specs.Data.{Data, as_figure, figure, first_name, kind, year_of}
 use Rattle.ghg_definitions.specs.Rules.{is_alike, is_other_year, meets_other_dimension}
 use Rattle.ghg_definitions.specs.Sound.{IsConsistent, IsRecord}
-use Rattle.ghg_definitions.proofs.Alike.{alike_back, alike_joined, alike_of_parts, alike_parts, both, meets_false, meets_true, met, not_so, one_dimension, other_alike, second_so, so_not}
+use Rattle.ghg_definitions.proofs.Alike.{alike_back, alike_joined, alike_of_parts, alike_parts, both, meets_false, meets_true, not_so, one_dimension, other_alike, second_so, so_not}
 use Rattle.ghg_definitions.proofs.Consistent.{figure_dated}
 use Rattle.ghg_definitions.specs.declared.record.Record.{Record}
 use Rattle.ghg_definitions.specs.declared.record.Record.TheVariants as entry
 use Rattle.std.specs.FinMap.{get}
-use Rattle.std.proofs.lemmas.Bool.{and_from, and_parts, le-leb}
+use Rattle.std.proofs.lemmas.Bool.{and_from, and_parts, le-leb, both_ways}
+use Rattle.std.proofs.lemmas.Option.{same_Some}
 use Rattle.ghg_data.specs.declared.series.Series.{Series}
 use Rattle.ghg_data.specs.declared.series.Series.TheVariants as series
 use Rattle.ghg_data.specs.Series.{date_of, dated}
@@ -29,7 +30,7 @@ turned : (y z : ℕ) → (z == y) ≡ false → (y == z) ≡ false
 turned y z e = by (y == z) refl
   where
     by : (b : Bool) → (y == z) ≡ b → (y == z) ≡ false
-    by true is = absurd (met _ e (eq-eqb z y (sym (eqb-true _ _ is))))
+    by true is = absurd (both_ways _ e (eq-eqb z y (sym (eqb-true _ _ is))))
     by false is = is
 
 no_year : {P : Type 0} → IsYear 0 → P
@@ -77,9 +78,6 @@ dates_other (series.Factor name) y z e = both _ _ (alike_of_parts (key.Factor na
 
 -- ---- the greatest of the other years, and none
 
-same_date : (p q : Series × ℕ) → Some p ≡ Some q → p ≡ q
-same_date p q e = cc
-
 no_figure : (o : Option Figure) → ((f : Figure) → o ≡ Some f → ⊥) → o ≡ None
 no_figure None h = refl
 no_figure (Some f) h = absurd (h f refl)
@@ -90,12 +88,12 @@ module _ {m : Data} (is : IsConsistent m) (k : RecordKey) (t : Series) (year : �
   pub no_other : ((y : ℕ) → y ≤ 2100 → years y ≡ false) → (q : RecordKey) → is_other_year k q ≡ true → figure m q ≡ None
   no_other none q o = no_figure (figure m q) (λ f e.
       let found = of_series is k q f e o in
-      let dates : (found.0, year_of k) ≡ (t, year) = same_date _ _ (sym found.1 ∙ at) in
+      let dates : (found.0, year_of k) ≡ (t, year) = same_Some _ _ (sym found.1 ∙ at) in
       let z = year_of q in
       let key_is : q ≡ dated t z = found.2 ∙ ap (λ p. dated p.0 z) dates in
       let other : (z == year) ≡ false = turned z year (ap (λ p. p.1 == z) (sym dates) ∙ not_so _ (second_so (is_alike k q) _ o)) in
       let stands : is_year z && is_some (get m (dated t z)) ≡ true = both _ _ (in_time z found.3) (ap (λ x. is_some (get m x)) (sym key_is) ∙ filled (get m q) f e) in
-      met _ (none z found.3.1) (others z ∙ ap (λ b. cond (is_year year && b) false (is_year z && is_some (get m (dated t z)))) other ∙ kept (is_year year) _ ∙ stands))
+      both_ways _ (none z found.3.1) (others z ∙ ap (λ b. cond (is_year year && b) false (is_year z && is_some (get m (dated t z)))) other ∙ kept (is_year year) _ ∙ stands))
     where
       kept : (b c : Bool) → cond (b && false) false c ≡ c
       kept true c = refl
@@ -114,7 +112,7 @@ module _ {m : Data} (is : IsConsistent m) (k : RecordKey) (t : Series) (year : �
 
       other : (b : Bool) → (z == year) ≡ b → is_year year && (z == year) ≡ false → is_year z ≡ true → (z == year) ≡ false
       other false is apart timely = is
-      other true is apart timely = absurd (met _ apart (both _ _ (ap is_year (sym (eqb-true _ _ is)) ∙ timely) is))
+      other true is apart timely = absurd (both_ways _ apart (both _ _ (ap is_year (sym (eqb-true _ _ is)) ∙ timely) is))
 
 module _ (m : Data) (k q : RecordKey) (o : Option Figure) (e : o ≡ figure m q) (stands : is_some (figure m q) ≡ true) where
   pub answers : is_other_year k q ≡ true → IfSome o (λ f. (x : RecordKey) × (figure m x ≡ Some f) × (is_other_year k x ≡ true))
@@ -128,7 +126,7 @@ module _ (m : Data) (k q : RecordKey) (o : Option Figure) (e : o ≡ figure m q)
   never_none P = by o e
     where
       by : (o : Option Figure) → o ≡ figure m q → IfNone o P
-      by None e = absurd (met _ (ap is_some (sym e)) stands)
+      by None e = absurd (both_ways _ (ap is_some (sym e)) stands)
       by (Some f) e = tt
 
 -- one figure of the name tells of all

@@ -6,6 +6,8 @@ use Rattle.std.specs.List.{find, list_all}
 use Rattle.std.specs.Option.{option_map_or}
 use Rattle.std.specs.Str.{bytes_eq}
 use Rattle.std.proofs.lemmas.Grind.{fold-append}
+use Rattle.std.proofs.lemmas.Bool.{or_cases, or_left, or_parts, both_ways}
+use Rattle.std.proofs.lemmas.Option.{same_Some}
 use Rattle.ghg_equations.specs.declared.eq_id.EqId.{EqId}
 use Rattle.ghg_equations.specs.declared.quantity.Dim.{Dim}
 use Rattle.ghg_equations.specs.declared.quantity.Dim.TheVariants as dims
@@ -23,7 +25,7 @@ use Rattle.ghg_definitions.specs.declared.record.RecordKey.TheVariants as key
 use Rattle.ghg_definitions.specs.Data.{Data, Name, as_binding, as_figure, as_line, as_uncertainty, binding, key_cmp, line, line_names}
 use Rattle.ghg_definitions.specs.Rules.{binds_parameter, dim_of_output, gives_decay, gives_dimension, has_dimension, is_bound, is_line_of, is_sound, is_uncertainty, unsound_place}
 use Rattle.ghg_definitions.specs.Sound.{IsConsistent, IsWorkbook}
-use Rattle.ghg_definitions.proofs.Alike.{both, first_so, met, second_so}
+use Rattle.ghg_definitions.proofs.Alike.{both, first_so, second_so}
 use Rattle.ghg_definitions.proofs.Consistent.{workbook_consistent}
 use Rattle.ghg_definitions.proofs.Dims.{dim_same}
 use Rattle.ghg_definitions.proofs.Keys.{equal_by, keys_same}
@@ -32,15 +34,11 @@ use Rattle.ghg_data.specs.Faults.{considered, is_fault, is_parameter_place, is_p
 use Rattle.ghg_data.specs.Settling.{keeps_dimension, name_keeps, unsettled_places, unsettles, unsettles_record}
 use Rattle.ghg_data.proofs.Applied.{get-applied, over}
 use Rattle.ghg_data.proofs.Covered.{changed_or_kept, covered, left_behind, never_both, sound_before, sound_line, sound_takes}
-use Rattle.ghg_data.proofs.Faults.{IsAmong, among_flat, either, or_left, place_parameter, place_uncertain, takes_among, uncertain_place, unsound_found, with_equation}
+use Rattle.ghg_data.proofs.Faults.{IsAmong, among_flat, place_parameter, place_uncertain, takes_among, uncertain_place, unsound_found, with_equation}
 use Rattle.ghg_data.proofs.Figures.{AreKept, activities_kept, factors_kept}
 use Rattle.ghg_data.proofs.Lines.{drop_at}
 
 -- ---- what each key has
-
-none_of : (a b : Bool) → a || b ≡ false → (a ≡ false) × (b ≡ false)
-none_of true b e = absurd (cc)
-none_of false b e = (refl, e)
 
 same_change : (a b : Option Record) → Some a ≡ Some b → a ≡ b
 same_change a b e = cc
@@ -48,7 +46,7 @@ same_change a b e = cc
 -- a change that counts does not unsettle what its key had
 found_settled : (n m : Data) (cs : List Change) (k : RecordKey) (c : Option Record) → unsettles n m cs ≡ false → find_key key_cmp k cs ≡ Some c → unsettles_record n k (get m k) c ≡ false
 found_settled n m [] k c s e = absurd (cc)
-found_settled n m (d ∷ cs) k c s e = by (eq_by_cmp key_cmp k d.0) refl e (none_of (unsettles_record n d.0 (get m d.0) d.1) _ s) (found_settled n m cs k c)
+found_settled n m (d ∷ cs) k c s e = by (eq_by_cmp key_cmp k d.0) refl e (or_parts (unsettles_record n d.0 (get m d.0) d.1) _ s) (found_settled n m cs k c)
   where
     by : (b : Bool) → eq_by_cmp key_cmp k d.0 ≡ b → cond b (Some d.1) (find_key key_cmp k cs) ≡ Some c → (unsettles_record n d.0 (get m d.0) d.1 ≡ false) × (unsettles n m cs ≡ false)
         → (unsettles n m cs ≡ false → find_key key_cmp k cs ≡ Some c → unsettles_record n k (get m k) c ≡ false) → unsettles_record n k (get m k) c ≡ false
@@ -92,15 +90,12 @@ module _ (m : Data) (cs : List Change) (settled : unsettles (applied m cs) m cs 
           stands true e = refl
           stands false e = absurd (cc)
 
-  same_figure : (f g : Figure) → Some f ≡ Some g → f ≡ g
-  same_figure f g e = cc
-
   figure_settled : (k : RecordKey) (o r : Option Record) (g : Figure) → as_figure o ≡ Some g → unsettles_record (applied m cs) k o r ≡ false
       → ((h : Figure) × (as_figure r ≡ Some h) × (dim_of g.unit ≡ dim_of h.unit)) ⊎ (name_keeps (applied m cs) k g ≡ true)
   figure_settled k None r g e u = absurd (cc)
   figure_settled k (Some (entry.Span s)) r g e u = absurd (cc)
-  figure_settled k (Some (entry.Activity f)) r g e u = like k g (as_figure r) (ap (λ (x : Figure). not (keeps_dimension x r) && not (name_keeps (applied m cs) k x)) (sym (same_figure f g e)) ∙ u)
-  figure_settled k (Some (entry.Factor f)) r g e u = like k g (as_figure r) (ap (λ (x : Figure). not (keeps_dimension x r) && not (name_keeps (applied m cs) k x)) (sym (same_figure f g e)) ∙ u)
+  figure_settled k (Some (entry.Activity f)) r g e u = like k g (as_figure r) (ap (λ (x : Figure). not (keeps_dimension x r) && not (name_keeps (applied m cs) k x)) (sym (same_Some f g e)) ∙ u)
+  figure_settled k (Some (entry.Factor f)) r g e u = like k g (as_figure r) (ap (λ (x : Figure). not (keeps_dimension x r) && not (name_keeps (applied m cs) k x)) (sym (same_Some f g e)) ∙ u)
   figure_settled k (Some (entry.Line c q)) r g e u = absurd (cc)
   figure_settled k (Some (entry.Bind b)) r g e u = absurd (cc)
   figure_settled k (Some (entry.Uncert a f)) r g e u = absurd (cc)
@@ -192,7 +187,7 @@ module _ (m : Data) (w : IsWorkbook m) (cs : List Change) (settled : unsettles (
   by_parameter : (p : Place) → is_uncertainty p ≡ false → is_fault (applied m cs) p ≡ true → IsAmong p (flat_map (key_places (applied m cs)) (map (λ d. d.0) cs))
   by_parameter p u h = elim (changed_or_kept m cs (key.Bind p.line p.parameter)) [
     | inl changed ↦ among_key p (key.Bind p.line p.parameter) changed (inl refl)
-    | inr kept ↦ unbound kept (changed_or_kept m cs (key.Line p.line)) (either (is_some (binding (applied m cs) p.line p.parameter)) _ now_placed)
+    | inr kept ↦ unbound kept (changed_or_kept m cs (key.Line p.line)) (or_cases (is_some (binding (applied m cs) p.line p.parameter)) _ now_placed)
   ]
     where
       now_placed : is_parameter_place (applied m cs) p ≡ true
@@ -201,7 +196,7 @@ module _ (m : Data) (w : IsWorkbook m) (cs : List Change) (settled : unsettles (
       still : get (applied m cs) (key.Bind p.line p.parameter) ≡ get m (key.Bind p.line p.parameter) → get (applied m cs) (key.Line p.line) ≡ get m (key.Line p.line) → ⊥
       still b l =
           let placed : is_place m p ≡ true = place_parameter m p u ∙ (λ i. is_some (as_binding (sym b i)) || option_map_or (λ e. takes e p.parameter) (as_line (sym l i)) false) ∙ now_placed in
-          met _ (not_so _ (second_so (is_place (applied m cs) p) _ h)) (sound_too p l b (sound_before w p placed))
+          both_ways _ (not_so _ (second_so (is_place (applied m cs) p) _ h)) (sound_too p l b (sound_before w p placed))
         where
           not_so : (b : Bool) → not b ≡ true → b ≡ false
           not_so true e = sym e

@@ -4,6 +4,7 @@ use Rattle.std.specs.Ordering.{eq_by_cmp}
 use Rattle.std.specs.Cmp.Lexicographic.{bytes_decides}
 use Rattle.std.specs.FinMap.{contains_key-keys, get, keys}
 use Rattle.std.proofs.lemmas.Cmp.{tied_itself}
+use Rattle.std.proofs.lemmas.Option.{same_Some}
 use Rattle.ghg_categories.specs.declared.category.Category.{Category}
 use Rattle.ghg_categories.specs.Tree.{code_of, is_same, named_in, tree}
 use Rattle.ghg_categories.proofs.Table.{named_by_code}
@@ -47,12 +48,9 @@ years_are (Some s) year = (
 
 -- ---- categories
 
-some_is : {A : Type 0} {x y : A} → Some x ≡ Some y → x ≡ y
-some_is e = cc
-
 pub category_same : (c d : Category) → Decides (is_same c d) (c ≡ d)
 category_same c d = (
-  λ e. let same : code_of c ≡ code_of d = (bytes_decides (code_of c) (code_of d)).0 e in some_is (sym (named_by_code c) ∙ ap named_in same ∙ named_by_code d),
+  λ e. let same : code_of c ≡ code_of d = (bytes_decides (code_of c) (code_of d)).0 e in same_Some _ _ (sym (named_by_code c) ∙ ap named_in same ∙ named_by_code d),
   λ e. (bytes_decides (code_of c) (code_of d)).1 (ap code_of e),
 )
 
@@ -73,7 +71,7 @@ pub named_line : (k : RecordKey) (name : Name) → line_name k ≡ Some name →
 named_line key.Span name e = absurd (cc)
 named_line (key.Activity other year) name e = absurd (cc)
 named_line (key.Factor other start) name e = absurd (cc)
-named_line (key.Line other) name e = ap key.Line (some_is e)
+named_line (key.Line other) name e = ap key.Line (same_Some _ _ e)
 named_line (key.Bind other parameter) name e = absurd (cc)
 named_line (key.Uncert other) name e = absurd (cc)
 

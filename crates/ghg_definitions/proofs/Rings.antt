@@ -1,5 +1,5 @@
 -- The line that is named is the least on any ring.
-use Rattle.std.proofs.Common.{◌≡◌, ◌≢◌, ◌⊎◌, inl, inr, ℕ, zero, suc, Bool, true, false, cond, not, ◌||◌, is_some, List, [], ◌∷◌, length, filter, Option, Some, None, Result, Ok, Err, refl, sym, ap, ◌∙◌, subst, Ordering, Less, Equal, Greater, is_eq, if◌then◌else◌}
+use Rattle.std.proofs.Common.{◌≡◌, ◌≢◌, inl, inr, ℕ, zero, suc, Bool, true, false, cond, not, ◌||◌, is_some, List, [], ◌∷◌, length, filter, Option, Some, None, Result, Ok, Err, refl, sym, ap, ◌∙◌, subst, Ordering, Less, Equal, Greater, is_eq, if◌then◌else◌}
 use Rattle.std.specs.FinMap.{entries, get}
 use Rattle.std.specs.List.{AllByRecursion, find, flat_map, list_all}
 use Rattle.std.specs.List.Sorted.{IsStrictlySortedBy}
@@ -8,6 +8,7 @@ use Rattle.std.specs.Str.{bytes_eq}
 use Rattle.std.specs.Cmp.Lexicographic.{bytes_decides, nat_list_cmp_total}
 use Rattle.std.specs.Cmp.{tied_itself}
 use Rattle.std.specs.Ordering.{eq_by_cmp, ordering_reverse}
+use Rattle.std.proofs.lemmas.Bool.{or_cases, both_ways, or_right}
 use Rattle.ghg_equations.specs.declared.eq_id.EqId.{EqId}
 use Rattle.ghg_equations.specs.declared.quantity.Dim.{Dim}
 use Rattle.ghg_equations.specs.declared.quantity.Dim.TheVariants as dims
@@ -39,14 +40,6 @@ use Rattle.ghg_definitions.specs.Listed.{IsListed}
 use Rattle.ghg_definitions.proofs.Listed.{contained, from_any, from_flat, listed, listed_any, listed_filter, listed_flat}
 use Rattle.ghg_definitions.proofs.Members.{entry_any}
 use Rattle.ghg_definitions.proofs.Planned.{plans_keep}
-
-either : (a b : Bool) → a || b ≡ true → (a ≡ true) ⊎ (b ≡ true)
-either true b e = inl refl
-either false b e = inr e
-
-or_second : (a b : Bool) → b ≡ true → a || b ≡ true
-or_second true b e = refl
-or_second false b e = e
 
 -- ---- a line takes what it is said to take
 
@@ -216,7 +209,7 @@ chain_within m zero k name e = absurd (cc)
 chain_within m (suc d) k name e =
     let step = from_any (λ t. bytes_eq t name || leads_within m d t name) (taken m k) e in
     let first : Takes m k step.0 = takes m k step.0 step.1 in
-    elim (either (bytes_eq step.0 name) _ step.2) [
+    elim (or_cases (bytes_eq step.0 name) _ step.2) [
       | inl is ↦ ([], subst (Takes m k) ((bytes_decides step.0 name).0 is) first)
       | inr on ↦ let rest = chain_within m d step.0 name on in (step.0 ∷ rest.0, (first, rest.1))
     ]
@@ -228,7 +221,7 @@ module _ (m : Data) (is : IsWorkbook m) where
 
   step_more : (d : ℕ) (k t name : Name) → Takes m k t → leads_within m d t name ≡ true → leads_within m (suc d) k name ≡ true
   unfolding leads_within
-  step_more d k t name s e = listed_any (λ t. bytes_eq t name || leads_within m d t name) t (taken m k) (taken_of m is k t s) (or_second (bytes_eq t name) _ e)
+  step_more d k t name s e = listed_any (λ t. bytes_eq t name || leads_within m d t name) t (taken m k) (taken_of m is k t s) (or_right (bytes_eq t name) _ e)
 
   -- a line on a ring is present
   on_ring_listed : (names : List Name) → IsRing (Takes m) names → (k : Name) → IsListed k names → IsListed k (line_names m)
@@ -259,9 +252,6 @@ is_before x k [] h i = absurd i
 is_before x k (y ∷ names) h (inl e) = ap (name_cmp x) e ∙ h.0
 is_before x k (y ∷ names) h (inr i) = is_before x k names h.1 i
 
-not_both : (b : Bool) → b ≡ false → b ≡ true → ⊥
-not_both b e f = cc
-
 first_found : (p : Name → Bool) (names : List Name) → IsStrictlySortedBy name_cmp names → IsFirst p names (find p names)
 unfolding IsStrictlySortedBy
 first_found p [] sorted = λ k i e. i
@@ -269,8 +259,8 @@ first_found p (x ∷ names) sorted = by (p x) refl (find p names) (first_found p
   where
     by : (b : Bool) → p x ≡ b → (o : Option Name) → IsFirst p names o → IsFirst p (x ∷ names) (cond b (Some x) o)
     by true is o h = (is, λ k i e. elim i [ inl same ↦ not_level _ (ap (name_cmp x) same ∙ tied_itself nat_list_cmp_total x) | inr j ↦ not_less _ (is_before x k names sorted.0 j) ])
-    by false is None h = λ k i e. elim i [ inl same ↦ not_both _ is (ap p (sym same) ∙ e) | inr j ↦ h k j e ]
-    by false is (Some first) h = (h.0, λ k i e. elim i [ inl same ↦ absurd (not_both _ is (ap p (sym same) ∙ e)) | inr j ↦ h.1 k j e ])
+    by false is None h = λ k i e. elim i [ inl same ↦ both_ways _ is (ap p (sym same) ∙ e) | inr j ↦ h k j e ]
+    by false is (Some first) h = (h.0, λ k i e. elim i [ inl same ↦ absurd (both_ways _ is (ap p (sym same) ∙ e)) | inr j ↦ h.1 k j e ])
 
 -- ---- the law
 

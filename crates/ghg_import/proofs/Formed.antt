@@ -2,7 +2,7 @@
 use Rattle.std.specs.Option.{ok_or, option_map}
 use Rattle.std.specs.List.{AllByRecursion, list_all}
 use Rattle.std.proofs.Common.{sym, ap, subst, ◌≡◌, ◌≤ℤ◌, ◌∙◌, ◌==◌, ◌+◌, ℤ, unsigned_abs, ◌&&◌, ℕ, List, [], ◌∷◌, length, Option, Some, None, Result, Ok, Err, Bool, true, false, cond, refl, arith, is_err, is_some, nat_le, int_le, option_and_then, if◌then◌else◌, IfOk, IfSome}
-use Rattle.std.proofs.lemmas.Bool.{leb-true}
+use Rattle.std.proofs.lemmas.Bool.{leb-true, and_parts}
 use Rattle.ghg_categories.specs.declared.category.Category.{Category}
 use Rattle.ghg_categories.specs.Tree.{is_leaf_of, named_in}
 use Rattle.ghg_equations.specs.declared.eq_id.EqId.{EqId}
@@ -77,14 +77,6 @@ mapped f None P k = tt
 
 -- ---- texts
 
-and_first : (a b : Bool) → a && b ≡ true → a ≡ true
-and_first true b e = refl
-and_first false b e = absurd (cc)
-
-and_second : (a b : Bool) → a && b ≡ true → b ≡ true
-and_second true b e = e
-and_second false b e = absurd (cc)
-
 chosen : {A : Type 0} (b : Bool) (x y : A) → (if b then Some x else None) ≡ Some y → (b ≡ true) × (x ≡ y)
 chosen true x y e = (refl, cc)
 chosen false x y e = absurd (cc)
@@ -110,9 +102,9 @@ factor_name text name e = by (is_potential_name text) refl
 year : (text : List ℕ) (y : ℕ) → year_in text ≡ Some y → IsYear y
 year text y e =
     let parts = chosen ((length text == 4) && list_all is_digit text && is_year (number_of text)) (number_of text) y e in
-    let within = and_second ((length text == 4) && list_all is_digit text) (is_year (number_of text)) parts.0 in
-    let from = and_first (nat_le earliest_year (number_of text)) (nat_le (number_of text) latest_year) within in
-    let to = and_second (nat_le earliest_year (number_of text)) (nat_le (number_of text) latest_year) within in
+    let within = (and_parts ((length text == 4) && list_all is_digit text) (is_year (number_of text)) parts.0).1 in
+    let from = (and_parts (nat_le earliest_year (number_of text)) (nat_le (number_of text) latest_year) within).0 in
+    let to = (and_parts (nat_le earliest_year (number_of text)) (nat_le (number_of text) latest_year) within).1 in
     subst IsYear parts.1 (leb-true _ _ from, leb-true _ _ to)
 
 parameter : (text name : List ℕ) → parameter_in text ≡ Some name → IsParameterName name
@@ -135,8 +127,8 @@ bounded u text d e = by (decimal_in text) e
   where
     fits : (b : Bounds) (t : Bool) → is_bounded_by bound_limit b ≡ t → is_err (cond {A = Result Bounds Over} t (Ok b) (Err (record {}))) ≡ false → AreBounded b
     fits b true t e = record {
-      lo = leb-true _ _ (and_first (nat_le (unsigned_abs b.lo) bound_limit) (nat_le (unsigned_abs b.hi) bound_limit) t);
-      hi = leb-true _ _ (and_second (nat_le (unsigned_abs b.lo) bound_limit) (nat_le (unsigned_abs b.hi) bound_limit) t);
+      lo = leb-true _ _ (and_parts (nat_le (unsigned_abs b.lo) bound_limit) (nat_le (unsigned_abs b.hi) bound_limit) t).0;
+      hi = leb-true _ _ (and_parts (nat_le (unsigned_abs b.lo) bound_limit) (nat_le (unsigned_abs b.hi) bound_limit) t).1;
     }
     fits b false t e = absurd (cc)
 
@@ -167,8 +159,8 @@ known_formed u row =
     reads (bound_in u value row.high) _ (IsAmountOf u) (λ high h.
     passes (int_le low.scaled value.scaled && int_le value.scaled high.scaled) _ (IsAmountOf u) (λ ordered.
     let is = bounded u row.value value v in (
-      in_order _ _ (and_first (int_le low.scaled value.scaled) _ ordered),
-      in_order _ _ (and_second (int_le low.scaled value.scaled) _ ordered),
+      in_order _ _ (and_parts (int_le low.scaled value.scaled) _ ordered).0,
+      in_order _ _ (and_parts (int_le low.scaled value.scaled) _ ordered).1,
       record { lo = (bound_bounded u value low row.low is l).lo; hi = (bound_bounded u value high row.high is h).hi },
     )))))
 
@@ -179,8 +171,8 @@ half_life_formed text years e = by (number_in 2 text) e
     by None e = absurd (cc)
     by (Some y) e =
         let parts = chosen (is_half_life y) y years e in
-        let from = and_first (nat_le 1 y) (nat_le y longest_half_life) parts.0 in
-        let to = and_second (nat_le 1 y) (nat_le y longest_half_life) parts.0 in
+        let from = (and_parts (nat_le 1 y) (nat_le y longest_half_life) parts.0).0 in
+        let to = (and_parts (nat_le 1 y) (nat_le y longest_half_life) parts.0).1 in
         subst IsHalfLife parts.1 (leb-true _ _ from, leb-true _ _ to)
 
 abbrev says_years : Manner → Bool
@@ -230,8 +222,8 @@ span_formed row =
     passes (nat_le first base && nat_le base last) _ IsSpan (λ ordered. (
       year row.year first f,
       year row.value last l,
-      leb-true _ _ (and_first (nat_le first base) _ ordered),
-      leb-true _ _ (and_second (nat_le first base) _ ordered),
+      leb-true _ _ (and_parts (nat_le first base) _ ordered).0,
+      leb-true _ _ (and_parts (nat_le first base) _ ordered).1,
     )))))
 
 line_formed : (row : Texts) → IfSome (line_in row) (λ l. IsLeaf l.0)

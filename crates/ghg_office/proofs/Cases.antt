@@ -23,7 +23,7 @@ pub record IsAccepted (s : State) (id body : List ℕ) (answer : Answer) : Type 
   pub made : entered_by s body ≡ Ok content
   pub answers : answer ≡ decided s id body (Ok content)
 
-is_other : (rule : Rule) (seq : ℕ) → Refused rule ≢ Accepted seq
+pub is_other : (rule : Rule) (seq : ℕ) → Refused rule ≢ Accepted seq
 is_other rule seq e = cc
 
 is_repeat : (kept seq : ℕ) → Repeated kept ≢ Accepted seq

@@ -1,6 +1,7 @@
 -- The bracket that the definition finds is the one bracket.
 use Rattle.std.proofs.Common.{◌≡◌, ℕ, zero, suc, ◌+◌, ◌<◌, ◌≤◌, Bool, true, false, if◌then◌else◌, inl, inr, eq-or-lt_of_le, refl, subst, arith, ℤ, pos, ◌+ℤ◌, ◌-ℤ◌, ◌≤ℤ◌, ◌<ℤ◌, int_le, int_lt}
 use Rattle.std.proofs.lemmas.Int.{ints}
+use Rattle.std.proofs.lemmas.Bool.{both_ways}
 use Rattle.ghg_interval.specs.Bounds.{Bounds, unit_scale}
 use Rattle.ghg_roots.specs.Decay.{IsDecayBracket, bracket_of, decay_bounds, is_below, is_within, last_passing, parts_down}
 use Rattle.ghg_roots.specs.Laws.{IsExactDecay}
@@ -45,13 +46,10 @@ false_lt x y e = grind (arith, e)
 false_le : (x y : ℤ) → int_lt x y ≡ false → y ≤ℤ x
 false_le x y e = grind (arith, e)
 
-not_both : (b : Bool) → b ≡ true → b ≡ false → ⊥
-not_both b e f = cc
-
 -- where zero passes and the greatest number does not, the last that passes is below the greatest
 below : (passes : ℕ → Bool) (n last : ℕ) → IsLast passes n last → passes n ≡ false → last < n
 below passes n last is e = elim (eq-or-lt_of_le is.up_to) [
-  | inl same ↦ absurd (not_both (passes n) (subst (λ k. passes k ≡ true) same is.passing) e)
+  | inl same ↦ absurd (both_ways (passes n) e (subst (λ k. passes k ≡ true) same is.passing))
   | inr less ↦ less
 ]
 

@@ -8,7 +8,7 @@ use Rattle.ghg_office.specs.Office.{Answer, IsRead, State, asked, decided, enter
 use Rattle.ghg_office.specs.Replies.{Answers, Shows}
 use Rattle.ghg_office.specs.declared.reply.Reply.{Reply}
 use Rattle.ghg_office.specs.declared.reply.Reply.TheVariants.{Accepted, Repeated, Refused, Table, NoTable, KeeperFault, Memory}
-use Rattle.ghg_office.proofs.Cases.{submitted_cases}
+use Rattle.ghg_office.proofs.Cases.{submitted_cases, is_other}
 use Rattle.ghg_tables.specs.declared.table.Table.{Table as NamedTable}
 use Rattle.ghg_tables.specs.Names.{table_in}
 use Rattle.ghg_units.specs.declared.rule.Rule.{Rule}
@@ -49,9 +49,6 @@ stays s id body reply other e = elim (submitted_cases s id body) [
   | inr new ↦ absurd (other (length s.accepted + 1) (e ∙ ap (λ (a : Answer). a.reply) new.answers))
 ]
 
-is_refused : (rule : Rule) (seq : ℕ) → Refused rule ≢ Accepted seq
-is_refused rule seq e = cc
-
 is_table : (text : List ℕ) (seq : ℕ) → Table text ≢ Accepted seq
 is_table text seq e = cc
 
@@ -67,7 +64,7 @@ submission_undone s id body stored Memory stop new h read kept none = (h, rw non
 submission_undone s id body stored (Accepted seq) stop new h read kept none = let long = none.1 in absurd cc
 submission_undone s id body stored (Repeated seq) stop new h read kept none = let long = none.1 in absurd cc
 submission_undone s id body stored (Refused rule) stop new h read kept none =
-    (h.1 ∙ stays s id body (Refused rule) (is_refused rule) h.0, rw none.0 (ap needs_memory (sym h.0)))
+    (h.1 ∙ stays s id body (Refused rule) (is_other rule) h.0, rw none.0 (ap needs_memory (sym h.0)))
 submission_undone s id body stored (Table text) stop new h read kept none =
     (h.1 ∙ stays s id body (Table text) (is_table text) h.0, rw none.0 (ap needs_memory (sym h.0)))
 submission_undone s id body stored NoTable stop new h read kept none = let long = none.1 in absurd cc

@@ -4,6 +4,7 @@ use Rattle.std.specs.List.{position}
 use Rattle.std.specs.Option.{option_and_then, option_map}
 use Rattle.std.proofs.lemmas.List.{append_cancel_right, take-append-le}
 use Rattle.std.proofs.Math.Seq.{drop-append-le}
+use Rattle.std.proofs.lemmas.Option.{none-some}
 use Rattle.ghg_session.specs.Laws.{IsScript, ReadsLocally, ReadsOnce}
 use Rattle.ghg_session.specs.Commands.{command_at, command_of, commands, form_of, is_line_feed, line_at, line_to, longest_line, most_kept}
 use Rattle.ghg_session.specs.Script.{Reading, after_requests, most_commands, reading, reading_of, with_more}
@@ -64,9 +65,6 @@ behind more p = (p.0, p.1 ++ more)
 moved : (more : List ℕ) (p q : Command Request × List ℕ) → Some p ≡ Some q → Some (behind more p) ≡ Some (behind more q)
 moved more p q e = ap (option_map (behind more)) e
 
-no_value : (v : Command Request × List ℕ) → None ≡ Some v → ⊥
-no_value v e = cc
-
 body_extends : (id bytes rest more : List ℕ) (n : ℕ) (found : Command Request) (fits : Bool) → nat_le n (length bytes) ≡ fits
     → command_of (line.Submit id n) bytes ≡ Some (found, rest) → command_of (line.Submit id n) (bytes ++ more) ≡ Some (found, rest ++ more)
 body_extends id bytes rest more n found true t e =
@@ -74,7 +72,7 @@ body_extends id bytes rest more n found true t e =
     let longer : nat_le n (length (bytes ++ more)) ≡ true = grind (arith, length-append bytes more) in
     let first = rw t at e in
     rw (longer, take-append-le n bytes more within, drop-append-le n bytes more within) (moved more (command.Request (request.Submit id (take most_kept (take n bytes))), drop n bytes) (found, rest) first)
-body_extends id bytes rest more n found false t e = let none = rw t at e in absurd (no_value (found, rest) none)
+body_extends id bytes rest more n found false t e = let none = rw t at e in absurd (none-some (found, rest) none)
 
 command_extends : (form : Line) (bytes rest more : List ℕ) (found : Command Request) → command_of form bytes ≡ Some (found, rest) → command_of form (bytes ++ more) ≡ Some (found, rest ++ more)
 command_extends (line.Submit id n) bytes rest more found e = body_extends id bytes rest more n found (nat_le n (length bytes)) refl e
@@ -82,13 +80,13 @@ command_extends (line.Show table year) bytes rest more found e = moved more (com
 command_extends line.End bytes rest more found e = moved more (command.End, bytes) (found, rest) e
 
 at_form : (form : Option Line) (bytes rest more : List ℕ) (found : Command Request) → option_and_then (λ f. command_of f bytes) form ≡ Some (found, rest) → option_and_then (λ f. command_of f (bytes ++ more)) form ≡ Some (found, rest ++ more)
-at_form None bytes rest more found e = absurd (no_value (found, rest) e)
+at_form None bytes rest more found e = absurd (none-some (found, rest) e)
 at_form (Some form) bytes rest more found e = command_extends form bytes rest more found e
 
 at_line : (split longer : Option (List ℕ × List ℕ)) (rest more : List ℕ) (found : Command Request) → extended more split longer
     → option_and_then (λ s. option_and_then (λ f. command_of f s.1) (form_of s.0)) split ≡ Some (found, rest)
     → option_and_then (λ s. option_and_then (λ f. command_of f s.1) (form_of s.0)) longer ≡ Some (found, rest ++ more)
-at_line None longer rest more found x e = absurd (no_value (found, rest) e)
+at_line None longer rest more found x e = absurd (none-some (found, rest) e)
 at_line (Some parts) longer rest more found x e = rw x (at_form (form_of parts.0) parts.1 rest more found e)
 
 -- what follows a command changes nothing of it

@@ -8,6 +8,7 @@ use Rattle.std.proofs.lemmas.Bool.{and_parts, not-true}
 use Rattle.std.proofs.lemmas.List.{take_at, drop_at}
 use Rattle.std.proofs.lemmas.List.Folds.{list_all-append}
 use Rattle.std.proofs.lemmas.Slice.Eq.{bytes_eq-Decides}
+use Rattle.std.proofs.lemmas.Option.{none-some}
 use Rattle.ghg_units.specs.Decimal.{number_in}
 use Rattle.ghg_units.specs.Name.{is_digit}
 use Rattle.ghg_session.specs.declared.command.Command.{Command}
@@ -376,9 +377,6 @@ begins_so bytes p q e h =
     let rest : p.1 ≡ q.1 = ap (λ o. option_map_or (λ v. v.1) o []) e in
     subst (λ (l : List ℕ). BeginsWith bytes l q.0) rest (subst (BeginsWith bytes p.1) command h)
 
-no_command_none : (v : Command Request × List ℕ) → None ≡ Some v → ⊥
-no_command_none v e = cc
-
 by_submission : (bytes text behind rest id : List ℕ) (n : ℕ) (found : Command Request) → IsLine bytes text behind → IsFormOf (line.Submit id n) text
     → command_of (line.Submit id n) behind ≡ Some (found, rest) → BeginsWith bytes rest found
 by_submission bytes text behind rest id n found l f h = by (nat_le n (length behind)) refl
@@ -403,7 +401,7 @@ by_submission bytes text behind rest id n found l f h = by (nat_le n (length beh
             prefix = refl;
           },
         )
-    by false e = let none = rw e at h in absurd (no_command_none (found, rest) none)
+    by false e = let none = rw e at h in absurd (none-some (found, rest) none)
 
 by_line : (bytes text behind rest : List ℕ) (form : Line) (found : Command Request) → IsLine bytes text behind → IsFormOf form text
     → command_of form behind ≡ Some (found, rest) → BeginsWith bytes rest found
@@ -419,11 +417,11 @@ begins_with bytes rest found h = by (line_at bytes) refl
     formed : (text behind : List ℕ) → line_at bytes ≡ Some (text, behind) → (form : Option Line) → form_of text ≡ form → BeginsWith bytes rest found
     formed text behind e (Some form) f =
         by_line bytes text behind rest form found (line_is bytes text behind e) (form_is text form f) (sym (by_form bytes text behind form e f) ∙ h)
-    formed text behind e None f = absurd (no_command_none (found, rest) (sym (no_form bytes text behind e f) ∙ h))
+    formed text behind e None f = absurd (none-some (found, rest) (sym (no_form bytes text behind e f) ∙ h))
 
     by : (split : Option (List ℕ × List ℕ)) → line_at bytes ≡ split → BeginsWith bytes rest found
     by (Some split) e = formed split.0 split.1 e (form_of split.0) refl
-    by None e = absurd (no_command_none (found, rest) (sym (no_line bytes e) ∙ h))
+    by None e = absurd (none-some (found, rest) (sym (no_line bytes e) ∙ h))
 
 pub parses_texts : ParsesTexts
 parses_texts bytes rest found =

@@ -3,6 +3,8 @@ use Rattle.std.proofs.Common.{◌≡◌, ℕ, zero, suc, ◌+◌, ◌*◌, ◌�
 use Rattle.std.proofs.lemmas.Bool.{leb-true}
 use Rattle.std.proofs.lemmas.Int.{ints}
 use Rattle.std.specs.List.{fold}
+use Rattle.std.proofs.lemmas.Option.{same_Some}
+use Rattle.ghg_cell.proofs.Sums.{same_input}
 use Rattle.ghg_interval.specs.Bounds.{Bounds, exactly, sum}
 use Rattle.ghg_interval.specs.Operations.{is_bounded_by}
 use Rattle.ghg_interval.specs.declared.Over.{Over}
@@ -76,9 +78,6 @@ within b e =
     let high : unsigned_abs b.hi ≤ reported_limit = leb-true (unsigned_abs b.hi) reported_limit (second_so (nat_le (unsigned_abs b.lo) reported_limit) (nat_le (unsigned_abs b.hi) reported_limit) e) in
     omega (arith, ints, low, high)
 
-same_input : (i j : Input) → ◌≡◌ {A = Result Input Over} (Ok i) (Ok j) → i ≡ j
-same_input i j e = cc
-
 blank_small : (i : Input) → Blank ≡ i → IsSmall i
 blank_small i e = let none : unsigned_abs (doubled Blank) ≤ 2 * reported_limit = omega arith in subst IsSmall e none
 
@@ -98,9 +97,6 @@ unfolding equivalent
 small_equivalent (Ok x) weight i e = small_weighted (known x) (known weight) i e
 small_equivalent (Err over) weight i e = absurd (cc)
 
-some_same : {A : Type 0} (x y : A) → Some x ≡ Some y → x ≡ y
-some_same x y e = cc
-
 module _ (m : Data) (compiled : IsCompilation (sheet_of m) (compilation m)) where
   small_node : (name : Name) (year : ℕ) (b : Bool) (o : Option Outcome) → is_node m (node.Equiv name year) ≡ b → compilation m (node.Equiv name year) ≡ o → IsSmall (or_blank (value_of o))
   small_node name year b None is e = omega arith
@@ -110,7 +106,7 @@ module _ (m : Data) (compiled : IsCompilation (sheet_of m) (compilation m)) wher
       let line : Outcome = outcome_or_blank (compilation m (node.Line name year)) in
       let weight : Input = given m (potential m year (line_gas m name)) in
       let formula : compilation m n ≡ Some ((then) line (λ x. equivalent x weight)) = compiled.trial.by_formula n is in
-      small_equivalent line weight i (some_same ((then) line (λ x. equivalent x weight)) (Ok i) (sym formula ∙ e))
+      small_equivalent line weight i (same_Some ((then) line (λ x. equivalent x weight)) (Ok i) (sym formula ∙ e))
   small_node name year false (Some (Ok i)) is e =
       let none : compilation m (node.Equiv name year) ≡ None = compiled.trial.nowhere_else (node.Equiv name year) is in
       absurd (cc (e, none))

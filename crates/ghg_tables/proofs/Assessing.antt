@@ -1,5 +1,5 @@
 -- What an assessment gives are the rows of its pairs, and their numbers are within limits.
-use Rattle.std.proofs.Common.{◌≡◌, ◌≢◌, inl, inr, ℕ, zero, suc, ◌+◌, ◌*◌, ◌<◌, ◌≤◌, Bool, true, false, cond, if◌then◌else◌, List, [], ◌∷◌, ◌++◌, length, get_or, map, flat_map, Contains, refl, sym, ap, ap₂, subst, ◌∙◌, arith, ℤ, pos, negsuc, unsigned_abs}
+use Rattle.std.proofs.Common.{◌≡◌, ◌≢◌, inl, inr, ℕ, zero, suc, ◌+◌, ◌*◌, ◌<◌, ◌≤◌, Bool, true, false, cond, if◌then◌else◌, List, [], ◌∷◌, ◌++◌, length, get_or, map, flat_map, Contains, refl, sym, ap, ap₂, subst, ◌∙◌, arith, pos, unsigned_abs}
 use Rattle.std.proofs.lemmas.Bool.{eq-eqb, ne_eqb}
 use Rattle.std.specs.List.{All, sum_by}
 use Rattle.std.specs.Ordering.{is_lt}

@@ -10,6 +10,7 @@ use Rattle.std.specs.declared.cmp.Ordering.TheVariants.{Less, Equal, Greater}
 use Rattle.std.proofs.lemmas.List.{append-nil}
 use Rattle.std.proofs.lemmas.Map.Text.{is_eq-slice_cmp}
 use Rattle.std.proofs.lemmas.List.Elements.{filter-append}
+use Rattle.ghg_graph.proofs.Pushed.{item_pushed, items_in}
 use Rattle.ghg_categories.specs.declared.category.Category.{Category}
 use Rattle.ghg_categories.specs.Tree.{code_of}
 use Rattle.ghg_categories.specs.contracts.category.CategoryOrd.TheImpl as category_order
@@ -54,15 +55,8 @@ stands_at m pair name = option_map_or (λ k. same_pair k pair) (emission m name)
 pub record IsGroupedSoFar (m : Data) (names : List Name) (groups : Groups) : Type 0 where
   pub so_far : (pair : Category × Gas) → group_of groups pair ≡ filter (stands_at m pair) names
 
-filter_one : (p : Name → Bool) (name : Name) → filter p (name ∷ []) ≡ name_if (p name) name
-filter_one p name = by (p name)
-  where
-    by : (b : Bool) → (if b then name ∷ [] else []) ≡ name_if b name
-    by true = refl
-    by false = refl
-
 one_more : (m : Data) (names : List Name) (name : Name) (at : Option (Category × Gas)) (pair : Category × Gas) → emission m name ≡ at → filter (stands_at m pair) (names ++ name ∷ []) ≡ filter (stands_at m pair) names ++ name_if (option_map_or (λ k. same_pair k pair) at false) name
-one_more m names name at pair is = filter-append (stands_at m pair) names (name ∷ []) ∙ ap (λ ys. filter (stands_at m pair) names ++ ys) (filter_one (stands_at m pair) name ∙ ap (λ o. name_if (option_map_or (λ k. same_pair k pair) o false) name) is)
+one_more m names name at pair is = filter-append (stands_at m pair) names (name ∷ []) ∙ ap (λ ys. filter (stands_at m pair) names ++ ys) (ap (λ o. name_if (option_map_or (λ k. same_pair k pair) o false) name) is)
 
 pub grouped_more : (m : Data) (names : List Name) (name : Name) (at : Category × Gas) (old new : Groups) → IsGroupedSoFar m names old → emission m name ≡ Some at →
     ((q : Category × Gas) → group_of new q ≡ group_of old q ++ name_if (same_pair at q) name) → IsGroupedSoFar m (names ++ name ∷ []) new
@@ -78,23 +72,12 @@ grouped_same m names name groups held is = record {
 pub grouped_all : (m : Data) (names : List Name) (groups : Groups) → IsGroupedSoFar m names groups → names ≡ line_names m → IsGrouping m groups
 grouped_all m names groups held is = record { lines = λ q. held.so_far q ∙ ap (filter (stands_at m q)) is }
 
--- the group's names, of which there are none where there is no group
-abbrev pub names_in : Option (Vec Name Global) → List Name
-names_in o = option_map_or (λ (names : Vec Name Global). names.items) o []
-
 pub nothing_grouped : (m : Data) (groups : Groups) → groups.by_pair.entries ≡ [] → IsGroupedSoFar m [] groups
-nothing_grouped m groups e = record { so_far = λ q. ap (λ es. names_in (lookup (is_at (key_order q)) es)) e }
+nothing_grouped m groups e = record { so_far = λ q. ap (λ es. items_in (lookup (is_at (key_order q)) es)) e }
 
 -- ---- one more in the group of a pair
 
 pub pushed : (old new : Option (Vec Name Global)) (before now : Vec Name Global) (at : Option (Vec Name Global)) (a c : Category × Gas) (name : Name) →
-    new ≡ cond (is_at (key_order a) c) (Some now) old → (a ≡ c → at ≡ old) → UnwrapsOrElse at (λ x. (x.items ≡ []) × (vec_len x ≡ 0)) before → now.items ≡ before.items ++ name ∷ [] → names_in new ≡ names_in old ++ name_if (same_pair a c) name
-pushed old new before now at a c name is same unwraps items = by (same_pair a c) refl
-  where
-    before_is : (o : Option (Vec Name Global)) → UnwrapsOrElse o (λ x. (x.items ≡ []) × (vec_len x ≡ 0)) before → before.items ≡ names_in o
-    before_is None h = h.0
-    before_is (Some x) h = ap (λ (v : Vec Name Global). v.items) h
-
-    by : (b : Bool) → same_pair a c ≡ b → names_in new ≡ names_in old ++ name_if b name
-    by true e = ap names_in (is ∙ ap (λ t. cond t (Some now) old) e) ∙ items ∙ ap (λ xs. xs ++ name ∷ []) (before_is at unwraps ∙ ap names_in (same (pair_is a c e)))
-    by false e = ap names_in (is ∙ ap (λ t. cond t (Some now) old) e) ∙ sym (append-nil (names_in old))
+    new ≡ cond (is_at (key_order a) c) (Some now) old → (a ≡ c → at ≡ old) → UnwrapsOrElse at (λ x. (x.items ≡ []) × (vec_len x ≡ 0)) before → now.items ≡ before.items ++ name ∷ [] → items_in new ≡ items_in old ++ name_if (same_pair a c) name
+pushed old new before now at a c name is same unwraps items =
+    item_pushed old new at before now (same_pair a c) name is (λ e. same (pair_is a c e)) unwraps items

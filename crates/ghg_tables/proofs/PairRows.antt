@@ -5,7 +5,7 @@ use Rattle.std.specs.List.Sorted.{IsStrictlySortedBy}
 use Rattle.std.specs.Option.{option_map_or}
 use Rattle.std.specs.Ordering.{is_eq, is_lt, ordering_then}
 use Rattle.std.specs.declared.cmp.Ordering.{Ordering}
-use Rattle.std.specs.declared.cmp.Ordering.TheVariants.{Less, Equal, Greater}
+use Rattle.std.specs.declared.cmp.Ordering.TheVariants.{Less}
 use Rattle.std.specs.Cmp.{IsTotalOrder}
 use Rattle.std.proofs.lemmas.Cmp.{on_total, then_total, tied_itself}
 use Rattle.std.proofs.lemmas.List.Concat.{flat_map-append}
@@ -13,6 +13,9 @@ use Rattle.std.proofs.lemmas.List.Folds.{flat_map-map}
 use Rattle.std.proofs.lemmas.List.Kept.{IsStrictlySortedBy-filter}
 use Rattle.std.proofs.lemmas.List.Sums.{count_by-le-length, length-filter, sum_by-append, sum_by-cons}
 use Rattle.std.proofs.lemmas.Map.Keys.{sorted_head, sorted_tail}
+use Rattle.std.proofs.lemmas.Bool.{and_parts}
+use Rattle.ghg_keycat.proofs.InOrder.{less_is}
+use Rattle.ghg_definitions.proofs.Keys.{equal_by}
 use Rattle.ghg_categories.specs.declared.category.Category.{Category}
 use Rattle.ghg_categories.specs.Tree.{tree}
 use Rattle.ghg_categories.specs.contracts.category.CategoryOrd.TheImpl as category_order
@@ -57,15 +60,6 @@ rises [] = true
 rises (x ∷ []) = true
 rises (x ∷ y ∷ zs) = is_lt (code_order x y) && rises (y ∷ zs)
 
-both_so : (a b : Bool) → (a && b) ≡ true → (a ≡ true) × (b ≡ true)
-both_so true b e = (refl, e)
-both_so false b e = cc
-
-less_is : (o : Ordering) → is_lt o ≡ true → o ≡ Less
-less_is Less e = refl
-less_is Equal e = cc
-less_is Greater e = cc
-
 later_too : (x y : Category) (zs : List Category) → code_order x y ≡ Less → AllByRecursion (λ z. code_order y z ≡ Less) zs → AllByRecursion (λ z. code_order x z ≡ Less) zs
 later_too x y [] less all = tt
 later_too x y (z ∷ zs) less all = (category_laws.total-law.trans x y z less all.0, later_too x y zs less all.1)
@@ -75,7 +69,7 @@ unfolding IsStrictlySortedBy
 rising_sorted [] e = tt
 rising_sorted (x ∷ []) e = (tt, tt)
 rising_sorted (x ∷ y ∷ zs) e =
-    let both = both_so (is_lt (code_order x y)) (rises (y ∷ zs)) e in
+    let both = and_parts (is_lt (code_order x y)) (rises (y ∷ zs)) e in
     let less : code_order x y ≡ Less = less_is (code_order x y) both.0 in
     let rest : IsStrictlySortedBy code_order (y ∷ zs) = rising_sorted (y ∷ zs) both.1 in
     ((less, later_too x y zs less (sorted_head code_order y zs rest)), rest)
@@ -120,15 +114,10 @@ all_sorted = products_sorted tree tree_sorted
 key_total : IsTotalOrder key_order
 key_total = then_total (on_total (λ (k : Key). k.0) category_laws.total-law) (on_total (λ (k : Key). k.1) gas_laws.total-law)
 
-equal_is : (o : Ordering) → is_eq o ≡ true → o ≡ Equal
-equal_is Less e = cc
-equal_is Equal e = refl
-equal_is Greater e = cc
-
 none_tied : (e k : Key) (ks : List Key) → same_pair e k ≡ true → AllByRecursion (λ z. key_order k z ≡ Less) ks → count_by (λ z. same_pair e z) ks ≡ 0
 none_tied e k [] same all = refl
 none_tied e k (z ∷ ks) same all =
-    let less : key_order e z ≡ Less = key_total.congr e k z (equal_is (key_order e k) same) ∙ all.0 in
+    let less : key_order e z ≡ Less = key_total.congr e k z (equal_by (key_order e k) same) ∙ all.0 in
     let not_z : same_pair e z ≡ false = ap is_eq less in
     sum_by-cons (λ z. cond (same_pair e z) 1 0) z ks ∙ ap₂ (λ (a b : ℕ). a + b) (ap (λ b. cond b 1 0) not_z) (none_tied e k ks same all.1)
 

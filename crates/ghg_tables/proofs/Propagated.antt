@@ -1,5 +1,5 @@
 -- The bracket of a total as it is printed.
-use Rattle.std.proofs.Common.{◌≡◌, ◌≢◌, ℕ, Bool, true, false, if◌then◌else◌, List, codes, refl, sym, ap, ap₂, ◌∙◌, arith, ℤ, pos, negsuc, unsigned_abs}
+use Rattle.std.proofs.Common.{◌≡◌, ℕ, Bool, true, false, if◌then◌else◌, List, codes, refl, sym, ap, ap₂, ◌∙◌, arith, pos, unsigned_abs}
 use Rattle.std.proofs.lemmas.Bool.{eq-eqb, ne_eqb}
 use Rattle.ghg_uncertainty.proofs.Rounded.{some_magnitude}
 use Rattle.ghg_interval.specs.Rounding.{ceil_by, floor_by}

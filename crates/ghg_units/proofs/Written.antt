@@ -13,6 +13,7 @@ use Rattle.std.proofs.Math.Nat.{pow-suc}
 use Rattle.std.proofs.Math.Seq.{take-append_seam, drop-append-add, get_or-append_seam}
 use Rattle.std.specs.List.{fold, list_all, position, position_or_len}
 use Rattle.std.specs.Option.{option_map}
+use Rattle.std.proofs.lemmas.Bool.{and_parts}
 use Rattle.ghg_units.proofs.Reading.{numerals}
 use Rattle.ghg_units.specs.declared.decimal.Decimal.{Decimal}
 use Rattle.ghg_units.specs.declared.decimal.TheConstants.Decimal.{PLACES, WHOLE_DIGITS}
@@ -171,14 +172,6 @@ magnitude_gives w (d ∷ ds) h few digits =
 
 -- ---- with a sign
 
-front_so : (a b : Bool) → a && b ≡ true → a ≡ true
-front_so true b e = refl
-front_so false b e = e
-
-back_so : (a b : Bool) → a && b ≡ true → b ≡ true
-back_so true b e = e
-back_so false b e = absurd (cc)
-
 no_minus : (w f : List ℕ) → 1 ≤ length w → list_all is_digit w ≡ true → get_or (w ++ behind_point f) 0 0 ≢ 45
 no_minus w f some digits = rw (get_or-append w (behind_point f) 0 0 some) (not_in_digits numerals w 45 digits (λ range. absurd (omega arith)) 0 some)
 
@@ -192,8 +185,8 @@ scaled_gives false w rest m plain is =
 pub written_reads : (text : List ℕ) (d : Decimal) → WritesDecimal text d → decimal_in text ≡ Some d
 written_reads text d h =
     let all : list_all is_digit h.whole && list_all is_digit h.fraction ≡ true = sym (list_all-append is_digit h.whole h.fraction) ∙ h.digits in
-    let whole_digits = front_so _ _ all in
-    let magnitude = magnitude_gives h.whole h.fraction (record { some = h.some_whole; few = h.few_whole; digits = whole_digits }) h.few_places (back_so _ _ all) in
+    let whole_digits = (and_parts _ _ all).0 in
+    let magnitude = magnitude_gives h.whole h.fraction (record { some = h.some_whole; few = h.few_whole; digits = whole_digits }) h.few_places (and_parts _ _ all).1 in
     rw (h.text_is, scaled_gives h.negative h.whole (behind_point h.fraction) _ (no_minus h.whole h.fraction h.some_whole whole_digits) magnitude) (ap (λ (z : ℤ). Some (record { scaled = z })) (sym h.value))
 
 minus_front : (text : List ℕ) → (get_or text 0 0 == 45) ≡ true → text ≡ 45 ∷ drop 1 text

@@ -1,4 +1,5 @@
-use Rattle.std.proofs.Common.{◌≡◌, Bool, true, false, Bor, Option, None, Some, not, ◌&&◌, option_copied, is_some, refl, ◌∙◌, sym, ap}
+use Rattle.std.proofs.Common.{◌≡◌, Bor, Option, None, Some, not, ◌&&◌, option_copied, is_some, refl, ◌∙◌, sym, ap}
+use Rattle.ghg_data.proofs.Calendars.{opposite}
 use Rattle.ghg_definitions.specs.Data.{line}
 use Rattle.ghg_definitions.specs.Rules.{is_bound}
 use Rattle.ghg_data.proofs.EquationParameters.{fault_at, uncertain_at}
@@ -19,13 +20,9 @@ returns-in-None c =
     c.is_some.ensures ∙ sym (copied_some c.binding-binding.result) ∙ ap is_some c.binding-binding.ensures
     ∙ sym (fault_at c.args.draft.now c.args.place.now (sym c.is_uncertainty.ensures ∙ c.if-is_uncertainty.false) None (sym c.in-None.is ∙ c.dim_of_place.ensures))
 
-turned : (a b : Bool) → a ≡ not b → b ≡ not a
-turned a true e = sym (ap not e)
-turned a false e = sym (ap not e)
-
 pub returns-then-has_uncertainty : goal.returns-then-has_uncertainty
 returns-then-has_uncertainty c =
     let m = c.args.draft.now in
     let p = c.args.place.now in
-    turned _ _ c.is_none.ensures ∙ ap (λ o. not (is_some o)) c.line.ensures ∙ ap (λ b. b && not (is_some (line m p.line))) (sym c.if-has_uncertainty.true ∙ c.has_uncertainty.ensures)
+    opposite _ _ c.is_none.ensures ∙ ap (λ o. not (is_some o)) c.line.ensures ∙ ap (λ b. b && not (is_some (line m p.line))) (sym c.if-has_uncertainty.true ∙ c.has_uncertainty.ensures)
     ∙ sym (uncertain_at m p (sym c.is_uncertainty.ensures ∙ c.if-is_uncertainty.true))
