@@ -195,7 +195,7 @@ not_both_ways x y e f = by (name_cmp x y) e (nat_list_cmp_total.antisymm x y)
         clash h = cc
 
 -- lists in order with the same elements are equal
-same_lists : (xs ys : List Name) → IsStrictlySortedBy name_cmp xs → IsStrictlySortedBy name_cmp ys
+pub same_lists : (xs ys : List Name) → IsStrictlySortedBy name_cmp xs → IsStrictlySortedBy name_cmp ys
     → ((z : Name) → IsListed z xs → IsListed z ys) → ((z : Name) → IsListed z ys → IsListed z xs) → xs ≡ ys
 unfolding IsStrictlySortedBy
 same_lists [] [] s t to back = refl

@@ -48,7 +48,7 @@ node_decides n k = (
   λ e. ap (eq_by_cmp node_cmp n) (sym e) ∙ ap is_eq (tied_itself nodes_total n),
 )
 
-nodes_decide : (ns ks : List Node) → Decides (same_nodes ns ks) (ns ≡ ks)
+pub nodes_decide : (ns ks : List Node) → Decides (same_nodes ns ks) (ns ≡ ks)
 nodes_decide ns ks = slice_eq-Decides node_decides ns ks (same_nodes ns ks) refl
 
 operand_decides : (x y : Operand Input) → Decides (same_operand x y) (x ≡ y)

@@ -3,7 +3,6 @@ pub mod Equalities
 pub mod Affected
 pub mod Closed
 pub mod Kept
-pub mod Patched
 pub mod Once
 pub mod Children
 pub mod Subtotals

@@ -1,11 +1,10 @@
--- What is said of affected nodes, and of outcomes of which these alone are evaluated anew.
-use Rattle.std.specs.Prelude.{◌≡◌, ⊤, true, false, fold, filter, if◌then◌else◌, List, [], ◌∷◌, Option, Some, None}
+-- What is said of affected nodes, of nodes in turn, and of what breaks.
+use Rattle.std.specs.Prelude.{◌≡◌, ⊤, true, filter, List, [], ◌∷◌, Option, None}
 use Rattle.std.specs.List.{Contains}
 use Rattle.ghg_units.specs.declared.node.Node.{Node}
 use Rattle.ghg_affected.specs.Affected.{IsAffected, affected_nodes}
 use Rattle.ghg_definitions.specs.Compilation.{compilation, is_node, overflow, sheet_of}
 use Rattle.ghg_definitions.specs.Data.{Data}
-use Rattle.ghg_affected.specs.Equalities.{same_node}
 use Rattle.ghg_definitions.specs.Formulas.{Outcome, map_formula, outcome_of}
 use Rattle.ghg_definitions.specs.Nodes.{least_node}
 use Rattle.ghg_definitions.specs.Rings.{IsAcyclic}
@@ -28,52 +27,18 @@ abbrev pub UnaffectedKeep : Type 0
 UnaffectedKeep = (old new : Data) → IsWorkbook new → IsAcyclic old → IsAcyclic new →
     (n : Node) → is_node new n ≡ true → (IsAffected old new n → ⊥) → Keeps old new n
 
--- ---- evaluation of some nodes
+-- ---- nodes in turn
 
 -- the outcome of the node's formula over the outcomes
 abbrev pub outcome_over : {Source : Type 0} → Sheet Source → Outcomes → Node → Outcome
 outcome_over sheet outcomes n =
     outcome_of (λ k. or_blank (outcomes k)) (map_formula sheet.given (sheet.formula n))
 
--- the outcomes with that one at the node
-abbrev pub evaluated : {Source : Type 0} → Sheet Source → Outcomes → Node → Outcomes
-evaluated sheet outcomes n k =
-    if same_node k n then Some (outcome_over sheet outcomes n) else outcomes k
-
 -- each of the list is a node, and none of its inputs is it or stands behind it
 abbrev pub IsInTurn : {Source : Type 0} → Sheet Source → List Node → Type 0
 IsInTurn sheet [] = ⊤
 IsInTurn sheet (n ∷ ns) =
     (sheet.is_node n ≡ true) × ((k : Node) → IsInput sheet k n → Contains (n ∷ ns) k → ⊥) × IsInTurn sheet ns
-
--- the outcomes are the others but at the nodes of the list
-abbrev pub AgreeBut : Outcomes → List Node → Outcomes → Type 0
-AgreeBut others ns outcomes = (n : Node) → (Contains ns n → ⊥) → outcomes n ≡ others n
-
--- Outcomes that are those of the compilation but at the nodes of a list become the compilation once these are
--- evaluated in turn.
-abbrev pub RestIsEvaluated : Type 0
-RestIsEvaluated = (m : Data) → IsAcyclic m → (ns : List Node) → IsInTurn (sheet_of m) ns →
-    (outcomes : Outcomes) → AgreeBut (compilation m) ns outcomes →
-    fold (evaluated (sheet_of m)) outcomes ns ≡ compilation m
-
--- ---- evaluation of the affected nodes
-
--- the list has all affected nodes, each behind its inputs
-pub record IsPatch (old new : Data) (ns : List Node) : Type 0 where
-  pub in_turn : IsInTurn (sheet_of new) ns
-  pub complete : (n : Node) → IsAffected old new n → Contains ns n
-
--- the outcomes are the old ones at all other nodes of the new data, and none where there is no node
-pub record IsKept (old new : Data) (ns : List Node) (outcomes : Outcomes) : Type 0 where
-  pub kept : (n : Node) → is_node new n ≡ true → (Contains ns n → ⊥) → outcomes n ≡ compilation old n
-  pub nowhere_else : (n : Node) → is_node new n ≡ false → outcomes n ≡ None
-
--- The affected nodes alone, evaluated in turn over the old outcomes, give the compilation of the new data.
-abbrev pub PatchesAreCompilations : Type 0
-PatchesAreCompilations = (old new : Data) → IsWorkbook new → IsAcyclic old → IsAcyclic new →
-    (ns : List Node) → IsPatch old new ns → (outcomes : Outcomes) → IsKept old new ns outcomes →
-    fold (evaluated (sheet_of new)) outcomes ns ≡ compilation new
 
 -- ---- what breaks
 

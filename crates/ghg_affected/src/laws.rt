@@ -4,7 +4,7 @@ ghost use Rattle.ghg_affected.specs.Closed.{InputsAreNodes};
 ghost use Rattle.ghg_affected.specs.Counts.{AffectedNodesStandOnce, NodesStandOnce};
 ghost use Rattle.ghg_affected.specs.Dependence.{FormulasDependOnReads, UntouchedAreUnchanged};
 ghost use Rattle.ghg_affected.specs.Figures.{NodesStayInPlace};
-ghost use Rattle.ghg_affected.specs.Patches.{AffectedNodesAreListed, BreaksAreAffected, OverflowsAreInPatches, PatchesAreCompilations, RestIsEvaluated, UnaffectedKeep};
+ghost use Rattle.ghg_affected.specs.Patches.{AffectedNodesAreListed, BreaksAreAffected, OverflowsAreInPatches, UnaffectedKeep};
 ghost use Rattle.ghg_affected.specs.Subtotals.{TotalsAreOfSubtotals};
 
 /// The affected nodes that are listed are all of them, and no other is listed.
@@ -25,17 +25,6 @@ pub fn affected_nodes_stand_once()
 /// A node of a workbook that is not affected was a node before, and keeps its outcome.
 pub fn unaffected_keep()
     ensures { UnaffectedKeep }
-{}
-
-/// Outcomes that are those of the compilation but at the nodes of a list become the compilation once these
-/// are evaluated in turn.
-pub fn rest_is_evaluated()
-    ensures { RestIsEvaluated }
-{}
-
-/// The affected nodes alone, evaluated in turn over the old outcomes, give the compilation of the new data.
-pub fn patches_are_compilations()
-    ensures { PatchesAreCompilations }
 {}
 
 /// Where nothing was over, each node that breaks is affected.

@@ -1,15 +1,10 @@
--- What is known of a proposal or of a refusal leads to more.
-use Rattle.std.proofs.Common.{List, Result, Ok, Err, IfOk}
+-- What is known of an answer leads to more.
+use Rattle.std.proofs.Common.{Result, Ok, Err, IfOk}
 use Rattle.std.specs.Prelude.{MatchResult}
 use Rattle.ghg_units.specs.declared.node.Node.{Node}
-use Rattle.ghg_definitions.specs.Containment.{HoldsExactValues}
-use Rattle.ghg_definitions.specs.Data.{Data}
-use Rattle.ghg_data.specs.Changes.{Change, applied}
-use Rattle.ghg_engine.specs.declared.proposal.Made.{Made}
-use Rattle.ghg_engine.specs.declared.proposal.Made.TheVariants as made
 use Rattle.ghg_engine.specs.declared.refusal.EngineRefusal.{EngineRefusal}
 use Rattle.ghg_engine.specs.declared.refusal.EngineRefusal.TheVariants as refusal
-use Rattle.ghg_engine.specs.Proposals.{IfOverflow, IsMade}
+use Rattle.ghg_engine.specs.Proposals.{IfOverflow}
 
 pub if_ok : {A E : Type 0} {P Q : A → Type 0} (r : Result A E) → ((x : A) → P x → Q x) → IfOk r P → IfOk r Q
 if_ok (Ok x) h p = h x p
@@ -22,8 +17,3 @@ if_over P Q f refusal.Memory h = tt
 pub answered : {A : Type 0} (r : Result A EngineRefusal) (P Q : A → Type 0) (S T : Node → Type 0) → ((x : A) → P x → Q x) → ((n : Node) → S n → T n) → MatchResult r P (IfOverflow S) → MatchResult r Q (IfOverflow T)
 answered (Ok x) P Q S T f h a = f x a
 answered (Err e) P Q S T f h a = if_over S T h e a
-
--- what is made holds the exact values
-pub made_contained : (m : Data) (edits : List Change) (x : Made) → IsMade m edits x → HoldsExactValues (applied m edits)
-made_contained m edits (made.Whole cells layout) is = is.0.contained
-made_contained m edits (made.Patch fresh) is = is.1.contained

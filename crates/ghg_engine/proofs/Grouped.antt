@@ -22,7 +22,7 @@ name_if b name = if b then name ∷ [] else []
 
 -- ---- what stands above is of a lower level
 
-same_is : (a c : Category) → is_same a c ≡ true → a ≡ c
+pub same_is : (a c : Category) → is_same a c ≡ true → a ≡ c
 same_is a c e = (category_same a c).0 e
 
 or_cases : {P : Type 0} (a b : Bool) → (a || b) ≡ true → (a ≡ true → P) → (b ≡ true → P) → P
@@ -39,37 +39,46 @@ within_level (suc k) a c e = or_cases (is_same a c) _ e (λ same. subst (λ d. l
 
 -- ---- one group after the other
 
-none_then : (xs : List Name) (b : Bool) (name : Name) → xs ++ name_if b name ≡ xs ++ name_if (b || false) name
-none_then xs true name = refl
-none_then xs false name = refl
+-- a step that changes a group where a test passes
+module _ (step : Bool → List Name → List Name) (none : (xs : List Name) → step false xs ≡ xs) where
+  none_then : (xs : List Name) (b : Bool) → step b xs ≡ step (b || false) xs
+  none_then xs true = refl
+  none_then xs false = refl
 
-one_then : (xs : List Name) (a b : Bool) (name : Name) → (a ≡ true → b ≡ true → ⊥) → (xs ++ name_if a name) ++ name_if b name ≡ xs ++ name_if (a || b) name
-one_then xs true true name never = absurd (never refl refl)
-one_then xs true false name never = append-nil (xs ++ name ∷ [])
-one_then xs false b name never = ap (λ ys. ys ++ name_if b name) (append-nil xs)
+  one_then : (xs : List Name) (a b : Bool) → (a ≡ true → b ≡ true → ⊥) → step b (step a xs) ≡ step (a || b) xs
+  one_then xs true true never = absurd (never refl refl)
+  one_then xs true false never = none (step true xs)
+  one_then xs false b never = ap (step b) (none xs)
 
--- the category's group, and those of the categories above
-pub put_above : (xs : List Name) (name : Name) (levels k : ℕ) (a p c : Category) → levels ≡ suc k → parent_of a ≡ Some p → (xs ++ name_if (is_same a c) name) ++ name_if (stands_within k p c) name ≡ xs ++ name_if (stands_within levels a c) name
-put_above xs name levels k a p c e is =
-    one_then xs (is_same a c) (stands_within k p c) name never
-    ∙ ap (λ o. xs ++ name_if (is_same a c || option_map_or (λ q. stands_within k q c) o false) name) (sym is)
-    ∙ ap (λ n. xs ++ name_if (stands_within n a c) name) (sym e)
-  where
-    never : is_same a c ≡ true → stands_within k p c ≡ true → ⊥
-    never same within =
-        let up = level-parent a p is in
-        let low = within_level k p c within in
-        let same_level = ap level (same_is a c same) in
-        omega (arith, up, low, same_level)
+  -- the category's group, and those of the categories above
+  pub put_above : (xs : List Name) (levels k : ℕ) (a p c : Category) → levels ≡ suc k → parent_of a ≡ Some p → step (stands_within k p c) (step (is_same a c) xs) ≡ step (stands_within levels a c) xs
+  put_above xs levels k a p c e is =
+      one_then xs (is_same a c) (stands_within k p c) never
+      ∙ ap (λ o. step (is_same a c || option_map_or (λ q. stands_within k q c) o false) xs) (sym is)
+      ∙ ap (λ n. step (stands_within n a c) xs) (sym e)
+    where
+      never : is_same a c ≡ true → stands_within k p c ≡ true → ⊥
+      never same within =
+          let up = level-parent a p is in
+          let low = within_level k p c within in
+          let same_level = ap level (same_is a c same) in
+          omega (arith, up, low, same_level)
 
--- no more levels
-pub put_last : (xs : List Name) (name : Name) (levels : ℕ) (a c : Category) → levels ≡ 0 → xs ++ name_if (is_same a c) name ≡ xs ++ name_if (stands_within levels a c) name
-put_last xs name levels a c e = ap (λ n. xs ++ name_if (stands_within n a c) name) (sym e)
+  -- no more levels
+  pub put_last : (xs : List Name) (levels : ℕ) (a c : Category) → levels ≡ 0 → step (is_same a c) xs ≡ step (stands_within levels a c) xs
+  put_last xs levels a c e = ap (λ n. step (stands_within n a c) xs) (sym e)
 
--- no category stands above
-pub put_top : (xs : List Name) (name : Name) (levels : ℕ) (a c : Category) → parent_of a ≡ None → xs ++ name_if (is_same a c) name ≡ xs ++ name_if (stands_within levels a c) name
-put_top xs name zero a c is = refl
-put_top xs name (suc k) a c is = none_then xs (is_same a c) name ∙ ap (λ o. xs ++ name_if (is_same a c || option_map_or (λ q. stands_within k q c) o false) name) (sym is)
+  -- no category stands above
+  pub put_top : (xs : List Name) (levels : ℕ) (a c : Category) → parent_of a ≡ None → step (is_same a c) xs ≡ step (stands_within levels a c) xs
+  put_top xs zero a c is = refl
+  put_top xs (suc k) a c is = none_then xs (is_same a c) ∙ ap (λ o. step (is_same a c || option_map_or (λ q. stands_within k q c) o false) xs) (sym is)
+
+-- the name pushed
+abbrev pub pushed_if : Name → Bool → List Name → List Name
+pushed_if name b xs = xs ++ name_if b name
+
+pub pushed_none : (name : Name) (xs : List Name) → pushed_if name false xs ≡ xs
+pushed_none name xs = append-nil xs
 
 -- ---- the lines so far
 
@@ -123,7 +132,7 @@ grouped_all m names groups held is = record {
 
 -- ---- one more in the group of a category
 
-tied : (a c : Category) → is_at (code_order a) c ≡ is_same a c
+pub tied : (a c : Category) → is_at (code_order a) c ≡ is_same a c
 tied a c = is_eq-slice_cmp (code_of a) (code_of c)
 
 -- the group's names, of which there are none where there is no group

@@ -45,7 +45,7 @@ module _ (s : Series) (before after : Run) (year : ℕ) (n : Node) (of_series : 
 -- ---- one column among others
 
 module _ (old : BTreeMap Series Run) (s : Series) where
-  there : (k : Node) → is_at (series_order s) (series_of k) ≡ true → in_columns old k ≡ option_and_then (in_year_of k) (get series_order old s)
+  pub there : (k : Node) → is_at (series_order s) (series_of k) ≡ true → in_columns old k ≡ option_and_then (in_year_of k) (get series_order old s)
   there k same = ap (λ t. option_and_then (in_year_of k) (get series_order old t)) (sym (series_same s (series_of k) same))
 
   module _ (new : BTreeMap Series Run) (after : Option Run) (updates : (q : Series) → get series_order new q ≡ cond (is_at (series_order s) q) after (get series_order old q)) where
@@ -74,7 +74,7 @@ module _ (old : BTreeMap Series Run) (s : Series) where
           by k true same = ap (option_map Ok) (has (year_in k)) ∙ in_years k (year_in k == year) ∙ ap (λ o. cond (year_in k == year) (Some (Ok x)) o) (sym (there k same ∙ was k))
           by k false apart = refl
 
-      column_as_it_was : after ≡ before → in_columns new ≡ in_columns old
+      pub column_as_it_was : after ≡ before → in_columns new ≡ in_columns old
       column_as_it_was is = fun_ext (λ k. updated new (Some after) updates k ∙ by k (is_at (series_order s) (series_of k)) refl)
         where
           by : (k : Node) (a : Bool) → is_at (series_order s) (series_of k) ≡ a → cond a (in_year_of k after) (in_columns old k) ≡ in_columns old k
@@ -96,7 +96,7 @@ module _ (old : BTreeMap Series Run) (s : Series) where
   was_absent year is k = ap (option_and_then (in_year_of k)) is ∙ sym (no_values (record { first = year; values = [] }) refl k)
 
   -- the column is taken out
-  module _ (new : BTreeMap Series Run) (run : Run) (found : get series_order old s ≡ Some run) (updates : (q : Series) → get series_order new q ≡ cond (is_at (series_order s) q) None (get series_order old q)) where
+  module _ (run : Run) (found : get series_order old s ≡ Some run) where
     pub column_out : (k : Node) → in_series s run k ≡ cond (is_at (series_order s) (series_of k)) (in_columns old k) None
     column_out k = by (is_at (series_order s) (series_of k)) refl
       where
@@ -104,8 +104,8 @@ module _ (old : BTreeMap Series Run) (s : Series) where
         by true same = sym (there k same ∙ ap (option_and_then (in_year_of k)) found)
         by false apart = refl
 
-    pub columns_left : (k : Node) → in_columns new k ≡ cond (is_at (series_order s) (series_of k)) None (in_columns old k)
-    columns_left k = updated new None updates k
+  pub columns_left : (new : BTreeMap Series Run) → ((q : Series) → get series_order new q ≡ cond (is_at (series_order s) q) None (get series_order old q)) → (k : Node) → in_columns new k ≡ cond (is_at (series_order s) (series_of k)) None (in_columns old k)
+  columns_left new updates k = updated new None updates k
 
 -- ---- none
 

@@ -1,10 +1,14 @@
 pub mod NodeKeys
 pub mod Counted
-pub mod Turns
 pub mod Places
+pub mod SubtotalNodes
+pub mod Turns
 pub mod Columns
 pub mod Written
 pub mod InColumns
+pub mod Removed
+pub mod Taken
+pub mod Gone
 pub mod Nothing
 pub mod Compiled
 pub mod Arranged
@@ -15,6 +19,8 @@ pub mod Ready
 pub mod Facts
 pub mod LineOutcomes
 pub mod Grouped
+pub mod InPlaces
+pub mod Entered
 pub mod Layouts
 pub mod Patched
 pub mod Answered

@@ -3,7 +3,7 @@ use Rattle.std.proofs.Common.{◌≡◌, ℕ, Bool, true, ◌&&◌, ◌==◌, re
 use Rattle.std.proofs.lemmas.Cmp.{tied_itself}
 use Rattle.std.specs.BTreeMap.{is_at}
 use Rattle.std.specs.Cmp.{both_ways}
-use Rattle.std.specs.Ordering.{ordering_then}
+use Rattle.std.specs.Ordering.{ordering_reverse, ordering_then}
 use Rattle.ghg_categories.specs.Tree.{code_of}
 use Rattle.ghg_units.specs.declared.node.Node.{Node}
 use Rattle.ghg_units.specs.declared.node.Node.TheVariants as node
@@ -65,6 +65,9 @@ ordered series.Gross series.Gross = refl
 
 pub series_same : (s t : Series) → is_at (series_order s) t ≡ true → s ≡ t
 series_same s t e = sym (series_is s 0) ∙ ap series_of (nodes_same (node_at s 0) (node_at t 0) (equal_by _ (sym (ap is_eq (ordered s t)) ∙ e))) ∙ series_is t 0
+
+pub series_reversed : (s t : Series) → series_order s t ≡ ordering_reverse (series_order t s)
+series_reversed s t = ordered s t ∙ nodes_total.antisymm (node_at s 0) (node_at t 0) ∙ ap ordering_reverse (sym (ordered t s))
 
 pub series_itself : (s : Series) → is_at (series_order s) s ≡ true
 series_itself s = ap is_eq (ordered s s ∙ tied_itself nodes_total (node_at s 0))

@@ -1,16 +1,17 @@
 -- How far the evaluation of nodes in turn has come.
 use Rattle.std.proofs.Common.{◌≡◌, ℕ, ◌+◌, ◌<◌, ◌≤◌, Bool, true, false, cond, inl, inr, if◌then◌else◌, List, [], ◌∷◌, ◌++◌, Contains, length, filter, get_or, take, drop, Option, Some, None, refl, sym, ap, ap₂, ◌∙◌, subst, add-one, drop-cons}
-use Rattle.std.proofs.Math.Path.{fun_ext}
-use Rattle.std.specs.Option.{option_or}
-use Rattle.std.proofs.lemmas.List.{drop_all, take_all}
+use Rattle.std.proofs.lemmas.List.{take_all}
 use Rattle.ghg_units.specs.declared.node.Node.{Node}
-use Rattle.ghg_affected.specs.Patches.{AgreeBut, IsInTurn, least_break}
+use Rattle.ghg_affected.specs.Equalities.{same_node}
+use Rattle.ghg_affected.specs.Patches.{IsInTurn, least_break}
 use Rattle.ghg_affected.specs.Subtotals.{AreBehindSubtotals}
-use Rattle.ghg_affected.proofs.Patched.{one_agrees}
+use Rattle.ghg_affected.proofs.Bools.{true_not_false}
+use Rattle.ghg_affected.proofs.Closed.{inputs_are_nodes}
 use Rattle.ghg_definitions.specs.Compilation.{compilation, sheet_of}
 use Rattle.ghg_definitions.specs.Data.{Data}
 use Rattle.ghg_definitions.specs.Formulas.{Outcome}
 use Rattle.ghg_definitions.specs.Nodes.{least_node, lesser_node}
+use Rattle.ghg_definitions.specs.Sound.{IsWorkbook}
 use Rattle.ghg_definitions.specs.Trials.{Outcomes, breaks}
 use Rattle.ghg_definitions.proofs.Least.{least_found, least_passes, none_found, none_passes}
 use Rattle.ghg_definitions.proofs.Listed.{contained, in_either, listed, listed_left, listed_right}
@@ -19,19 +20,13 @@ use Rattle.ghg_graph.specs.NodeOrders.{AreInOrder}
 use Rattle.ghg_engine.specs.Breaking.{least_with}
 use Rattle.ghg_engine.specs.Cells.{found_in, no_outcomes, with_outcome}
 use Rattle.ghg_engine.specs.declared.evaluated.Evaluated.{Evaluated}
-use Rattle.ghg_engine.specs.Evaluation.{IsEvaluatedOver, IsOutcomeOf, IsReady}
+use Rattle.ghg_engine.specs.Evaluation.{AreEvaluated, AreKept, IsOutcomeOf, IsReady}
+use Rattle.ghg_engine.proofs.Places.{node_itself, node_same}
+use Rattle.ghg_engine.proofs.SubtotalNodes.{subtotals_are_nodes}
 
 -- without fresh cells what is kept is found
 pub nothing_fresh : (outcomes : Outcomes) → found_in no_outcomes outcomes ≡ outcomes
 nothing_fresh outcomes = refl
-
--- with nothing kept what is fresh is found
-pub nothing_kept : (fresh : Outcomes) → found_in fresh no_outcomes ≡ fresh
-nothing_kept fresh = fun_ext (λ n. by (fresh n))
-  where
-    by : (o : Option Outcome) → option_or o None ≡ o
-    by None = refl
-    by (Some x) = refl
 
 -- ---- the least that breaks
 
@@ -72,50 +67,89 @@ least_more m done n =
 -- ---- some are evaluated, and the rest is not
 
 module _ (m : Data) where
-  pub record IsSoFar (done rest : List Node) (found : Outcomes) (least : Option Node) : Type 0 where
-    pub agree : AgreeBut (compilation m) rest found
+  -- what is found at the nodes is right but at the rest, and what is fresh is right at those that are done
+  pub record IsSoFar (done rest : List Node) (found fresh : Outcomes) (least : Option Node) : Type 0 where
+    pub agree : AreKept m rest found
+    pub fresh_are : (n : Node) → Contains done n → fresh n ≡ compilation m n
+    pub no_others : (n : Node) → (Contains done n → ⊥) → fresh n ≡ None
     pub in_turn : IsInTurn (sheet_of m) rest
     pub behind : AreBehindSubtotals m rest
     pub least_is : least ≡ least_break m done
 
-  pub nothing_so_far : (ns : List Node) → AreInOrder m ns → (found : Outcomes) → AgreeBut (compilation m) ns found → IsSoFar [] ns found None
-  nothing_so_far ns order found agree = record { agree = agree; in_turn = order.in_turn; behind = order.behind; least_is = refl }
-
-  pub next_ready : (done : List Node) (n : Node) (rest : List Node) (found : Outcomes) (least : Option Node) → IsSoFar done (n ∷ rest) found least → IsReady m found n
-  next_ready done n rest found least so_far = record {
-    node = so_far.in_turn.0;
-    inputs_are = λ k i. so_far.agree k (so_far.in_turn.1 k i);
-    subtotals_are = λ k i. so_far.agree k (so_far.behind.0 k i);
+  pub nothing_so_far : (ns : List Node) → AreInOrder m ns → (found fresh : Outcomes) → AreKept m ns found → fresh ≡ no_outcomes → IsSoFar [] ns found fresh None
+  nothing_so_far ns order found fresh agree none = record {
+    agree = agree;
+    fresh_are = λ n c. absurd (listed [] n c);
+    no_others = λ n off. ap (λ (f : Outcomes). f n) none;
+    in_turn = order.in_turn;
+    behind = order.behind;
+    least_is = refl;
   }
 
-  pub one_so_far : (done : List Node) (n : Node) (rest : List Node) (found new : Outcomes) (least : Option Node) (e : Evaluated) →
-      IsSoFar done (n ∷ rest) found least → IsOutcomeOf m n e → new ≡ with_outcome found n e.outcome → IsSoFar (done ++ n ∷ []) rest new (least_with least e.breaks n)
-  one_so_far done n rest found new least e so_far at is = record {
-    agree = subst (AgreeBut (compilation m) rest) (sym is) (one_agrees (compilation m) n rest found e.outcome so_far.agree (sym at.outcome));
+  pub next_ready : IsWorkbook m → (done : List Node) (n : Node) (rest : List Node) (found fresh : Outcomes) (least : Option Node) → IsSoFar done (n ∷ rest) found fresh least → IsReady m found n
+  next_ready workbook done n rest found fresh least so_far = record {
+    node = so_far.in_turn.0;
+    inputs_are = λ k i. so_far.agree k (inputs_are_nodes m workbook k n i) (so_far.in_turn.1 k i);
+    subtotals_are = λ k i. so_far.agree k (subtotals_are_nodes m n so_far.in_turn.0 k i) (so_far.behind.0 k i);
+  }
+
+  module _ (done : List Node) (n : Node) (x : Outcome) (is : compilation m n ≡ Some x) where
+    one_kept : (rest : List Node) (found : Outcomes) → AreKept m (n ∷ rest) found → AreKept m rest (with_outcome found n x)
+    one_kept rest found agree k node off = by (same_node k n) refl
+      where
+        by : (b : Bool) → same_node k n ≡ b → cond b (Some x) (found k) ≡ compilation m k
+        by true same = sym (ap (compilation m) (node_same k n same) ∙ is)
+        by false apart = agree k node (λ c. elim (listed (n ∷ rest) k c) [
+          | inl e ↦ true_not_false (sym (ap (λ j. same_node j n) e ∙ node_itself n) ∙ apart)
+          | inr i ↦ off (contained rest k i)
+        ])
+
+    one_fresh : (fresh : Outcomes) → ((k : Node) → Contains done k → fresh k ≡ compilation m k) → (k : Node) → Contains (done ++ n ∷ []) k → with_outcome fresh n x k ≡ compilation m k
+    one_fresh fresh are k c = by (same_node k n) refl
+      where
+        by : (b : Bool) → same_node k n ≡ b → cond b (Some x) (fresh k) ≡ compilation m k
+        by true same = sym (ap (compilation m) (node_same k n same) ∙ is)
+        by false apart = are k (elim (listed (n ∷ done) k (to_front done n k c)) [
+          | inl e ↦ absurd (true_not_false (sym (ap (λ j. same_node j n) e ∙ node_itself n) ∙ apart))
+          | inr i ↦ contained done k i
+        ])
+
+    no_more_fresh : (fresh : Outcomes) → ((k : Node) → (Contains done k → ⊥) → fresh k ≡ None) → (k : Node) → (Contains (done ++ n ∷ []) k → ⊥) → with_outcome fresh n x k ≡ None
+    no_more_fresh fresh none k off = by (same_node k n) refl
+      where
+        by : (b : Bool) → same_node k n ≡ b → cond b (Some x) (fresh k) ≡ None
+        by true same = absurd (off (to_back done n k (contained (n ∷ done) k (inl (node_same k n same)))))
+        by false apart = none k (λ c. off (to_back done n k (contained (n ∷ done) k (inr (listed done k c)))))
+
+  pub one_so_far : (done : List Node) (n : Node) (rest : List Node) (found fresh new_found new_fresh : Outcomes) (least : Option Node) (e : Evaluated) →
+      IsSoFar done (n ∷ rest) found fresh least → IsOutcomeOf m n e → new_found ≡ with_outcome found n e.outcome → new_fresh ≡ with_outcome fresh n e.outcome →
+      IsSoFar (done ++ n ∷ []) rest new_found new_fresh (least_with least e.breaks n)
+  one_so_far done n rest found fresh new_found new_fresh least e so_far at is fresh_is = record {
+    agree = subst (AreKept m rest) (sym is) (one_kept done n e.outcome at.outcome rest found so_far.agree);
+    fresh_are = subst (λ (f : Outcomes). (k : Node) → Contains (done ++ n ∷ []) k → f k ≡ compilation m k) (sym fresh_is) (one_fresh done n e.outcome at.outcome fresh so_far.fresh_are);
+    no_others = subst (λ (f : Outcomes). (k : Node) → (Contains (done ++ n ∷ []) k → ⊥) → f k ≡ None) (sym fresh_is) (no_more_fresh done n e.outcome at.outcome fresh so_far.no_others);
     in_turn = so_far.in_turn.2;
     behind = so_far.behind.1;
     least_is = ap₂ (λ (o : Option Node) (b : Bool). least_with o b n) so_far.least_is at.breaks ∙ least_more m done n;
   }
 
   -- the next of the nodes
-  pub at_next : (ns : List Node) (i : ℕ) (n : Node) → i < length ns → n ≡ get_or ns i n → (found : Outcomes) (least : Option Node) → IsSoFar (take i ns) (drop i ns) found least → IsSoFar (take i ns) (n ∷ drop (i + 1) ns) found least
-  at_next ns i n within is found least so_far = subst (λ rest. IsSoFar (take i ns) rest found least) (drop_next ∙ ap (λ k. k ∷ drop (i + 1) ns) (sym is)) so_far
+  pub at_next : (ns : List Node) (i : ℕ) (n : Node) → i < length ns → n ≡ get_or ns i n → (found fresh : Outcomes) (least : Option Node) → IsSoFar (take i ns) (drop i ns) found fresh least → IsSoFar (take i ns) (n ∷ drop (i + 1) ns) found fresh least
+  at_next ns i n within is found fresh least so_far = subst (λ rest. IsSoFar (take i ns) rest found fresh least) (drop_next ∙ ap (λ k. k ∷ drop (i + 1) ns) (sym is)) so_far
     where
       drop_next : drop i ns ≡ get_or ns i n ∷ drop (i + 1) ns
       drop_next = rw (add-one, drop-cons ns i n) refl
 
-  module _ (ns : List Node) (i : ℕ) (over : length ns ≤ i) (found : Outcomes) (least : Option Node) (so_far : IsSoFar (take i ns) (drop i ns) found least) where
-    all_found : found ≡ compilation m
-    all_found = fun_ext (λ k. so_far.agree k (λ c. listed [] k (subst (λ ks. Contains ks k) (drop_all i ns over) c)))
+  module _ (ns : List Node) (i : ℕ) (over : length ns ≤ i) (found fresh : Outcomes) (least : Option Node) (so_far : IsSoFar (take i ns) (drop i ns) found fresh least) where
+    all_so_far : IsSoFar ns (drop i ns) found fresh least
+    all_so_far = subst (λ done. IsSoFar done (drop i ns) found fresh least) (take_all i ns over) so_far
 
-    least_of_all : least ≡ least_break m ns
-    least_of_all = so_far.least_is ∙ ap (least_break m) (take_all i ns over)
-
-    pub ends_evaluated : (outcomes : Outcomes) (fresh : Outcomes) → found ≡ found_in fresh outcomes → least ≡ None → IsEvaluatedOver m outcomes ns fresh
-    ends_evaluated outcomes fresh is none = record {
-      found = sym is ∙ all_found;
-      none = sym least_of_all ∙ none;
-    }
+    pub ends_evaluated : (cells : Outcomes) → cells ≡ fresh → least ≡ None → AreEvaluated m ns cells
+    ends_evaluated cells is none = subst (AreEvaluated m ns) (sym is) (record {
+      outcomes_are = all_so_far.fresh_are;
+      no_others = all_so_far.no_others;
+      none = sym all_so_far.least_is ∙ none;
+    })
 
     pub ends_over : (n : Node) → least ≡ Some n → least_break m ns ≡ Some n
-    ends_over n e = sym least_of_all ∙ e
+    ends_over n e = sym all_so_far.least_is ∙ e

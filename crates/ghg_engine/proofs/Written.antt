@@ -1,19 +1,19 @@
 -- Outcomes in which one node's is written or taken out.
-use Rattle.std.proofs.Common.{rules, ◌≡◌, ◌≢◌, ◌<◌, Bool, true, false, cond, if◌then◌else◌, is_some, IsSome, List, [], ◌∷◌, length, Option, Some, None, Ok, Err, refl, sym, ap, ap₂, subst, ◌∙◌, arith}
+use Rattle.std.proofs.Common.{rules, ◌≡◌, ◌<◌, Bool, true, false, cond, if◌then◌else◌, is_some, IsSome, List, [], ◌∷◌, length, Option, Some, None, Result, Ok, Err, refl, sym, ap, ap₂, subst, ◌∙◌, arith}
+use Rattle.std.specs.Prelude.{IfSome, OnErr, OnOk, is_err}
 use Rattle.std.proofs.Math.Path.{fun_ext}
 use Rattle.std.specs.BTreeMap.{BTreeMap, get, is_at}
 use Rattle.std.specs.Cmp.{eq_by_cmp_equiv}
 use Rattle.std.specs.Map.{lookup}
 use Rattle.std.specs.Option.{option_or}
-use Rattle.ghg_interval.specs.declared.Over.{Over}
 use Rattle.ghg_units.specs.declared.node.Node.{Node}
 use Rattle.ghg_affected.specs.Equalities.{same_node}
 use Rattle.ghg_definitions.specs.Formulas.{Outcome}
-use Rattle.ghg_definitions.specs.Trials.{Outcomes, is_over}
+use Rattle.ghg_definitions.specs.Trials.{Outcomes}
 use Rattle.ghg_definitions.proofs.NodeOrder.{nodes_total}
 use Rattle.ghg_engine.specs.Cells.{AreWithin, found_in, no_outcomes, node_order, with_outcome}
 use Rattle.ghg_engine.proofs.NodeKeys.{node_ties}
-use Rattle.ghg_engine.proofs.Places.{node_same}
+use Rattle.ghg_engine.proofs.Places.{node_itself, node_same}
 
 -- the outcomes but that of the node
 abbrev pub without : Outcomes → Node → Outcomes
@@ -70,13 +70,6 @@ module _ (fresh kept part rest : Outcomes) (is_part : Node → Bool) (part_is : 
       by k true o = refl
       by k false o = refl
 
-  pub part_within : AreWithin fresh kept → AreWithin part kept
-  part_within within k there = by (is_part k) (sym (ap is_some (part_is k)) ∙ there)
-    where
-      by : (b : Bool) → is_some (cond b (fresh k) None) ≡ true → is_some (kept k) ≡ true
-      by true t = within k t
-      by false t = absurd (cc)
-
   pub rest_within : AreWithin fresh kept → AreWithin rest (found_in part kept)
   rest_within within k there = some_behind (part k) (kept k) (by (is_part k) (sym (ap is_some (rest_is k)) ∙ there))
     where
@@ -111,14 +104,7 @@ module _ (fresh kept : Outcomes) (n : Node) (x : Outcome) (there : fresh n ≡ S
   pub one_within : AreWithin fresh kept → AreWithin (without fresh n) (with_outcome kept n x)
   one_within within = subst (AreWithin (without fresh n)) written (rest_within fresh kept alone (without fresh n) (λ k. same_node k n) alone_is (λ k. refl) within)
 
--- ---- what is over, and where none is left
-
-pub less_over : (outcomes : Outcomes) (n : Node) → ((k : Node) → is_over (outcomes k) ≡ false) → (k : Node) → is_over (without outcomes n k) ≡ false
-less_over outcomes n none k = by (same_node k n)
-  where
-    by : (b : Bool) → is_over (cond b None (outcomes k)) ≡ false
-    by true = refl
-    by false = none k
+-- ---- where none is left
 
 pub none_left : {A : Type 0} (xs : List A) → (0 < length xs → false ≡ true) → xs ≡ []
 none_left [] h = refl
@@ -130,35 +116,9 @@ none_left (x ∷ xs) h = absurd (clash (h (omega arith)))
 pub no_entries : (map : BTreeMap Node Outcome) → map.entries ≡ [] → get node_order map ≡ no_outcomes
 no_entries map e = fun_ext (λ k. ap (lookup (is_at (node_order k))) e)
 
--- where none that is found is over, none of the fresh is
-pub fits_fresh : (fresh kept : Outcomes) → ((n : Node) (over : Over) → found_in fresh kept n ≢ Some (Err over)) → (n : Node) → is_over (fresh n) ≡ false
-fits_fresh fresh kept fits n = by (fresh n) refl
-  where
-    by : (o : Option Outcome) → fresh n ≡ o → is_over o ≡ false
-    by None is = refl
-    by (Some (Ok x)) is = refl
-    by (Some (Err over)) is = absurd (fits n over (ap (λ o. option_or o (kept n)) is))
-
 -- ---- what stands behind is moved first, and then what stands in front
 
 module _ (front back kept : Outcomes) where
-  pub back_within : AreWithin (found_in front back) kept → AreWithin back kept
-  back_within within n there = within n (some_behind (front n) (back n) there)
-
-  pub front_within : AreWithin (found_in front back) kept → AreWithin front (found_in back kept)
-  front_within within n there = some_behind (back n) (kept n) (within n (by (front n) there))
-    where
-      by : (o : Option Outcome) → is_some o ≡ true → is_some (option_or o (back n)) ≡ true
-      by None t = absurd (cc)
-      by (Some x) t = t
-
-  pub front_fits : ((n : Node) → is_over (found_in front back n) ≡ false) → (n : Node) → is_over (front n) ≡ false
-  front_fits fits n = by (front n) (fits n)
-    where
-      by : (o : Option Outcome) → is_over (option_or o (back n)) ≡ false → is_over o ≡ false
-      by None e = refl
-      by (Some x) e = e
-
   pub back_then_front : found_in front (found_in back kept) ≡ found_in (found_in front back) kept
   back_then_front = fun_ext (λ n. by n (front n))
     where
@@ -169,3 +129,55 @@ module _ (front back kept : Outcomes) where
 pub some_is : {A : Type 0} (o : Option A) (x : A) → o ≡ Some x → IsSome o
 some_is None x is = absurd (cc)
 some_is (Some y) x is = search rules
+
+-- ---- what stands in front of a node hides what stands behind
+
+hidden : {A : Type 0} (o p q : Option A) → is_some o ≡ true → option_or o p ≡ option_or o q
+hidden None p q t = absurd (cc)
+hidden (Some x) p q t = refl
+
+pub hidden_behind : (front before after : Outcomes) (n : Node) → is_some (front n) ≡ true → ((k : Node) → same_node k n ≡ false → after k ≡ before k) → found_in front after ≡ found_in front before
+hidden_behind front before after n there others = fun_ext (λ k. by k (same_node k n) refl)
+  where
+    by : (k : Node) (b : Bool) → same_node k n ≡ b → option_or (front k) (after k) ≡ option_or (front k) (before k)
+    by k true same = hidden (front k) (after k) (before k) (ap (λ j. is_some (front j)) (node_same k n same) ∙ there)
+    by k false apart = ap (option_or (front k)) (others k apart)
+
+-- what a part of the front hides, the front hides
+pub part_hides : (front part before after : Outcomes) (is_part : Node → Bool) → ((k : Node) → part k ≡ cond (is_part k) (front k) None) → found_in part after ≡ found_in part before → found_in front after ≡ found_in front before
+part_hides front part before after is_part part_is e = fun_ext (λ k. by k (is_part k) (subst (λ o. option_or o (after k) ≡ option_or o (before k)) (part_is k) (ap (λ (f : Outcomes). f k) e)))
+  where
+    by : (k : Node) (b : Bool) → option_or (cond b (front k) None) (after k) ≡ option_or (cond b (front k) None) (before k) → option_or (front k) (after k) ≡ option_or (front k) (before k)
+    by k true h = h
+    by k false h = ap (option_or (front k)) h
+
+-- an outcome is put at the node, or all is as it was
+module _ {A E : Type 0} (old new : Outcomes) (n : Node) (x : Outcome) where
+  pub put_elsewhere : (r : Result A E) → OnOk r (new ≡ with_outcome old n x) → OnErr r (new ≡ old) → (k : Node) → same_node k n ≡ false → new k ≡ old k
+  put_elsewhere (Ok y) put kept k apart = ap (λ (f : Outcomes). f k) put ∙ ap (λ b. cond b (Some x) (old k)) apart
+  put_elsewhere (Err e) put kept k apart = ap (λ (f : Outcomes). f k) kept
+
+  pub put_there : (r : Result A E) → OnOk r (new ≡ with_outcome old n x) → OnOk r (is_some (new n) ≡ true)
+  put_there (Ok y) put = ap (λ (f : Outcomes). is_some (f n)) put ∙ ap (λ b. is_some (cond b (Some x) (old n))) (node_itself n)
+  put_there (Err e) put = put
+
+-- what is taken out at a node stays elsewhere
+pub out_elsewhere : (front : Outcomes) (n k : Node) → same_node k n ≡ false → without front n k ≡ front k
+out_elsewhere front n k apart = ap (λ b. cond b None (front k)) apart
+
+pub out_there : (front : Outcomes) (n : Node) → without front n n ≡ None
+out_there front n = ap (λ b. cond b None (front n)) (node_itself n)
+
+-- ---- what is known of an option
+
+pub if_some : {A : Type 0} (P : A → Type 0) (o : Option A) (x : A) → o ≡ Some x → IfSome o P → P x
+if_some P None x e h = absurd (cc)
+if_some P (Some y) x e h = let same : y ≡ x = cc in subst P same h
+
+pub none_is : {A : Type 0} (o : Option A) → is_some o ≡ false → o ≡ None
+none_is None e = refl
+none_is (Some x) e = absurd (cc)
+
+pub over_is : (x : Outcome) → is_err x ≡ true → x ≡ Err (record {})
+over_is (Ok x) e = absurd (cc)
+over_is (Err o) e = refl

@@ -1,5 +1,5 @@
 -- The outcomes of nodes, and where they are kept.
-use Rattle.std.specs.Prelude.{◌≡◌, true, if◌then◌else◌, is_some, Option, Some, None, Result, Ok, Err}
+use Rattle.std.specs.Prelude.{◌≡◌, Bool, true, false, IsSome, if◌then◌else◌, is_some, Option, Some, None, Result, Ok, Err}
 use Rattle.std.specs.Option.{option_and_then, option_map, option_or}
 use Rattle.std.specs.Borrow.{Bor}
 use Rattle.std.specs.BTreeMap.{BTreeMap, get, is_at}
@@ -46,6 +46,10 @@ outcome_behind (Err over) = Err over
 abbrev pub AreWithin : Outcomes → Outcomes → Type 0
 AreWithin fresh kept = (n : Node) → is_some (fresh n) ≡ true → is_some (kept n) ≡ true
 
+-- no node has an outcome in both
+abbrev pub AreApart : Outcomes → Outcomes → Type 0
+AreApart fresh kept = (n : Node) → is_some (fresh n) ≡ true → kept n ≡ None
+
 -- ---- columns
 
 -- the orders that the code has
@@ -78,8 +82,20 @@ abbrev pub IsPut : Outcomes → Outcomes → Node → Input → Option Input →
 IsPut old new n value None = new ≡ with_outcome old n (Ok value)
 IsPut old new n value (Some rest) = (old n ≡ None) × (new ≡ old) × (rest ≡ value)
 
+-- the outcomes but those of the series
+abbrev pub without_series : Outcomes → Series → Outcomes
+without_series outcomes s n = if is_at (series_order s) (series_of n) then None else outcomes n
+
 -- ---- cells
 
 -- the outcome of a node that has a cell: the one that stands aside, else the one in its column
 abbrev pub cell_at : Cells → Outcomes
 cell_at cells n = option_or (get node_order cells.aside n) (in_columns cells.columns n)
+
+-- a column can be taken over without memory: as a whole, where its series has a column without values and
+-- none of its nodes has an outcome aside; else value by value, where each of its nodes has a cell
+abbrev pub IsPrepared : Cells → Series → Run → Bool → Type 0
+IsPrepared cells s run true =
+    ((k : Node) → option_and_then (in_year_of k) (get series_order cells.columns s) ≡ None)
+    × IsSome (get series_order cells.columns s) × AreApart (in_series s run) (get node_order cells.aside)
+IsPrepared cells s run false = AreWithin (in_series s run) (cell_at cells)

@@ -10,7 +10,7 @@ use Rattle.ghg_affected.specs.Patches.{least_break, outcome_over}
 use Rattle.ghg_affected.specs.Subtotals.{subtotals}
 use Rattle.ghg_engine.specs.declared.evaluated.Evaluated.{Evaluated}
 use Rattle.ghg_engine.specs.declared.parts.Addends.{Addends}
-use Rattle.ghg_engine.specs.Cells.{found_in, outcome_in}
+use Rattle.ghg_engine.specs.Cells.{outcome_in}
 use Rattle.ghg_engine.specs.Parts.{addends_for, all_for}
 
 -- ---- over outcomes
@@ -55,7 +55,13 @@ pub record IsOutcomeOf (m : Data) (n : Node) (e : Evaluated) : Type 0 where
   pub outcome : compilation m n ≡ Some e.outcome
   pub breaks : e.breaks ≡ breaks (sheet_of m) (compilation m) n
 
--- the fresh cells over what is kept are the compilation, and none of the nodes breaks in it
-pub record IsEvaluatedOver (m : Data) (outcomes : Outcomes) (ns : List Node) (fresh : Outcomes) : Type 0 where
-  pub found : found_in fresh outcomes ≡ compilation m
+-- at the nodes of the data that are not in the list the outcomes are those of the compilation
+abbrev pub AreKept : Data → List Node → Outcomes → Type 0
+AreKept m ns outcomes = (n : Node) → is_node m n ≡ true → (Contains ns n → ⊥) → outcomes n ≡ compilation m n
+
+-- the fresh cells are those of the nodes in the list, with their outcomes in the compilation, in which none
+-- of them breaks
+pub record AreEvaluated (m : Data) (ns : List Node) (fresh : Outcomes) : Type 0 where
+  pub outcomes_are : (n : Node) → Contains ns n → fresh n ≡ compilation m n
+  pub no_others : (n : Node) → (Contains ns n → ⊥) → fresh n ≡ None
   pub none : least_break m ns ≡ None

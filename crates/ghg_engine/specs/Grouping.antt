@@ -1,13 +1,17 @@
 -- Lines by the categories at and under which they stand.
-use Rattle.std.specs.Prelude.{◌≡◌, List, []}
+use Rattle.std.specs.Prelude.{◌≡◌, ◌↔◌, true, false, is_some, List, [], Option, option_and_then}
 use Rattle.std.specs.Option.{option_map_or}
 use Rattle.std.specs.BTreeMap.{get}
+use Rattle.std.specs.FinMap.{get as record_under}
+use Rattle.std.specs.List.Sorted.{IsStrictlySortedBy}
 use Rattle.std.specs.declared.cmp.Ordering.{Ordering}
 use Rattle.ghg_categories.specs.declared.category.Category.{Category}
 use Rattle.ghg_categories.specs.Tree.{is_same, stands_under}
 use Rattle.ghg_categories.specs.contracts.category.CategoryOrd.TheImpl as derived
-use Rattle.ghg_definitions.specs.Compilation.{counts_in_gross, gas_lines_at}
-use Rattle.ghg_definitions.specs.Data.{Data, Name}
+use Rattle.ghg_definitions.specs.declared.record.RecordKey.TheVariants as key
+use Rattle.ghg_definitions.specs.Compilation.{counts_in_gross, gas_lines_at, line_gas}
+use Rattle.ghg_definitions.specs.Data.{Data, Name, category, line, name_cmp}
+use Rattle.ghg_definitions.specs.Listed.{IsListed}
 use Rattle.ghg_affected.specs.Subtotals.{is_above_parts}
 use Rattle.ghg_engine.specs.declared.groups.ByCategory.{ByCategory}
 use Rattle.ghg_engine.specs.declared.groups.Groups.{Groups}
@@ -27,3 +31,23 @@ pub record IsGrouping (m : Data) (groups : Groups) : Type 0 where
   pub at : (c : Category) → group_at groups.at c ≡ gas_lines_at (λ k. is_same k c) m
   pub gross : groups.gross.items ≡ gas_lines_at counts_in_gross m
   pub above : groups.above.items ≡ gas_lines_at is_above_parts m
+
+-- ---- lines more
+
+-- the names of each group are in order
+pub record AreInOrder (groups : Groups) : Type 0 where
+  pub under : (c : Category) → IsStrictlySortedBy name_cmp (group_at groups.under c)
+  pub at : (c : Category) → IsStrictlySortedBy name_cmp (group_at groups.at c)
+  pub gross : IsStrictlySortedBy name_cmp groups.gross.items
+  pub above : IsStrictlySortedBy name_cmp groups.above.items
+
+-- the new data have these lines more, and each line of the old data with the same record
+pub record AddsLines (old new : Data) (lines : List Name) : Type 0 where
+  pub kept : (name : Name) → is_some (line old name) ≡ true →
+      record_under old (key.Line name) ≡ record_under new (key.Line name)
+  pub added : (name : Name) → IsListed name lines ↔
+      ((is_some (line new name) ≡ true) × (is_some (line old name) ≡ false))
+
+-- the category at which a line stands that emits a gas
+abbrev pub emitted_at : Data → Name → Option Category
+emitted_at m name = option_and_then (λ gas. category m name) (line_gas m name)

@@ -8,4 +8,5 @@ pub mod Layouts
 pub mod Parts
 pub mod Arguments
 pub mod Evaluation
+pub mod Views
 pub mod Proposals

@@ -1,13 +1,15 @@
 -- What is proposed, and what is not.
-use Rattle.std.specs.Prelude.{◌≡◌, ⊤, true, List}
+use Rattle.std.specs.Prelude.{◌≡◌, ⊤, true, List, length, Option, Some, None}
 use Rattle.ghg_units.specs.declared.node.Node.{Node}
 use Rattle.ghg_definitions.specs.Compilation.{compilation}
 use Rattle.ghg_definitions.specs.Data.{Data}
 use Rattle.ghg_definitions.specs.Rings.{IsAcyclic}
 use Rattle.ghg_data.specs.Changes.{Change, applied}
-use Rattle.ghg_data.specs.Shelf.{IsPlanned, Shelf}
-use Rattle.ghg_engine.specs.declared.proposal.Made.{Made}
-use Rattle.ghg_engine.specs.declared.proposal.Made.TheVariants as made
+use Rattle.ghg_data.specs.Shelf.{IsPlanned}
+use Rattle.ghg_affected.specs.Affected.{affected_nodes}
+use Rattle.ghg_engine.specs.Views.{EngineView, shelf_of}
+use Rattle.ghg_engine.specs.declared.layout.Layout.{Layout}
+use Rattle.ghg_engine.specs.declared.proposal.Fresh.{Fresh}
 use Rattle.ghg_engine.specs.declared.proposal.Proposal.{Proposal}
 use Rattle.ghg_engine.specs.declared.refusal.EngineRefusal.{EngineRefusal}
 use Rattle.ghg_engine.specs.declared.refusal.EngineRefusal.TheVariants as refusal
@@ -17,22 +19,31 @@ use Rattle.ghg_graph.specs.Corrections.{are_of_figures}
 use Rattle.ghg_engine.specs.Layouts.{IsLayout}
 
 -- the edits were planned on the book as it stands, and leave no ring
-pub record IsArranged (shelf : Shelf) (edits : List Change) : Type 0 where
-  pub planned : IsPlanned shelf edits
-  pub acyclic : IsAcyclic (applied shelf.content edits)
+pub record IsArranged (engine : EngineView) (edits : List Change) : Type 0 where
+  pub planned : IsPlanned (shelf_of engine) edits
+  pub acyclic : IsAcyclic (applied engine.content edits)
 
--- the cells are those that the edits lead to: all of them, or, where the edits are of figures alone, some
--- over which the compilation of the data is the one that the edits lead to
-abbrev pub IsMade : Data → List Change → Made → Type 0
-IsMade m edits (made.Whole cells layout) =
-    IsCompiled (applied m edits) (cell_at cells) × IsLayout (applied m edits) layout
-IsMade m edits (made.Patch fresh) =
-    (are_of_figures edits ≡ true) × IsCompiled (applied m edits) (found_in (cell_at fresh) (compilation m))
+-- over the compilation of the old data the cells are the compilation of the new, and as many nodes are
+-- affected
+pub record IsFresh (old new : Data) (fresh : Fresh) : Type 0 where
+  pub compiled : IsCompiled new (found_in (cell_at fresh.cells) (compilation old))
+  pub count : fresh.count ≡ length (affected_nodes old new)
 
--- the edits were planned on the book as it stands, and the cells are those that they lead to
-pub record IsProposed (shelf : Shelf) (proposal : Proposal) : Type 0 where
-  pub planned : IsPlanned shelf proposal.edits
-  pub made : IsMade shelf.content proposal.edits proposal.made
+-- the layout is that of the data which the edits lead to; where none is given, they are of figures alone, and
+-- it stays
+abbrev pub IsLaid : Data → List Change → Option Layout → Type 0
+IsLaid m edits None = are_of_figures edits ≡ true
+IsLaid m edits (Some layout) = IsLayout (applied m edits) layout
+
+-- the edits were planned on the book as it stands, the cells and the layout are those that they lead to, as
+-- many nodes are affected, and the engine has room for the cells
+pub record IsProposed (engine : EngineView) (proposal : Proposal) : Type 0 where
+  pub planned : IsPlanned (shelf_of engine) proposal.edits
+  pub compiled : IsCompiled (applied engine.content proposal.edits)
+      (found_in (cell_at proposal.fresh) (compilation engine.content))
+  pub laid : IsLaid engine.content proposal.edits proposal.layout
+  pub cells : proposal.cells ≡ length (affected_nodes engine.content (applied engine.content proposal.edits))
+  pub room : engine.room ≡ 1
 
 -- P of the node that is over, if one is
 abbrev pub IfOverflow : (Node → Type 0) → EngineRefusal → Type 0

@@ -1,6 +1,6 @@
 //! The values of a series, year by year.
 
-ghost use Rattle.std.specs.Prelude.{◌≡◌, ◌<◌, ◌≤◌, ◌-◌, ℕ, [], ◌∷◌, ◌++◌, true, None, Some, is_ok, is_some, length, if◌then◌else◌, IfNone, IfOk, IfSome, OnSome, SomeIff, option_copied};
+ghost use Rattle.std.specs.Prelude.{◌≡◌, ◌<◌, ◌≤◌, ◌+◌, ◌-◌, ℕ, [], ◌∷◌, ◌++◌, true, None, Some, is_ok, is_some, length, if◌then◌else◌, IfNone, IfOk, IfSome, IsTrue, OnSome, SomeIff, ◌↔◌, option_copied};
 ghost use Rattle.ghg_engine.specs.Columns.{HasIn, IsPutIn, value_in};
 
 use ghg_cell::Value;
@@ -13,7 +13,7 @@ const _: () = prove!(size_of::<Value>() == 80);
 
 /// For how many more years a column makes room at a time. A compilation has columns of all years, and a
 /// correction mostly columns of one.
-const MORE_YEARS: usize = 32;
+const MORE_YEARS: usize = 8;
 
 /// Values of consecutive years. Contracts see the first of these years, and the values from that year on.
 #[derive(Drop)]
@@ -34,6 +34,16 @@ impl Model for Column {
 }
 
 impl Column {
+    /// No values. It takes no memory.
+    pub(crate) fn new(alloc: Global) -> Column
+        ensures { result.values ≡ [] }
+    {
+        Column {
+            first: 0,
+            values: Vec::new(alloc),
+        }
+    }
+
     /// The value of one year.
     pub(crate) fn of(alloc: Global, year: u32, value: Value) -> Result<Column, AllocError>
         ensures { IfOk result (λ column. column ≡ record { first = year; values = value ∷ [] }) }
@@ -44,6 +54,21 @@ impl Column {
             first: year,
             values,
         })
+    }
+
+    /// How many years have values.
+    pub(crate) fn len(&self) -> usize
+        ensures { result ≡ length self.now.values }
+    {
+        self.values.len()
+    }
+
+    /// The year that comes so many years after the first.
+    pub(crate) fn year(&self, offset: usize) -> u32
+        requires { offset < length self.now.values }
+        ensures { result ≡ self.now.first + offset }
+    {
+        self.first + offset as u32
     }
 
     /// The value of a year.
@@ -79,6 +104,26 @@ impl Column {
     {
         let offset = (year - self.first) as usize;
         self.values[offset] = value;
+    }
+
+    /// Whether another column begins with the year behind the last.
+    pub(crate) fn ends_before(&self, next: &Column) -> bool
+        ensures { IsTrue result ↔ (next.now.first ≡ self.now.first + length self.now.values) }
+    {
+        next.first as u64 == self.first as u64 + self.values.len() as u64
+    }
+
+    /// Takes over the values of a column that begins with the year behind the last.
+    pub(crate) fn append(&mut self, next: &mut Column) -> Result<(), AllocError>
+        requires { next.old.first ≡ self.old.first + length self.old.values }
+        ensures first { self.new.first ≡ self.old.first }
+        ensures values { self.new.values ≡ (if is_ok result then self.old.values ++ next.old.values else
+            self.old.values) }
+        ensures next_first { next.new.first ≡ next.old.first }
+        ensures next_values { next.new.values ≡ (if is_ok result then [] else next.old.values) }
+    {
+        self.values.reserve_exact(next.values.len())?;
+        self.values.append(&mut next.values)
     }
 
     /// Takes out the value of the last year.

@@ -1,57 +1,76 @@
 //! A book with its cells.
 
-ghost use Rattle.std.specs.Prelude.{◌≡◌, ◌≤◌, ◌+◌, length, true, Ok, Err, Some, IfOk, MatchResult, option_copied};
+ghost use Rattle.std.specs.Prelude.{◌≡◌, ◌≤◌, ◌+◌, length, Ok, Err, Some, IfOk, MatchResult, OnOk, option_copied};
 ghost use Rattle.std.specs.FinMap as finite;
 ghost use Rattle.std.specs.List.{AllByRecursion};
 ghost use Rattle.ghg_units.specs.WellFormed.{IsWellFormed};
-ghost use Rattle.ghg_definitions.specs.Compilation.{compilation, nodes, overflow, sheet_of};
+ghost use Rattle.ghg_definitions.specs.Compilation.{compilation, overflow, sheet_of};
 ghost use Rattle.ghg_definitions.specs.Containment.{HoldsExactValues};
 ghost use Rattle.ghg_definitions.specs.Rows.{after};
 ghost use Rattle.ghg_definitions.specs.Rules.{arranged};
 ghost use Rattle.ghg_definitions.specs.Trials.{IsCompilation, value_of};
 ghost use Rattle.ghg_data.specs.Changes.{AreOfRows, applied};
 ghost use Rattle.ghg_data.specs.Refusal.{IfRule};
+ghost use Rattle.ghg_data.specs.Shelf.{IsPlanned};
+ghost use Rattle.ghg_definitions.specs.Rings.{IsAcyclic};
 ghost use Rattle.ghg_affected.specs.Affected.{affected_nodes};
-ghost use Rattle.ghg_graph.specs.Corrections.{are_of_figures};
-ghost use Rattle.ghg_engine.specs.Proposals.{IfOverflow, IsArranged, IsMade, IsProposed};
+ghost use Rattle.ghg_graph.specs.Refusal.{IfRing, IsLeastRingOf};
+ghost use Rattle.ghg_engine.specs.Layouts.{IsLayout};
+ghost use Rattle.ghg_engine.specs.Proposals.{IfOverflow, IsArranged, IsFresh, IsLaid, IsProposed};
+ghost use Rattle.ghg_engine.specs.Views.{shelf_of};
 
 use crate::cells::Cells;
-use crate::evaluation::{compile, evaluate_all};
+use crate::evaluation::evaluate_all;
 use crate::layout::Layout;
-use crate::proposal::{Made, Proposal};
+use crate::nodes::is_node;
+use crate::overlay::found;
+use crate::proposal::{Fresh, Proposal};
 use crate::refusal::EngineRefusal;
+use crate::withdrawn::drop_withdrawn;
 use ghg_cell::{Value, take};
 use ghg_data::{Book, Edits, PlanRefusal, after};
-use ghg_graph::{CycleRefusal, affected_by_figures, are_of_figures, check_acyclic};
+use ghg_graph::{
+    CycleRefusal, affected, are_entries, are_of_figures, check_acyclic, entered_order,
+};
 use ghg_steps::Steps;
 use ghg_units::{Node, Row, Rule};
-use std::alloc::Global;
+use std::alloc::{AllocError, Global};
 use std::marker::Model;
 use std::sync::ledger::Ledger;
 
 /// The records of a workbook and their compilation, in which nothing is over. Contracts see what they see of
-/// its book.
+/// its book, and whether there is room for the cells of a proposal.
 #[derive(Drop)]
 pub struct Engine {
     book: Book,
+    // The cells of the proposal that was accepted last stand in front of the others, until the next is made.
+    front: Cells,
+    settled: bool,
+    // Some of the cells may be of nodes that there are no more: of years that have left the inventory.
     cells: Cells,
     layout: Layout,
 }
 
 impl Model for Engine {
+    ghost use Rattle.std.specs.Prelude.{◌≡◌, true, if◌then◌else◌};
     ghost use Rattle.std.specs.Coded.{codes};
-    ghost use Rattle.ghg_data.specs.Shelf.{Shelf, shelf_code};
-    ghost use Rattle.ghg_engine.specs.Cells.{cell_at};
+    ghost use Rattle.ghg_engine.specs.Cells.{cell_at, found_in, no_outcomes};
     ghost use Rattle.ghg_engine.specs.Compiled.{IsCompiled};
     ghost use Rattle.ghg_engine.specs.Layouts.{IsLayout};
+    ghost use Rattle.ghg_engine.specs.Views.{EngineView, engine_code};
 
-    ghost Value = { Shelf };
+    ghost Value = { EngineView };
 
-    ghost coded = { shelf_code (Prim.hlevel codes) (Prim.hlevel codes) };
+    ghost coded = { engine_code (Prim.hlevel codes) (Prim.hlevel codes) };
 
-    ghost view = { λ e. e.book };
+    ghost view = { λ e. record {
+      content = e.book.content;
+      spare = e.book.spare;
+      room = if e.settled then 1 else 0;
+    } };
 
-    ghost invariant = { λ e. IsCompiled e.book.content (cell_at e.cells) × IsLayout e.book.content e.layout };
+    ghost invariant = { λ e. IsCompiled e.book.content (found_in (cell_at e.front) (cell_at e.cells))
+        × IsLayout e.book.content e.layout × (e.settled ≡ true → cell_at e.front ≡ no_outcomes) };
 }
 
 impl ghg_graph::Cells for Engine {
@@ -62,7 +81,10 @@ impl ghg_graph::Cells for Engine {
     }
 
     fn value(&self, node: &Node) -> Option<&Value> {
-        match self.cells.get(node) {
+        if !is_node(&self.book, node) {
+            return None;
+        }
+        match found(&self.front, &self.cells, node) {
             Some(Ok(value)) => Some(value),
             _ => None,
         }
@@ -76,6 +98,8 @@ impl Engine {
     {
         Engine {
             book: Book::new(alloc),
+            front: Cells::new(alloc),
+            settled: true,
             cells: Cells::new(alloc),
             layout: Layout::new(alloc),
         }
@@ -88,7 +112,8 @@ impl Engine {
     /// bodies have with this one. The first rule that is broken is answered: that of the first row that
     /// breaks one on units or presence, `rest`, the least unsound binding, the first limit, and the least
     /// line on a ring. Each key of the edits is that of some row, and there are no more edits than rows. The
-    /// records stay with every answer. Edits of figures alone make no ring, so for them none is searched.
+    /// records stay with every answer. Edits of figures alone make no ring, so for them none is searched;
+    /// where lines are entered and all others stay, it is searched among the entered ones.
     pub fn plan(
         &mut self,
         alloc: Global,
@@ -114,7 +139,7 @@ impl Engine {
         if are_of_figures(&edits) {
             return Ok(edits);
         }
-        match check_acyclic(alloc, &after(&self.book, &edits)) {
+        match check_edits(alloc, &self.book, &edits) {
             Ok(()) => Ok(edits),
             Err(CycleRefusal::Ring(ring)) => Err(PlanRefusal::Rule(Rule::Cycle(ring.least()))),
             Err(CycleRefusal::Memory) => Err(PlanRefusal::Memory),
@@ -122,68 +147,108 @@ impl Engine {
     }
 
     /// The compilation of the book with edits that were planned on it as it stands; or the least node that is
-    /// beyond the limits, while none of its inputs is. It spends at most one step for each node; for edits of
-    /// figures alone, at most one for each node that they affect.
+    /// beyond the limits, while none of its inputs is. It spends at most one step for each node that the
+    /// edits affect. The book and the outcomes of its nodes stay with every answer; only room is made.
     pub fn propose<L: Ledger>(
-        &self,
+        &mut self,
         alloc: Global,
         edits: Edits,
         steps: &mut Steps<L>,
     ) -> Result<Proposal, EngineRefusal>
-        requires { IsArranged self.now edits }
-        ensures steps { steps.new ≤ steps.old + length (nodes (applied self.now.content edits)) }
-        ensures figures { are_of_figures edits ≡ true → steps.new ≤ steps.old + length
-            (affected_nodes self.now.content (applied self.now.content edits)) }
-        ensures proposed { MatchResult result (λ p. (p.edits ≡ edits) × IsProposed self.now p)
-            (IfOverflow (λ n. overflow (applied self.now.content edits) ≡ Some n)) }
-        ensures contained { IfOk result (λ p. HoldsExactValues (applied self.now.content p.edits)) }
+        requires { IsArranged self.old edits }
+        ensures content { self.new.content ≡ self.old.content }
+        ensures steps { steps.new ≤ steps.old + length
+            (affected_nodes self.old.content (applied self.old.content edits)) }
+        ensures proposed { MatchResult result (λ p. (p.edits ≡ edits) × IsProposed self.new p)
+            (IfOverflow (λ n. overflow (applied self.old.content edits) ≡ Some n)) }
+        ensures contained { IfOk result (λ p. HoldsExactValues (applied self.old.content p.edits)) }
     {
-        let made = if are_of_figures(&edits) {
-            self.patch(alloc, &edits, steps)?
-        } else {
-            self.whole(alloc, &edits, steps)?
-        };
-        Ok(Proposal { edits, made })
+        self.settle()?;
+        let layout = self.changed_layout(alloc, &edits)?;
+        let fresh = self.fresh(alloc, &edits, &layout, steps)?;
+        Ok(Proposal {
+            edits,
+            fresh: fresh.cells,
+            layout,
+            cells: fresh.count,
+        })
     }
 
-    // All cells that edits lead to.
-    fn whole<L: Ledger>(
-        &self,
-        alloc: Global,
-        edits: &Edits,
-        steps: &mut Steps<L>,
-    ) -> Result<Made, EngineRefusal>
+    // Makes room for the cells of a proposal: those of the one before join the others. The outcomes of the
+    // nodes stay with any answer.
+    fn settle(&mut self) -> Result<(), AllocError>
+        ensures shelf { shelf_of self.new ≡ shelf_of self.old }
+        ensures room { OnOk result (self.new.room ≡ 1) }
+    {
+        if self.settled {
+            return Ok(());
+        }
+        self.cells.take_over(&mut self.front)?;
+        self.settled = true;
+        Ok(())
+    }
+
+    // The layout of the data that edits lead to, unless they are of figures alone.
+    fn changed_layout(&self, alloc: Global, edits: &Edits) -> Result<Option<Layout>, AllocError>
         requires { IsArranged self.now edits.now }
-        ensures steps { steps.new ≤ steps.old + length (nodes (applied self.now.content edits.now)) }
-        ensures made { MatchResult result (IsMade self.now.content edits.now)
-            (IfOverflow (λ n. overflow (applied self.now.content edits.now) ≡ Some n)) }
+        ensures { IfOk result (IsLaid self.now.content edits.now) }
     {
-        let records = after(&self.book, edits);
-        let layout = Layout::of(alloc, &records)?;
-        let cells = compile(alloc, &records, &layout, steps)?;
-        Ok(Made::Whole(cells, layout))
+        if are_of_figures(edits) {
+            return Ok(None);
+        }
+        let layout = if are_entries(&self.book, edits) {
+            self.layout.with_entered(alloc, &self.book, edits)?
+        } else {
+            Layout::of(alloc, &after(&self.book, edits))?
+        };
+        Ok(Some(layout))
     }
 
-    // The cells of the nodes that edits of figures affect. The layout stays right.
-    fn patch<L: Ledger>(
+    // The cells of the nodes that edits affect, by the layout that is given or else stays.
+    fn fresh<L: Ledger>(
         &self,
         alloc: Global,
         edits: &Edits,
+        layout: &Option<Layout>,
         steps: &mut Steps<L>,
-    ) -> Result<Made, EngineRefusal>
+    ) -> Result<Fresh, EngineRefusal>
         requires arranged { IsArranged self.now edits.now }
-        requires figures { are_of_figures edits.now ≡ true }
-        ensures steps { steps.new ≤ steps.old + length (affected_nodes self.now.content
-            (applied self.now.content edits.now)) }
-        ensures made { MatchResult result (IsMade self.now.content edits.now)
+        requires room { self.now.room ≡ 1 }
+        requires laid { IsLaid self.now.content edits.now layout.now }
+        ensures steps { steps.new ≤ steps.old + length
+            (affected_nodes self.now.content (applied self.now.content edits.now)) }
+        ensures fresh { MatchResult result (IsFresh self.now.content (applied self.now.content edits.now))
             (IfOverflow (λ n. overflow (applied self.now.content edits.now) ≡ Some n)) }
     {
-        let Layout { index, groups } = &self.layout;
-        let nodes = affected_by_figures(alloc, &self.book, edits, index)?;
-        let permits = take(nodes.len() as u64, steps);
+        match layout {
+            Some(layout) => self.evaluated(alloc, edits, layout, steps),
+            None => self.evaluated(alloc, edits, &self.layout, steps),
+        }
+    }
+
+    // The cells of the nodes that edits affect, evaluated over the others.
+    fn evaluated<L: Ledger>(
+        &self,
+        alloc: Global,
+        edits: &Edits,
+        layout: &Layout,
+        steps: &mut Steps<L>,
+    ) -> Result<Fresh, EngineRefusal>
+        requires arranged { IsArranged self.now edits.now }
+        requires room { self.now.room ≡ 1 }
+        requires layout { IsLayout (applied self.now.content edits.now) layout.now }
+        ensures steps { steps.new ≤ steps.old + length
+            (affected_nodes self.now.content (applied self.now.content edits.now)) }
+        ensures fresh { MatchResult result (IsFresh self.now.content (applied self.now.content edits.now))
+            (IfOverflow (λ n. overflow (applied self.now.content edits.now) ≡ Some n)) }
+    {
+        let Layout { index, groups } = layout;
+        let nodes = affected(alloc, &self.book, edits, index)?;
+        let count = nodes.len() as u64;
+        let permits = take(count, steps);
         let records = after(&self.book, edits);
         match evaluate_all(alloc, &records, groups, &self.cells, &nodes, permits) {
-            Ok(fresh) => Ok(Made::Patch(fresh)),
+            Ok(cells) => Ok(Fresh { cells, count }),
             Err(refusal) => Err(refusal),
         }
     }
@@ -194,14 +259,32 @@ impl Engine {
         ensures made { self.new.content ≡ applied self.old.content proposal.edits }
         ensures contained { HoldsExactValues self.new.content }
     {
-        let Proposal { edits, made } = proposal;
+        let Proposal {
+            edits,
+            fresh,
+            layout,
+            ..
+        } = proposal;
+        drop_withdrawn(&mut self.cells, &self.book, &edits);
         self.book.commit(edits);
-        match made {
-            Made::Whole(cells, layout) => {
-                self.cells = cells;
-                self.layout = layout;
-            }
-            Made::Patch(fresh) => self.cells.overwrite(fresh),
+        self.front = fresh;
+        self.settled = false;
+        if let Some(layout) = layout {
+            self.layout = layout;
         }
     }
+}
+
+// That edits leave no ring; otherwise a ring that begins with the least line on any.
+fn check_edits(alloc: Global, book: &Book, edits: &Edits) -> Result<(), CycleRefusal>
+    requires planned { IsPlanned book.now edits.now }
+    requires acyclic { IsAcyclic book.now.content }
+    ensures { MatchResult result (λ _. IsAcyclic (applied book.now.content edits.now))
+        (IfRing (IsLeastRingOf (applied book.now.content edits.now))) }
+{
+    if are_entries(book, edits) {
+        entered_order(alloc, book, edits)?;
+        return Ok(());
+    }
+    check_acyclic(alloc, &after(book, edits))
 }

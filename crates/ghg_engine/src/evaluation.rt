@@ -1,20 +1,18 @@
-//! The evaluation of nodes, each once and behind its inputs: of all, or of those that a correction affects.
+//! The evaluation of nodes, each once and behind its inputs.
 
-ghost use Rattle.std.specs.Prelude.{◌≡◌, ◌≤◌, ◌+◌, IfOk, MatchResult, Some, length};
-ghost use Rattle.ghg_definitions.specs.Compilation.{compilation, first_year, nodes, overflow, sheet_of};
+ghost use Rattle.std.specs.Prelude.{◌≡◌, ◌≤◌, IfOk, MatchResult, Some, length};
+ghost use Rattle.ghg_definitions.specs.Compilation.{first_year, sheet_of};
 ghost use Rattle.ghg_definitions.specs.Data.{span};
 ghost use Rattle.ghg_definitions.specs.Nodes.{lesser_node};
 ghost use Rattle.ghg_definitions.specs.Rings.{IsAcyclic};
 ghost use Rattle.ghg_definitions.specs.Sound.{IsWorkbook};
 ghost use Rattle.ghg_definitions.specs.Rules.{most_lines};
-ghost use Rattle.ghg_affected.specs.Patches.{AgreeBut, least_break};
+ghost use Rattle.ghg_affected.specs.Patches.{least_break};
 ghost use Rattle.ghg_graph.specs.NodeOrders.{AreInOrder};
 ghost use Rattle.ghg_engine.specs.Breaking.{least_with};
 ghost use Rattle.ghg_engine.specs.Cells.{cell_at};
-ghost use Rattle.ghg_engine.specs.Compiled.{IsCompiled};
-ghost use Rattle.ghg_engine.specs.Evaluation.{IsEvaluatedAt, IsEvaluatedOver, IsOutcomeOf, IsReady, IsTotalOf};
+ghost use Rattle.ghg_engine.specs.Evaluation.{AreEvaluated, AreKept, IsEvaluatedAt, IsOutcomeOf, IsReady, IsTotalOf};
 ghost use Rattle.ghg_engine.specs.Grouping.{IsGrouping};
-ghost use Rattle.ghg_engine.specs.Layouts.{IsLayout};
 ghost use Rattle.ghg_engine.specs.Overlays.{outcomes_of};
 ghost use Rattle.ghg_engine.specs.Proposals.{IfOverflow};
 
@@ -22,43 +20,19 @@ use crate::arguments::Arguments;
 use crate::cells::Cells;
 use crate::evaluated::Evaluated;
 use crate::groups::Groups;
-use crate::layout::Layout;
 use crate::overlay::Overlay;
 use crate::parts::{Addends, Part, gather_addends, gather_parts};
 use crate::refusal::EngineRefusal;
-use ghg_cell::{Input, MOST_PARTS, Permits, Ticket, equiv, take, total};
+use ghg_cell::{Input, MOST_PARTS, Permits, Ticket, equiv, total};
 use ghg_data::Records;
-use ghg_graph::{first_year, nodes_in_order, potential};
+use ghg_graph::{first_year, potential};
 use ghg_interval::Over;
-use ghg_steps::Steps;
 use ghg_units::{Name, Node};
 use std::alloc::{AllocError, Global};
 use std::cmp::Ordering;
-use std::sync::ledger::Ledger;
-
-/// The cells of all nodes of a workbook, or the least node that is over while none of its inputs is. It
-/// spends a step for each node, once there is the memory for their order.
-pub(crate) fn compile<R: Records, L: Ledger>(
-    alloc: Global,
-    records: &R,
-    layout: &Layout,
-    steps: &mut Steps<L>,
-) -> Result<Cells, EngineRefusal>
-    requires workbook { IsWorkbook (R.content records.now) }
-    requires acyclic { IsAcyclic (R.content records.now) }
-    requires layout { IsLayout (R.content records.now) layout.now }
-    ensures compiled { MatchResult result (λ cells. IsCompiled (R.content records.now) (cell_at cells))
-        (IfOverflow (λ n. overflow (R.content records.now) ≡ Some n)) }
-    ensures steps { steps.new ≤ steps.old + length (nodes (R.content records.now)) }
-{
-    let nodes = nodes_in_order(alloc, records, &layout.index.lines, &layout.index.emitters)?;
-    let permits = take(nodes.len() as u64, steps);
-    let none = Cells::new(alloc);
-    evaluate_all(alloc, records, &layout.groups, &none, &nodes, permits)
-}
 
 /// The cells of nodes, each evaluated in its turn over the others and over cells that are kept, which are
-/// right at all other nodes; or the least of them that is over while none of its inputs is.
+/// right at all other nodes of the workbook; or the least of them that is over while none of its inputs is.
 pub(crate) fn evaluate_all<R: Records>(
     alloc: Global,
     records: &R,
@@ -71,10 +45,10 @@ pub(crate) fn evaluate_all<R: Records>(
     requires acyclic { IsAcyclic (R.content records.now) }
     requires groups { IsGrouping (R.content records.now) groups.now }
     requires order { AreInOrder (R.content records.now) nodes.now }
-    requires kept { AgreeBut (compilation (R.content records.now)) nodes.now (cell_at kept.now) }
+    requires kept { AreKept (R.content records.now) nodes.now (cell_at kept.now) }
     requires paid { permits ≡ length nodes.now }
     ensures { MatchResult result
-        (λ fresh. IsEvaluatedOver (R.content records.now) (cell_at kept.now) nodes.now (cell_at fresh))
+        (λ fresh. AreEvaluated (R.content records.now) nodes.now (cell_at fresh))
         (IfOverflow (λ n. least_break (R.content records.now) nodes.now ≡ Some n)) }
 {
     let first = first_year(records);

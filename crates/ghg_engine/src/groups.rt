@@ -1,16 +1,20 @@
 //! The lines that emit a gas, by the categories at and under which they stand.
 
 ghost use Rattle.std.specs.Prelude.{◌≡◌, IfOk, OnOk, [], ◌∷◌, ◌++◌, if◌then◌else◌};
+ghost use Rattle.std.specs.List.Sorted.{IsStrictlySortedBy};
 ghost use Rattle.ghg_categories.specs.Tree.{is_same, stands_under, stands_within};
 ghost use Rattle.ghg_categories.specs.declared.category.Category.{Category};
 ghost use Rattle.ghg_definitions.specs.Compilation.{counts_in_gross, gas_lines};
+ghost use Rattle.ghg_definitions.specs.Data.{Data, name_cmp};
 ghost use Rattle.ghg_affected.specs.Subtotals.{children, gross_parts, is_above_parts};
-ghost use Rattle.ghg_engine.specs.Grouping.{IsGrouping, group_at};
+ghost use Rattle.ghg_data.specs.Names.{with_name};
+ghost use Rattle.ghg_engine.specs.Grouping.{AddsLines, AreInOrder, IsGrouping, emitted_at, group_at};
 
 use crate::children::{GROSS_PARTS, children};
 use crate::parts::Addends;
 use ghg_categories::{Category, DEPTH, parent};
 use ghg_data::Records;
+use ghg_equations::equation;
 use ghg_graph::counts_in_gross;
 use ghg_units::Name;
 use std::alloc::{AllocError, Global};
@@ -48,6 +52,38 @@ impl ByCategory {
     {
         self.groups.entry(category)?.or_default().push(*name)?;
         Ok(())
+    }
+
+    // A copy. No line is looked up.
+    fn copy(&self) -> Result<ByCategory, AllocError>
+        ensures { IfOk result (λ copy. (c : Category) → group_at copy c ≡ group_at self.now c) }
+    {
+        Ok(ByCategory {
+            groups: self.groups.clone()?,
+        })
+    }
+
+    // Puts a name into its place in the group of a category.
+    fn insert(&mut self, category: Category, name: &Name) -> Result<(), AllocError>
+        requires { (c : Category) → IsStrictlySortedBy name_cmp (group_at self.old c) }
+        ensures { OnOk result ((c : Category) → group_at self.new c ≡
+            (if is_same category c then with_name name.now (group_at self.old c) else group_at self.old c)) }
+    {
+        insert_name(self.groups.entry(category)?.or_default(), name)
+    }
+
+    // Puts a name into its place in the group of a category, and of those above it by so many levels.
+    fn insert_up(&mut self, levels: u8, category: Category, name: &Name) -> Result<(), AllocError>
+        requires { (c : Category) → IsStrictlySortedBy name_cmp (group_at self.old c) }
+        ensures { OnOk result ((c : Category) → group_at self.new c ≡
+            (if stands_within levels category c then with_name name.now (group_at self.old c)
+            else group_at self.old c)) }
+    {
+        self.insert(category, name)?;
+        match parent(category) {
+            Some(above) if levels > 0 => self.insert_up(levels - 1, above, name),
+            _ => Ok(()),
+        }
     }
 
     // Puts a name into the group of a category, and of those above it by so many levels.
@@ -108,6 +144,26 @@ impl Groups {
         Ok(groups)
     }
 
+    /// The groups of data that have these lines more than the data of these groups: the same names, and in
+    /// their places those of the given lines that emit a gas. No other line is looked up.
+    pub(crate) fn with_lines<R: Records>(
+        &self,
+        alloc: Global,
+        records: &R,
+        lines: &[Name],
+    ) -> Result<Groups, AllocError>
+        requires { (old : Data) × IsGrouping old self.now × AddsLines old (R.content records.now) lines.now }
+        ensures { IfOk result (IsGrouping (R.content records.now)) }
+    {
+        let mut groups = self.copy(alloc)?;
+        for name in lines {
+            if let Some(category) = emitted_at(records, name) {
+                groups.insert(category, name)?;
+            }
+        }
+        Ok(groups)
+    }
+
     /// What the total of a category adds.
     pub(crate) fn total(&self, category: Category) -> Addends<'_>
         ensures categories { result.categories.now ≡ children category }
@@ -132,6 +188,48 @@ impl Groups {
             own: self.above.as_slice(),
             all: self.gross.as_slice(),
         }
+    }
+
+    fn copy(&self, alloc: Global) -> Result<Groups, AllocError>
+        ensures under { IfOk result (λ copy. (c : Category) →
+            group_at copy.under c ≡ group_at self.now.under c) }
+        ensures at { IfOk result (λ copy. (c : Category) → group_at copy.at c ≡ group_at self.now.at c) }
+        ensures gross { IfOk result (λ copy. copy.gross.items ≡ self.now.gross.items) }
+        ensures above { IfOk result (λ copy. copy.above.items ≡ self.now.above.items) }
+    {
+        Ok(Groups {
+            under: self.under.copy()?,
+            at: self.at.copy()?,
+            gross: Vec::from_slice(alloc, &self.gross)?,
+            above: Vec::from_slice(alloc, &self.above)?,
+        })
+    }
+
+    // Puts a line that stands at a category into its places in its groups.
+    #[tactic(auto, unfolding(ghg_categories::specs::Tree::stands_under))]
+    fn insert(&mut self, category: Category, name: &Name) -> Result<(), AllocError>
+        requires { AreInOrder self.old }
+        ensures under { OnOk result ((c : Category) → group_at self.new.under c ≡
+            (if stands_under category c then with_name name.now (group_at self.old.under c)
+            else group_at self.old.under c)) }
+        ensures at { OnOk result ((c : Category) → group_at self.new.at c ≡
+            (if is_same category c then with_name name.now (group_at self.old.at c)
+            else group_at self.old.at c)) }
+        ensures gross { OnOk result (self.new.gross.items ≡
+            (if counts_in_gross category then with_name name.now self.old.gross.items
+            else self.old.gross.items)) }
+        ensures above { OnOk result (self.new.above.items ≡
+            (if is_above_parts category then with_name name.now self.old.above.items
+            else self.old.above.items)) }
+    {
+        if counts_in_gross(category) {
+            insert_name(&mut self.gross, name)?;
+        }
+        if is_above_parts(category) {
+            insert_name(&mut self.above, name)?;
+        }
+        self.at.insert(category, name)?;
+        self.under.insert_up(DEPTH, category, name)
     }
 
     // Puts a line that stands at a category into its groups.
@@ -162,4 +260,23 @@ fn is_above_parts(category: Category) -> bool
     ensures { result ≡ is_above_parts category }
 {
     matches!(category, Category::National | Category::C3)
+}
+
+// Puts a name into its place among names in order.
+fn insert_name(names: &mut Vec<Name>, name: &Name) -> Result<(), AllocError>
+    requires { IsStrictlySortedBy name_cmp names.old.items }
+    ensures { OnOk result (names.new.items ≡ with_name name.now names.old.items) }
+{
+    match names.binary_search(name) {
+        Ok(_) => Ok(()),
+        Err(place) => Ok(names.insert(place, *name)?),
+    }
+}
+
+// The category at which a line stands that emits a gas.
+fn emitted_at<R: Records>(records: &R, name: &Name) -> Option<Category>
+    ensures { result ≡ emitted_at (R.content records.now) name.now }
+{
+    let (category, id) = records.line(name)?;
+    equation(id).output.gas().map(|_| category)
 }

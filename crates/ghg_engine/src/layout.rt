@@ -1,15 +1,19 @@
 //! What the evaluation of nodes needs beside their records.
 
-ghost use Rattle.std.specs.Prelude.{IfOk};
+ghost use Rattle.std.specs.Prelude.{◌≡◌, true, IfOk};
 ghost use Rattle.std.specs.FinMap.{empty};
 ghost use Rattle.ghg_definitions.specs.declared.record.Record.{Record};
 ghost use Rattle.ghg_definitions.specs.Data.{key_cmp};
 ghost use Rattle.ghg_definitions.specs.Rings.{IsAcyclic};
+ghost use Rattle.ghg_data.specs.Changes.{applied};
+ghost use Rattle.ghg_data.specs.Shelf.{IsPlanned};
+ghost use Rattle.ghg_graph.specs.Entries.{IsEnteredOrder, are_entries};
 ghost use Rattle.ghg_engine.specs.Layouts.{IsLayout};
 
 use crate::groups::Groups;
-use ghg_data::Records;
-use ghg_graph::{LineIndex, acyclic_order};
+use ghg_data::{Book, Edits, Records, after};
+use ghg_graph::{CycleRefusal, LineIndex, acyclic_order, entered_order, with_entered};
+use ghg_units::Name;
 use std::alloc::{AllocError, Global};
 
 /// The lines of a workbook in an order, and the groups of those that emit a gas. They change with the lines
@@ -40,5 +44,42 @@ impl Layout {
         let index = LineIndex::of(alloc, records, lines)?;
         let groups = Groups::of(alloc, records, &index.emitters)?;
         Ok(Layout { index, groups })
+    }
+
+    /// The layout once edits are made that enter lines and leave the others.
+    pub(crate) fn with_entered(
+        &self,
+        alloc: Global,
+        book: &Book,
+        edits: &Edits,
+    ) -> Result<Layout, AllocError>
+        requires planned { IsPlanned book.now edits.now }
+        requires old { IsAcyclic book.now.content }
+        requires new { IsAcyclic (applied book.now.content edits.now) }
+        requires entries { are_entries book.now.content edits.now ≡ true }
+        requires layout { IsLayout book.now.content self.now }
+        ensures { IfOk result (IsLayout (applied book.now.content edits.now)) }
+    {
+        let entered = acyclic_entered(alloc, book, edits)?;
+        let index = with_entered(alloc, book, edits, &self.index, &entered)?;
+        let records = after(book, edits);
+        let groups = self.groups.with_lines(alloc, &records, &entered)?;
+        Ok(Layout { index, groups })
+    }
+}
+
+// The lines that edits enter without a ring, each behind those of them that it takes.
+fn acyclic_entered(alloc: Global, book: &Book, edits: &Edits) -> Result<Vec<Name>, AllocError>
+    requires planned { IsPlanned book.now edits.now }
+    requires old { IsAcyclic book.now.content }
+    requires new { IsAcyclic (applied book.now.content edits.now) }
+    requires entries { are_entries book.now.content edits.now ≡ true }
+    ensures { IfOk result (λ names. IsEnteredOrder book.now.content
+        (applied book.now.content edits.now) names.items) }
+{
+    match entered_order(alloc, book, edits) {
+        Ok(names) => Ok(names),
+        Err(CycleRefusal::Memory) => Err(AllocError),
+        Err(CycleRefusal::Ring(_)) => unreachable!(),
     }
 }

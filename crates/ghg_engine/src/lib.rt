@@ -11,11 +11,13 @@ mod evaluated;
 mod evaluation;
 mod groups;
 mod layout;
+mod nodes;
 mod overlay;
 mod parts;
 mod proposal;
 mod refusal;
 mod series;
+mod withdrawn;
 
 pub use engine::Engine;
 pub use proposal::Proposal;

@@ -2,7 +2,7 @@
 
 ghost use Rattle.std.specs.Prelude.{◌≡◌, OnOk};
 ghost use Rattle.std.specs.Option.{option_map};
-ghost use Rattle.ghg_engine.specs.Cells.{cell_at, no_outcomes, outcome_behind, outcome_in, with_outcome};
+ghost use Rattle.ghg_engine.specs.Cells.{cell_at, found_in, no_outcomes, outcome_behind, outcome_in, with_outcome};
 ghost use Rattle.ghg_engine.specs.Overlays.{outcomes_of};
 
 use crate::cells::Cells;
@@ -34,20 +34,10 @@ impl<'a> Overlay<'a> {
     pub(crate) fn outcome(&self, node: &Node) -> Result<Input, Over>
         ensures { result ≡ outcome_in (outcomes_of self.now) node.now }
     {
-        match self.get(node) {
+        match found(&self.fresh, self.kept, node) {
             Some(Ok(value)) => Ok(*value.input()),
             Some(Err(Over)) => Err(Over),
             None => Ok(Input::Blank),
-        }
-    }
-
-    // The outcome of a node, where it has a cell.
-    fn get(&self, node: &Node) -> Option<Result<&Value, Over>>
-        ensures { option_map outcome_behind result ≡ outcomes_of self.now node.now }
-    {
-        match self.fresh.get(node) {
-            Some(outcome) => Some(outcome),
-            None => self.kept.get(node),
         }
     }
 
@@ -59,6 +49,8 @@ impl<'a> Overlay<'a> {
     ) -> Result<(), AllocError>
         ensures outcomes { OnOk result (outcomes_of self.new ≡ with_outcome
             (outcomes_of self.old) node.now outcome) }
+        ensures fresh { OnOk result (cell_at self.new.fresh ≡ with_outcome
+            (cell_at self.old.fresh) node.now outcome) }
         ensures kept { OnOk result (self.new.kept.now ≡ self.old.kept.now) }
     {
         self.fresh.insert(node, outcome)
@@ -69,5 +61,19 @@ impl<'a> Overlay<'a> {
         ensures { result ≡ self.entry.fresh }
     {
         self.fresh
+    }
+}
+
+/// The outcome of a node in fresh cells, else in those that are kept.
+pub(crate) fn found<'a>(
+    fresh: &'a Cells,
+    kept: &'a Cells,
+    node: &Node,
+) -> Option<Result<&'a Value, Over>>
+    ensures { option_map outcome_behind result ≡ found_in (cell_at fresh.now) (cell_at kept.now) node.now }
+{
+    match fresh.get(node) {
+        Some(outcome) => Some(outcome),
+        None => kept.get(node),
     }
 }

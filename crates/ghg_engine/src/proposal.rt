@@ -1,21 +1,33 @@
 //! What an engine proposes.
 
+ghost use Rattle.std.specs.Prelude.{◌≡◌};
+
 use crate::cells::Cells;
 use crate::layout::Layout;
 use ghg_data::Edits;
 
-/// Edits, and the cells that their book will have with them.
+/// Edits, and what changes with them in the engine: the cells of the nodes that they affect, and the layout,
+/// unless it stays.
 #[derive(Drop)]
 pub struct Proposal {
     pub(crate) edits: Edits,
-    pub(crate) made: Made,
+    pub(crate) fresh: Cells,
+    pub(crate) layout: Option<Layout>,
+    pub(crate) cells: u64,
 }
 
-/// The cells that edits lead to.
+impl Proposal {
+    /// How many nodes the edits affect.
+    pub fn cells(&self) -> u64
+        ensures { result ≡ self.now.cells }
+    {
+        self.cells
+    }
+}
+
+/// The cells of the nodes that edits affect, and how many these are.
 #[derive(Drop)]
-pub(crate) enum Made {
-    /// Those of all nodes.
-    Whole(Cells, Layout),
-    /// Those of the nodes that edits of figures affect.
-    Patch(Cells),
+pub(crate) struct Fresh {
+    pub(crate) cells: Cells,
+    pub(crate) count: u64,
 }

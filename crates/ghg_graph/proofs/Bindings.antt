@@ -1,57 +1,38 @@
 -- What the lines of a binding give.
-use Rattle.std.proofs.Common.{◌≡◌, inl, inr, ℕ, ◌-◌, not, Bool, true, false, ◌||◌, nat_le, List, [], ◌∷◌, map, Some, refl, sym, ap, ap₂, ◌∙◌}
+use Rattle.std.proofs.Common.{◌≡◌, inl, inr, ℕ, Bool, true, false, ◌||◌, List, [], ◌∷◌, map, Option, Some, None, refl, sym, ap₂, ◌∙◌}
 use Rattle.std.specs.BTreeSet.{BTreeSet, contains}
-use Rattle.std.specs.List.{Contains, list_any}
-use Rattle.ghg_units.specs.declared.node.Node.{Node}
+use Rattle.std.specs.List.{list_any}
 use Rattle.ghg_units.specs.declared.node.Node.TheVariants as node
+use Rattle.ghg_units.specs.declared.row.Binding.{Binding}
 use Rattle.ghg_units.specs.declared.row.Binding.TheVariants as bound
-use Rattle.ghg_definitions.specs.Compilation.{first_year, previous}
+use Rattle.ghg_definitions.specs.Compilation.{bound_to, first_year}
 use Rattle.ghg_definitions.specs.Data.{Data, Name, name_cmp, span}
-use Rattle.ghg_definitions.specs.Formulas.{map_operand, nodes_in}
+use Rattle.ghg_definitions.specs.Formulas.{nodes_in}
 use Rattle.ghg_definitions.specs.Listed.{IsListed}
-use Rattle.ghg_definitions.specs.Lookups.{given}
+use Rattle.ghg_definitions.specs.Rings.{TakesBinding}
 use Rattle.ghg_definitions.proofs.Listed.{contained}
-use Rattle.ghg_affected.specs.Equalities.{same_nodes, same_operand}
-use Rattle.ghg_affected.proofs.Equalities.{node_decides}
-use Rattle.ghg_definitions.proofs.Alike.{both}
-use Rattle.ghg_graph.specs.Reached.{binding_reached, is_reached}
+use Rattle.ghg_graph.specs.Reached.{HasBefore, is_reached, takes_from}
 
 or_false : (b : Bool) → (b || false) ≡ b
 or_false true = refl
 or_false false = refl
 
-same_nodes_itself : (ns : List Node) → same_nodes ns ns ≡ true
-same_nodes_itself [] = refl
-same_nodes_itself (n ∷ ns) = both _ _ ((node_decides n n).1 refl) (same_nodes_itself ns)
+module _ (old new : Data) (year : ℕ) (before now : BTreeSet Name) (has : HasBefore old new year before) where
+  any_line : (ks : List Name)
+      → ((k : Name) → IsListed k ks → contains name_cmp now k ≡ is_reached old new (node.Line k year))
+      → list_any (contains name_cmp now) ks ≡ list_any (is_reached old new) (map (λ k. node.Line k year) ks)
+  any_line [] all = refl
+  any_line (k ∷ ks) all = ap₂ (λ (a b : Bool). a || b) (all k (inl refl)) (any_line ks (λ j i. all j (inr i)))
 
-module _ (old new : Data) (year : ℕ) where
-  pub line_bound : (k : Name) (b : Bool) → b ≡ is_reached old new (node.Line k year)
-      → b ≡ binding_reached old new year (Some (bound.Line k))
-  line_bound k b e = e ∙ sym (or_false (is_reached old new (node.Line k year)))
-      ∙ ap (λ s. not s || (is_reached old new (node.Line k year) || false)) (sym ((node_decides (node.Line k year) (node.Line k year)).1 refl))
-
-  pub previous_bound : (k : Name) (b : Bool)
-      → b ≡ list_any (is_reached old new) (nodes_in (previous (nat_le year (first_year (span new))) k year))
-      → b ≡ binding_reached old new year (Some (bound.Prev k))
-  previous_bound k b e = by (nat_le year (first_year (span new))) e
-    where
-      by : (first : Bool) → b ≡ list_any (is_reached old new) (nodes_in (previous first k year))
-          → b ≡ (not (same_operand (map_operand (given old) (previous first k year)) (map_operand (given new) (previous first k year)))
-          || list_any (is_reached old new) (nodes_in (previous first k year)))
-      by true e = e
-      by false e = e ∙ ap (λ s. not s || (is_reached old new (node.Line k (year - 1)) || false))
-          (sym ((node_decides (node.Line k (year - 1)) (node.Line k (year - 1))).1 refl))
-
-  any_line : (s : BTreeSet Name) (ks : List Name)
-      → ((k : Name) → IsListed k ks → contains name_cmp s k ≡ is_reached old new (node.Line k year))
-      → list_any (contains name_cmp s) ks ≡ list_any (is_reached old new) (map (λ k. node.Line k year) ks)
-  any_line s [] all = refl
-  any_line s (k ∷ ks) all = ap₂ (λ (a b : Bool). a || b) (all k (inl refl)) (any_line s ks (λ j i. all j (inr i)))
-
-  pub sum_bound : (ks : List Name) (s : BTreeSet Name) (b : Bool)
-      → ((k : Name) → Contains ks k → contains name_cmp s k ≡ is_reached old new (node.Line k year))
-      → b ≡ list_any (contains name_cmp s) ks
-      → b ≡ binding_reached old new year (Some (bound.Sum ks))
-  sum_bound ks s b all e = e ∙ any_line s ks (λ k i. all k (contained ks k i))
-      ∙ ap (λ t. not t || list_any (is_reached old new) (map (λ k. node.Line k year) ks))
-      (sym (same_nodes_itself (map (λ k. node.Line k year) ks)))
+  -- a line that it takes is in one of the sets where one of its nodes is reached
+  pub takes_reached : (b : Option Binding)
+      → ((k : Name) → TakesBinding b k → contains name_cmp now k ≡ is_reached old new (node.Line k year))
+      → takes_from before now b ≡ list_any (is_reached old new) (nodes_in (bound_to new (first_year (span new)) year b))
+  takes_reached None all = refl
+  takes_reached (Some (bound.Activity name)) all = refl
+  takes_reached (Some (bound.Factor name)) all = refl
+  takes_reached (Some (bound.Line k)) all = all k refl ∙ sym (or_false (is_reached old new (node.Line k year)))
+  takes_reached (Some (bound.Prev k)) all = has k
+  takes_reached (Some (bound.Sum ks)) all = any_line ks (λ k i. all k (contained ks k i))
+  takes_reached (Some (bound.Decay name)) all = refl
+  takes_reached (Some (bound.Key notation)) all = refl

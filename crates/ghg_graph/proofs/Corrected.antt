@@ -1,5 +1,5 @@
 -- What a correction of figures alone leaves as it was.
-use Rattle.std.proofs.Common.{◌≡◌, inl, inr, true, ◌&&◌, List, [], ◌∷◌, map, is_some, refl, sym, ap, ◌∙◌, subst}
+use Rattle.std.proofs.Common.{◌≡◌, inl, inr, Bool, true, ◌&&◌, List, [], ◌∷◌, map, is_some, refl, sym, ap, ◌∙◌, subst}
 use Rattle.std.specs.FinMap.{get}
 use Rattle.std.specs.List.{Contains, list_all}
 use Rattle.ghg_definitions.specs.declared.record.RecordKey.{RecordKey}
@@ -16,20 +16,21 @@ use Rattle.ghg_data.proofs.Faults.{IsAmong}
 use Rattle.ghg_graph.specs.Corrections.{are_of_figures}
 use Rattle.ghg_graph.specs.Ordering.{IsBehind, IsLineOrder}
 
-among : (k : RecordKey) (ks : List RecordKey) → IsAmong k ks → IsListed k ks
+pub among : (k : RecordKey) (ks : List RecordKey) → IsAmong k ks → IsListed k ks
 among k [] i = i
 among k (q ∷ ks) (inl e) = inl e
 among k (q ∷ ks) (inr i) = inr (among k ks i)
 
-pub all_keys : (cs : List Change) → list_all is_figure_key (map (λ c. c.0) cs) ≡ are_of_figures cs
-all_keys [] = refl
-all_keys (c ∷ cs) = ap (λ b. is_figure_key c.0 && b) (all_keys cs)
+pub all_keys : (p : RecordKey → Bool) (cs : List Change) → list_all p (map (λ c. c.0) cs) ≡ list_all (λ c. p c.0) cs
+all_keys p [] = refl
+all_keys p (c ∷ cs) = ap (λ b. p c.0 && b) (all_keys p cs)
 
-all_figures : (cs : List Change) → are_of_figures cs ≡ true → (k : RecordKey) → IsListed k (map (λ c. c.0) cs)
-    → is_figure_key k ≡ true
-all_figures [] e k i = absurd i
-all_figures (c ∷ cs) e k (inl same) = ap is_figure_key same ∙ first_so (is_figure_key c.0) _ e
-all_figures (c ∷ cs) e k (inr i) = all_figures cs (second_so (is_figure_key c.0) _ e) k i
+-- what each key passes
+pub all_pass : (p : RecordKey → Bool) (cs : List Change) → list_all (λ c. p c.0) cs ≡ true → (k : RecordKey)
+    → IsListed k (map (λ c. c.0) cs) → p k ≡ true
+all_pass p [] e k i = absurd i
+all_pass p (c ∷ cs) e k (inl same) = ap p same ∙ first_so (p c.0) _ e
+all_pass p (c ∷ cs) e k (inr i) = all_pass p cs (second_so (p c.0) _ e) k i
 
 -- all other records are kept
 pub kept_record : (m : Data) (cs : List Change) (ks : List RecordKey) → ks ≡ map (λ c. c.0) cs
@@ -43,7 +44,7 @@ pub differ_in_figures : (m : Data) (cs : List Change) → are_of_figures cs ≡ 
     → DifferInFigures m (applied m cs)
 differ_in_figures m cs e = record {
   others = λ k off. elim (changed_or_kept m cs k) [
-    | inl i ↦ absurd (true_not_false (sym (all_figures cs e k (among k _ i)) ∙ off))
+    | inl i ↦ absurd (true_not_false (sym (all_pass is_figure_key cs e k (among k _ i)) ∙ off))
     | inr same ↦ sym same
   ];
 }

@@ -1,5 +1,5 @@
 -- The parameters of a line's equation, as the code has them and as the table names them.
-use Rattle.std.proofs.Common.{◌≡◌, ℕ, zero, suc, ◌<◌, length, get_or, inl, inr, arith, Bool, ◌||◌, List, [], ◌∷◌, ◌++◌, map, flat_map, Some, refl, sym, ap, ◌∙◌, subst}
+use Rattle.std.proofs.Common.{◌≡◌, ℕ, zero, suc, ◌<◌, length, get_or, inl, inr, arith, Bool, ◌||◌, List, [], ◌∷◌, ◌++◌, map, flat_map, Some, refl, sym, ap, ◌∙◌}
 use Rattle.std.specs.List.{list_any}
 use Rattle.std.specs.Option.{option_map_or}
 use Rattle.ghg_cell.specs.declared.input.Input.{Input}
@@ -7,15 +7,11 @@ use Rattle.ghg_equations.specs.declared.eq_id.EqId.{EqId}
 use Rattle.ghg_equations.specs.declared.row.Param.{Param}
 use Rattle.ghg_equations.specs.Table.{Quantity, parameters}
 use Rattle.ghg_definitions.specs.Compilation.{bound_to, line_formula}
-use Rattle.ghg_definitions.specs.Data.{Data, Name, binding, line, line_names}
+use Rattle.ghg_definitions.specs.Data.{Data, Name, binding, line}
 use Rattle.ghg_definitions.specs.Formulas.{Operand, map_formula, map_operand}
 use Rattle.ghg_definitions.specs.Lookups.{Source, given}
 use Rattle.ghg_definitions.specs.Rings.{taken, taken_by}
-use Rattle.ghg_definitions.specs.Sound.{IsWorkbook}
-use Rattle.ghg_definitions.proofs.Grounded.{line_listed}
 use Rattle.ghg_definitions.specs.Listed.{IsListed}
-use Rattle.ghg_definitions.proofs.Listed.{listed_flat}
-use Rattle.ghg_definitions.proofs.Rings.{taken_present, takes}
 use Rattle.ghg_data.specs.Parameters.{quantity}
 use Rattle.ghg_graph.specs.Slots.{slot_of, slots_of}
 
@@ -29,10 +25,6 @@ taken_at m l ps id at all =
     sym (flat_named (λ n. taken_by (binding m l n)) ps)
     ∙ ap (flat_map (λ (q : Quantity). taken_by (binding m l q.name))) all
     ∙ ap (λ o. option_map_or (λ e. flat_map (λ q. taken_by (binding m l q.name)) (parameters e)) o []) at
-
--- are lines
-pub taken_among : (m : Data) → IsWorkbook m → (l : Name) (lines : List Name) → lines ≡ line_names m → (names : List Name) → names ≡ taken m l → (k : Name) → IsListed k names → IsListed k lines
-taken_among m is l lines all names at k i = subst (IsListed k) (sym all) (line_listed m k (taken_present m is l k (takes m l k (subst (IsListed k) at i))))
 
 slots_named : (g : Source → Input) (f : Name → Operand Source) (ps : List Param) → map slot_of (map (map_operand g) (map (λ (q : Quantity). f q.name) (map quantity ps))) ≡ map (λ (p : Param). slot_of (map_operand g (f p.name.now))) ps
 slots_named g f [] = refl
@@ -50,10 +42,6 @@ pub at_place : {A : Type 0} (xs : List A) (i : ℕ) (d : A) → i < length xs �
 at_place [] i d h = absurd (omega arith)
 at_place (x ∷ xs) zero d h = inl refl
 at_place (x ∷ xs) (suc i) d h = inr (at_place xs i d (omega arith))
-
--- what a line takes at one of the parameters
-pub param_present : (m : Data) (l : Name) (ps : List Param) (lines : List Name) → ((k : Name) → IsListed k (flat_map (λ (p : Param). taken_by (binding m l p.name.now)) ps) → IsListed k lines) → (i : ℕ) (d : Param) → i < length ps → (names : List Name) → names ≡ taken_by (binding m l (get_or ps i d).name.now) → (k : Name) → IsListed k names → IsListed k lines
-param_present m l ps lines present i d h names e k j = present k (listed_flat (λ (p : Param). taken_by (binding m l p.name.now)) (get_or ps i d) k ps (at_place ps i d h) (subst (IsListed k) e j))
 
 pub any_named : (f : Name → Bool) (ps : List Param) → list_any (λ (q : Quantity). f q.name) (map quantity ps) ≡ list_any (λ (p : Param). f p.name.now) ps
 any_named f [] = refl

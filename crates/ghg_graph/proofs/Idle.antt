@@ -1,11 +1,12 @@
 -- A line that is not selected is reached in no year.
-use Rattle.std.proofs.Common.{◌≡◌, inl, inr, ℕ, Bool, true, false, ◌||◌, nat_le, List, [], ◌∷◌, map, filter, flat_map, is_some, Option, Some, None, refl, sym, ap, ◌∙◌, subst}
+use Rattle.std.proofs.Common.{◌≡◌, inl, inr, ℕ, Bool, true, false, ◌||◌, nat_le, List, [], ◌∷◌, map, filter, flat_map, is_some, option_and_then, Option, Some, None, refl, sym, ap, ◌∙◌, subst}
 use Rattle.std.specs.BTreeSet.{BTreeSet, contains}
 use Rattle.std.specs.FinMap.{get}
 use Rattle.std.specs.List.{Contains}
 use Rattle.std.specs.Option.{option_map_or}
 use Rattle.ghg_equations.specs.declared.eq_id.EqId.{EqId}
-use Rattle.ghg_equations.specs.Table.{Quantity, parameters}
+use Rattle.ghg_equations.specs.Quantity.{gas_of}
+use Rattle.ghg_equations.specs.Table.{Quantity, output, parameters}
 use Rattle.ghg_units.specs.Name.{potential_name}
 use Rattle.ghg_units.specs.declared.node.Node.{Node}
 use Rattle.ghg_units.specs.declared.node.Node.TheVariants as node
@@ -14,45 +15,71 @@ use Rattle.ghg_units.specs.declared.row.Binding.TheVariants as bound
 use Rattle.ghg_definitions.specs.declared.record.Record.{Record}
 use Rattle.ghg_definitions.specs.declared.record.RecordKey.{RecordKey}
 use Rattle.ghg_definitions.specs.declared.record.RecordKey.TheVariants as key
-use Rattle.ghg_definitions.specs.Compilation.{bound_to, first_year, gas_lines, line_formula, previous, sheet_of}
-use Rattle.ghg_definitions.specs.Data.{Data, Name, as_binding, binding, line, name_cmp, span}
+use Rattle.ghg_definitions.specs.Compilation.{bound_to, emits, first_year, gas_lines, line_formula, previous, sheet_of}
+use Rattle.ghg_definitions.specs.Data.{Data, Name, as_binding, as_line, binding, line, name_cmp, span}
 use Rattle.ghg_definitions.specs.Formulas.{Operand, inputs, nodes_in}
 use Rattle.ghg_definitions.specs.Listed.{IsListed}
 use Rattle.ghg_definitions.specs.Lookups.{Source}
 use Rattle.ghg_definitions.specs.Rules.{binds_parameter}
 use Rattle.ghg_definitions.specs.Sound.{IsWorkbook}
 use Rattle.ghg_definitions.specs.Trials.{IsInput}
+use Rattle.ghg_definitions.proofs.Alike.{first_so, not_so}
 use Rattle.ghg_definitions.proofs.Depth.{or_else}
 use Rattle.ghg_definitions.proofs.Listed.{from_flat, from_map, listed, listed_flat}
 use Rattle.ghg_definitions.proofs.Rings.{binding_sound, found_parameter}
 use Rattle.ghg_affected.specs.Affected.{EndsWith, IsChanged}
 use Rattle.ghg_affected.specs.Dependence.{Reads, StandsBy}
-use Rattle.ghg_affected.specs.Figures.{DifferInFigures, is_figure_key}
+use Rattle.ghg_affected.specs.Figures.{is_figure_key}
 use Rattle.ghg_affected.proofs.Bools.{never_so, or_first, true_not_false}
 use Rattle.ghg_affected.proofs.Dependence.{untouched_are_unchanged}
-use Rattle.ghg_affected.proofs.Figures.{stands_by_none}
+use Rattle.ghg_graph.specs.Entries.{is_entry}
 use Rattle.ghg_graph.specs.Ordering.{IsLineOrder}
 use Rattle.ghg_graph.specs.Reached.{IsGasWalk, IsWalk, is_reached}
-use Rattle.ghg_graph.specs.Years.{year_nodes}
-use Rattle.ghg_graph.specs.Selections.{HasFigures, IsSelection, has_figure, is_selected, is_weighed}
+use Rattle.ghg_graph.specs.Years.{nodes_by_year}
+use Rattle.ghg_graph.specs.Selections.{HasEntered, HasFigures, IsSelection, has_figure, is_selected, is_weighed}
 use Rattle.ghg_graph.specs.Takers.{figures_taken, lines_taken, named_by}
 use Rattle.ghg_graph.proofs.Marking.{equivalents_same, lines_same}
-use Rattle.ghg_graph.proofs.YearParts.{year_same}
+use Rattle.ghg_graph.proofs.YearParts.{years_same}
 use Rattle.ghg_graph.proofs.Reaching.{reached_affected}
 
 either_false : (a b : Bool) → (a || b) ≡ false → (a ≡ false) × (b ≡ false)
 either_false true b e = absurd (cc)
 either_false false b e = (refl, e)
 
+-- what emits a gas is a line
+emitting_line : (m : Data) (name : Name) → emits m name ≡ true → is_some (line m name) ≡ true
+emitting_line m name e = by (line m name) refl
+  where
+    by : (o : Option EqId) → line m name ≡ o → is_some o ≡ true
+    by None is = sym (ap (λ o. is_some (option_and_then (λ e. gas_of (output e)) o)) is) ∙ e
+    by (Some d) is = refl
+
 binding_record : (o : Option Record) (b : Binding) → as_binding o ≡ Some b → (r : Record) × (o ≡ Some r)
 binding_record None b e = absurd (cc)
 binding_record (Some r) b e = (r, refl)
 
-module _ (old new : Data) (differ : DifferInFigures old new) (workbook : IsWorkbook new) (keys : List RecordKey)
+module _ (old new : Data) (keys : List RecordKey)
+    (entries : (k : RecordKey) → Contains keys k → is_entry old k ≡ true) (workbook : IsWorkbook new)
     (kept : (k : RecordKey) → (Contains keys k → ⊥) → get old k ≡ get new k)
     (figures : BTreeSet Name) (has : HasFigures keys figures)
-    (lines : List Name) (order : IsLineOrder new lines) (s : List Name)
-    (closed : IsSelection new figures lines s) where
+    (lines : List Name) (order : IsLineOrder new lines) (from : ℕ) (entered : HasEntered new keys lines from)
+    (s : List Name) (closed : IsSelection new figures from lines s) where
+  -- ---- the records of a line that is not selected
+
+  span_kept : get old key.Span ≡ get new key.Span
+  span_kept = kept key.Span (λ c. true_not_false (sym (entries key.Span c)))
+
+  line_kept : (name : Name) → is_some (line new name) ≡ true → is_selected s name ≡ false
+      → get old (key.Line name) ≡ get new (key.Line name)
+  line_kept name here off = kept (key.Line name)
+      (λ c. true_not_false (sym (closed.last name (entered name c here)) ∙ off))
+
+  binding_kept : (name parameter : Name) → is_some (line new name) ≡ true → is_selected s name ≡ false
+      → get old (key.Bind name parameter) ≡ get new (key.Bind name parameter)
+  binding_kept name parameter here off = kept (key.Bind name parameter)
+      (λ c. true_not_false (sym here ∙ sym (ap (λ o. is_some (as_line o)) (line_kept name here off))
+      ∙ not_so _ (entries (key.Bind name parameter) c)))
+
   -- ---- what a line that is not selected takes
 
   -- what a binding of a parameter names
@@ -101,49 +128,71 @@ module _ (old new : Data) (differ : DifferInFigures old new) (workbook : IsWorkb
   unedited : (k : RecordKey) → is_figure_key k ≡ true → has_figure figures k ≡ false → get old k ≡ get new k
   unedited k f off = kept k (λ c. true_not_false (sym (has k c) ∙ off))
 
-  line_reads : (name : Name) (year : ℕ) → is_selected s name ≡ false → (k : RecordKey)
-      → Reads new (node.Line name year) k → get old k ≡ get new k
-  line_reads name year off key.Span r = differ.others key.Span refl
-  line_reads name year off (key.Line other) r = differ.others (key.Line other) refl
-  line_reads name year off (key.Bind other parameter) r = differ.others (key.Bind other parameter) refl
-  line_reads name year off (key.Activity other when) r =
+  line_reads : (name : Name) (year : ℕ) → is_some (line new name) ≡ true → is_selected s name ≡ false
+      → (k : RecordKey) → Reads new (node.Line name year) k → get old k ≡ get new k
+  line_reads name year here off key.Span r = span_kept
+  line_reads name year here off (key.Line other) r =
+      subst (λ z. get old (key.Line z) ≡ get new (key.Line z)) r (line_kept name here off)
+  line_reads name year here off (key.Bind other parameter) r =
+      subst (λ z. get old (key.Bind z parameter) ≡ get new (key.Bind z parameter)) r (binding_kept name parameter here off)
+  line_reads name year here off (key.Activity other when) r =
       unedited (key.Activity other when) refl
       (figure_off name r.1.parameter (bound.Activity other) off r.1.bound other (inl refl))
-  line_reads name year off (key.Factor other start) r = unedited (key.Factor other start) refl (elim r.1.bound [
+  line_reads name year here off (key.Factor other start) r = unedited (key.Factor other start) refl (elim r.1.bound [
     | inl is ↦ figure_off name r.1.parameter (bound.Factor other) off is other (inl refl)
     | inr is ↦ figure_off name r.1.parameter (bound.Decay other) off is other (inl refl)
   ])
-  line_reads name year off (key.Uncert other) r = absurd r
+  line_reads name year here off (key.Uncert other) r = absurd r
 
-  equivalent_reads : (name : Name) (year : ℕ) → is_weighed new figures (is_selected s) name ≡ false → (k : RecordKey)
+  equivalent_reads : (name : Name) (year : ℕ) → is_some (line new name) ≡ true
+      → is_weighed new figures (is_selected s) name ≡ false → (k : RecordKey)
       → Reads new (node.Equiv name year) k → get old k ≡ get new k
-  equivalent_reads name year off key.Span r = absurd r
-  equivalent_reads name year off (key.Line other) r = differ.others (key.Line other) refl
-  equivalent_reads name year off (key.Bind other parameter) r = absurd r
-  equivalent_reads name year off (key.Activity other when) r = absurd r
-  equivalent_reads name year off (key.Factor other start) r = unedited (key.Factor other start) refl
+  equivalent_reads name year here off key.Span r = absurd r
+  equivalent_reads name year here off (key.Line other) r =
+      subst (λ z. get old (key.Line z) ≡ get new (key.Line z)) r (line_kept name here (either_false (is_selected s name) _ off).0)
+  equivalent_reads name year here off (key.Bind other parameter) r = absurd r
+  equivalent_reads name year here off (key.Activity other when) r = absurd r
+  equivalent_reads name year here off (key.Factor other start) r = unedited (key.Factor other start) refl
       (ap (contains name_cmp figures) r.1.named
       ∙ sym (ap (λ o. option_map_or (λ gas. contains name_cmp figures (potential_name gas)) o false) r.1.emitted)
       ∙ (either_false (is_selected s name) _ off).1)
-  equivalent_reads name year off (key.Uncert other) r = absurd r
+  equivalent_reads name year here off (key.Uncert other) r = absurd r
 
-  stands : (n : Node) (k : RecordKey) → StandsBy n k → get old k ≡ get new k
-  stands n k h = by (is_figure_key k) refl
-    where
-      by : (b : Bool) → is_figure_key k ≡ b → get old k ≡ get new k
-      by true f = absurd (true_not_false (sym f ∙ stands_by_none n k h))
-      by false f = differ.others k f
+  -- a line that is not selected stands by what it did, and so does its equivalent
+  line_stands : (name : Name) (year : ℕ) → is_some (line new name) ≡ true → is_selected s name ≡ false
+      → (k : RecordKey) → StandsBy (node.Line name year) k → get old k ≡ get new k
+  line_stands name year here off key.Span h = span_kept
+  line_stands name year here off (key.Line other) h =
+      subst (λ z. get old (key.Line z) ≡ get new (key.Line z)) h (line_kept name here off)
+  line_stands name year here off (key.Bind other parameter) h = absurd h
+  line_stands name year here off (key.Activity other when) h = absurd h
+  line_stands name year here off (key.Factor other start) h = absurd h
+  line_stands name year here off (key.Uncert other) h = absurd h
+
+  equivalent_stands : (name : Name) (year : ℕ) → is_some (line new name) ≡ true → is_selected s name ≡ false
+      → (k : RecordKey) → StandsBy (node.Equiv name year) k → get old k ≡ get new k
+  equivalent_stands name year here off key.Span h = span_kept
+  equivalent_stands name year here off (key.Line other) h =
+      subst (λ z. get old (key.Line z) ≡ get new (key.Line z)) h (line_kept name here off)
+  equivalent_stands name year here off (key.Bind other parameter) h = absurd h
+  equivalent_stands name year here off (key.Activity other when) h = absurd h
+  equivalent_stands name year here off (key.Factor other start) h = absurd h
+  equivalent_stands name year here off (key.Uncert other) h = absurd h
 
   changed_may : (n : Node) → IsChanged old new n → may_be n ≡ true
   changed_may (node.Line name year) c = elim (or_else (is_selected s name)) [
     | inl on ↦ on
-    | inr off ↦ absurd (untouched_are_unchanged old new (node.Line name year) (line_reads name year off)
-        (stands (node.Line name year)) c)
+    | inr off ↦
+        let here = first_so (is_some (line new name)) _ c.node in
+        absurd (untouched_are_unchanged old new (node.Line name year) (line_reads name year here off)
+        (line_stands name year here off) c)
   ]
   changed_may (node.Equiv name year) c = elim (or_else (is_weighed new figures (is_selected s) name)) [
     | inl on ↦ on
-    | inr off ↦ absurd (untouched_are_unchanged old new (node.Equiv name year) (equivalent_reads name year off)
-        (stands (node.Equiv name year)) c)
+    | inr off ↦
+        let here = emitting_line new name (first_so (emits new name) _ c.node) in
+        absurd (untouched_are_unchanged old new (node.Equiv name year) (equivalent_reads name year here off)
+        (equivalent_stands name year here (either_false (is_selected s name) _ off).0) c)
   ]
   changed_may (node.Total c year) h = refl
   changed_may (node.Gross year) h = refl
@@ -228,14 +277,35 @@ module _ (old new : Data) (differ : DifferInFigures old new) (workbook : IsWorkb
     idle = λ name i off year. idle_equivalent name off year;
   }
 
-  pub whole_year : (emitters walked weighed : List Name) → emitters ≡ gas_lines new → walked ≡ s
-      → weighed ≡ filter (is_weighed new figures (is_selected s)) emitters → (year : ℕ)
-      → filter (is_reached old new) (year_nodes walked weighed year)
-      ≡ filter (is_reached old new) (year_nodes lines emitters year)
+  -- what is not gone over adds nothing
+  pub whole : (emitters weighed : List Name) → emitters ≡ gas_lines new
+      → weighed ≡ filter (is_weighed new figures (is_selected s)) emitters → (years : List ℕ)
+      → filter (is_reached old new) (nodes_by_year s weighed years)
+      ≡ filter (is_reached old new) (nodes_by_year lines emitters years)
   unfolding walk_is
-  whole_year emitters walked weighed all first second year =
-      ap (λ ns. filter (is_reached old new) (year_nodes ns weighed year)) first
-      ∙ year_same old new year lines emitters s weighed
-      (lines_same old new s walk_is year)
-      (equivalents_same old new weighed (gas_walk_is emitters weighed all second) year
+  whole emitters weighed all e = years_same old new lines emitters s weighed
+      (λ year. lines_same old new s walk_is year)
+      (λ year. equivalents_same old new weighed (gas_walk_is emitters weighed all e) year
       ∙ ap (λ es. filter (is_reached old new) (map (λ name. node.Equiv name year) es)) (sym all))
+
+-- ---- all lines
+
+filter_all : (xs : List Name) → filter (λ x. true) xs ≡ xs
+filter_all [] = refl
+filter_all (x ∷ xs) = ap (λ ys. x ∷ ys) (filter_all xs)
+
+pub all_walk : (old new : Data) (lines : List Name) → IsLineOrder new lines → IsWalk old new lines
+all_walk old new lines order = record {
+  lines = lines;
+  order = order;
+  test = λ name. true;
+  names_are = sym (filter_all lines);
+  idle = λ name i off. absurd (true_not_false off);
+}
+
+pub all_gas_walk : (old new : Data) (emitters : List Name) → emitters ≡ gas_lines new → IsGasWalk old new emitters
+all_gas_walk old new emitters all = record {
+  test = λ name. true;
+  names_are = all ∙ sym (filter_all (gas_lines new));
+  idle = λ name i off. absurd (true_not_false off);
+}

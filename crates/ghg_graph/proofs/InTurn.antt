@@ -1,5 +1,6 @@
 -- The nodes year by year stand once, and none behind one that takes it.
 use Rattle.std.proofs.Common.{◌≡◌, ◌⊎◌, inl, inr, ℕ, zero, suc, ◌+◌, ◌-◌, ◌<◌, ◌≤◌, Bool, true, false, cond, not, ◌&&◌, nat_le, List, [], ◌∷◌, ◌++◌, map, filter, reverse, is_some, Option, Some, None, refl, sym, ap, ◌∙◌, subst, arith}
+use Rattle.std.proofs.Math.Bool.{and-false}
 use Rattle.std.specs.List.{list_any}
 use Rattle.std.specs.Option.{option_map_or}
 use Rattle.ghg_categories.specs.declared.category.Category.{Category}
@@ -441,3 +442,29 @@ lists_affected old new names emitters order all ns e =
       complete = λ n a. contained _ n (listed_filter (is_reached old new) n (nodes_by_year names (gas_lines new) (years_of (span new)))
           (node_there new names order n (affected_is_node old new n a)) (affected_reached old new n a));
     }
+
+-- ---- where there were no years
+
+no_node : (m : Data) → span m ≡ None → (n : Node) → is_node m n ≡ false
+no_node m none (node.Line name year) = ap (λ s. is_some (line m name) && is_year_of s year) none ∙ and-false (is_some (line m name))
+no_node m none (node.Equiv name year) = ap (λ s. emits m name && is_year_of s year) none ∙ and-false (emits m name)
+no_node m none (node.Total c year) = ap (λ s. is_in_tree c && is_year_of s year) none ∙ and-false (is_in_tree c)
+no_node m none (node.Gross year) = ap (λ s. is_year_of s year) none
+
+is_there : (m : Data) (ns : List Node) → IsInTurn (sheet_of m) ns → (n : Node) → IsListed n ns → is_node m n ≡ true
+is_there m [] turn n i = absurd i
+is_there m (k ∷ ns) turn n (inl e) = subst (λ x. is_node m x ≡ true) (sym e) turn.0
+is_there m (k ∷ ns) turn n (inr i) = is_there m ns turn.2 n i
+
+-- each node is new
+pub all_affected : (old new : Data) → span old ≡ None → (ns : List Node) → ListsNodes new ns → ListsAffected old new ns
+all_affected old new none ns lists = record {
+  order = lists.order;
+  sound = λ n c. record {
+    first = n;
+    others = [];
+    changed = record { node = is_there new ns lists.order.in_turn n (listed ns n c); differs = inl (no_node old none n) };
+    leads = refl;
+  };
+  complete = λ n a. lists.complete n (affected_is_node old new n a);
+}

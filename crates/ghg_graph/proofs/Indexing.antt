@@ -1,6 +1,7 @@
 -- Indexes of the lines of data.
-use Rattle.std.proofs.Common.{◌≡◌, true, is_some, [], filter, sym, ap, ◌∙◌, subst}
+use Rattle.std.proofs.Common.{◌≡◌, true, is_some, List, [], filter, Option, arith, sym, ap, ◌∙◌, subst}
 use Rattle.std.specs.FinMap.{empty, get-empty}
+use Rattle.ghg_units.specs.declared.row.Binding.{Binding}
 use Rattle.ghg_definitions.specs.declared.record.Record.{Record}
 use Rattle.ghg_definitions.specs.declared.record.RecordKey.TheVariants as key
 use Rattle.ghg_definitions.specs.Compilation.{emits, gas_lines}
@@ -11,11 +12,11 @@ use Rattle.ghg_affected.proofs.Figures.{same_gas_lines}
 use Rattle.ghg_data.proofs.Empty.{no_lines}
 use Rattle.ghg_graph.specs.Index.{IsLineIndex}
 use Rattle.ghg_graph.specs.Ordering.{IsLineOrder}
-use Rattle.ghg_graph.specs.Takers.{AreTakers, figures_taken, lines_taken, places_of}
+use Rattle.ghg_graph.specs.Takers.{AreTakers, IsIndex, figures_taken, lines_taken}
 use Rattle.ghg_graph.specs.declared.index.LineIndex.{LineIndex}
 use Rattle.ghg_graph.specs.declared.takers.Takers.{Takers}
 use Rattle.ghg_graph.proofs.Corrected.{same_order}
-use Rattle.ghg_graph.proofs.Taking.{nothing_indexed, same_takers}
+use Rattle.ghg_graph.proofs.Taking.{same_takers}
 
 -- ---- without records
 
@@ -28,17 +29,17 @@ no_line k e = true_not_false (sym e ∙ ap (λ r. is_some (as_line r)) (get-empt
 no_order : IsLineOrder (empty {X = Record} {R = key_cmp}) []
 no_order = record { behind = tt; complete = λ name e. absurd (no_line name e) }
 
-no_takers : (m : Data) (takers : Takers) → ((name : Name) → places_of takers.figures name ≡ [])
-    → ((name : Name) → places_of takers.lines name ≡ []) → AreTakers m [] takers
+no_index : (names : Option Binding → List Name) (m : Data) → IsIndex names m [] []
+no_index names m = λ name place. (λ i. absurd i, λ h. absurd (omega (arith, h.0)))
+
+no_takers : (m : Data) (takers : Takers) → takers.figures ≡ [] → takers.lines ≡ [] → AreTakers m [] takers
 no_takers m takers figures lines = record {
-  of_figures = nothing_indexed figures_taken m [] takers.figures figures;
-  of_lines = nothing_indexed lines_taken m [] takers.lines lines;
+  of_figures = subst (IsIndex figures_taken m []) (sym figures) (no_index figures_taken m);
+  of_lines = subst (IsIndex lines_taken m []) (sym lines) (no_index lines_taken m);
 }
 
 pub nothing_in_index : (index : LineIndex) → index.lines.items ≡ [] → index.emitters.items ≡ []
-    → ((name : Name) → places_of index.takers.figures name ≡ [])
-    → ((name : Name) → places_of index.takers.lines name ≡ [])
-    → IsLineIndex (empty {X = Record} {R = key_cmp}) index
+    → index.takers.figures ≡ [] → index.takers.lines ≡ [] → IsLineIndex (empty {X = Record} {R = key_cmp}) index
 nothing_in_index index lines emitters of_figures of_lines = record {
   lines = subst (IsLineOrder (empty {X = Record} {R = key_cmp})) (sym lines) no_order;
   emitters = emitters ∙ sym no_emitters;

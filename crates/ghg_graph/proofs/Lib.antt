@@ -23,3 +23,8 @@ pub mod Worklists
 pub mod Weighing
 pub mod Indexing
 pub mod Falling
+pub mod Moving
+pub mod Standing
+pub mod Entering
+pub mod Placing
+pub mod Emitting

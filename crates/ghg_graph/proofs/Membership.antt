@@ -1,9 +1,10 @@
 -- What a set has is one of its keys.
-use Rattle.std.proofs.Common.{◌≡◌, true, List, Ordering, is_eq, sym, ap, subst}
+use Rattle.std.proofs.Common.{◌≡◌, true, List, Ordering, is_eq, sym, ap, subst, [], ◌∷◌, length, refl, arith}
 use Rattle.std.proofs.lemmas.Cmp.{tied_itself}
 use Rattle.std.proofs.lemmas.Map.Lookups.{CmpEqualImpliesEq}
 use Rattle.std.proofs.lemmas.Map.Views.{tells_apart}
 use Rattle.std.specs.Cmp.{IsTotalOrder}
+use Rattle.std.specs.BTreeSet.{BTreeSet, btree_set_len}
 use Rattle.std.specs.List.{list_any}
 use Rattle.ghg_definitions.specs.Listed.{IsListed}
 use Rattle.ghg_definitions.proofs.Listed.{from_any, listed_any}
@@ -17,3 +18,11 @@ module _ {K : Type 0} {R : K → K → Ordering} where
 
   pub listed_key : IsTotalOrder R → (k : K) (ks : List K) → IsListed k ks → list_any (λ x. is_eq (R k x)) ks ≡ true
   listed_key order k ks i = listed_any (λ x. is_eq (R k x)) k ks i (ap is_eq (tied_itself order k))
+
+-- a set of no keys has nothing
+pub no_keys : {K : Type 0} (s : BTreeSet K) → btree_set_len s ≡ 0 → s.keys ≡ []
+no_keys {K} s e = no_items s.keys e
+  where
+    no_items : (ks : List K) → length ks ≡ 0 → ks ≡ []
+    no_items [] e = refl
+    no_items (k ∷ ks) e = absurd (omega (arith, e))

@@ -1,5 +1,5 @@
 -- A year in which no edited record is read, behind one in which no line is reached, has nothing that is reached.
-use Rattle.std.proofs.Common.{◌≡◌, ◌⊎◌, inl, inr, ℕ, ◌+◌, Bool, true, false, nat_le, le-leb, nat_eq, List, [], ◌∷◌, map, filter, Option, Some, None, refl, sym, ap, ◌∙◌, subst}
+use Rattle.std.proofs.Common.{◌≡◌, ◌⊎◌, inl, inr, ℕ, ◌+◌, true, false, nat_le, le-leb, nat_eq, List, [], ◌∷◌, map, filter, Option, Some, None, refl, sym, ap, ◌∙◌, subst}
 use Rattle.std.proofs.lemmas.Bool.{eq-eqb}
 use Rattle.std.specs.BTreeSet.{BTreeSet}
 use Rattle.std.specs.FinMap.{get}
@@ -22,8 +22,8 @@ use Rattle.ghg_definitions.specs.Nodes.{year_in}
 use Rattle.ghg_definitions.specs.Trials.{IsInput}
 use Rattle.ghg_definitions.proofs.Listed.{from_flat, from_map, listed, listed_any}
 use Rattle.ghg_affected.specs.Affected.{EndsWith, IsAffected}
-use Rattle.ghg_affected.specs.Dependence.{Reads}
-use Rattle.ghg_affected.specs.Figures.{DifferInFigures, is_figure_key}
+use Rattle.ghg_affected.specs.Dependence.{Reads, StandsBy}
+use Rattle.ghg_affected.specs.Figures.{is_figure_key}
 use Rattle.ghg_affected.proofs.Affected.{through}
 use Rattle.ghg_affected.proofs.Bools.{never_so, true_not_false}
 use Rattle.ghg_affected.proofs.Dependence.{untouched_are_unchanged}
@@ -79,32 +79,42 @@ input_of m k (node.Gross year) i = sum_of (first_year (span m)) year (gas_lines_
 nat_eq_so : (a b : ℕ) → a ≡ b → nat_eq a b ≡ true
 nat_eq_so a b e = eq-eqb a b e
 
-reads_in : (m : Data) (n : Node) (k : RecordKey) → is_figure_key k ≡ true → Reads m n k → is_read_in (year_in n) k ≡ true
-reads_in m n key.Span f r = absurd (true_not_false (sym f))
-reads_in m n (key.Line name) f r = absurd (true_not_false (sym f))
-reads_in m n (key.Bind name parameter) f r = absurd (true_not_false (sym f))
-reads_in m (node.Line name year) (key.Activity other when) f r = nat_eq_so when year r.0
-reads_in m (node.Equiv name year) (key.Activity other when) f r = absurd r
-reads_in m (node.Total c year) (key.Activity other when) f r = absurd r
-reads_in m (node.Gross year) (key.Activity other when) f r = absurd r
-reads_in m (node.Line name year) (key.Factor other start) f r = le-leb start year r.0
-reads_in m (node.Equiv name year) (key.Factor other start) f r = le-leb start year r.0
-reads_in m (node.Total c year) (key.Factor other start) f r = absurd r
-reads_in m (node.Gross year) (key.Factor other start) f r = absurd r
-reads_in m (node.Line name year) (key.Uncert other) f r = absurd r
-reads_in m (node.Equiv name year) (key.Uncert other) f r = absurd r
-reads_in m (node.Total c year) (key.Uncert other) f r = absurd r
-reads_in m (node.Gross year) (key.Uncert other) f r = absurd r
+reads_in : (m : Data) (n : Node) (k : RecordKey) → Reads m n k → is_read_in (year_in n) k ≡ true
+reads_in m n key.Span r = refl
+reads_in m n (key.Line name) r = refl
+reads_in m n (key.Bind name parameter) r = refl
+reads_in m (node.Line name year) (key.Activity other when) r = nat_eq_so when year r.0
+reads_in m (node.Equiv name year) (key.Activity other when) r = absurd r
+reads_in m (node.Total c year) (key.Activity other when) r = absurd r
+reads_in m (node.Gross year) (key.Activity other when) r = absurd r
+reads_in m (node.Line name year) (key.Factor other start) r = le-leb start year r.0
+reads_in m (node.Equiv name year) (key.Factor other start) r = le-leb start year r.0
+reads_in m (node.Total c year) (key.Factor other start) r = absurd r
+reads_in m (node.Gross year) (key.Factor other start) r = absurd r
+reads_in m (node.Line name year) (key.Uncert other) r = absurd r
+reads_in m (node.Equiv name year) (key.Uncert other) r = absurd r
+reads_in m (node.Total c year) (key.Uncert other) r = absurd r
+reads_in m (node.Gross year) (key.Uncert other) r = absurd r
 
-module _ (old new : Data) (differ : DifferInFigures old new) (keys : List RecordKey)
+-- it stands by no figure
+stands_in : (n : Node) (k : RecordKey) → StandsBy n k → is_read_in (year_in n) k ≡ true
+stands_in n k h = by k (stands_by_none n k h)
+  where
+    by : (k : RecordKey) → is_figure_key k ≡ false → is_read_in (year_in n) k ≡ true
+    by key.Span f = refl
+    by (key.Line name) f = refl
+    by (key.Bind name parameter) f = refl
+    by (key.Activity name when) f = absurd (true_not_false f)
+    by (key.Factor name start) f = absurd (true_not_false f)
+    by (key.Uncert name) f = absurd (true_not_false f)
+
+module _ (old new : Data) (keys : List RecordKey)
     (kept : (k : RecordKey) → (Contains keys k → ⊥) → get old k ≡ get new k)
     (year : ℕ) (unread : list_any (is_read_in year) keys ≡ false)
     (before : BTreeSet Name) (none : before.keys ≡ []) (has : HasBefore old new year before) where
-  -- no record that a node of the year reads is edited
-  same_record : (k : RecordKey) (b : Bool) → is_figure_key k ≡ b → (is_figure_key k ≡ true → is_read_in year k ≡ true)
-      → get old k ≡ get new k
-  same_record k true f reads = kept k (λ c. true_not_false (sym (listed_any (is_read_in year) k keys (listed keys k c) (reads f)) ∙ unread))
-  same_record k false f reads = differ.others k f
+  -- no record that a node of the year reads or stands by is edited
+  same_record : (k : RecordKey) → is_read_in year k ≡ true → get old k ≡ get new k
+  same_record k reads = kept k (λ c. true_not_false (sym (listed_any (is_read_in year) k keys (listed keys k c) reads) ∙ unread))
 
   none_before : (k : Name) (n : Node) → IsListed n (nodes_in (previous (nat_le year (first_year (span new))) k year))
       → is_reached old new n ≡ true → ⊥
@@ -126,8 +136,8 @@ module _ (old new : Data) (differ : DifferInFigures old new) (keys : List Record
   quiet : (n : Node) → year_in n ≡ year → IsAffected old new n → ⊥
   quiet n at a = led_on a.first a.others n (record { first = a.first; others = []; changed = a.changed; leads = refl })
       (λ here. untouched_are_unchanged old new a.first
-      (λ k r. same_record k (is_figure_key k) refl (λ f. subst (λ y. is_read_in y k ≡ true) here (reads_in new a.first k f r)))
-      (λ k s. same_record k (is_figure_key k) refl (λ f. absurd (true_not_false (sym f ∙ stands_by_none a.first k s)))) a.changed)
+      (λ k r. same_record k (subst (λ y. is_read_in y k ≡ true) here (reads_in new a.first k r)))
+      (λ k s. same_record k (subst (λ y. is_read_in y k ≡ true) here (stands_in a.first k s))) a.changed)
       a.leads at
 
   pub quiet_node : (n : Node) → year_in n ≡ year → is_reached old new n ≡ false

@@ -1,9 +1,11 @@
 -- A node is reached where it is changed or one of its inputs is reached.
-use Rattle.std.proofs.Common.{◌≡◌, ◌⊎◌, inl, inr, ℕ, ◌<◌, get_or, Bool, true, false, not, ◌&&◌, ◌||◌, List, [], ◌∷◌, ◌++◌, map, filter, cond, flat_map, length, option_and_then, Option, Some, None, refl, sym, ap, ap₂, ◌∙◌, subst}
-use Rattle.std.specs.Cmp.Lexicographic.{pointwise}
+use Rattle.std.proofs.Common.{◌≡◌, ◌⊎◌, inl, inr, ℕ, ◌<◌, get_or, Bool, true, false, not, ◌&&◌, ◌||◌, List, [], ◌∷◌, ◌++◌, map, filter, cond, flat_map, length, option_and_then, is_eq, is_some, Option, Some, None, refl, sym, ap, ap₂, ◌∙◌, subst}
+use Rattle.std.proofs.lemmas.Cmp.{tied_itself}
+use Rattle.std.specs.Cmp.Lexicographic.{nat_list_cmp_total, pointwise}
 use Rattle.std.specs.List.{cons_option, filter_map, list_any}
 use Rattle.std.specs.Option.{option_map_or}
-use denote.Enum.Bare.{true_same}
+use Rattle.std.specs.Ordering.{eq_by_cmp}
+use denote.Enum.Bare.{same_true, true_same}
 use Rattle.ghg_categories.specs.declared.category.Category.{Category}
 use Rattle.ghg_categories.specs.Tree.{stands_under}
 use Rattle.ghg_cell.specs.declared.input.Input.{Input}
@@ -14,27 +16,24 @@ use Rattle.ghg_equations.specs.Table.{Quantity, output, parameters}
 use Rattle.ghg_units.specs.declared.node.Node.{Node}
 use Rattle.ghg_units.specs.declared.node.Node.TheVariants as node
 use Rattle.ghg_units.specs.declared.row.Binding.{Binding}
-use Rattle.ghg_definitions.specs.declared.record.RecordKey.{RecordKey}
-use Rattle.ghg_definitions.specs.declared.record.RecordKey.TheVariants as key
-use Rattle.ghg_definitions.specs.Compilation.{bound_to, counts_in_gross, first_year, formula, gas_lines, is_node, line_formula, line_gas, nodes, potential, sheet_of}
-use Rattle.ghg_definitions.specs.Data.{Data, Name, as_binding, as_line, as_span, binding, category, line, span}
+use Rattle.ghg_definitions.specs.Compilation.{bound_to, counts_in_gross, emits, first_year, formula, gas_lines, gas_lines_at, is_in_tree, is_node, is_year_of, line_formula, line_gas, nodes, potential, sheet_of}
+use Rattle.ghg_definitions.specs.Data.{Data, Name, binding, category, line, name_cmp, span}
 use Rattle.ghg_definitions.specs.Formulas.{Operand, inputs, map_formula, map_operand, nodes_in}
 use Rattle.ghg_definitions.specs.Lookups.{Source, given}
 use Rattle.ghg_definitions.specs.Trials.{IsInput}
+use Rattle.ghg_definitions.proofs.Alike.{both, first_so, second_so}
+use Rattle.ghg_definitions.proofs.Keys.{equal_by, names_same}
 use Rattle.ghg_definitions.proofs.Listed.{contained, from_any, listed, listed_any}
 use Rattle.ghg_affected.specs.Affected.{EndsWith, IsAffected, IsChanged, formula_with_inputs, is_changed}
-use Rattle.ghg_affected.specs.Dependence.{Reads, StandsBy}
-use Rattle.ghg_affected.specs.Equalities.{same_formula, same_input, same_node, same_operand}
-use Rattle.ghg_affected.specs.Figures.{DifferInFigures, is_figure_key}
+use Rattle.ghg_affected.specs.Equalities.{same_equation, same_formula, same_input, same_node, same_nodes, same_operand}
 use Rattle.ghg_affected.proofs.Affected.{complete, is_so, itself, so_is, sound, through}
 use Rattle.ghg_affected.proofs.Bools.{either, never_so, or_first, or_second, true_not_false}
-use Rattle.ghg_affected.proofs.Dependence.{untouched_are_unchanged}
 use Rattle.ghg_affected.proofs.Equalities.{node_decides}
-use Rattle.ghg_affected.proofs.Figures.{same_nodes}
 use Rattle.ghg_data.specs.Parameters.{quantity}
 use Rattle.ghg_equations.specs.declared.row.Param.{Param}
 use Rattle.ghg_graph.proofs.EquationParameters.{any_named, at_place}
-use Rattle.ghg_graph.specs.Reached.{binding_reached, is_reached, reached_categories}
+use Rattle.ghg_graph.specs.Moves.{are_moved}
+use Rattle.ghg_graph.specs.Reached.{binding_reached, is_reached, reached_categories, was_line}
 
 -- ---- truth values
 
@@ -145,94 +144,187 @@ flat_twice : {A B C : Type 0} (f : B → List C) (g : A → B) (xs : List A)
 flat_twice f g [] = refl
 flat_twice f g (x ∷ xs) = ap (λ ys. f (g x) ++ ys) (flat_twice f g xs)
 
-module _ (old new : Data) (differ : DifferInFigures old new) where
-  same_span : span old ≡ span new
-  same_span = ap as_span (differ.others key.Span refl)
+-- a line that was none, that had the equation, and that had another
+none_so : (w p : Bool) → false ≡ ((w && false) && p)
+none_so true p = refl
+none_so false p = refl
 
-  changed_is : (n : Node) → is_node new n ≡ true
-      → is_changed old new n ≡ not (same_formula (formula_with_inputs old n) (formula_with_inputs new n))
+same_so : (w p : Bool) → (w && p) ≡ ((w && true) && p)
+same_so true p = refl
+same_so false p = refl
+
+other_so : (w p : Bool) → (w && false) ≡ ((w && false) && p)
+other_so true p = refl
+other_so false p = refl
+
+apart : (w p l : Bool) → (not (w && p) || l) ≡ (not w || (not p || l))
+apart true p l = refl
+apart false p l = refl
+
+not_both : (w p : Bool) → not (w && p) ≡ (not w || not p)
+not_both true p = refl
+not_both false p = refl
+
+or_false : (b : Bool) → (b || false) ≡ b
+or_false true = refl
+or_false false = refl
+
+no_not : (b c : Bool) → (not b || c) ≡ false → b ≡ true
+no_not true c e = refl
+no_not false c e = absurd (cc)
+
+same_id : (d e : EqId) → same_equation d e ≡ true → d ≡ e
+same_id d e h = same_true the_type tt d e h
+
+same_names_by : (x y : Name) (year : ℕ)
+    → same_node (node.Equiv x year) (node.Equiv y year) ≡ eq_by_cmp name_cmp x y
+same_names_by x y year = same_truth _ _
+    (λ e. let same : x ≡ y = equivalent_name year x y ((node_decides (node.Equiv x year) (node.Equiv y year)).0 e) in
+    ap (eq_by_cmp name_cmp x) (sym same) ∙ ap is_eq (tied_itself nat_list_cmp_total x))
+    (λ e. (node_decides (node.Equiv x year) (node.Equiv y year)).1 (ap (λ z. node.Equiv z year) (names_same x y (equal_by _ e))))
+  where
+    equivalent_name : (year : ℕ) (x y : Name) → node.Equiv x year ≡ node.Equiv y year → x ≡ y
+    equivalent_name year x y e = cc
+
+-- sums of the equivalents of lines are the same where the lines are
+sums_same : (year : ℕ) (xs ys : List Name)
+    → same_nodes (map (λ name. node.Equiv name year) xs) (map (λ name. node.Equiv name year) ys)
+    ≡ pointwise (eq_by_cmp name_cmp) xs ys
+sums_same year [] [] = refl
+sums_same year [] (y ∷ ys) = refl
+sums_same year (x ∷ xs) [] = refl
+sums_same year (x ∷ xs) (y ∷ ys) = ap₂ (λ (a b : Bool). a && b) (same_names_by x y year) (sums_same year xs ys)
+
+module _ (old new : Data) where
+  changed_is : (n : Node) → is_node new n ≡ true → is_changed old new n
+      ≡ not (is_node old n && same_formula (formula_with_inputs old n) (formula_with_inputs new n))
   changed_is n is =
-      ap₂ (λ (a b : Bool). a && not (b && same_formula (formula_with_inputs old n) (formula_with_inputs new n)))
-      is (same_nodes old new differ n ∙ is)
+      ap (λ (a : Bool). a && not (is_node old n && same_formula (formula_with_inputs old n) (formula_with_inputs new n))) is
 
   -- ---- lines
 
   abbrev what : Data → ℕ → Name → Quantity → Operand Input
-  what m year name q = map_operand (given m) (bound_to m (first_year (span new)) year (binding new name q.name))
+  what m year name q = map_operand (given m) (bound_to m (first_year (span m)) year (binding m name q.name))
 
-  old_what : (year : ℕ) (name : Name) (qs : List Quantity)
-      → map (map_operand (given old)) (map (λ q. bound_to old (first_year (span old)) year (binding old name q.name)) qs)
-      ≡ map (what old year name) qs
-  old_what year name [] = refl
-  old_what year name (q ∷ qs) = ap₂ (λ (x : Operand Input) (xs : List (Operand Input)). x ∷ xs)
-      (ap₂ (λ s b. map_operand (given old) (bound_to old (first_year s) year (as_binding b)))
-      same_span (differ.others (key.Bind name q.name) refl))
-      (old_what year name qs)
+  abbrev same_whats : ℕ → Name → EqId → EqId → Bool
+  same_whats year name d e =
+      pointwise same_operand (map (what old year name) (parameters d)) (map (what new year name) (parameters e))
 
-  line_changed : (name : Name) (year : ℕ) (e : EqId) → line new name ≡ Some e
+  line_same : (name : Name) (year : ℕ) (d e : EqId) → line old name ≡ Some d → line new name ≡ Some e
       → same_formula (formula_with_inputs old (node.Line name year)) (formula_with_inputs new (node.Line name year))
-      ≡ pointwise same_operand (map (what old year name) (parameters e)) (map (what new year name) (parameters e))
+      ≡ (same_equation d e && same_whats year name d e)
   unfolding same_formula
-  line_changed name year e at =
+  line_same name year d e was at =
       ap₂ (λ x y. same_formula (map_formula (given old) (line_formula old (first_year (span old)) name year x))
-      (map_formula (given new) (line_formula new (first_year (span new)) name year y)))
-      (ap as_line (differ.others (key.Line name) refl) ∙ at) at
-      ∙ ap₂ (λ (b : Bool) (xs : List (Operand Input)). b && pointwise same_operand xs
-      (map (map_operand (given new)) (map (λ q. bound_to new (first_year (span new)) year (binding new name q.name)) (parameters e))))
-      (true_same the_type e e refl) (old_what year name (parameters e))
-      ∙ ap (pointwise same_operand (map (what old year name) (parameters e)))
+      (map_formula (given new) (line_formula new (first_year (span new)) name year y))) was at
+      ∙ ap₂ (λ (xs ys : List (Operand Input)). same_equation d e && pointwise same_operand xs ys)
+      (map_twice (map_operand (given old)) (λ q. bound_to old (first_year (span old)) year (binding old name q.name)) (parameters d))
       (map_twice (map_operand (given new)) (λ q. bound_to new (first_year (span new)) year (binding new name q.name)) (parameters e))
 
-  apart_is : (year : ℕ) (b : Option Binding)
-      → not (same_operand (map_operand (given old) (bound_to old (first_year (span new)) year b))
-      (map_operand (given new) (bound_to new (first_year (span new)) year b)))
-      || list_any (is_reached old new) (nodes_in (bound_to new (first_year (span new)) year b))
-      ≡ binding_reached old new year b
-  apart_is year b = refl
+  abbrev was_within : ℕ → Bool
+  was_within year = is_year_of (span old) year
+
+  abbrev same_line : Name → ℕ → Bool
+  same_line name year =
+      same_formula (formula_with_inputs old (node.Line name year)) (formula_with_inputs new (node.Line name year))
+
+  line_changed : (name : Name) (year : ℕ) (e : EqId) → line new name ≡ Some e
+      → is_node new (node.Line name year) ≡ true
+      → is_changed old new (node.Line name year) ≡ not (was_line old name e year && same_whats year name e e)
+  line_changed name year e at is = changed_is (node.Line name year) is ∙ ap not (by (line old name) refl)
+    where
+      with_id : (d : EqId) → line old name ≡ Some d → (b : Bool) → same_equation d e ≡ b
+          → ((is_some (line old name) && was_within year) && same_line name year) ≡ (was_line old name e year && same_whats year name e e)
+      with_id d was true one =
+          ap₂ (λ (o : Option EqId) (f : Bool). (is_some o && was_within year) && f) was
+          (line_same name year e e (was ∙ ap Some (same_id d e one)) at
+          ∙ ap (λ (b : Bool). b && same_whats year name e e) (true_same the_type e e refl))
+          ∙ same_so (was_within year) (same_whats year name e e)
+          ∙ sym (ap (λ (o : Option EqId). (was_within year && option_map_or (λ k. same_equation k e) o false) && same_whats year name e e) was
+          ∙ ap (λ (b : Bool). (was_within year && b) && same_whats year name e e) one)
+      with_id d was false other =
+          ap₂ (λ (o : Option EqId) (f : Bool). (is_some o && was_within year) && f) was
+          (line_same name year d e was at ∙ ap (λ (b : Bool). b && same_whats year name d e) other)
+          ∙ other_so (was_within year) (same_whats year name e e)
+          ∙ sym (ap (λ (o : Option EqId). (was_within year && option_map_or (λ k. same_equation k e) o false) && same_whats year name e e) was
+          ∙ ap (λ (b : Bool). (was_within year && b) && same_whats year name e e) other)
+
+      by : (o : Option EqId) → line old name ≡ o
+          → ((is_some (line old name) && was_within year) && same_line name year) ≡ (was_line old name e year && same_whats year name e e)
+      by None was = ap (λ (o : Option EqId). (is_some o && was_within year) && same_line name year) was
+          ∙ none_so (was_within year) (same_whats year name e e)
+          ∙ sym (ap (λ (o : Option EqId). (was_within year && option_map_or (λ k. same_equation k e) o false) && same_whats year name e e) was)
+      by (Some d) was = with_id d was (same_equation d e) refl
 
   pub line_is_reached : (name : Name) (year : ℕ) (e : EqId) → line new name ≡ Some e
       → is_node new (node.Line name year) ≡ true
       → is_reached old new (node.Line name year)
-      ≡ list_any (λ q. binding_reached old new year (binding new name q.name)) (parameters e)
+      ≡ (not (was_line old name e year)
+      || list_any (λ q. binding_reached old new year (binding old name q.name) (binding new name q.name)) (parameters e))
   line_is_reached name year e at is =
       reached_step old new (node.Line name year) is
       ∙ ap₂ (λ (a : Bool) (ks : List Node). a || list_any (is_reached old new) ks)
-      (changed_is (node.Line name year) is ∙ ap not (line_changed name year e at))
+      (line_changed name year e at is)
       (ap (λ o. inputs (line_formula new (first_year (span new)) name year o)) at
       ∙ flat_twice (nodes_in {A = Source}) (λ q. bound_to new (first_year (span new)) year (binding new name q.name)) (parameters e))
-      ∙ each_apart (is_reached old new) (what old year name) (what new year name)
-      (λ q. nodes_in (bound_to new (first_year (span new)) year (binding new name q.name))) (parameters e)
+      ∙ apart (was_line old name e year) (same_whats year name e e) _
+      ∙ ap (λ (b : Bool). not (was_line old name e year) || b)
+      (each_apart (is_reached old new) (what old year name) (what new year name)
+      (λ q. nodes_in (bound_to new (first_year (span new)) year (binding new name q.name))) (parameters e))
 
   -- the same by the parameters in the code
   line_by : (name : Name) (year : ℕ) (e : EqId) (ps : List Param) → Some e ≡ line new name
       → map quantity ps ≡ parameters e → is_node new (node.Line name year) ≡ true
       → is_reached old new (node.Line name year)
-      ≡ list_any (λ (p : Param). binding_reached old new year (binding new name p.name.now)) ps
+      ≡ (not (was_line old name e year) || list_any
+      (λ (p : Param). binding_reached old new year (binding old name p.name.now) (binding new name p.name.now)) ps)
   line_by name year e ps at all is =
       line_is_reached name year e (sym at) is
-      ∙ ap (list_any (λ (q : Quantity). binding_reached old new year (binding new name q.name))) (sym all)
-      ∙ any_named (λ k. binding_reached old new year (binding new name k)) ps
+      ∙ ap (λ (b : Bool). not (was_line old name e year) || b)
+      (ap (list_any (λ (q : Quantity). binding_reached old new year (binding old name q.name) (binding new name q.name))) (sym all)
+      ∙ any_named (λ k. binding_reached old new year (binding old name k) (binding new name k)) ps)
+
+  -- a line that was none, or had another equation, is reached
+  pub by_unlike : (name : Name) (year : ℕ) (e : EqId) → Some e ≡ line new name
+      → is_node new (node.Line name year) ≡ true → was_line old name e year ≡ false
+      → is_reached old new (node.Line name year) ≡ true
+  by_unlike name year e at is off =
+      line_is_reached name year e (sym at) is ∙ or_first (not (was_line old name e year)) _ (ap not off)
 
   pub by_parameter : (name : Name) (year : ℕ) (e : EqId) (ps : List Param) → Some e ≡ line new name
       → map quantity ps ≡ parameters e → is_node new (node.Line name year) ≡ true
-      → (i : ℕ) (d : Param) → i < length ps → (b : Option Binding) → b ≡ binding new name (get_or ps i d).name.now
-      → binding_reached old new year b ≡ true
+      → (i : ℕ) (d : Param) → i < length ps → (was b : Option Binding)
+      → was ≡ binding old name (get_or ps i d).name.now → b ≡ binding new name (get_or ps i d).name.now
+      → binding_reached old new year was b ≡ true
       → is_reached old new (node.Line name year) ≡ true
-  by_parameter name year e ps at all is i d h b from on =
+  by_parameter name year e ps at all is i d h was b before from on =
       line_by name year e ps at all is
-      ∙ listed_any (λ (p : Param). binding_reached old new year (binding new name p.name.now)) (get_or ps i d) ps
-      (at_place ps i d h) (ap (binding_reached old new year) (sym from) ∙ on)
+      ∙ or_second (not (was_line old name e year)) _ (listed_any
+      (λ (p : Param). binding_reached old new year (binding old name p.name.now) (binding new name p.name.now)) (get_or ps i d) ps
+      (at_place ps i d h) (ap₂ (binding_reached old new year) (sym before) (sym from) ∙ on))
 
   pub by_no_parameter : (name : Name) (year : ℕ) (e : EqId) (ps : List Param) → Some e ≡ line new name
       → map quantity ps ≡ parameters e → is_node new (node.Line name year) ≡ true
-      → list_any (λ (p : Param). binding_reached old new year (binding new name p.name.now)) ps ≡ false
+      → was_line old name e year ≡ true
+      → list_any (λ (p : Param). binding_reached old new year (binding old name p.name.now) (binding new name p.name.now)) ps ≡ false
       → is_reached old new (node.Line name year) ≡ false
-  by_no_parameter name year e ps at all is off = line_by name year e ps at all is ∙ off
+  by_no_parameter name year e ps at all is was off =
+      line_by name year e ps at all is ∙ ap₂ (λ (a b : Bool). not a || b) was off
+
+  -- a line that is not reached was there, with its equation
+  was_there : (name : Name) (year : ℕ) (e : EqId) → line new name ≡ Some e
+      → is_node new (node.Line name year) ≡ true → is_reached old new (node.Line name year) ≡ false
+      → (line old name ≡ Some e) × (is_year_of (span old) year ≡ true)
+  was_there name year e at is off =
+      let was : was_line old name e year ≡ true = no_not _ _ (sym (line_is_reached name year e at is) ∙ off) in
+      (by (line old name) refl (second_so (is_year_of (span old) year) _ was), first_so _ _ was)
+    where
+      by : (o : Option EqId) → line old name ≡ o → option_map_or (λ d. same_equation d e) o false ≡ true
+          → line old name ≡ Some e
+      by None was h = absurd (cc)
+      by (Some d) was h = was ∙ ap Some (same_id d e h)
 
   -- ---- equivalents
-
-  pub same_line_gas : (name : Name) → line_gas old name ≡ line_gas new name
-  same_line_gas name = ap (λ o. option_and_then (λ e. gas_of (output e)) (as_line o)) (differ.others (key.Line name) refl)
 
   equivalent_same : (name : Name) (year : ℕ)
       → same_formula (formula_with_inputs old (node.Equiv name year)) (formula_with_inputs new (node.Equiv name year))
@@ -242,68 +334,40 @@ module _ (old new : Data) (differ : DifferInFigures old new) where
       ap (λ b. b && same_input (given old (potential old year (line_gas old name))) (given new (potential new year (line_gas new name))))
       (same_node_itself (node.Line name year))
 
-  pub equivalent_is_reached : (name : Name) (year : ℕ) → is_node new (node.Equiv name year) ≡ true
-      → is_reached old new (node.Equiv name year)
-      ≡ (is_reached old new (node.Line name year)
-      || not (same_input (given old (potential old year (line_gas old name))) (given new (potential new year (line_gas new name)))))
-  equivalent_is_reached name year is =
-      reached_step old new (node.Equiv name year) is
-      ∙ ap (λ a. a || (is_reached old new (node.Line name year) || false))
-      (changed_is (node.Equiv name year) is ∙ ap not (equivalent_same name year))
-      ∙ swapped _ (is_reached old new (node.Line name year))
-    where
-      swapped : (a b : Bool) → (a || (b || false)) ≡ (b || a)
-      swapped true true = refl
-      swapped true false = refl
-      swapped false true = refl
-      swapped false false = refl
-
   -- an emitter's equivalent is reached with its line, and else by the potential
   pub by_line : (name : Name) (year : ℕ) → is_node new (node.Equiv name year) ≡ true
       → is_reached old new (node.Line name year) ≡ true → is_reached old new (node.Equiv name year) ≡ true
-  by_line name year is on = equivalent_is_reached name year is ∙ or_first _ _ on
+  by_line name year is on = affected_reached old new (node.Equiv name year)
+      (through old new (node.Line name year) (node.Equiv name year) (reached_affected old new (node.Line name year) on)
+      (record { node = is; among = contained (node.Line name year ∷ []) (node.Line name year) (inl refl) }))
+
+  abbrev emits_by : Option EqId → Bool
+  emits_by o = is_some (option_and_then (λ e. gas_of (output e)) o)
 
   pub by_potential : (name : Name) (year : ℕ) → is_node new (node.Equiv name year) ≡ true
       → is_reached old new (node.Line name year) ≡ false → (x y : Input)
       → x ≡ given old (potential old year (line_gas old name)) → y ≡ given new (potential new year (line_gas new name))
       → not (same_input x y) ≡ is_reached old new (node.Equiv name year)
-  by_potential name year is off x y e f =
-      ap₂ (λ (a b : Input). not (same_input a b)) e f
-      ∙ sym (equivalent_is_reached name year is ∙ ap (λ b. b || not (same_input
-      (given old (potential old year (line_gas old name))) (given new (potential new year (line_gas new name))))) off)
+  by_potential name year is off x y p q = by (line new name) refl
+    where
+      by : (o : Option EqId) → line new name ≡ o → not (same_input x y) ≡ is_reached old new (node.Equiv name year)
+      by None at = absurd (true_not_false (sym (first_so (emits new name) _ is) ∙ ap emits_by at))
+      by (Some e) at =
+          let here : is_node new (node.Line name year) ≡ true =
+          both _ _ (ap is_some at) (second_so (emits new name) _ is) in
+          let was = was_there name year e at here off in
+          ap₂ (λ (a b : Input). not (same_input a b)) p q
+          ∙ sym (reached_step old new (node.Equiv name year) is
+          ∙ ap₂ (λ (a b : Bool). a || (b || false))
+          (changed_is (node.Equiv name year) is
+          ∙ ap₂ (λ (a b : Bool). not (a && b))
+          (both _ _ (ap emits_by (was.0 ∙ sym at) ∙ first_so (emits new name) _ is) was.1)
+          (equivalent_same name year))
+          off
+          ∙ or_false (not (same_input (given old (potential old year (line_gas old name)))
+          (given new (potential new year (line_gas new name))))))
 
   -- ---- totals
-
-  -- a node that reads no figure is not changed
-  no_figure : (n : Node) → ((k : RecordKey) → Reads new n k ⊎ StandsBy n k → is_figure_key k ≡ false)
-      → is_changed old new n ≡ false
-  no_figure n none = never_so (is_changed old new n) (λ e.
-      untouched_are_unchanged old new n (λ k r. differ.others k (none k (inl r)))
-      (λ k s. differ.others k (none k (inr s))) (is_so old new n e))
-
-  total_no_figure : (c : Category) (year : ℕ) (k : RecordKey)
-      → Reads new (node.Total c year) k ⊎ StandsBy (node.Total c year) k → is_figure_key k ≡ false
-  total_no_figure c year key.Span h = refl
-  total_no_figure c year (key.Activity name when) (inl h) = absurd h
-  total_no_figure c year (key.Activity name when) (inr h) = absurd h
-  total_no_figure c year (key.Factor name start) (inl h) = absurd h
-  total_no_figure c year (key.Factor name start) (inr h) = absurd h
-  total_no_figure c year (key.Line name) h = refl
-  total_no_figure c year (key.Bind name parameter) h = refl
-  total_no_figure c year (key.Uncert name) (inl h) = absurd h
-  total_no_figure c year (key.Uncert name) (inr h) = absurd h
-
-  gross_no_figure : (year : ℕ) (k : RecordKey)
-      → Reads new (node.Gross year) k ⊎ StandsBy (node.Gross year) k → is_figure_key k ≡ false
-  gross_no_figure year key.Span h = refl
-  gross_no_figure year (key.Activity name when) (inl h) = absurd h
-  gross_no_figure year (key.Activity name when) (inr h) = absurd h
-  gross_no_figure year (key.Factor name start) (inl h) = absurd h
-  gross_no_figure year (key.Factor name start) (inr h) = absurd h
-  gross_no_figure year (key.Line name) h = refl
-  gross_no_figure year (key.Bind name parameter) h = refl
-  gross_no_figure year (key.Uncert name) (inl h) = absurd h
-  gross_no_figure year (key.Uncert name) (inr h) = absurd h
 
   one_summed : (test : Category → Bool) (year : ℕ) (name : Name) (passing found : List Name)
       → list_any (is_reached old new) (map (λ k. node.Equiv k year) passing)
@@ -345,20 +409,40 @@ module _ (old new : Data) (differ : DifferInFigures old new) where
       ∙ ap (list_any test) (chosen_within (is_reached old new (node.Equiv name year)) name
       (filter (λ k. is_reached old new (node.Equiv k year)) names))
 
+  total_changed : (c : Category) (year : ℕ) → is_node new (node.Total c year) ≡ true
+      → is_changed old new (node.Total c year)
+      ≡ (not (is_year_of (span old) year) || are_moved old new (λ d. stands_under d c))
+  unfolding same_formula
+  total_changed c year is =
+      changed_is (node.Total c year) is
+      ∙ ap₂ (λ (a b : Bool). not ((a && is_year_of (span old) year) && b)) (first_so (is_in_tree c) _ is)
+      (sums_same year (gas_lines_at (λ d. stands_under d c) old) (gas_lines_at (λ d. stands_under d c) new))
+      ∙ not_both (is_year_of (span old) year) _
+
+  gross_changed : (year : ℕ) → is_node new (node.Gross year) ≡ true
+      → is_changed old new (node.Gross year)
+      ≡ (not (is_year_of (span old) year) || are_moved old new counts_in_gross)
+  unfolding same_formula
+  gross_changed year is =
+      changed_is (node.Gross year) is
+      ∙ ap (λ (b : Bool). not (is_year_of (span old) year && b))
+      (sums_same year (gas_lines_at counts_in_gross old) (gas_lines_at counts_in_gross new))
+      ∙ not_both (is_year_of (span old) year) _
+
   pub total_is_reached : (c : Category) (year : ℕ) → is_node new (node.Total c year) ≡ true
       → is_reached old new (node.Total c year)
-      ≡ list_any (λ d. stands_under d c) (reached_categories old new year (gas_lines new))
+      ≡ ((not (is_year_of (span old) year) || are_moved old new (λ d. stands_under d c))
+      || list_any (λ d. stands_under d c) (reached_categories old new year (gas_lines new)))
   total_is_reached c year is =
       reached_step old new (node.Total c year) is
-      ∙ ap (λ a. a || list_any (is_reached old new) (inputs (formula new (first_year (span new)) (node.Total c year))))
-      (no_figure (node.Total c year) (total_no_figure c year))
-      ∙ sum_reached (λ d. stands_under d c) year (gas_lines new)
+      ∙ ap₂ (λ (a b : Bool). a || b) (total_changed c year is)
+      (sum_reached (λ d. stands_under d c) year (gas_lines new))
 
   pub gross_is_reached : (year : ℕ) → is_node new (node.Gross year) ≡ true
       → is_reached old new (node.Gross year)
-      ≡ list_any counts_in_gross (reached_categories old new year (gas_lines new))
+      ≡ ((not (is_year_of (span old) year) || are_moved old new counts_in_gross)
+      || list_any counts_in_gross (reached_categories old new year (gas_lines new)))
   gross_is_reached year is =
       reached_step old new (node.Gross year) is
-      ∙ ap (λ a. a || list_any (is_reached old new) (inputs (formula new (first_year (span new)) (node.Gross year))))
-      (no_figure (node.Gross year) (gross_no_figure year))
-      ∙ sum_reached counts_in_gross year (gas_lines new)
+      ∙ ap₂ (λ (a b : Bool). a || b) (gross_changed year is)
+      (sum_reached counts_in_gross year (gas_lines new))

@@ -1,4 +1,4 @@
--- What edits of figures alone reach.
+-- Edits of figures alone, and what any edits affect.
 use Rattle.std.specs.Prelude.{Bool, List}
 use Rattle.std.specs.List.{Contains, list_all}
 use Rattle.ghg_units.specs.declared.node.Node.{Node}

@@ -16,3 +16,5 @@ pub mod Index
 pub mod Worklists
 pub mod Selections
 pub mod Falling
+pub mod Entries
+pub mod Moves

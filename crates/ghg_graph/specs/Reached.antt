@@ -1,20 +1,26 @@
--- Which nodes a correction of figures reaches, told year by year.
-use Rattle.std.specs.Prelude.{◌≡◌, ℕ, Bool, false, not, ◌||◌, nat_eq, nat_le, List, filter, length, Option}
+-- Which nodes edits reach, told year by year.
+use Rattle.std.specs.Prelude.{◌≡◌, ℕ, Bool, true, false, not, ◌&&◌, ◌||◌, nat_eq, nat_le, List, filter, length, Option, Some}
 use Rattle.std.specs.BTreeSet.{BTreeSet, contains}
 use Rattle.std.specs.List.{Contains, filter_map, list_any}
+use Rattle.std.specs.Option.{option_map_or}
 use Rattle.ghg_categories.specs.declared.category.Category.{Category}
+use Rattle.ghg_categories.specs.Tree.{is_same, stands_under}
+use Rattle.ghg_equations.specs.declared.eq_id.EqId.{EqId}
 use Rattle.ghg_units.specs.declared.node.Node.{Node}
 use Rattle.ghg_units.specs.declared.node.Node.TheVariants as node
 use Rattle.ghg_units.specs.declared.row.Binding.{Binding}
+use Rattle.ghg_units.specs.declared.row.Binding.TheVariants as bound
 use Rattle.ghg_definitions.specs.declared.record.RecordKey.{RecordKey}
 use Rattle.ghg_definitions.specs.declared.record.RecordKey.TheVariants as key
-use Rattle.ghg_definitions.specs.Compilation.{bound_to, first_year, gas_lines, nodes, previous}
-use Rattle.ghg_definitions.specs.Data.{Data, Name, category, name_cmp, span}
+use Rattle.ghg_definitions.specs.Compilation.{bound_to, counts_in_gross, first_year, gas_lines, is_year_of, nodes, previous}
+use Rattle.ghg_definitions.specs.Data.{Data, Name, category, line, name_cmp, span}
 use Rattle.ghg_definitions.specs.Formulas.{map_operand, nodes_in}
 use Rattle.ghg_definitions.specs.Lookups.{given}
 use Rattle.ghg_affected.specs.Affected.{affected_within}
-use Rattle.ghg_affected.specs.Equalities.{same_operand}
+use Rattle.ghg_affected.specs.Equalities.{same_equation, same_operand}
 use Rattle.ghg_graph.specs.Ordering.{IsLineOrder}
+use Rattle.ghg_graph.specs.declared.moves.Moved.{Moved}
+use Rattle.ghg_graph.specs.declared.reached.Year.{Year}
 
 -- ---- what is reached
 
@@ -22,10 +28,15 @@ use Rattle.ghg_graph.specs.Ordering.{IsLineOrder}
 abbrev pub is_reached : Data → Data → Node → Bool
 is_reached old new = affected_within old new (length (nodes new))
 
--- what a binding gives in a year differs, or one of its nodes is reached
-abbrev pub binding_reached : Data → Data → ℕ → Option Binding → Bool
-binding_reached old new year b =
-    not (same_operand (map_operand (given old) (bound_to old (first_year (span new)) year b))
+-- the line was there in the year, with the equation
+abbrev pub was_line : Data → Name → EqId → ℕ → Bool
+was_line old name e year =
+    is_year_of (span old) year && option_map_or (λ d. same_equation d e) (line old name) false
+
+-- what the new binding gives in a year differs from what the old one gave, or one of its nodes is reached
+abbrev pub binding_reached : Data → Data → ℕ → Option Binding → Option Binding → Bool
+binding_reached old new year was b =
+    not (same_operand (map_operand (given old) (bound_to old (first_year (span old)) year was))
     (map_operand (given new) (bound_to new (first_year (span new)) year b)))
     || list_any (is_reached old new) (nodes_in (bound_to new (first_year (span new)) year b))
 
@@ -59,6 +70,22 @@ abbrev pub HasBefore : Data → Data → ℕ → BTreeSet Name → Type 0
 HasBefore old new year s = (name : Name) → contains name_cmp s name
     ≡ list_any (is_reached old new) (nodes_in (previous (nat_le year (first_year (span new))) name year))
 
+-- a line that the binding takes is in the set of the year, or of the year before
+abbrev pub takes_from : BTreeSet Name → BTreeSet Name → Option Binding → Bool
+takes_from before now (Some (bound.Line name)) = contains name_cmp now name
+takes_from before now (Some (bound.Prev name)) = contains name_cmp before name
+takes_from before now (Some (bound.Sum names)) = list_any (contains name_cmp now) names
+takes_from before now _ = false
+
+-- ---- years
+
+-- the year is one of the new data, and what is said of it holds
+pub record IsYear (old new : Data) (y : Year) : Type 0 where
+  pub within : is_year_of (span new) y.number ≡ true
+  pub was : y.was ≡ is_year_of (span old) y.number
+  pub first_before : y.first_before ≡ first_year (span old)
+  pub first : y.first ≡ first_year (span new)
+
 -- ---- categories
 
 -- the categories of the lines whose equivalents are reached in a year
@@ -66,13 +93,22 @@ abbrev pub reached_categories : Data → Data → ℕ → List Name → List Cat
 reached_categories old new year names =
     filter_map (category new) (filter (λ name. is_reached old new (node.Equiv name year)) names)
 
+-- there was no such year, or the total adds other lines, or the category stands at or above one of the others
+abbrev pub is_total_of : Bool → Moved → List Category → Category → Bool
+is_total_of was m categories top =
+    (not was || list_any (is_same top) m.tops.items) || list_any (λ c. stands_under c top) categories
+
+-- the same of the gross total
+abbrev pub is_gross_of : Bool → Moved → List Category → Bool
+is_gross_of was m categories = (not was || m.gross) || list_any counts_in_gross categories
+
 -- ---- records
 
--- some node of the year may read the record, if it is of a figure
+-- some node of the year may stand by the record, or read it
 abbrev pub is_read_in : ℕ → RecordKey → Bool
-is_read_in year key.Span = false
+is_read_in year key.Span = true
 is_read_in year (key.Activity name when) = nat_eq when year
 is_read_in year (key.Factor name start) = nat_le start year
-is_read_in year (key.Line name) = false
-is_read_in year (key.Bind line parameter) = false
+is_read_in year (key.Line name) = true
+is_read_in year (key.Bind line parameter) = true
 is_read_in year (key.Uncert line) = false

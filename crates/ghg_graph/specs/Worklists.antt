@@ -1,13 +1,12 @@
 -- Places of lines that are selected one after the other.
-use Rattle.std.specs.Prelude.{◌≡◌, ◌⊎◌, ℕ, ◌<◌, true, List, ◌++◌, length}
+use Rattle.std.specs.Prelude.{◌≡◌, ◌⊎◌, ℕ, ◌<◌, ◌≤◌, true, List, ◌++◌, length}
 use Rattle.std.specs.BTreeSet.{BTreeSet, IsOrdered, btree_set_len, contains}
 use Rattle.std.specs.Ordering.{nat_cmp}
 use Rattle.ghg_definitions.specs.Data.{Name, name_cmp}
 use Rattle.ghg_definitions.specs.Listed.{IsListed}
 use Rattle.ghg_graph.specs.Numbers.{name_at}
-use Rattle.ghg_graph.specs.Takers.{places_of}
+use Rattle.ghg_graph.specs.Takers.{Places, places_of}
 use Rattle.ghg_graph.specs.declared.index.LineIndex.{LineIndex}
-use Rattle.ghg_graph.specs.declared.takers.Places.{Places}
 use Rattle.ghg_graph.specs.declared.worklist.Worklist.{Worklist}
 
 -- the place is selected
@@ -44,10 +43,13 @@ pub record IsSpread (index : LineIndex) (old new : Worklist) : Type 0 where
   pub within : (place : ℕ) → IsIn new.selected place → place < length index.lines.items
   pub over_lines : IsSpreadOver index new.selected
 
--- what takes one of the figures, or the line at one of the places, is at one of the places
-pub record AreClosed (index : LineIndex) (figures : BTreeSet Name) (places : BTreeSet ℕ) : Type 0 where
+-- what takes one of the figures, or the line at one of the places, is at one of the places, and so is each
+-- line from one on
+pub record AreClosed (index : LineIndex) (figures : BTreeSet Name) (from : ℕ) (places : BTreeSet ℕ) :
+    Type 0 where
   pub ordered : IsOrdered nat_cmp places
   pub within : (place : ℕ) → IsIn places place → place < length index.lines.items
+  pub last : (place : ℕ) → from ≤ place → place < length index.lines.items → IsIn places place
   pub over_figures : (figure : Name) (place : ℕ) → contains name_cmp figures figure ≡ true →
       IsListed place (places_of index.takers.figures figure) → IsIn places place
   pub over_lines : IsSpreadOver index places

@@ -1,15 +1,17 @@
 //! The nodes of a workbook, what they take, and the order in which each has what it takes before it.
 #![tactic(auto)]
 
-mod affected;
 mod cells;
 mod clear;
 mod components;
+mod corrections;
+mod entered;
 mod gases;
 mod in_order;
 mod index;
 mod least;
 mod links;
+mod moves;
 mod nodes;
 mod numbers;
 mod operands;
@@ -23,8 +25,9 @@ mod takers;
 mod walk;
 mod worklist;
 
-pub use affected::{affected_by_figures, are_of_figures};
 pub use cells::Cells;
+pub use corrections::{affected, are_of_figures};
+pub use entered::{are_entries, entered_order, with_entered};
 pub use gases::{emitters, potential};
 pub use in_order::nodes_in_order;
 pub use index::LineIndex;

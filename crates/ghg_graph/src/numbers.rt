@@ -1,12 +1,11 @@
-//! The lines of a workbook by numbers: their places in byte order.
+//! Lines by numbers: their places in byte order.
 
-ghost use Rattle.std.specs.Prelude.{◌≡◌, ◌<◌, ◌++◌, ℕ, true, List, flat_map, length, map, option_copied, slice_index, IfOk};
+ghost use Rattle.std.specs.Prelude.{◌≡◌, ◌<◌, ◌++◌, ◌∷◌, [], ℕ, true, List, flat_map, length, map, option_copied, slice_index, IfOk, MatchOption};
 ghost use Rattle.std.specs.List.{AllByRecursion};
 ghost use Rattle.std.specs.List.Sorted.{IsStrictlySortedBy};
 ghost use Rattle.ghg_definitions.specs.Listed.{IsListed};
-ghost use Rattle.ghg_definitions.specs.Data.{Name, binding, line, line_names, name_cmp};
+ghost use Rattle.ghg_definitions.specs.Data.{Name, binding, line, name_cmp};
 ghost use Rattle.ghg_definitions.specs.Rings.{taken, taken_by};
-ghost use Rattle.ghg_definitions.specs.Sound.{IsWorkbook};
 ghost use Rattle.ghg_units.specs.Parameter.{is_parameter};
 ghost use Rattle.ghg_graph.specs.Numbers.{AreNumbers, IsNumbering, name_at};
 
@@ -17,26 +16,29 @@ use ghg_units::{Binding, Name};
 use std::alloc::{AllocError, Global};
 use std::slice;
 
-/// The lines in byte order, and for each the numbers of those that it takes.
+/// Lines in byte order, and for each the numbers of those of them that it takes.
 #[derive(Drop)]
 pub(crate) struct Numbering {
     pub(crate) lines: Vec<Name>,
     pub(crate) links: Links,
 }
 
-/// The lines of a workbook by numbers.
-pub(crate) fn numbered<R: Records>(alloc: Global, records: &R) -> Result<Numbering, AllocError>
-    ensures numbers { IfOk result (λ n. IsNumbering (R.content records.now) n.lines.items n.links) }
-    ensures workbook { IsWorkbook (R.content records.now) }
+/// Some lines of a workbook by numbers.
+pub(crate) fn numbered<R: Records>(
+    alloc: Global,
+    records: &R,
+    lines: Vec<Name>,
+) -> Result<Numbering, AllocError>
+    requires { IsStrictlySortedBy name_cmp lines.items }
+    ensures lines { IfOk result (λ n. n.lines.items ≡ lines.items) }
+    ensures links { IfOk result (λ n. IsNumbering (R.content records.now) lines.items n.links) }
 {
-    let lines = records.lines(alloc)?;
     let links = links_of(alloc, records, &lines)?;
     Ok(Numbering { lines, links })
 }
 
 fn links_of<R: Records>(alloc: Global, records: &R, lines: &[Name]) -> Result<Links, AllocError>
-    requires workbook { IsWorkbook (R.content records.now) }
-    requires lines { lines.now ≡ line_names (R.content records.now) }
+    requires { IsStrictlySortedBy name_cmp lines.now }
     ensures { IfOk result (λ links. IsNumbering (R.content records.now) lines.now links) }
 {
     let mut targets = Vec::new(alloc);
@@ -61,8 +63,7 @@ fn targets_of<R: Records>(
     lines: &[Name],
     line: &Name,
 ) -> Result<Vec<usize>, AllocError>
-    requires workbook { IsWorkbook (R.content records.now) }
-    requires lines { lines.now ≡ line_names (R.content records.now) }
+    requires { IsStrictlySortedBy name_cmp lines.now }
     ensures { IfOk result (λ targets. AreNumbers lines.now targets.items
         (taken (R.content records.now) line.now)) }
 {
@@ -82,9 +83,6 @@ fn targets_at<R: Records>(
 ) -> Result<Vec<usize>, AllocError>
     requires order { IsStrictlySortedBy name_cmp lines.now }
     requires names { AllByRecursion (λ q. is_parameter q.name.now ≡ true) params.now }
-    requires present { (k : Name) → IsListed k
-        (flat_map (λ q. taken_by (binding (R.content records.now) line.now q.name.now)) params.now)
-        → IsListed k lines.now }
     ensures { IfOk result (λ targets. AreNumbers lines.now targets.items
         (flat_map (λ q. taken_by (binding (R.content records.now) line.now q.name.now)) params.now)) }
 {
@@ -114,33 +112,49 @@ pub(crate) fn taken_by(binding: Option<&Binding>) -> &[Name]
     }
 }
 
-// Adds the numbers of lines.
+// Adds the numbers of those of the names that are lines here.
 fn add_numbers(lines: &[Name], names: &[Name], numbers: &mut Vec<usize>) -> Result<(), AllocError>
-    requires order { IsStrictlySortedBy name_cmp lines.now }
-    requires present { (k : Name) → IsListed k names.now → IsListed k lines.now }
+    requires { IsStrictlySortedBy name_cmp lines.now }
     ensures { IfOk result (λ _. (before : List Name) → AreNumbers lines.now numbers.old.items before
         → AreNumbers lines.now numbers.new.items (before ++ names.now)) }
 {
     let mut next = 0;
     for name in names {
-        let number = number_of(lines, next, name);
-        numbers.push(number)?;
-        next = number + 1;
+        next = add_number(lines, next, name, numbers)?;
     }
     Ok(())
 }
 
+// Adds the number of a name if it is a line here, and answers the number to try first for the next name.
+fn add_number(
+    lines: &[Name],
+    next: usize,
+    name: &Name,
+    numbers: &mut Vec<usize>,
+) -> Result<usize, AllocError>
+    requires { IsStrictlySortedBy name_cmp lines.now }
+    ensures { IfOk result (λ _. (before : List Name) → AreNumbers lines.now numbers.old.items before
+        → AreNumbers lines.now numbers.new.items (before ++ name.now ∷ [])) }
+{
+    match number_of(lines, next, name) {
+        None => Ok(next),
+        Some(number) => {
+            numbers.push(number)?;
+            Ok(number + 1)
+        }
+    }
+}
+
 // The number of a line. That of the line behind the one looked up before is tried first, since sums are often
 // of lines in their order.
-fn number_of(lines: &[Name], next: usize, name: &Name) -> usize
-    requires order { IsStrictlySortedBy name_cmp lines.now }
-    requires present { IsListed name.now lines.now }
-    ensures within { result < length lines.now }
-    ensures name { name_at lines.now result ≡ name.now }
+fn number_of(lines: &[Name], next: usize, name: &Name) -> Option<usize>
+    requires { IsStrictlySortedBy name_cmp lines.now }
+    ensures { MatchOption result (¬ IsListed name.now lines.now)
+        (λ number. (number < length lines.now) × (name_at lines.now number ≡ name.now)) }
 {
     match lines.get(next) {
-        Some(line) if line == name => next,
-        _ => lines.binary_search(name).unwrap(),
+        Some(line) if line == name => Some(next),
+        _ => lines.binary_search(name).ok(),
     }
 }
 

@@ -1,9 +1,11 @@
 //! What a binding gives.
 
-ghost use Rattle.std.specs.Prelude.{◌≡◌, option_copied};
+ghost use Rattle.std.specs.Prelude.{◌≡◌, map, not, option_copied};
+ghost use Rattle.ghg_units.specs.declared.node.Node.TheVariants as node;
 ghost use Rattle.ghg_definitions.specs.Compilation.{bound_to};
 ghost use Rattle.ghg_definitions.specs.Formulas.{map_operand};
 ghost use Rattle.ghg_definitions.specs.Lookups.{given};
+ghost use Rattle.ghg_affected.specs.Equalities.{same_nodes, same_operand};
 ghost use Rattle.ghg_graph.specs.Operands.{AreBound, operand_of};
 
 use ghg_cell::Input;
@@ -44,4 +46,25 @@ pub fn bound_operand<'a, R: Records>(
         Some(Binding::Decay(name)) => Operand::Given(records.decay(name, year)),
         None => Operand::Given(Input::Blank),
     }
+}
+
+/// Whether what was taken differs from what is.
+pub(crate) fn differ(was: &Operand, is: &Operand) -> bool
+    ensures { result ≡ not (same_operand (operand_of was.now) (operand_of is.now)) }
+{
+    match (was, is) {
+        (Operand::Given(before), Operand::Given(after)) => before != after,
+        (Operand::Value(before), Operand::Value(after)) => before != after,
+        (Operand::Sum(before, last), Operand::Sum(after, year)) => {
+            sums_differ(before, *last, after, *year)
+        }
+        _ => true,
+    }
+}
+
+fn sums_differ(before: &[Name], last: u32, after: &[Name], year: u32) -> bool
+    ensures { result ≡ not (same_nodes (map (λ name. node.Line name last) before.now)
+        (map (λ name. node.Line name year) after.now)) }
+{
+    before != after || (last != year && !before.is_empty())
 }

@@ -1,12 +1,14 @@
 //! Orders of a workbook's lines.
 
-ghost use Rattle.std.specs.Prelude.{IfOk, MatchResult};
+ghost use Rattle.std.specs.Prelude.{◌≡◌, length, IfOk, MatchResult};
 ghost use Rattle.ghg_definitions.specs.Rings.{IsAcyclic};
+ghost use Rattle.ghg_graph.specs.Links.{IsLeast, IsOrder};
+ghost use Rattle.ghg_graph.specs.Numbers.{AreNamesOf};
 ghost use Rattle.ghg_graph.specs.Ordering.{IsLineOrder};
 ghost use Rattle.ghg_graph.specs.Refusal.{IfRing, IsLeastRingOf};
 
 use crate::least::least_ring;
-use crate::numbers::{names_of, numbered};
+use crate::numbers::{Numbering, names_of, numbered};
 use crate::rings::{CycleRefusal, Ring};
 use crate::walk::{Stop, order};
 use ghg_data::Records;
@@ -19,12 +21,24 @@ pub fn line_order<R: Records>(alloc: Global, records: &R) -> Result<Vec<Name>, C
     ensures { MatchResult result (λ names. IsLineOrder (R.content records.now) names.items)
         (IfRing (IsLeastRingOf (R.content records.now))) }
 {
-    let numbered = numbered(alloc, records)?;
-    match order(alloc, &numbered.links) {
-        Ok(order) => Ok(names_of(alloc, &numbered.lines, &order)?),
+    let lines = records.lines(alloc)?;
+    let numbering = numbered(alloc, records, lines)?;
+    named_order(alloc, &numbering)
+}
+
+/// The names of numbered lines in an order, each behind those of them that it takes; where there is no such
+/// order, those of a ring that begins with the least line on any.
+pub(crate) fn named_order(alloc: Global, numbering: &Numbering) -> Result<Vec<Name>, CycleRefusal>
+    requires { length numbering.now.links ≡ length numbering.now.lines.items }
+    ensures { MatchResult result
+        (λ names. AreNamesOf numbering.now.lines.items (IsOrder numbering.now.links) names.items)
+        (IfRing (AreNamesOf numbering.now.lines.items (IsLeast numbering.now.links))) }
+{
+    match order(alloc, &numbering.links) {
+        Ok(order) => Ok(names_of(alloc, &numbering.lines, &order)?),
         Err(Stop::Ring(met)) => {
-            let ring = least_ring(alloc, &numbered.links, met)?;
-            Err(CycleRefusal::Ring(Ring::new(names_of(alloc, &numbered.lines, &ring)?)))
+            let ring = least_ring(alloc, &numbering.links, met)?;
+            Err(CycleRefusal::Ring(Ring::new(names_of(alloc, &numbering.lines, &ring)?)))
         }
         Err(Stop::Memory) => Err(CycleRefusal::Memory),
     }

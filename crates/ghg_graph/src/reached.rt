@@ -1,10 +1,10 @@
-//! The nodes that a correction of figures reaches, year by year.
+//! The nodes that edits reach, year by year.
 
 ghost use Rattle.std.specs.Prelude.{◌≡◌, ◌+◌, ◌∷◌, ◌++◌, [], ℕ, true, false, Some, filter, is_some, if◌then◌else◌, map, not, option_copied, reverse, IfOk, OnOk};
 ghost use Rattle.std.specs.BTreeSet.{contains};
 ghost use Rattle.std.specs.FinMap.{get};
 ghost use Rattle.std.specs.List.{Contains, list_any};
-ghost use Rattle.std.specs.Option.{option_to_list};
+ghost use Rattle.std.specs.Option.{option_map_or, option_to_list};
 ghost use Rattle.ghg_categories.specs.Tree.{stands_under, tree};
 ghost use Rattle.ghg_units.specs.declared.node.Node.TheVariants as node;
 ghost use Rattle.ghg_definitions.specs.declared.record.RecordKey.{RecordKey};
@@ -12,21 +12,21 @@ ghost use Rattle.ghg_definitions.specs.Compilation.{counts_in_gross, gas_lines, 
 ghost use Rattle.ghg_definitions.specs.Data.{Name, category, line, name_cmp, span};
 ghost use Rattle.ghg_definitions.specs.Lookups.{given};
 ghost use Rattle.ghg_definitions.specs.Rings.{Takes, TakesBinding};
-ghost use Rattle.ghg_affected.specs.Equalities.{same_input};
-ghost use Rattle.ghg_affected.specs.Figures.{DifferInFigures};
-ghost use Rattle.ghg_graph.specs.Index.{IsLineIndex};
-ghost use Rattle.ghg_graph.specs.Reached.{HasBefore, HasReached, IsGasWalk, IsWalk, binding_reached, is_read_in, is_reached, reached_categories};
+ghost use Rattle.ghg_affected.specs.Equalities.{same_equation, same_input};
+ghost use Rattle.ghg_graph.specs.Moves.{AreMoved};
+ghost use Rattle.ghg_graph.specs.Reached.{HasBefore, HasReached, IsGasWalk, IsWalk, IsYear, binding_reached, is_gross_of, is_read_in, is_reached, is_total_of, reached_categories, takes_from, was_line};
 ghost use Rattle.ghg_graph.specs.Years.{nodes_by_year, year_nodes};
 
 use crate::gases::potential;
-use crate::index::LineIndex;
+use crate::moves::{Moved, moved_totals};
 use crate::numbers::equation_of;
-use crate::selections::{Selection, figures_of, select};
-use crate::slots::counts_in_gross;
+use crate::operands::{self, bound_operand};
+use crate::slots::{counts_in_gross, first_year};
 use ghg_categories::{Category, is_under};
 use ghg_cell::Input;
 use ghg_data::{Records, params_of};
 use ghg_definitions::RecordKey;
+use ghg_equations::EqId;
 use ghg_units::{Binding, Name, Node};
 use std::alloc::{AllocError, Global};
 use std::collections::BTreeSet;
@@ -39,24 +39,33 @@ struct Reached {
     before: BTreeSet<Name>,
 }
 
-/// The nodes that are affected where the records differ at the keys alone, and these are of figures: year by
-/// year the lines in their order, the equivalents, the totals, each category behind those under it, and the
-/// gross total.
+// A year of the new data, whether the old data had it too, and the first years of both.
+#[derive(Clone, Copy, Drop)]
+struct Year {
+    number: u32,
+    was: bool,
+    first_before: u32,
+    first: u32,
+}
+
+/// The nodes that are affected where the records differ at the keys alone: year by year the lines in their
+/// order, the equivalents, the totals, each category behind those under it, and the gross total. Lines and
+/// emitters that are not given are not affected.
 pub(crate) fn reached_nodes<R: Records, S: Records>(
     alloc: Global,
     old: &R,
     new: &S,
     keys: &[RecordKey],
-    index: &LineIndex,
+    lines: &[Name],
+    emitters: &[Name],
 ) -> Result<Vec<Node>, AllocError>
-    requires figures { DifferInFigures (R.content old.now) (S.content new.now) }
     requires kept { (k : RecordKey) → (Contains keys.now k → ⊥) →
         get (R.content old.now) k ≡ get (S.content new.now) k }
-    requires index { IsLineIndex (S.content new.now) index.now }
+    requires lines { IsWalk (R.content old.now) (S.content new.now) lines.now }
+    requires emitters { IsGasWalk (R.content old.now) (S.content new.now) emitters.now }
     ensures { IfOk result (λ nodes. nodes.items ≡ filter
         (is_reached (R.content old.now) (S.content new.now))
-        (nodes_by_year index.now.lines.items index.now.emitters.items
-        (years_of (span (S.content new.now))))) }
+        (nodes_by_year lines.now emitters.now (years_of (span (S.content new.now))))) }
 {
     let mut reached = Reached {
         nodes: Vec::new(alloc),
@@ -65,18 +74,39 @@ pub(crate) fn reached_nodes<R: Records, S: Records>(
     let Some(span) = new.span() else {
         return Ok(reached.nodes);
     };
-    let figures = figures_of(alloc, keys)?;
-    let selection = select(alloc, new, &figures, index)?;
-    for year in span.first..span.last + 1 {
-        if !reached.before.is_empty() || is_read(keys, year) {
-            let Selection { lines, emitters } = &selection;
-            add_year(alloc, old, new, lines, emitters, &mut reached, year)?;
+    let moved = moved_totals(alloc, old, new, keys)?;
+    for number in span.first..span.last + 1 {
+        if !reached.before.is_empty() || is_read(keys, number) {
+            let year = year_of(old, new, number);
+            add_year(alloc, old, new, lines, emitters, &moved, &mut reached, year)?;
         }
     }
     Ok(reached.nodes)
 }
 
-// Whether some node of the year may read a record of the keys.
+fn year_of<R: Records, S: Records>(old: &R, new: &S, number: u32) -> Year
+    requires { is_year_of (span (S.content new.now)) number ≡ true }
+    ensures year { IsYear (R.content old.now) (S.content new.now) result }
+    ensures number { result.number ≡ number }
+{
+    Year {
+        number,
+        was: has_year(old, number),
+        first_before: first_year(old),
+        first: first_year(new),
+    }
+}
+
+fn has_year<R: Records>(records: &R, year: u32) -> bool
+    ensures { result ≡ is_year_of (span (R.content records.now)) year }
+{
+    match records.span() {
+        Some(span) => span.first <= year && year <= span.last,
+        None => false,
+    }
+}
+
+// Whether some node of the year may stand by a record of the keys, or read it.
 fn is_read(keys: &[RecordKey], year: u32) -> bool
     ensures { result ≡ list_any (is_read_in year) keys.now }
 {
@@ -89,7 +119,8 @@ fn is_read_in(key: &RecordKey, year: u32) -> bool
     match key {
         RecordKey::Activity(_, when) => *when == year,
         RecordKey::Factor(_, start) => *start <= year,
-        _ => false,
+        RecordKey::Span | RecordKey::Line(_) | RecordKey::Bind(_, _) => true,
+        RecordKey::Uncert(_) => false,
     }
 }
 
@@ -100,24 +131,26 @@ fn add_year<R: Records, S: Records>(
     new: &S,
     lines: &[Name],
     emitters: &[Name],
+    moved: &Moved,
     reached: &mut Reached,
-    year: u32,
+    year: Year,
 ) -> Result<(), AllocError>
-    requires figures { DifferInFigures (R.content old.now) (S.content new.now) }
     requires lines { IsWalk (R.content old.now) (S.content new.now) lines.now }
     requires emitters { IsGasWalk (R.content old.now) (S.content new.now) emitters.now }
-    requires year { is_year_of (span (S.content new.now)) year ≡ true }
-    requires before { HasBefore (R.content old.now) (S.content new.now) year reached.old.before }
+    requires moved { AreMoved (R.content old.now) (S.content new.now) moved.now }
+    requires year { IsYear (R.content old.now) (S.content new.now) year }
+    requires before { HasBefore (R.content old.now) (S.content new.now) year.number reached.old.before }
     ensures nodes { OnOk result (reached.new.nodes.items ≡ reached.old.nodes.items ++ filter
-        (is_reached (R.content old.now) (S.content new.now)) (year_nodes lines.now emitters.now year)) }
+        (is_reached (R.content old.now) (S.content new.now))
+        (year_nodes lines.now emitters.now year.number)) }
     ensures before { OnOk result (HasBefore (R.content old.now) (S.content new.now)
-        (year + 1) reached.new.before) }
+        (year.number + 1) reached.new.before) }
 {
     let nodes = &mut reached.nodes;
     let now = add_lines(alloc, old, new, lines, year, &reached.before, nodes)?;
-    let categories = add_equivalents(alloc, old, new, emitters, year, &now, nodes)?;
-    add_totals(&categories, year, nodes)?;
-    add_gross(&categories, year, nodes)?;
+    let categories = add_equivalents(alloc, old, new, emitters, year.number, &now, nodes)?;
+    add_totals(&categories, moved, year, nodes)?;
+    add_gross(&categories, moved, year, nodes)?;
     reached.before = now;
     Ok(())
 }
@@ -130,108 +163,110 @@ fn add_lines<R: Records, S: Records>(
     old: &R,
     new: &S,
     lines: &[Name],
-    year: u32,
+    year: Year,
     before: &BTreeSet<Name>,
     nodes: &mut Vec<Node>,
 ) -> Result<BTreeSet<Name>, AllocError>
-    requires figures { DifferInFigures (R.content old.now) (S.content new.now) }
     requires lines { IsWalk (R.content old.now) (S.content new.now) lines.now }
-    requires year { is_year_of (span (S.content new.now)) year ≡ true }
-    requires before { HasBefore (R.content old.now) (S.content new.now) year before.now }
+    requires year { IsYear (R.content old.now) (S.content new.now) year }
+    requires before { HasBefore (R.content old.now) (S.content new.now) year.number before.now }
     ensures nodes { OnOk result (nodes.new.items ≡ nodes.old.items ++ filter
         (is_reached (R.content old.now) (S.content new.now))
-        (map (λ name. node.Line name year) lines.now)) }
-    ensures names { IfOk result (HasReached (R.content old.now) (S.content new.now) year) }
+        (map (λ name. node.Line name year.number) lines.now)) }
+    ensures names { IfOk result (HasReached (R.content old.now) (S.content new.now) year.number) }
 {
     let mut now = BTreeSet::new(alloc);
     for line in lines {
         if line_reached(old, new, line, year, before, &now) {
-            nodes.push(Node::Line(*line, year))?;
+            nodes.push(Node::Line(*line, year.number))?;
             now.insert(*line)?;
         }
     }
     Ok(now)
 }
 
-// Whether a line is reached in a year: a figure that it takes differs, or it takes a line that is reached.
+// Whether a line is reached in a year: it was none there or had another equation, what it takes differs, or
+// it takes a line that is reached.
 fn line_reached<R: Records, S: Records>(
     old: &R,
     new: &S,
     name: &Name,
-    year: u32,
+    year: Year,
     before: &BTreeSet<Name>,
     now: &BTreeSet<Name>,
 ) -> bool
-    requires figures { DifferInFigures (R.content old.now) (S.content new.now) }
     requires line { is_some (line (S.content new.now) name.now) ≡ true }
-    requires year { is_year_of (span (S.content new.now)) year ≡ true }
-    requires before { HasBefore (R.content old.now) (S.content new.now) year before.now }
+    requires year { IsYear (R.content old.now) (S.content new.now) year }
+    requires before { HasBefore (R.content old.now) (S.content new.now) year.number before.now }
     requires now { (k : Name) → Takes (S.content new.now) name.now k → contains name_cmp now.now k ≡
-        is_reached (R.content old.now) (S.content new.now) (node.Line k year) }
-    ensures { result ≡ is_reached (R.content old.now) (S.content new.now) (node.Line name.now year) }
+        is_reached (R.content old.now) (S.content new.now) (node.Line k year.number) }
+    ensures { result ≡ is_reached (R.content old.now) (S.content new.now) (node.Line name.now year.number) }
 {
     let Some(id) = equation_of(new, name) else {
         return false;
     };
+    if !was_line(old, name, id, year) {
+        return true;
+    }
     for param in params_of(id) {
-        if binding_reached(old, new, new.bound(name, param), year, before, now) {
+        let was = old.bound(name, param);
+        if binding_reached(old, new, was, new.bound(name, param), year, before, now) {
             return true;
         }
     }
     false
 }
 
-// Whether what a binding gives in a year differs, or is the value of a line that is reached.
-fn binding_reached<R: Records, S: Records>(
-    old: &R,
-    new: &S,
-    binding: Option<&Binding>,
-    year: u32,
-    before: &BTreeSet<Name>,
-    now: &BTreeSet<Name>,
-) -> bool
-    requires figures { DifferInFigures (R.content old.now) (S.content new.now) }
-    requires before { HasBefore (R.content old.now) (S.content new.now) year before.now }
-    requires now { (k : Name) → TakesBinding (option_copied binding) k → contains name_cmp now.now k ≡
-        is_reached (R.content old.now) (S.content new.now) (node.Line k year) }
-    ensures { result ≡ binding_reached (R.content old.now) (S.content new.now) year
-        (option_copied binding.entry) }
+// Whether a line was there in the year, with the equation.
+fn was_line<R: Records>(old: &R, name: &Name, id: EqId, year: Year) -> bool
+    requires { year.was ≡ is_year_of (span (R.content old.now)) year.number }
+    ensures { result ≡ was_line (R.content old.now) name.now id year.number }
 {
-    match binding {
-        Some(binding) => taken_reached(old, new, binding, year, before, now),
+    year.was && has_equation(old, name, id)
+}
+
+// Whether a line is present, with the equation.
+fn has_equation<R: Records>(records: &R, name: &Name, id: EqId) -> bool
+    ensures { result ≡ option_map_or (λ e. same_equation e id) (line (R.content records.now) name.now) false }
+{
+    match equation_of(records, name) {
+        Some(own) => own == id,
         None => false,
     }
 }
 
-fn taken_reached<R: Records, S: Records>(
+// Whether what a binding gives in a year differs from what the old one gave, or is of a line that is reached.
+fn binding_reached<R: Records, S: Records>(
     old: &R,
     new: &S,
-    binding: &Binding,
-    year: u32,
+    was: Option<&Binding>,
+    binding: Option<&Binding>,
+    year: Year,
     before: &BTreeSet<Name>,
     now: &BTreeSet<Name>,
 ) -> bool
-    requires figures { DifferInFigures (R.content old.now) (S.content new.now) }
-    requires before { HasBefore (R.content old.now) (S.content new.now) year before.now }
-    requires now { (k : Name) → TakesBinding (Some binding.now) k → contains name_cmp now.now k ≡
-        is_reached (R.content old.now) (S.content new.now) (node.Line k year) }
-    ensures { result ≡ binding_reached (R.content old.now) (S.content new.now) year (Some binding.now) }
+    requires year { IsYear (R.content old.now) (S.content new.now) year }
+    requires before { HasBefore (R.content old.now) (S.content new.now) year.number before.now }
+    requires now { (k : Name) → TakesBinding (option_copied binding) k → contains name_cmp now.now k ≡
+        is_reached (R.content old.now) (S.content new.now) (node.Line k year.number) }
+    ensures { result ≡ binding_reached (R.content old.now) (S.content new.now) year.number
+        (option_copied was.entry) (option_copied binding.entry) }
 {
-    match binding {
-        Binding::Activity(name) => differ(old.activity(name, year), new.activity(name, year)),
-        Binding::Factor(name) => differ(old.factor(name, year), new.factor(name, year)),
-        Binding::Decay(name) => differ(old.decay(name, year), new.decay(name, year)),
-        Binding::Line(name) => now.contains(name),
-        Binding::Prev(name) => before.contains(name),
-        Binding::Sum(names) => has_any(now, names.as_slice()),
-        Binding::Key(_) => false,
-    }
+    let given = bound_operand(old, year.first_before, was, year.number);
+    let gives = bound_operand(new, year.first, binding, year.number);
+    operands::differ(&given, &gives) || takes_from(before, now, binding)
 }
 
-fn differ(old: Input, new: Input) -> bool
-    ensures { result ≡ not (same_input old new) }
+// Whether a line that a binding takes is in the set of the year, or of the year before.
+fn takes_from(before: &BTreeSet<Name>, now: &BTreeSet<Name>, binding: Option<&Binding>) -> bool
+    ensures { result ≡ takes_from before.now now.now (option_copied binding.entry) }
 {
-    old != new
+    match binding {
+        Some(Binding::Line(name)) => now.contains(name),
+        Some(Binding::Prev(name)) => before.contains(name),
+        Some(Binding::Sum(names)) => has_any(now, names.as_slice()),
+        _ => false,
+    }
 }
 
 fn has_any(set: &BTreeSet<Name>, names: &[Name]) -> bool
@@ -252,7 +287,6 @@ fn add_equivalents<R: Records, S: Records>(
     now: &BTreeSet<Name>,
     nodes: &mut Vec<Node>,
 ) -> Result<Vec<Category>, AllocError>
-    requires figures { DifferInFigures (R.content old.now) (S.content new.now) }
     requires emitters { IsGasWalk (R.content old.now) (S.content new.now) emitters.now }
     requires year { is_year_of (span (S.content new.now)) year ≡ true }
     requires now { HasReached (R.content old.now) (S.content new.now) year now.now }
@@ -295,7 +329,6 @@ fn equivalent_reached<R: Records, S: Records>(
     year: u32,
     now: &BTreeSet<Name>,
 ) -> bool
-    requires figures { DifferInFigures (R.content old.now) (S.content new.now) }
     requires emits { Contains (gas_lines (S.content new.now)) name.now }
     requires year { is_year_of (span (S.content new.now)) year ≡ true }
     requires now { HasReached (R.content old.now) (S.content new.now) year now.now }
@@ -304,19 +337,37 @@ fn equivalent_reached<R: Records, S: Records>(
     now.contains(name) || differ(potential(old, name, year), potential(new, name, year))
 }
 
+fn differ(old: Input, new: Input) -> bool
+    ensures { result ≡ not (same_input old new) }
+{
+    old != new
+}
+
 // ---- totals
 
-// Adds the totals of a year at or above one of the categories.
-fn add_totals(categories: &[Category], year: u32, nodes: &mut Vec<Node>) -> Result<(), AllocError>
-    ensures { OnOk result (nodes.new.items ≡ nodes.old.items ++ map (λ c. node.Total c year)
-        (filter (λ top. list_any (λ c. stands_under c top) categories.now) (reverse tree))) }
+// Adds the totals of a year that are reached: all where the old data had no such year, those that add other
+// lines, and those at or above one of the categories.
+fn add_totals(
+    categories: &[Category],
+    moved: &Moved,
+    year: Year,
+    nodes: &mut Vec<Node>,
+) -> Result<(), AllocError>
+    ensures { OnOk result (nodes.new.items ≡ nodes.old.items ++ map (λ c. node.Total c year.number)
+        (filter (is_total_of year.was moved.now categories.now) (reverse tree))) }
 {
     for top in ghg_categories::all().iter().rev() {
-        if has_under(categories, *top) {
-            nodes.push(Node::Total(*top, year))?;
+        if is_total_of(year.was, moved, categories, *top) {
+            nodes.push(Node::Total(*top, year.number))?;
         }
     }
     Ok(())
+}
+
+fn is_total_of(was: bool, moved: &Moved, categories: &[Category], top: Category) -> bool
+    ensures { result ≡ is_total_of was moved.now categories.now top }
+{
+    !was || moved.has(top) || has_under(categories, top)
 }
 
 fn has_under(categories: &[Category], top: Category) -> bool
@@ -325,13 +376,18 @@ fn has_under(categories: &[Category], top: Category) -> bool
     categories.iter().any(|category| is_under(*category, top))
 }
 
-// Adds the gross total of a year, if one of the categories counts there.
-fn add_gross(categories: &[Category], year: u32, nodes: &mut Vec<Node>) -> Result<(), AllocError>
+// Adds the gross total of a year, if it is reached.
+fn add_gross(
+    categories: &[Category],
+    moved: &Moved,
+    year: Year,
+    nodes: &mut Vec<Node>,
+) -> Result<(), AllocError>
     ensures { OnOk result (nodes.new.items ≡ nodes.old.items ++
-        (if list_any counts_in_gross categories.now then node.Gross year ∷ [] else [])) }
+        (if is_gross_of year.was moved.now categories.now then node.Gross year.number ∷ [] else [])) }
 {
-    if has_gross(categories) {
-        nodes.push(Node::Gross(year))?;
+    if !year.was || moved.gross || has_gross(categories) {
+        nodes.push(Node::Gross(year.number))?;
     }
     Ok(())
 }

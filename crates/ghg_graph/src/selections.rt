@@ -1,20 +1,22 @@
-//! The lines to which a correction may lead in some year, so that only these are gone over.
+//! The lines that edits enter, and those to which they may lead in some year, so that only these are gone
+//! over.
 
 ghost use Rattle.std.specs.Prelude.{◌≡◌, ◌<◌, ℕ, true, filter, length, map, IfOk, OnOk};
 ghost use Rattle.std.specs.BTreeSet.{IsFromIterResult, Updates, contains};
-ghost use Rattle.std.specs.List.{list_any};
+ghost use Rattle.std.specs.List.{Contains, filter_map, list_any};
 ghost use Rattle.ghg_units.specs.Name.{is_potential_name};
 ghost use Rattle.ghg_definitions.specs.declared.record.RecordKey.{RecordKey};
 ghost use Rattle.ghg_definitions.specs.Compilation.{emits, gas_lines};
-ghost use Rattle.ghg_definitions.specs.Data.{name_cmp};
+ghost use Rattle.ghg_definitions.specs.Data.{Name, name_cmp};
 ghost use Rattle.ghg_graph.specs.Index.{IsLineIndex};
 ghost use Rattle.ghg_graph.specs.Numbers.{name_at};
-ghost use Rattle.ghg_graph.specs.Selections.{HasFigures, IsSelection, has_figure, is_selected, is_weighed};
+ghost use Rattle.ghg_graph.specs.Ordering.{IsLineOrder};
+ghost use Rattle.ghg_graph.specs.Selections.{HasEntered, HasFigures, IsSelection, StandsFrom, has_figure, is_selected, is_weighed, present_line};
 ghost use Rattle.ghg_graph.specs.Worklists.{IsIn};
 
 use crate::gases::line_gas;
 use crate::index::LineIndex;
-use crate::numbers::names_of;
+use crate::numbers::{equation_of, names_of};
 use crate::worklist::reached_places;
 use ghg_data::Records;
 use ghg_definitions::RecordKey;
@@ -58,21 +60,72 @@ fn add(names: &mut BTreeSet<Name>, name: Name) -> Result<(), AllocError>
     Ok(())
 }
 
-/// The lines that take one of the figures, or a line that is selected; and the emitters that are selected, or
-/// whose gas has a warming potential among the figures.
+/// A place from which on the lines of keys stand that are present. Only the lines from there on are gone
+/// over.
+pub(crate) fn entered_from<S: Records>(
+    alloc: Global,
+    new: &S,
+    keys: &[RecordKey],
+    lines: &[Name],
+) -> Result<usize, AllocError>
+    requires { IsLineOrder (S.content new.now) lines.now }
+    ensures { IfOk result (HasEntered (S.content new.now) keys.now lines.now) }
+{
+    let names = present_lines(alloc, new, keys)?;
+    Ok(start_of(lines, set_of(alloc, &names)?))
+}
+
+fn present_lines<S: Records>(
+    alloc: Global,
+    new: &S,
+    keys: &[RecordKey],
+) -> Result<Vec<Name>, AllocError>
+    ensures { IfOk result (λ names. names.items ≡ filter_map (present_line (S.content new.now)) keys.now) }
+{
+    keys.iter()
+        .filter_map(|key| present_line(new, key))
+        .collect(alloc)
+}
+
+fn present_line<S: Records>(new: &S, key: &RecordKey) -> Option<Name>
+    ensures { result ≡ present_line (S.content new.now) key.now }
+{
+    match key {
+        RecordKey::Line(name) if equation_of(new, name).is_some() => Some(*name),
+        _ => None,
+    }
+}
+
+// The place from which on all of the names stand: the lines are gone over from the last on.
+fn start_of(lines: &[Name], names: BTreeSet<Name>) -> usize
+    requires { (name : Name) → contains name_cmp names name ≡ true → Contains lines.now name }
+    ensures { (name : Name) → contains name_cmp names name ≡ true → StandsFrom result lines.now name }
+{
+    let mut left = names;
+    let mut from = lines.len();
+    while from > 0 && !left.is_empty() {
+        from -= 1;
+        left.remove(&lines[from]);
+    }
+    from
+}
+
+/// The lines from a place on, and those that take one of the figures, or a line that is selected; and the
+/// emitters that are selected, or whose gas has a warming potential among the figures.
 pub(crate) fn select<S: Records>(
     alloc: Global,
     new: &S,
     figures: &BTreeSet<Name>,
+    from: usize,
     index: &LineIndex,
 ) -> Result<Selection, AllocError>
     requires { IsLineIndex (S.content new.now) index.now }
-    ensures lines { IfOk result (λ s. IsSelection (S.content new.now) figures.now index.now.lines.items
-        s.lines.items) }
+    ensures lines { IfOk result (λ s. IsSelection (S.content new.now) figures.now from
+        index.now.lines.items s.lines.items) }
     ensures emitters { IfOk result (λ s. s.emitters.items ≡ filter
         (is_weighed (S.content new.now) figures.now (is_selected s.lines.items)) index.now.emitters.items) }
 {
-    let places = reached_places(alloc, figures, index)?;
+    let places = reached_places(alloc, figures, from, index)?;
     let lines = lines_at(alloc, &index.lines, &places)?;
     let emitters = weighed(alloc, new, figures, &lines, &index.emitters)?;
     Ok(Selection { lines, emitters })

@@ -163,7 +163,7 @@ fn equivalent_slots<R: Records>(
 
 // The categories whose lines a total adds.
 #[derive(Clone, Copy, Drop)]
-enum Scope {
+pub(crate) enum Scope {
     // Those at a category and under it.
     Under(Category),
     // Those of the national total but land.
@@ -212,6 +212,16 @@ fn stands_within<R: Records>(records: &R, scope: &Scope, name: &Name) -> bool
 {
     match records.line(name) {
         Some((category, _)) => is_within(scope, category),
+        None => false,
+    }
+}
+
+/// Whether there is a category, and a total of the scope adds the lines there.
+pub(crate) fn is_some_within(scope: &Scope, category: Option<Category>) -> bool
+    ensures { result ≡ option_map_or (is_within scope.now) category false }
+{
+    match category {
+        Some(category) => is_within(scope, category),
         None => false,
     }
 }

@@ -1,11 +1,12 @@
-//! The places of lines to which figures lead, each once.
+//! The places of lines to which figures and entered lines lead, each once.
 
-ghost use Rattle.std.specs.Prelude.{◌≡◌, ◌<◌, ℕ, [], flat_map, length, IfOk, OnOk};
+ghost use Rattle.std.specs.Prelude.{◌≡◌, ◌∷◌, ◌-◌, ◌<◌, ℕ, [], flat_map, length, map, IfOk, OnOk};
+ghost use Rattle.std.specs.List.{range_with_len};
 ghost use Rattle.ghg_graph.specs.Takers.{places_of};
 ghost use Rattle.ghg_graph.specs.Worklists.{AreAdded, AreClosed, AreWithin, IsIn, IsQueued, IsSpread};
 
 use crate::index::LineIndex;
-use crate::takers::Places;
+use crate::takers::{Places, Taken};
 use ghg_units::Name;
 use std::alloc::{AllocError, Global};
 use std::collections::BTreeSet;
@@ -17,20 +18,30 @@ struct Worklist {
     queue: Vec<usize>,
 }
 
-/// The places of the lines that take one of the figures, or a line at one of these places.
+/// The places from one on, and those of the lines that take one of the figures, or a line at one of these
+/// places.
 pub(crate) fn reached_places(
     alloc: Global,
     figures: &BTreeSet<Name>,
+    from: usize,
     index: &LineIndex,
 ) -> Result<BTreeSet<usize>, AllocError>
     requires figures { AreWithin (length index.now.lines.items) index.now.takers.figures }
     requires lines { AreWithin (length index.now.lines.items) index.now.takers.lines }
-    ensures { IfOk result (AreClosed index.now figures.now) }
+    ensures { IfOk result (AreClosed index.now figures.now from) }
 {
+    let last = places_from(alloc, from, index.lines.len())?;
     let mut worklist = Worklist::new(alloc);
     worklist.add_figures(figures, &index.takers.figures)?;
+    worklist.add_all(&last)?;
     worklist.spread(index)?;
     Ok(worklist.selected)
+}
+
+fn places_from(alloc: Global, from: usize, end: usize) -> Result<Vec<usize>, AllocError>
+    ensures { IfOk result (λ places. places.items ≡ range_with_len from (end - from)) }
+{
+    (from..end).collect(alloc)
 }
 
 impl Worklist {
@@ -74,16 +85,37 @@ impl Worklist {
         Ok(())
     }
 
-    // Adds places that are not selected yet.
-    fn add(&mut self, places: &[usize]) -> Result<(), AllocError>
+    // Adds the places of takers.
+    fn add(&mut self, takers: &[Taken]) -> Result<(), AllocError>
+        requires { IsQueued self.old }
+        ensures queued { OnOk result (IsQueued self.new) }
+        ensures added { OnOk result (AreAdded (map (λ t. t.place) takers.now) self.old self.new) }
+    {
+        for taker in takers {
+            self.put(taker.place)?;
+        }
+        Ok(())
+    }
+
+    fn add_all(&mut self, places: &[usize]) -> Result<(), AllocError>
         requires { IsQueued self.old }
         ensures queued { OnOk result (IsQueued self.new) }
         ensures added { OnOk result (AreAdded places.now self.old self.new) }
     {
         for place in places {
-            if self.selected.insert(*place)? {
-                self.queue.push(*place)?;
-            }
+            self.put(*place)?;
+        }
+        Ok(())
+    }
+
+    // Adds a place, if it is not selected yet.
+    fn put(&mut self, place: usize) -> Result<(), AllocError>
+        requires { IsQueued self.old }
+        ensures queued { OnOk result (IsQueued self.new) }
+        ensures added { OnOk result (AreAdded (place ∷ []) self.old self.new) }
+    {
+        if self.selected.insert(place)? {
+            self.queue.push(place)?;
         }
         Ok(())
     }

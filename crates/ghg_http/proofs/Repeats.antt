@@ -38,7 +38,7 @@ module _ (s after : State) (id body : List ℕ) (seq : ℕ) (repeat : submitted 
   answered_so KeeperFault h may =
       let none : is_accepted (Repeated seq) ≡ true = sym (ap (λ (a : Answer). is_accepted a.reply) repeat) ∙ may in absurd cc
   answered_so Memory h may = absurd (read_anew s id body seq may (ap (λ (a : Answer). a.reply) repeat))
-  answered_so (Accepted n) h may = as_due _ h
+  answered_so (Accepted n cells) h may = as_due _ h
   answered_so (Repeated n) h may = as_due _ h
   answered_so (Refused rule) h may = as_due _ h
   answered_so (Table text) h may = as_due _ h

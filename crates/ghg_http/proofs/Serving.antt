@@ -41,7 +41,7 @@ is_shown s name (Some year) e = by (table_in name) e
 
 no_fault : (due answer : Reply) → due ≢ answered.KeeperFault → Shows due answer → answer ≢ answered.KeeperFault
 no_fault due answered.KeeperFault none h e = none (sym h)
-no_fault due (answered.Accepted seq) none h e = cc
+no_fault due (answered.Accepted seq cells) none h e = cc
 no_fault due (answered.Repeated seq) none h e = cc
 no_fault due (answered.Refused rule) none h e = cc
 no_fault due (answered.Table text) none h e = cc

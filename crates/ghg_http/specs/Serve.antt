@@ -54,7 +54,7 @@ pub record AnswersRequest (s : State) (request : Request) (after : State) (resul
   pub replies : Replies s request due after
   pub made : IfOk result (IsMessageOf due)
 
--- how many evaluations a request asks for
+-- how many evaluations a request asks for: of a submission those of the nodes that its rows affect
 abbrev pub evaluations_for : State → Request → ℕ
 evaluations_for s (Submit id body) = evaluations s id body
 evaluations_for s request = 0

@@ -20,7 +20,7 @@ rule_code rule = 422
 
 -- the code of what the office answers
 abbrev pub office_code : Reply → ℕ
-office_code (Accepted seq) = 201
+office_code (Accepted seq cells) = 201
 office_code (Repeated seq) = 200
 office_code (Refused rule) = rule_code rule
 office_code (Table lines) = 200

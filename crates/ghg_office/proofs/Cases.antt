@@ -12,7 +12,7 @@ use Rattle.ghg_office.specs.Office.{Answer, State, decided, entered_by, judged, 
 
 -- it is not accepted, and nothing changes
 pub record LeavesState (s : State) (answer : Answer) : Type 0 where
-  pub other : (seq : ℕ) → answer.reply ≢ Accepted seq
+  pub other : (seq cells : ℕ) → answer.reply ≢ Accepted seq cells
   pub after : answer.after ≡ s
 
 -- its id is new, and its rows make these data
@@ -23,11 +23,11 @@ pub record IsAccepted (s : State) (id body : List ℕ) (answer : Answer) : Type 
   pub made : entered_by s body ≡ Ok content
   pub answers : answer ≡ decided s id body (Ok content)
 
-pub is_other : (rule : Rule) (seq : ℕ) → Refused rule ≢ Accepted seq
-is_other rule seq e = cc
+pub is_other : (rule : Rule) (seq cells : ℕ) → Refused rule ≢ Accepted seq cells
+is_other rule seq cells e = cc
 
-is_repeat : (kept seq : ℕ) → Repeated kept ≢ Accepted seq
-is_repeat kept seq e = cc
+is_repeat : (kept seq cells : ℕ) → Repeated kept ≢ Accepted seq cells
+is_repeat kept seq cells e = cc
 
 module _ (s : State) (id body : List ℕ) where
   abbrev pub Either : Answer → Type 0

@@ -1,10 +1,12 @@
 -- What data keep once rows are entered.
 use Rattle.std.proofs.Common.{◌≡◌, ◌≤◌, ◌+◌, ℕ, Bool, true, false, nat_lt, List, [], ◌∷◌, ◌++◌, length, Option, Some, None, option_map, Result, Ok, Err, if◌then◌else◌, refl, sym, ap, ap₂, ◌∙◌}
 use Rattle.std.proofs.lemmas.Bool.{ltb-false}
+use Rattle.ghg_affected.specs.Affected.{affected_nodes}
 use Rattle.ghg_definitions.specs.Compilation.{overflow}
 use Rattle.ghg_definitions.specs.Data.{Data}
 use Rattle.ghg_definitions.specs.Rings.{ring_line}
 use Rattle.ghg_definitions.specs.Rules.{accepted, after_rows, arranged, binding_fault, judged, limit_fault, most_kept_bytes, or_broken, passed_limit, planned, rows_applied, unsound_place, without_ring}
+use Rattle.ghg_data.specs.Changes.{Change, applied}
 use Rattle.ghg_data.specs.declared.refusal.PlanRefusal.{PlanRefusal}
 use Rattle.ghg_data.specs.declared.refusal.PlanRefusal.TheVariants as refusal
 use Rattle.ghg_data.specs.Refusal.{IfRule}
@@ -69,18 +71,24 @@ entered-bytes m n reading bytes e = by (rows_applied m reading.rows) reading.res
     by (Ok k) None e = bound (binding_fault (unsound_place k)) k e
 
 -- what is answered where nothing is broken, and the state after it
-accepted_decided : (s : State) (id body : List ℕ) (r : Result Data Rule) (m n : Data) (seq : ℕ) (list : List KeptRow)
-    → r ≡ Ok m → n ≡ m → seq ≡ length s.accepted + 1 → list ≡ s.accepted ++ (record { id = id; body = body } ∷ [])
-    → (Accepted seq ≡ (decided s id body r).reply) × (◌≡◌ {A = State} (record { content = n; accepted = list }) (decided s id body r).after)
-accepted_decided s id body (Err rule) m n seq list e f g h = absurd (cc)
-accepted_decided s id body (Ok k) m n seq list e f g h =
+accepted_decided : (s : State) (id body : List ℕ) (r : Result Data Rule) (m n : Data) (seq cells : ℕ) (list : List KeptRow)
+    → r ≡ Ok m → n ≡ m → seq ≡ length s.accepted + 1 → cells ≡ length (affected_nodes s.content m) → list ≡ s.accepted ++ (record { id = id; body = body } ∷ [])
+    → (Accepted seq cells ≡ (decided s id body r).reply) × (◌≡◌ {A = State} (record { content = n; accepted = list }) (decided s id body r).after)
+accepted_decided s id body (Err rule) m n seq cells list e f g count h = absurd (cc)
+accepted_decided s id body (Ok k) m n seq cells list e f g count h =
     let same : k ≡ m = cc in
-    (ap Accepted g, ap₂ (λ (c : Data) (l : List KeptRow). record { content = c; accepted = l }) (f ∙ sym same) h)
+    (ap₂ Accepted g (count ∙ ap (λ c. length (affected_nodes s.content c)) (sym same)), ap₂ (λ (c : Data) (l : List KeptRow). record { content = c; accepted = l }) (f ∙ sym same) h)
 
-pub accepted_answers : (s : State) (id body : List ℕ) (m n : Data) (seq : ℕ) (list : List KeptRow) → IsRead s id body → entered_by s body ≡ Ok m
-    → n ≡ m → seq ≡ length s.accepted + 1 → list ≡ s.accepted ++ (record { id = id; body = body } ∷ [])
-    → Answers (submitted s id body) (Accepted seq) s (record { content = n; accepted = list })
-accepted_answers s id body m n seq list read e f g h = rw (read_decided s id body read) (accepted_decided s id body (entered_by s body) m n seq list e f g h)
+pub accepted_answers : (s : State) (id body : List ℕ) (m n : Data) (seq cells : ℕ) (list : List KeptRow) → IsRead s id body → entered_by s body ≡ Ok m
+    → n ≡ m → seq ≡ length s.accepted + 1 → cells ≡ length (affected_nodes s.content m) → list ≡ s.accepted ++ (record { id = id; body = body } ∷ [])
+    → Answers (submitted s id body) (Accepted seq cells) s (record { content = n; accepted = list })
+accepted_answers s id body m n seq cells list read e f g count h =
+    rw (read_decided s id body read) (accepted_decided s id body (entered_by s body) m n seq cells list e f g count h)
+
+-- as many nodes are affected, where the data stayed and are those of the state
+pub counted : (old new content : Data) (edits : List Change) (cells : ℕ) → new ≡ old → old ≡ content
+    → cells ≡ length (affected_nodes new (applied new edits)) → cells ≡ length (affected_nodes content (applied old edits))
+counted old new content edits cells kept same h = h ∙ ap₂ (λ m n. length (affected_nodes m (applied n edits))) (kept ∙ same) kept
 
 refused_answers : (s t : State) (id body : List ℕ) (rule : Rule) → IsRead s id body → entered_by s body ≡ Err rule → t ≡ s → Answers (submitted s id body) (Refused rule) s t
 refused_answers s t id body rule read e same = rw (read_decided s id body read, e) (refl, same)
@@ -96,7 +104,7 @@ planned_answers opened s t id body refusal.Memory same read e kept = kept ∙ sa
 pub failed_answers : (answer : Answer) (reply : Reply) (s t : State) → is_failure reply ≡ true → t ≡ s → Answers answer reply s t
 failed_answers answer KeeperFault s t e same = same
 failed_answers answer Memory s t e same = same
-failed_answers answer (Accepted seq) s t e same = absurd (cc)
+failed_answers answer (Accepted seq cells) s t e same = absurd (cc)
 failed_answers answer (Repeated seq) s t e same = absurd (cc)
 failed_answers answer (Refused rule) s t e same = absurd (cc)
 failed_answers answer (Table text) s t e same = absurd (cc)

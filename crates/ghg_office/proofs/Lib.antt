@@ -1,7 +1,6 @@
 pub mod Cases
 pub mod Reading
 pub mod Entered
-pub mod Figures
 pub mod Kept
 pub mod Calls
 pub mod InForce

@@ -23,10 +23,10 @@ module _ (s : State) (id body : List ℕ) (rebuilt : IsRebuilt s) where
   next = record { id = id; body = body }
 
   list_rebuilds : (list : List KeptRow) (after : State) → list ≡ s.accepted ++ (next ∷ []) → after ≡ (submitted s id body).after
-      → (submitted s id body).reply ≡ Accepted (length s.accepted + 1) → AreAccepted start list × (state_after_all start list ≡ after)
+      → (cells : ℕ) → (submitted s id body).reply ≡ Accepted (length s.accepted + 1) cells → AreAccepted start list × (state_after_all start list ≡ after)
   unfolding next
-  list_rebuilds list after e a reply =
-      let last : AreAccepted (state_after_all start s.accepted) (next ∷ []) = subst (λ t. AreAccepted t (next ∷ [])) (sym rebuilt.same) (reply, tt) in
+  list_rebuilds list after e a cells reply =
+      let last : AreAccepted (state_after_all start s.accepted) (next ∷ []) = subst (λ t. AreAccepted t (next ∷ [])) (sym rebuilt.same) ((cells, reply), tt) in
       let whole = accepted_push start s.accepted next rebuilt.whole last in
       let same = after-push start s.accepted next ∙ ap (λ t. (submitted t id body).after) rebuilt.same in
       (subst (AreAccepted start) (sym e) whole, ap (state_after_all start) e ∙ same ∙ sym a)
@@ -34,7 +34,7 @@ module _ (s : State) (id body : List ℕ) (rebuilt : IsRebuilt s) where
   accepted_rebuilt : IsAccepted s id body (submitted s id body) → IsRebuilt (submitted s id body).after
   unfolding next
   accepted_rebuilt new =
-      let parts = list_rebuilds (submitted s id body).after.accepted (submitted s id body).after (ap (λ answer. answer.after.accepted) new.answers) refl (ap (λ answer. answer.reply) new.answers) in
+      let parts = list_rebuilds (submitted s id body).after.accepted (submitted s id body).after (ap (λ answer. answer.after.accepted) new.answers) refl _ (ap (λ answer. answer.reply) new.answers) in
       record { whole = parts.0; same = parts.1 }
 
   submitted_rebuilt : IsRebuilt (submitted s id body).after
@@ -49,7 +49,7 @@ lists_rebuild given = reached IsRebuilt (λ s id body h. submitted_rebuilt s id 
 -- rows that are accepted one after the other are replayed whole
 accepted_replayed : (seq : ℕ) (s : State) (rows : List KeptRow) → AreAccepted s rows → replayed_from seq s rows ≡ Ok (state_after_all s rows)
 accepted_replayed seq s [] all = refl
-accepted_replayed seq s (row ∷ rows) all = rw all.0 (accepted_replayed (seq + 1) (submitted s row.id row.body).after rows all.1)
+accepted_replayed seq s (row ∷ rows) all = rw all.0.1 (accepted_replayed (seq + 1) (submitted s row.id row.body).after rows all.1)
 
 pub replays_rebuild : ReplaysRebuildStates
 replays_rebuild given = let rebuilt = lists_rebuild given in accepted_replayed 1 start (state_after_all start given).accepted rebuilt.whole ∙ ap Ok rebuilt.same

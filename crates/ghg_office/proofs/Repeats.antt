@@ -61,22 +61,22 @@ unfolding submitted
 kept_repeated s id body seq form kept = rw (form, kept, bytes_same body) refl
 
 -- one that was accepted is kept
-accepted_kept : (s : State) (id body : List ℕ) (seq : ℕ) → IsAccepted s id body (submitted s id body) → (submitted s id body).reply ≡ Accepted seq
+accepted_kept : (s : State) (id body : List ℕ) (seq cells : ℕ) → IsAccepted s id body (submitted s id body) → (submitted s id body).reply ≡ Accepted seq cells
     → IsKept id (record { seq = seq; body = body }) (submitted s id body).after
-accepted_kept s id body seq new e =
-    let number : length s.accepted + 1 ≡ seq = same_number (length s.accepted + 1) seq (sym (ap (λ answer. answer.reply) new.answers) ∙ e) in
+accepted_kept s id body seq cells new e =
+    let number : length s.accepted + 1 ≡ seq = same_number _ _ _ _ (sym (ap (λ answer. answer.reply) new.answers) ∙ e) in
     let place : 1 + length s.accepted ≡ seq = omega arith in
     subst (λ answer. IsKept id (record { seq = seq; body = body }) answer.after) (sym new.answers)
     (kept-last 1 id body s.accepted new.new_id ∙ ap (λ n. Some (record { seq = n; body = body })) place)
   where
-    same_number : (n k : ℕ) → Accepted n ≡ Accepted k → n ≡ k
-    same_number n k e = cc
+    same_number : (n k m l : ℕ) → Accepted n m ≡ Accepted k l → n ≡ k
+    same_number n k m l e = cc
 
 pub repeats_act_once : RepeatsActOnce
-repeats_act_once s id body seq others e = elim (submitted_cases s id body) [
-  | inl left ↦ absurd (left.other seq e)
+repeats_act_once s id body seq cells others e = elim (submitted_cases s id body) [
+  | inl left ↦ absurd (left.other seq cells e)
   | inr new ↦
-      let kept = accepted_kept s id body seq new e in
+      let kept = accepted_kept s id body seq cells new e in
       let later = state_after_all (submitted s id body).after others in
       kept_repeated later id body seq new.id_form (reached (IsKept id (record { seq = seq; body = body })) (kept_stays id (record { seq = seq; body = body })) (submitted s id body).after others kept)
 ]

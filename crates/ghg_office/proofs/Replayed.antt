@@ -32,8 +32,8 @@ taken_after seq answer t e = by (is_accepted answer.reply) e
     by false e = absurd (cc)
 
 -- what is not accepted is not taken
-not_taken : (seq : ℕ) (given : Reply) (s t : State) → ((n : ℕ) → given ≢ Accepted n) → taken seq (unchanged s given) ≡ Ok t → ⊥
-not_taken seq (Accepted n) s t other e = other n refl
+not_taken : (seq : ℕ) (given : Reply) (s t : State) → ((n cells : ℕ) → given ≢ Accepted n cells) → taken seq (unchanged s given) ≡ Ok t → ⊥
+not_taken seq (Accepted n cells) s t other e = other n cells refl
 not_taken seq (Repeated n) s t other e = cc
 not_taken seq (Refused rule) s t other e = cc
 not_taken seq (Table text) s t other e = cc

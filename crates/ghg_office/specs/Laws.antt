@@ -34,8 +34,8 @@ StatesStayInForce = (given : List KeptRow) → IsInForce (state_after_all start 
 
 -- A submission that was accepted is Repeated with its number whenever it is given again, and changes nothing.
 abbrev pub RepeatsActOnce : Type 0
-RepeatsActOnce = (s : State) (id body : List ℕ) (seq : ℕ) (others : List KeptRow) →
-    (submitted s id body).reply ≡ Accepted seq →
+RepeatsActOnce = (s : State) (id body : List ℕ) (seq cells : ℕ) (others : List KeptRow) →
+    (submitted s id body).reply ≡ Accepted seq cells →
     let later = state_after_all (submitted s id body).after others in
     submitted later id body ≡ repeated later seq
 
@@ -45,7 +45,7 @@ RepeatsActOnce = (s : State) (id body : List ℕ) (seq : ℕ) (others : List Kep
 abbrev pub AreAccepted : State → List KeptRow → Type 0
 AreAccepted s [] = ⊤
 AreAccepted s (given ∷ rest) =
-    ((submitted s given.id given.body).reply ≡ Accepted (length s.accepted + 1)) ×
+    ((cells : ℕ) × ((submitted s given.id given.body).reply ≡ Accepted (length s.accepted + 1) cells)) ×
     AreAccepted (submitted s given.id given.body).after rest
 
 -- the accepted list, submitted in its order from the start, is accepted whole and leads to the state

@@ -1,16 +1,13 @@
 -- The office: the data in force, the submissions that it accepted, and what it answers.
-use Rattle.std.specs.Prelude.{◌≡◌, ℕ, ◌≤◌, Bool, true, ◌+◌, nat_lt, if◌then◌else◌, List, [], ◌∷◌, ◌++◌, length, Option, Some, None, Result, Ok, Err, refl}
+use Rattle.std.specs.Prelude.{◌≡◌, ℕ, ◌≤◌, true, ◌+◌, nat_lt, if◌then◌else◌, List, [], ◌∷◌, ◌++◌, length, Option, Some, None, Result, Ok, Err, refl}
 use Rattle.std.specs.Str.{bytes_eq}
 use Rattle.std.specs.Coded.{Coded, code_by, coded×, coded_list}
 use Rattle.std.specs.FinMap.{code, empty}
-use Rattle.std.specs.List.{list_all}
 use Rattle.ghg_affected.specs.Affected.{affected_nodes}
-use Rattle.ghg_affected.specs.Figures.{is_figure_key}
 use Rattle.ghg_definitions.specs.declared.record.Record.{Record}
 use Rattle.ghg_definitions.specs.declared.record.RecordKey.{RecordKey}
-use Rattle.ghg_definitions.specs.Compilation.{compilation, is_year_of, nodes}
+use Rattle.ghg_definitions.specs.Compilation.{compilation, is_year_of}
 use Rattle.ghg_definitions.specs.Data.{Data, span}
-use Rattle.ghg_definitions.specs.Rows.{key_of}
 use Rattle.ghg_definitions.specs.Rules.{accepted, arranged}
 use Rattle.ghg_import.specs.Body.{max_body}
 use Rattle.ghg_import.specs.Reading.{Reading, reading_of}
@@ -22,8 +19,6 @@ use Rattle.ghg_office.specs.declared.reply.Reply.TheVariants.{Accepted, Repeated
 use Rattle.ghg_tables.specs.declared.table.Table.{Table}
 use Rattle.ghg_tables.specs.Names.{table_in}
 use Rattle.ghg_tables.specs.Tables.{table_text}
-use Rattle.ghg_units.specs.declared.node.Node.{Node}
-use Rattle.ghg_units.specs.declared.row.Row.{Row}
 use Rattle.ghg_units.specs.declared.rule.Rule.{Rule}
 use Rattle.ghg_units.specs.declared.rule.Rule.TheVariants.{BadId, IdReused, BodyTooLong}
 
@@ -64,10 +59,11 @@ unchanged s reply = record { reply = reply; after = s }
 abbrev pub refused : State → Rule → Answer
 refused s rule = unchanged s (Refused rule)
 
+-- the submission is accepted under the next number, with the number of the nodes that its rows affect
 abbrev pub decided : State → List ℕ → List ℕ → Result Data Rule → Answer
 decided s id body (Err rule) = refused s rule
 decided s id body (Ok m) = record {
-  reply = Accepted (length s.accepted + 1);
+  reply = Accepted (length s.accepted + 1) (length (affected_nodes s.content m));
   after = record { content = m; accepted = s.accepted ++ (record { id = id; body = body } ∷ []) };
 }
 
@@ -92,19 +88,11 @@ submitted s id body = if is_id id then once s id body (kept_from 1 id s.accepted
 
 -- ---- how many evaluations a submission asks for
 
--- each row is about an activity, a factor or uncertainties
-abbrev pub are_rows_of_figures : List Row → Bool
-are_rows_of_figures rows = list_all (λ row. is_figure_key (key_of row.form)) rows
-
--- The nodes that are evaluated where rows lead from old data to new ones: the affected nodes, where the rows
--- are of figures alone, else all nodes of the new data.
-abbrev pub nodes_to_evaluate : Data → List Row → Data → List Node
-nodes_to_evaluate old rows new = if are_rows_of_figures rows then affected_nodes old new else nodes new
-
--- the evaluations of these, where no rule but that on overflows may be broken
-abbrev pub evaluations_of_rows : Data → List Row → Result Data Rule → ℕ
-evaluations_of_rows old rows (Err rule) = 0
-evaluations_of_rows old rows (Ok new) = length (nodes_to_evaluate old rows new)
+-- where rows lead from old data to new ones: one of each affected node, where no rule but that on overflows
+-- may be broken
+abbrev pub evaluations_of_rows : Data → Result Data Rule → ℕ
+evaluations_of_rows old (Err rule) = 0
+evaluations_of_rows old (Ok new) = length (affected_nodes old new)
 
 -- the data with the rows of a body that is submitted in a state, before they are compiled
 abbrev pub arranged_by : State → List ℕ → Result Data Rule
@@ -113,7 +101,7 @@ arranged_by s body =
 
 -- of a body that is submitted in a state
 abbrev pub evaluations_by : State → List ℕ → ℕ
-evaluations_by s body = evaluations_of_rows s.content (reading_of body).rows (arranged_by s body)
+evaluations_by s body = evaluations_of_rows s.content (arranged_by s body)
 
 -- of a submission with an id that is not kept
 abbrev pub new_evaluations : State → List ℕ → ℕ

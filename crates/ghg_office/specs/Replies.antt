@@ -3,6 +3,7 @@ use Rattle.std.specs.Prelude.{◌≡◌, ⊤, ℕ, Bool, true, false, List, ◌+
 use Rattle.std.specs.Fmt.{decimal}
 use Rattle.ghg_data.specs.declared.refusal.PlanRefusal.{PlanRefusal}
 use Rattle.ghg_data.specs.declared.refusal.PlanRefusal.TheVariants as refusal
+use Rattle.ghg_office.specs.declared.reply.Acceptance.{Acceptance}
 use Rattle.ghg_office.specs.declared.reply.Reply.{Reply}
 use Rattle.ghg_office.specs.declared.reply.Reply.TheVariants.{Accepted, Repeated, Refused, Table, NoTable, KeeperFault, Memory}
 use Rattle.ghg_keeper.specs.declared.keeper.KeepError.{KeepError}
@@ -12,7 +13,7 @@ use Rattle.ghg_units.specs.Refusals.{refusal_text}
 
 -- the line of a reply, without its end; a table is its own lines
 unfoldable pub reply_text : Reply → List ℕ
-reply_text (Accepted seq) = codes "accepted " ++ decimal seq
+reply_text (Accepted seq cells) = codes "accepted " ++ decimal seq
 reply_text (Repeated seq) = codes "repeated " ++ decimal seq
 reply_text (Refused rule) = codes "refused " ++ refusal_text rule
 reply_text (Table text) = text
@@ -22,7 +23,7 @@ reply_text Memory = codes "memory"
 
 -- whether the line of the reply has a fixed length at most, and needs no memory; a failure has no such line
 abbrev pub is_short : Reply → Bool
-is_short (Accepted seq) = true
+is_short (Accepted seq cells) = true
 is_short (Repeated seq) = true
 is_short (Refused rule) = false
 is_short (Table text) = false
@@ -35,7 +36,7 @@ is_table (Table text) = true
 is_table reply = false
 
 abbrev pub is_accepted : Reply → Bool
-is_accepted (Accepted seq) = true
+is_accepted (Accepted seq cells) = true
 is_accepted reply = false
 
 -- whether the reply says that the keeper failed or memory ran out
@@ -56,9 +57,9 @@ abbrev pub Shows : Reply → Reply → Type 0
 Shows due Memory = ⊤
 Shows due reply = reply ≡ due
 
--- the reply to a submission that has this number, or the reply in its place
-abbrev pub reply_of : Result ℕ Reply → Reply
-reply_of (Ok seq) = Accepted seq
+-- the reply to a submission that is accepted so, or the reply in its place
+abbrev pub reply_of : Result Acceptance Reply → Reply
+reply_of (Ok made) = Accepted made.seq made.cells
 reply_of (Err reply) = reply
 
 -- the reply where rows are not planned

@@ -17,7 +17,7 @@ use crate::fault::OpenFault;
 use crate::id::SubmissionId;
 use crate::keeping::append_row;
 use crate::proposing::prepare;
-use crate::reply::Reply;
+use crate::reply::{Acceptance, Reply};
 use ghg_data::{Book, Records};
 use ghg_engine::Engine;
 use ghg_graph::Cells;
@@ -68,7 +68,8 @@ impl Office {
         steps: &mut Steps<L>,
     ) -> Result<Office, OpenFault>
         // The result is that of replaying rows, but where the keeper failed or memory ran out. A keeper that
-        // tells its rows after the call tells these. No more nodes are evaluated than these rows ask for.
+        // tells its rows after the call tells these. No more nodes are evaluated than each of these rows
+        // affects in its turn.
         ensures replays { (rows : _) × Lists (K.shelf keeper.new) rows × IsReplay (replayed rows) result
             × (steps.new ≤ steps.old + replay_evaluations start rows) }
         ensures keeps { Keeps (K.shelf keeper.old) (K.shelf keeper.new) }
@@ -105,13 +106,14 @@ impl Office {
         }
     }
 
-    // Enters a kept row, and gives its number. With any other reply nothing changes.
+    // Enters a kept row, and gives its number and how many nodes it affects. With any other reply nothing
+    // changes.
     fn submit_row<L: Ledger>(
         &mut self,
         alloc: Global,
         row: KeptRow,
         steps: &mut Steps<L>,
-    ) -> Result<u64, Reply>
+    ) -> Result<Acceptance, Reply>
         ensures answer { Answers (submitted self.old row.id row.body) (reply_of result) self.old self.new }
         ensures keeper { reply_of result ≢ Reply.KeeperFault }
         ensures steps { steps.new ≤ steps.old + evaluations self.old row.id row.body }
@@ -125,8 +127,10 @@ impl Office {
             body.as_slice(),
             steps,
         )?;
+        let cells = proposal.cells();
         self.engine.accept(proposal);
-        Ok(self.accepted.push(id, body))
+        let seq = self.accepted.push(id, body);
+        Ok(Acceptance { seq, cells })
     }
 
     /// Answers a submission, and appends it to the keeper's rows where it is accepted and is to be stored.
@@ -146,9 +150,8 @@ impl Office {
         ensures answer { Answers (submitted self.old id.now body.now) result self.old self.new }
         // Only a new submission whose body is read takes memory.
         ensures memory { result ≡ Reply.Memory → IsRead self.old id.now body.now }
-        // With any answer no more nodes are evaluated than the rows affect, where these are of figures alone,
-        // and else no more than the data with them have; none for a repeat, or where a rule before the last
-        // is broken.
+        // With any answer no more nodes are evaluated than the rows affect; none for a repeat, or where a
+        // rule before the last is broken.
         ensures steps { steps.new ≤ steps.old + evaluations self.old id.now body.now }
         // With any answer the rows that a keeper tells are the accepted submissions.
         ensures kept { stored ≡ true
@@ -191,8 +194,9 @@ impl Office {
         Ok(id)
     }
 
-    // Enters a new submission whose body is to be read, and gives its number. With any other reply nothing
-    // changes: all memory is taken first, then the row is appended, and what follows cannot fail.
+    // Enters a new submission whose body is to be read, and gives its number and how many nodes it affects.
+    // With any other reply nothing changes: all memory is taken first, then the row is appended, and what
+    // follows cannot fail.
     fn enter<K: Keeper, L: Ledger>(
         &mut self,
         alloc: Global,
@@ -201,7 +205,7 @@ impl Office {
         keeper: &mut K,
         stored: bool,
         steps: &mut Steps<L>,
-    ) -> Result<u64, Reply>
+    ) -> Result<Acceptance, Reply>
         requires read { IsRead self.old id body.now }
         requires same { stored ≡ true → Lists (K.shelf keeper.old) self.old.accepted }
         ensures answer { Answers (submitted self.old id body.now) (reply_of result) self.old self.new }
@@ -218,8 +222,10 @@ impl Office {
         let proposal = prepare(&mut self.engine, &mut self.accepted, alloc, body, steps)?;
         let kept = Text::new(Vec::from_slice(alloc, body)?);
         append_row(keeper, stored, &id, body)?;
+        let cells = proposal.cells();
         self.engine.accept(proposal);
-        Ok(self.accepted.push(id, kept))
+        let seq = self.accepted.push(id, kept);
+        Ok(Acceptance { seq, cells })
     }
 
     /// Answers a request for a table of a year, printed from the compilation of the data in force.
@@ -254,11 +260,11 @@ fn has_year(book: &Book, year: u32) -> bool
     }
 }
 
-fn reply_of(outcome: Result<u64, Reply>) -> Reply
+fn reply_of(outcome: Result<Acceptance, Reply>) -> Reply
     ensures { result ≡ reply_of outcome }
 {
     match outcome {
-        Ok(seq) => Reply::Accepted { seq },
+        Ok(Acceptance { seq, cells }) => Reply::Accepted { seq, cells },
         Err(reply) => reply,
     }
 }

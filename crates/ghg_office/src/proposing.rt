@@ -63,7 +63,7 @@ fn propose<L: Ledger>(
 ) -> Result<Proposal, PlanRefusal>
     requires { AllByRecursion IsWellFormed rows.rows.items }
     ensures kept { engine.new.content ≡ engine.old.content }
-    ensures steps { steps.new ≤ steps.old + evaluations_of_rows engine.old.content rows.rows.items
+    ensures steps { steps.new ≤ steps.old + evaluations_of_rows engine.old.content
         (arranged engine.old.content rows.rows.items rows.rest kept_bytes) }
     ensures proposed { IfOk result (IsProposed engine.new) }
     ensures entered { let made =

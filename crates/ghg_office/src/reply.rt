@@ -16,8 +16,8 @@ use std::alloc::AllocError;
 /// The answer to a submission or to a request for a table.
 #[derive(Drop)]
 pub enum Reply {
-    /// The submission is in force, and has this number.
-    Accepted { seq: u64 },
+    /// The submission is in force, has this number, and affects this many nodes.
+    Accepted { seq: u64, cells: u64 },
     /// The submission was accepted before, under this number.
     Repeated { seq: u64 },
     /// The submission breaks this rule, and changed nothing.
@@ -30,6 +30,13 @@ pub enum Reply {
     KeeperFault,
     /// Memory ran out, and nothing changed.
     Memory,
+}
+
+/// The number of a submission that is accepted, and how many nodes it affects.
+#[derive(Drop)]
+pub(crate) struct Acceptance {
+    pub(crate) seq: u64,
+    pub(crate) cells: u64,
 }
 
 impl From<AllocError> for Reply {
@@ -129,7 +136,7 @@ pub fn short_text(reply: &Reply) -> Option<ShortLine>
     ensures utf8 { IfSome result (λ line. IsUtf8 line.items) }
 {
     match reply {
-        Reply::Accepted { seq } => Some(numbered("accepted ", *seq)),
+        Reply::Accepted { seq, .. } => Some(numbered("accepted ", *seq)),
         Reply::Repeated { seq } => Some(numbered("repeated ", *seq)),
         Reply::NoTable => Some(words_alone("no table")),
         Reply::Refused(_) | Reply::Table(_) | Reply::KeeperFault | Reply::Memory => None,

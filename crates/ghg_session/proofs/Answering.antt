@@ -42,15 +42,15 @@ read_needs s id body read = rw (read.id_form, read.new_id) (judged_needs (nat_lt
     judged_needs false = decided_needs (entered_by s body)
 
 -- what is not accepted changes nothing
-stays : (s : State) (id body : List ℕ) (reply : Reply) → ((seq : ℕ) → reply ≢ Accepted seq) → reply ≡ (submitted s id body).reply
+stays : (s : State) (id body : List ℕ) (reply : Reply) → ((seq cells : ℕ) → reply ≢ Accepted seq cells) → reply ≡ (submitted s id body).reply
     → (submitted s id body).after ≡ s
 stays s id body reply other e = elim (submitted_cases s id body) [
   | inl left ↦ left.after
-  | inr new ↦ absurd (other (length s.accepted + 1) (e ∙ ap (λ (a : Answer). a.reply) new.answers))
+  | inr new ↦ absurd (other (length s.accepted + 1) _ (e ∙ ap (λ (a : Answer). a.reply) new.answers))
 ]
 
-is_table : (text : List ℕ) (seq : ℕ) → Table text ≢ Accepted seq
-is_table text seq e = cc
+is_table : (text : List ℕ) (seq cells : ℕ) → Table text ≢ Accepted seq cells
+is_table text seq cells e = cc
 
 -- where there is no reply to a submission, nothing changed, and the submission may be left undone
 pub submission_undone : (s : State) (id body : List ℕ) (stored : Bool) (reply : Reply) (stop : Stop) (new : State)
@@ -61,7 +61,7 @@ unfolding takes_memory
 submission_undone s id body stored KeeperFault stop new h read kept none =
     (h, rw none.0 (append_kept s id body stored (kept refl)))
 submission_undone s id body stored Memory stop new h read kept none = (h, rw none.0 (read_needs s id body (read refl)))
-submission_undone s id body stored (Accepted seq) stop new h read kept none = let long = none.1 in absurd cc
+submission_undone s id body stored (Accepted seq cells) stop new h read kept none = let long = none.1 in absurd cc
 submission_undone s id body stored (Repeated seq) stop new h read kept none = let long = none.1 in absurd cc
 submission_undone s id body stored (Refused rule) stop new h read kept none =
     (h.1 ∙ stays s id body (Refused rule) (is_other rule) h.0, rw none.0 (ap needs_memory (sym h.0)))
@@ -103,7 +103,7 @@ pub table_undone : (s : State) (table : List ℕ) (year : ℕ) (reply : Reply) (
 unfolding takes_memory
 table_undone s table year Memory stop h there none = rw none.0 (requested_needs s table year (there refl))
 table_undone s table year KeeperFault stop h there none = absurd (requested_works s table year (sym h))
-table_undone s table year (Accepted seq) stop h there none = let long = none.1 in absurd cc
+table_undone s table year (Accepted seq cells) stop h there none = let long = none.1 in absurd cc
 table_undone s table year (Repeated seq) stop h there none = let long = none.1 in absurd cc
 table_undone s table year (Refused rule) stop h there none = rw none.0 (ap needs_memory (sym h))
 table_undone s table year (Table text) stop h there none = rw none.0 (ap needs_memory (sym h))

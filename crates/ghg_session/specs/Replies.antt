@@ -76,7 +76,8 @@ takes_memory s asked = needs_memory (answer_of s asked).reply
 unfoldable pub is_to_keep : State → Request → Bool
 is_to_keep s asked = is_accepted (answer_of s asked).reply
 
--- A step is the evaluation of a node. A table evaluates none.
+-- A step is the evaluation of a node. A submission evaluates at most the nodes that its rows affect, and a
+-- table none.
 abbrev pub steps_for : State → Request → ℕ
 steps_for s (Submit id body) = evaluations s id body
 steps_for s (Show table year) = 0

@@ -1,9 +1,8 @@
 use Rattle.std.proofs.Common.{rules, [], ◌∷◌, ◌++◌, ◌≡◌, ◌+◌, ◌<◌, ◌∙◌, ℕ, ap₂, sym, subst, take, drop, Option, Some, None, ap, arith}
 use Rattle.std.proofs.lemmas.List.{take_more}
 use Rattle.std.specs.Option.{IsSome, MatchOption}
-use Rattle.ghg_definitions.specs.Compilation.{compilation}
-use Rattle.ghg_affected.specs.Patches.{AgreeBut}
 use Rattle.ghg_engine.specs.Cells.{cell_at, found_in}
+use Rattle.ghg_engine.specs.Evaluation.{AreKept}
 use Rattle.ghg_engine.specs.Overlays.{outcomes_of}
 use Rattle.ghg_engine.proofs.Turns.{IsSoFar, at_next, ends_evaluated, ends_over, next_ready, nothing_fresh, nothing_so_far, one_so_far}
 use Rattle.ghg_engine.proofs.evaluation.evaluate_all.Goals as goal
@@ -23,8 +22,8 @@ pub loop-node-init : goal.loop-node-init
 loop-node-init g c =
     let m = g.R.Records.content c.args.records.now in
     let found = ap₂ (λ f k. found_in f (cell_at k)) c.over-cells.ensures.fresh c.over-cells.ensures.kept ∙ nothing_fresh (cell_at c.args.kept.now) in (
-      nothing_so_far m c.args.nodes.now c.requires.order (outcomes_of c.over-cells.result)
-          (subst (AgreeBut (compilation m) c.args.nodes.now) (sym found) c.requires.kept),
+      nothing_so_far m c.args.nodes.now c.requires.order (outcomes_of c.over-cells.result) (cell_at c.over-cells.result.fresh)
+          (subst (AreKept m c.args.nodes.now) (sym found) c.requires.kept) c.over-cells.ensures.fresh,
       omega (arith, c.requires.paid),
       c.over-cells.ensures.kept,
     )
@@ -35,8 +34,8 @@ evaluate-requires-clause-ready g c =
     let nodes = c.args.nodes.now in
     let i = c.loop-node.node-index in
     let n = c.node-item.result in
-    next_ready m (take i nodes) n (drop (i + 1) nodes) (outcomes_of c.loop-node.cells) c.loop-node.least
-    (at_next m nodes i n c.loop-node-test.true c.node-item.is (outcomes_of c.loop-node.cells) c.loop-node.least c.loop-node.invariant.0)
+    next_ready m c.requires.workbook (take i nodes) n (drop (i + 1) nodes) (outcomes_of c.loop-node.cells) (cell_at c.loop-node.cells.fresh) c.loop-node.least
+    (at_next m nodes i n c.loop-node-test.true c.node-item.is (outcomes_of c.loop-node.cells) (cell_at c.loop-node.cells.fresh) c.loop-node.least c.loop-node.invariant.0)
 
 pub loop-node-preserved : goal.loop-node-preserved
 loop-node-preserved g c =
@@ -47,20 +46,23 @@ loop-node-preserved g c =
     let more = ap (λ k. take i nodes ++ k ∷ []) c.node-item.is ∙ sym (take_more nodes i n c.loop-node-test.true) in
     let one = spent c.ticket.result c.loop-node.permits c.ticket.new.self c.ticket.ensures (omega (arith, c.loop-node.invariant.1)) in
     let found = outcomes_of c.loop-node.cells in
+    let fresh = cell_at c.loop-node.cells.fresh in
+    let found_then = outcomes_of c.insert.new.self in
+    let fresh_then = cell_at c.insert.new.self.fresh in
     let e = c.in_ok-evaluated.evaluated in (
-      subst (λ ns. IsSoFar m ns (drop (i + 1) nodes) (outcomes_of c.insert.new.self) c.least_with-least.result) more
-          (subst (IsSoFar m (take i nodes ++ n ∷ []) (drop (i + 1) nodes) (outcomes_of c.insert.new.self)) (sym c.least_with-least.ensures)
-          (one_so_far m (take i nodes) n (drop (i + 1) nodes) found (outcomes_of c.insert.new.self) c.loop-node.least e
-          (at_next m nodes i n c.loop-node-test.true c.node-item.is found c.loop-node.least c.loop-node.invariant.0)
-          c.in_ok-evaluated.ensures c.in_ok-insert.ensures.outcomes)),
+      subst (λ ns. IsSoFar m ns (drop (i + 1) nodes) found_then fresh_then c.least_with-least.result) more
+          (subst (IsSoFar m (take i nodes ++ n ∷ []) (drop (i + 1) nodes) found_then fresh_then) (sym c.least_with-least.ensures)
+          (one_so_far m (take i nodes) n (drop (i + 1) nodes) found fresh found_then fresh_then c.loop-node.least e
+          (at_next m nodes i n c.loop-node-test.true c.node-item.is found fresh c.loop-node.least c.loop-node.invariant.0)
+          c.in_ok-evaluated.ensures c.in_ok-insert.ensures.outcomes c.in_ok-insert.ensures.fresh)),
       omega (arith, c.loop-node.invariant.1, one, c.loop-node-test.true),
       c.in_ok-insert.ensures.kept ∙ c.loop-node.invariant.2,
     )
 
 pub returns-in-None : goal.returns-in-None
 returns-in-None g c = ends_evaluated (g.R.Records.content c.args.records.now) c.args.nodes.now c.loop-node.node-index c.loop-node-test.false
-    (outcomes_of c.loop-node.cells) c.loop-node.least c.loop-node.invariant.0 (cell_at c.args.kept.now) (cell_at c.into_fresh.result) (ap₂ (λ f k. found_in f (cell_at k)) (ap cell_at (sym c.into_fresh.ensures)) c.loop-node.invariant.2) c.in-None.is
+    (outcomes_of c.loop-node.cells) (cell_at c.loop-node.cells.fresh) c.loop-node.least c.loop-node.invariant.0 (cell_at c.into_fresh.result) (ap cell_at c.into_fresh.ensures) c.in-None.is
 
 pub returns : goal.returns
 returns g c = ends_over (g.R.Records.content c.args.records.now) c.args.nodes.now c.loop-node.node-index c.loop-node-test.false
-    (outcomes_of c.loop-node.cells) c.loop-node.least c.loop-node.invariant.0 c.in-Some.node c.in-Some.is
+    (outcomes_of c.loop-node.cells) (cell_at c.loop-node.cells.fresh) c.loop-node.least c.loop-node.invariant.0 c.in-Some.node c.in-Some.is

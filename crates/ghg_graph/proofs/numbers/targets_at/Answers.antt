@@ -1,5 +1,12 @@
-use Rattle.ghg_graph.proofs.EquationParameters.{param_present}
+use Rattle.std.proofs.Common.{ap, flat_map, subst}
+use Rattle.std.proofs.lemmas.List.{take_all}
+use Rattle.ghg_definitions.specs.Data.{binding}
+use Rattle.ghg_definitions.specs.Rings.{taken_by}
+use Rattle.ghg_graph.specs.Numbers.{AreNumbers}
 use Rattle.ghg_graph.proofs.numbers.targets_at.Goals as goal
 
-pub add_numbers-requires-clause-present : goal.add_numbers-requires-clause-present
-add_numbers-requires-clause-present g c = param_present (g.R.Records.content c.args.records.now) c.args.line.now c.args.params.now c.args.lines.now c.requires.present c.loop-param.param-index _ c.loop-param-test.true c.taken_at.result.now c.taken_at.ensures
+pub returns : goal.returns
+returns g c =
+    subst (AreNumbers c.args.lines.now c.loop-param.targets.items)
+    (ap (flat_map (λ q. taken_by (binding (g.R.Records.content c.args.records.now) c.args.line.now q.name.now))) (take_all c.loop-param.param-index c.args.params.now c.loop-param-test.false))
+    c.loop-param.invariant.1

@@ -1,30 +1,18 @@
-use Rattle.std.proofs.Common.{◌∙◌, ap, map, sym, subst}
-use Rattle.ghg_graph.specs.Numbers.{name_at}
-use Rattle.ghg_graph.specs.Ordering.{IsLineOrder}
-use Rattle.ghg_graph.specs.Refusal.{IsLeastRingOf}
-use Rattle.ghg_graph.proofs.Named.{named_order, named_ring, order_within, ring_within}
-use Rattle.ghg_graph.proofs.Numbering.{names_within}
+use Rattle.std.proofs.Common.{◌∙◌, [], subst, sym}
+use Rattle.std.proofs.lemmas.Result.{MatchResult-weaker}
+use Rattle.ghg_graph.specs.Numbers.{IsNumbering}
+use Rattle.ghg_graph.proofs.Named.{all_lines, all_rings, all_sorted, if_ring, order_of, ring_of}
 use Rattle.ghg_graph.proofs.ordering.line_order.Goals as goal
 
-pub names_of-requires : goal.names_of-requires
-names_of-requires g c =
-    let n = c.in_ok-numbered.ensures in
-    names_within _ _ (order_within _ n.workbook _ _ n.numbers _ c.in-Ok.ensures) c.deref.result.now c.deref-in-Ok.result.now c.deref.ensures.value c.deref-in-Ok.ensures.value
-
-pub returns-in-Ok : goal.returns-in-Ok
-returns-in-Ok g c =
-    let n = c.in_ok-numbered.ensures in
-    let names = c.in_ok-names_of-in-Ok.ensures ∙ ap (λ xs. map (name_at xs) c.deref-in-Ok.result.now) c.deref.ensures.value ∙ ap (map (name_at c.in_ok-numbered.numbered.lines.items)) c.deref-in-Ok.ensures.value in
-    subst (IsLineOrder (g.R.Records.content c.args.records.now)) (sym names) (named_order _ n.workbook _ _ n.numbers c.in-Ok.order.items c.in-Ok.ensures)
-
-pub names_of-requires-in-Err-Ring : goal.names_of-requires-in-Err-Ring
-names_of-requires-in-Err-Ring g c =
-    let n = c.in_ok-numbered.ensures in
-    names_within _ _ (ring_within _ n.workbook _ _ n.numbers _ c.in_ok-ring-in-Err-Ring.ensures) c.deref-in-Err-Ring.result.now c.deref-in-Err-Ring-2.result.now c.deref-in-Err-Ring.ensures.value c.deref-in-Err-Ring-2.ensures.value
-
-pub returns-in-Err-Ring : goal.returns-in-Err-Ring
-returns-in-Err-Ring g c =
-    let n = c.in_ok-numbered.ensures in
-    let lines = c.in_ok-numbered.numbered.lines.items in
-    let names = c.new.ensures ∙ c.in_ok-names_of-in-Err-Ring.ensures ∙ ap (λ xs. map (name_at xs) c.deref-in-Err-Ring-2.result.now) c.deref-in-Err-Ring.ensures.value ∙ ap (map (name_at lines)) c.deref-in-Err-Ring-2.ensures.value in
-    subst (IsLeastRingOf (g.R.Records.content c.args.records.now)) (sym names) (named_ring _ n.workbook _ _ n.numbers c.in_ok-ring-in-Err-Ring.ring.items c.in_ok-ring-in-Err-Ring.ensures)
+pub returns : goal.returns
+returns g c =
+    let m = g.R.Records.content c.args.records.now in
+    let is = c.in_ok-lines.ensures.workbook in
+    let lines = c.in_ok-numbering.numbering.lines.items in
+    let links = c.in_ok-numbering.numbering.links in
+    let all = c.in_ok-numbering.ensures.lines ∙ c.in_ok-lines.ensures.names in
+    let sorted = all_sorted m is lines all in
+    let n = subst (λ ls. IsNumbering m ls links) (sym c.in_ok-numbering.ensures.lines) c.in_ok-numbering.ensures.links in
+    MatchResult-weaker c.named_order.result c.named_order.ensures
+    (λ names of. order_of m is lines sorted links n [] (all_lines m is lines all) names.items of)
+    (λ refusal. if_ring (ring_of m is lines sorted links n (all_rings m is lines all)) refusal)

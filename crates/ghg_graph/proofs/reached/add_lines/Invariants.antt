@@ -6,5 +6,5 @@ use Rattle.ghg_graph.proofs.reached.add_lines.Given as goal
 
 abbrev pub invariant-loop-line : goal.invariant-loop-line
 invariant-loop-line g l =
-    (l.nodes.items ≡ l.initial.nodes.items ++ filter (is_reached (g.R.Records.content l.old) (g.S.Records.content l.new)) (map (λ name. node.Line name l.year) (take l.line-index l.lines)))
-    × IsSoFar (g.R.Records.content l.old) (g.S.Records.content l.new) l.year (take l.line-index l.lines) l.now
+    (l.nodes.items ≡ l.initial.nodes.items ++ filter (is_reached (g.R.Records.content l.old) (g.S.Records.content l.new)) (map (λ name. node.Line name l.year.number) (take l.line-index l.lines)))
+    × IsSoFar (g.R.Records.content l.old) (g.S.Records.content l.new) l.year.number (take l.line-index l.lines) l.now

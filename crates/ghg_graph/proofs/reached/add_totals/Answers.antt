@@ -1,9 +1,9 @@
 use Rattle.std.proofs.Common.{◌∙◌, ◌++◌, ap, filter, map}
 use Rattle.std.proofs.lemmas.Iterator.Adapters.{YieldsList-from_rev_slice}
 use Rattle.std.proofs.lemmas.Iterator.Consumers.{YieldsList-at, YieldsList-end}
-use Rattle.std.specs.List.{list_any}
-use Rattle.ghg_categories.specs.Tree.{stands_under, tree}
+use Rattle.ghg_categories.specs.Tree.{tree}
 use Rattle.ghg_units.specs.declared.node.Node.TheVariants as node
+use Rattle.ghg_graph.specs.Reached.{is_total_of}
 use Rattle.ghg_graph.proofs.reached.add_totals.Goals as goal
 
 pub returns : goal.returns
@@ -12,4 +12,4 @@ returns c =
     (YieldsList-at c.into_iter-top-iterator.ensures.into_iter_gives (YieldsList-from_rev_slice tree cc))
     c.loop-top.yielded _ c.loop-top.yielded_by _ _ c.in-None.is c.next.ensures.steps in
     c.loop-top.invariant
-    ∙ ap (λ cs. c.args.nodes.now.items ++ map (λ d. node.Total d c.args.year) (filter (λ top. list_any (λ d. stands_under d top) c.args.categories.now) cs)) seen.0
+    ∙ ap (λ cs. c.args.nodes.now.items ++ map (λ d. node.Total d c.args.year.number) (filter (is_total_of c.args.year.was c.args.moved.now c.args.categories.now) cs)) seen.0

@@ -10,7 +10,7 @@ returns-then-contains g c =
     let new = g.S.Records.content c.args.new.now in
     let is = both _ _ ((gas_lines_are new c.args.name.now).1 c.requires.emits) c.requires.year in
     c.if-contains.true
-    ∙ sym (by_line old new c.requires.figures c.args.name.now c.args.year is
+    ∙ sym (by_line old new c.args.name.now c.args.year is
     (sym (c.requires.now c.args.name.now) ∙ sym c.contains.ensures ∙ c.if-contains.true))
 
 pub returns-else-contains : goal.returns-else-contains
@@ -19,6 +19,6 @@ returns-else-contains g c =
     let new = g.S.Records.content c.args.new.now in
     let is = both _ _ ((gas_lines_are new c.args.name.now).1 c.requires.emits) c.requires.year in
     c.differ.ensures
-    ∙ by_potential old new c.requires.figures c.args.name.now c.args.year is
+    ∙ by_potential old new c.args.name.now c.args.year is
     (sym (c.requires.now c.args.name.now) ∙ sym c.contains.ensures ∙ c.if-contains.false)
     _ _ c.potential.ensures c.potential-else-contains.ensures

@@ -1,71 +1,71 @@
-use Rattle.std.proofs.Common.{◌≡◌, ◌+◌, ◌-◌, ◌≤◌, ◌∙◌, ◌++◌, List, [], ◌∷◌, ap, arith, filter, length, refl, subst, sym}
+use Rattle.std.proofs.Common.{◌≡◌, ◌+◌, ◌-◌, ◌≤◌, ◌∙◌, ◌++◌, ap, arith, filter, is_eq, le-leb, nat_le, subst, sym}
 use Rattle.std.proofs.lemmas.List.{append-nil}
-use Rattle.std.specs.BTreeSet.{BTreeSet, btree_set_len}
-use Rattle.ghg_definitions.specs.Compilation.{years_from, years_of}
-use Rattle.ghg_definitions.specs.Data.{Name}
-use Rattle.ghg_graph.specs.Reached.{HasBefore, IsWalk, is_reached}
-use Rattle.ghg_graph.specs.Years.{nodes_by_year}
-use Rattle.ghg_graph.proofs.Idle.{gas_walk_is, walk_is, whole_year}
+use Rattle.std.specs.List.{list_any}
+use Rattle.ghg_definitions.specs.Compilation.{first_year, previous, years_from, years_of}
+use Rattle.ghg_definitions.specs.Data.{name_cmp}
+use Rattle.ghg_definitions.specs.Formulas.{nodes_in}
+use Rattle.ghg_graph.specs.Reached.{HasBefore, is_reached}
+use Rattle.ghg_graph.specs.Years.{nodes_by_year, year_nodes}
+use Rattle.ghg_graph.proofs.Membership.{no_keys}
 use Rattle.ghg_graph.proofs.Quiet.{quiet_turned, quiet_year}
 use Rattle.ghg_graph.proofs.YearNodes.{passing_more, span_is, year_within}
 use Rattle.ghg_graph.proofs.reached.reached_nodes.Goals as goal
 use Rattle.ghg_graph.proofs.reached.reached_nodes.Goals.{then-not-is_empty+in_ok-add_year, else-not-is_empty+else-is_read}
 
-no_keys : (s : BTreeSet Name) → btree_set_len s ≡ 0 → s.keys ≡ []
-no_keys s e = no_items s.keys e
-  where
-    no_items : (ks : List Name) → length ks ≡ 0 → ks ≡ []
-    no_items [] e = refl
-    no_items (k ∷ ks) e = absurd (omega (arith, e))
-
-pub overflow_add-year-end : goal.overflow_add-year-end
-overflow_add-year-end g c =
+pub overflow_add-number-end : goal.overflow_add-number-end
+overflow_add-number-end g c =
     let years = span_is (g.S.Records.content c.args.new.now) c.in-Some.span c.span.ensures.workbook (sym c.span.ensures.span ∙ c.in-Some.is) in
     omega (arith, years.1)
 
-pub add_year-requires-clause-lines : goal.add_year-requires-clause-lines
-add_year-requires-clause-lines g c =
-    let s = c.in_ok-selection.selection in
-    subst (IsWalk (g.R.Records.content c.args.old.now) (g.S.Records.content c.args.new.now)) (sym c.deref.ensures.value)
-    (walk_is (g.R.Records.content c.args.old.now) (g.S.Records.content c.args.new.now) c.requires.figures c.span.ensures.workbook c.args.keys.now c.requires.kept
-    c.in_ok-figures.figures c.in_ok-figures.ensures c.args.index.now.lines.items c.requires.index.lines s.lines.items c.in_ok-selection.ensures.lines)
-
-pub add_year-requires-clause-emitters : goal.add_year-requires-clause-emitters
-add_year-requires-clause-emitters g c =
-    let s = c.in_ok-selection.selection in
-    gas_walk_is (g.R.Records.content c.args.old.now) (g.S.Records.content c.args.new.now) c.requires.figures c.span.ensures.workbook c.args.keys.now c.requires.kept
-    c.in_ok-figures.figures c.in_ok-figures.ensures c.args.index.now.lines.items c.requires.index.lines s.lines.items c.in_ok-selection.ensures.lines
-    c.args.index.now.emitters.items c.deref-then-not-is_empty.result.now c.requires.index.emitters (c.deref-then-not-is_empty.ensures.value ∙ c.in_ok-selection.ensures.emitters)
-
-pub loop-year-preserved : goal.loop-year-preserved
-loop-year-preserved g c =
+pub loop-number-init : goal.loop-number-init
+loop-number-init g c =
     let old = g.R.Records.content c.args.old.now in
     let new = g.S.Records.content c.args.new.now in
-    let year = c.loop-year.year in
+    let first = c.in-Some.span.first in
+    let none : 0 ≡ first - first = omega arith in (
+      c.new.ensures.items ∙ ap (λ n. filter (is_reached old new) (nodes_by_year c.args.lines.now c.args.emitters.now (years_from first n))) none,
+      λ name. ap (λ ks. list_any (λ x. is_eq (name_cmp name x)) ks) c.new-2.ensures.empty
+          ∙ sym (ap (λ b. list_any (is_reached old new) (nodes_in (previous b name first)))
+          (ap (λ s. nat_le first (first_year s)) (sym c.span.ensures.span ∙ c.in-Some.is) ∙ le-leb first first (omega arith))),
+    )
+
+pub year_of-year-requires : goal.year_of-year-requires
+year_of-year-requires g c =
+    year_within (g.S.Records.content c.args.new.now) c.in-Some.span c.loop-number.number (sym c.span.ensures.span ∙ c.in-Some.is) c.loop-number.auto.number c.loop-number-test.true
+
+pub add_year-requires-clause-before : goal.add_year-requires-clause-before
+add_year-requires-clause-before g c =
+    subst (λ y. HasBefore (g.R.Records.content c.args.old.now) (g.S.Records.content c.args.new.now) y c.loop-number.reached.before)
+    (sym c.year_of-year.ensures.number) c.loop-number.invariant.1
+
+pub loop-number-preserved : goal.loop-number-preserved
+loop-number-preserved g c =
+    let old = g.R.Records.content c.args.old.now in
+    let new = g.S.Records.content c.args.new.now in
+    let lines = c.args.lines.now in
+    let emitters = c.args.emitters.now in
+    let year = c.loop-number.number in
     let first = c.in-Some.span.first in
     elim c.if-not-is_empty.branch [
       | then-not-is_empty+in_ok-add_year w ↦ (
-        passing_more (is_reached old new) c.args.index.now.lines.items c.args.index.now.emitters.items first year c.loop-year.auto.year
-            c.loop-year.reached.nodes.items _ c.loop-year.invariant.0
+        passing_more (is_reached old new) lines emitters first year c.loop-number.auto.number
+            c.loop-number.reached.nodes.items _ c.loop-number.invariant.0
             (ap (λ r. r.nodes.items) w.reached-is ∙ w.in_ok-add_year.ensures.nodes
-            ∙ ap (λ ns. c.loop-year.reached.nodes.items ++ ns)
-            (whole_year old new c.requires.figures c.span.ensures.workbook c.args.keys.now c.requires.kept c.in_ok-figures.figures c.in_ok-figures.ensures
-            c.args.index.now.lines.items c.requires.index.lines c.in_ok-selection.selection.lines.items c.in_ok-selection.ensures.lines
-            c.args.index.now.emitters.items w.deref.result.now w.deref-then-not-is_empty.result.now c.requires.index.emitters
-            w.deref.ensures.value (w.deref-then-not-is_empty.ensures.value ∙ c.in_ok-selection.ensures.emitters) year)),
-        subst (λ r. HasBefore old new (year + 1) r.before) (sym w.reached-is) w.in_ok-add_year.ensures.before,
+            ∙ ap (λ y. c.loop-number.reached.nodes.items ++ filter (is_reached old new) (year_nodes lines emitters y)) w.year_of-year.ensures.number),
+        subst (λ r. HasBefore old new (year + 1) r.before) (sym w.reached-is)
+            (subst (λ y. HasBefore old new (y + 1) w.add_year.new.reached.before) w.year_of-year.ensures.number w.in_ok-add_year.ensures.before),
       )
       | else-not-is_empty+else-is_read w ↦
-          let none = no_keys c.loop-year.reached.before (c.is_empty.ensures.0 w.if-not-is_empty.false) in
+          let none = no_keys c.loop-number.reached.before (c.is_empty.ensures.0 w.if-not-is_empty.false) in
           let unread = sym w.is_read.ensures ∙ w.if-is_read.false in (
-            passing_more (is_reached old new) c.args.index.now.lines.items c.args.index.now.emitters.items first year c.loop-year.auto.year
-                c.loop-year.reached.nodes.items _ c.loop-year.invariant.0
-                (ap (λ r. r.nodes.items) w.reached-is ∙ sym (append-nil c.loop-year.reached.nodes.items)
-                ∙ ap (λ ns. c.loop-year.reached.nodes.items ++ ns)
-                (sym (quiet_year old new c.requires.figures c.args.keys.now c.requires.kept year unread c.loop-year.reached.before none c.loop-year.invariant.1 c.args.index.now.lines.items c.args.index.now.emitters.items))),
+            passing_more (is_reached old new) lines emitters first year c.loop-number.auto.number
+                c.loop-number.reached.nodes.items _ c.loop-number.invariant.0
+                (ap (λ r. r.nodes.items) w.reached-is ∙ sym (append-nil c.loop-number.reached.nodes.items)
+                ∙ ap (λ ns. c.loop-number.reached.nodes.items ++ ns)
+                (sym (quiet_year old new c.args.keys.now c.requires.kept year unread c.loop-number.reached.before none c.loop-number.invariant.1 lines emitters))),
             subst (λ r. HasBefore old new (year + 1) r.before) (sym w.reached-is)
-                (quiet_turned old new c.requires.figures c.args.keys.now c.requires.kept year unread c.loop-year.reached.before none c.loop-year.invariant.1
-                (year_within new c.in-Some.span year (sym c.span.ensures.span ∙ c.in-Some.is) c.loop-year.auto.year c.loop-year-test.true)),
+                (quiet_turned old new c.args.keys.now c.requires.kept year unread c.loop-number.reached.before none c.loop-number.invariant.1
+                (year_within new c.in-Some.span year (sym c.span.ensures.span ∙ c.in-Some.is) c.loop-number.auto.number c.loop-number-test.true)),
           )
     ]
 
@@ -75,7 +75,7 @@ returns g c =
     let is = sym c.span.ensures.span ∙ c.in-Some.is in
     let years = span_is new c.in-Some.span c.span.ensures.workbook is in
     let ordered : c.in-Some.span.first ≤ c.in-Some.span.last + 1 = omega (arith, years.2, years.3) in
-    let end : c.loop-year.year - c.in-Some.span.first ≡ c.in-Some.span.last + 1 - c.in-Some.span.first = omega (arith, c.loop-year.auto.year-end) in
-    c.loop-year.invariant.0
-    ∙ ap (λ n. filter (is_reached (g.R.Records.content c.args.old.now) new) (nodes_by_year c.args.index.now.lines.items c.args.index.now.emitters.items (years_from c.in-Some.span.first n))) end
-    ∙ ap (λ s. filter (is_reached (g.R.Records.content c.args.old.now) new) (nodes_by_year c.args.index.now.lines.items c.args.index.now.emitters.items (years_of s))) (sym is)
+    let end : c.loop-number.number - c.in-Some.span.first ≡ c.in-Some.span.last + 1 - c.in-Some.span.first = omega (arith, c.loop-number.auto.number-end) in
+    c.loop-number.invariant.0
+    ∙ ap (λ n. filter (is_reached (g.R.Records.content c.args.old.now) new) (nodes_by_year c.args.lines.now c.args.emitters.now (years_from c.in-Some.span.first n))) end
+    ∙ ap (λ s. filter (is_reached (g.R.Records.content c.args.old.now) new) (nodes_by_year c.args.lines.now c.args.emitters.now (years_of s))) (sym is)

@@ -12,5 +12,5 @@ reached_places-requires-clause-lines g c = λ name place i. ((c.requires.takers.
 pub returns-clause-lines : goal.returns-clause-lines
 returns-clause-lines g c =
     let m = g.S.Records.content c.args.new.now in
-    selection_is m c.args.index.now c.requires c.args.figures.now c.in_ok-places.places c.in_ok-places.ensures c.in_ok-lines.lines.items
+    selection_is m c.args.index.now c.requires c.args.figures.now c.args.from c.in_ok-places.places c.in_ok-places.ensures c.in_ok-lines.lines.items
     (c.in_ok-lines.ensures ∙ ap (λ names. map (name_at names) c.in_ok-places.places.keys) c.deref.ensures.value)

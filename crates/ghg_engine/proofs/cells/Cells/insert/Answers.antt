@@ -10,7 +10,7 @@ pub returns-in-Some : goal.returns-in-Some
 returns-in-Some c =
     let aside = get node_order c.args.self.now.aside in
     let back = rw c.in-Some.is at c.in_ok-value-in-Ok.ensures in
-    on_ok c.put_aside.result (λ e. e ∙ ap₂ (λ columns x. with_outcome (found_in aside columns) c.args.node.now x) back.1 (ap Ok back.2 ∙ sym c.in-Ok.is)) c.put_aside.ensures
+    on_ok c.put_aside.result (λ e. e ∙ ap₂ (λ columns x. with_outcome (found_in aside columns) c.args.node.now x) back.1 (ap Ok back.2 ∙ sym c.in-Ok.is)) c.put_aside.ensures.ok
 
 pub returns-in-None : goal.returns-in-None
 returns-in-None c =

@@ -19,3 +19,9 @@ returns-in-Some-Ok-clause-contained c = subst HoldsExactValues (ap (λ s. s.cont
 
 pub returns-in_default-clause-contained : goal.returns-in_default-clause-contained
 returns-in_default-clause-contained c = subst HoldsExactValues (ap (λ s. s.content) c.self.view_is) c.self.invariant.0.contained
+
+pub returns-then-not-is_node-clause-compiled : goal.returns-then-not-is_node-clause-compiled
+returns-then-not-is_node-clause-compiled c = subst IsFit (ap (λ s. s.content) c.self.view_is) c.self.invariant.0.fits
+
+pub returns-then-not-is_node-clause-contained : goal.returns-then-not-is_node-clause-contained
+returns-then-not-is_node-clause-contained c = subst HoldsExactValues (ap (λ s. s.content) c.self.view_is) c.self.invariant.0.contained

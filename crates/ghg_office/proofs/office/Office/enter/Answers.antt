@@ -1,12 +1,13 @@
-use Rattle.std.proofs.Common.{◌+◌, sym, ◌∙◌, ◌++◌, ◌∷◌, [], ap, ap₂, length, List, Err}
+use Rattle.std.proofs.Common.{◌≢◌, ◌+◌, sym, ◌∙◌, ◌++◌, ◌∷◌, [], ap, ap₂, arith, length, List, Err}
 use Rattle.std.proofs.lemmas.Bool.{both_ways}
 use Rattle.std.proofs.lemmas.Result.{err_from_is_err_and}
 use Rattle.ghg_definitions.specs.Data.{Data}
 use Rattle.ghg_data.specs.Changes.{applied}
 use Rattle.ghg_keeper.specs.declared.row.KeptRow.{KeptRow}
 use Rattle.ghg_office.specs.Office.{entered_by, submitted}
+use Rattle.ghg_office.specs.declared.reply.Reply.TheVariants.{KeeperFault, Memory}
 use Rattle.ghg_office.proofs.Calls.{is_appended, unstored}
-use Rattle.ghg_office.proofs.Entered.{accepted_answers, accepted_reply, failed_answers, planned_answers}
+use Rattle.ghg_office.proofs.Entered.{accepted_answers, accepted_reply, counted, failed_answers, planned_answers}
 use Rattle.ghg_office.proofs.Reading.{spent_reading}
 use Rattle.ghg_office.proofs.office.Office.enter.Goals as goal
 
@@ -54,10 +55,11 @@ pub returns-clause-answer : goal.returns-clause-answer
 returns-clause-answer g c =
     let made = ap (λ s. entered_by s c.args.body.now) (sym c.self.view_is) ∙ c.in_ok-proposal.ensures.entered in
     let list = c.prepare.ensures.list ∙ ap (λ s. s.accepted) c.self.view_is in
-    accepted_answers c.args.self.now c.args.id c.args.body.now _ _ _ _ c.requires.read made
+    accepted_answers c.args.self.now c.args.id c.args.body.now _ _ _ _ _ c.requires.read made
     (c.accept.ensures.made ∙ ap (λ m. applied m c.in_ok-proposal.proposal.edits) c.prepare.ensures.content)
-    (c.push.ensures.seq ∙ ap (λ l. length l + 1) list)
-    (c.push.ensures.list ∙ ap₂ (λ l b. l ++ (record { id = c.args.id; body = b } ∷ [])) list (c.new-kept.ensures ∙ c.in_ok-from_slice.ensures.items))
+    (c.push-seq.ensures.seq ∙ ap (λ l. length l + 1) list)
+    (counted _ _ _ _ _ c.prepare.ensures.content (ap (λ s. s.content) c.self.view_is) (c.cells-cells.ensures ∙ c.in_ok-proposal.ensures.proposed.cells))
+    (c.push-seq.ensures.list ∙ ap₂ (λ l b. l ++ (record { id = c.args.id; body = b } ∷ [])) list (c.new-kept.ensures ∙ c.in_ok-from_slice.ensures.items))
 
 pub returns-clause-steps : goal.returns-clause-steps
 returns-clause-steps g c = spent_reading _ _ _ _ _ _ c.self.view_is c.requires.read c.prepare.ensures.steps
@@ -67,3 +69,23 @@ returns-clause-untouched g c =
     let made = ap (λ s. entered_by s c.args.body.now) (sym c.self.view_is) ∙ c.in_ok-proposal.ensures.entered in
     λ none. c.in_ok-append_row.ensures.untouched (unstored c.args.stored (submitted c.args.self.now c.args.id c.args.body.now)
     (accepted_reply c.args.self.now c.args.id c.args.body.now _ c.requires.read made) none)
+
+-- without the memory for a copy of the body nothing changes
+
+no_fault : Memory ≢ KeeperFault
+no_fault e = cc
+
+pub returns-in_err-from_slice-clause-answer : goal.returns-in_err-from_slice-clause-answer
+returns-in_err-from_slice-clause-answer g c =
+    let p = err_from_is_err_and c.from_residual-in_err-from_slice.result c.from_residual-in_err-from_slice.ensures.1 in
+    rw (p.1, p.2) (ap₂ (λ (m : Data) (l : List KeptRow). record { content = m; accepted = l }) c.prepare.ensures.content c.prepare.ensures.list ∙ c.self.view_is)
+
+pub returns-in_err-from_slice-clause-fault : goal.returns-in_err-from_slice-clause-fault
+returns-in_err-from_slice-clause-fault g c =
+    let p = err_from_is_err_and c.from_residual-in_err-from_slice.result c.from_residual-in_err-from_slice.ensures.1 in
+    rw (p.1, p.2) (λ e. absurd (no_fault e))
+
+pub returns-in_err-from_slice-clause-faults : goal.returns-in_err-from_slice-clause-faults
+returns-in_err-from_slice-clause-faults g c =
+    let p = err_from_is_err_and c.from_residual-in_err-from_slice.result c.from_residual-in_err-from_slice.ensures.1 in
+    rw (p.1, p.2) (record { later = omega arith; rose = λ e. absurd (no_fault e) })

@@ -4,7 +4,7 @@ use Rattle.ghg_definitions.specs.Data.{Data}
 use Rattle.ghg_data.specs.Changes.{applied}
 use Rattle.ghg_keeper.specs.declared.row.KeptRow.{KeptRow}
 use Rattle.ghg_office.specs.Office.{entered_by}
-use Rattle.ghg_office.proofs.Entered.{accepted_answers, planned_answers}
+use Rattle.ghg_office.proofs.Entered.{accepted_answers, counted, planned_answers}
 use Rattle.ghg_office.proofs.Reading.{spent_reading}
 use Rattle.ghg_office.proofs.office.Office.submit_row.Goals as goal
 
@@ -28,10 +28,11 @@ returns-clause-answer g c =
     let planned = rw c.as_slice-3.ensures at c.in_ok-proposal.ensures.entered in
     let made = ap (λ s. entered_by s c.args.row.body) (sym c.self.view_is) ∙ planned in
     let list = c.prepare.ensures.list ∙ ap (λ s. s.accepted) c.self.view_is in
-    accepted_answers c.args.self.now c.args.row.id c.args.row.body _ _ _ _ read made
+    accepted_answers c.args.self.now c.args.row.id c.args.row.body _ _ _ _ _ read made
     (c.accept.ensures.made ∙ ap (λ m. applied m c.in_ok-proposal.proposal.edits) c.prepare.ensures.content)
-    (c.push.ensures.seq ∙ ap (λ l. length l + 1) list)
-    (c.push.ensures.list ∙ ap₂ (λ l i. l ++ (record { id = i; body = c.args.row.body } ∷ [])) list id)
+    (c.push-seq.ensures.seq ∙ ap (λ l. length l + 1) list)
+    (counted _ _ _ _ _ c.prepare.ensures.content (ap (λ s. s.content) c.self.view_is) (c.cells-cells.ensures ∙ c.in_ok-proposal.ensures.proposed.cells))
+    (c.push-seq.ensures.list ∙ ap₂ (λ l i. l ++ (record { id = i; body = c.args.row.body } ∷ [])) list id)
 
 pub returns-clause-steps : goal.returns-clause-steps
 returns-clause-steps g c =

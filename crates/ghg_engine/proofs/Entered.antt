@@ -1,0 +1,208 @@
+-- Groups of data that have lines more.
+use Rattle.std.proofs.Common.{◌≡◌, ◌⊎◌, inl, inr, Bool, true, false, not, is_some, List, [], ◌∷◌, ◌++◌, map, Option, Some, None, option_and_then, refl, sym, ap, ◌∙◌, subst}
+use Rattle.std.specs.List.Sorted.{IsStrictlySortedBy}
+use Rattle.std.specs.Option.{option_map_or}
+use Rattle.std.proofs.lemmas.List.Kept.{IsStrictlySortedBy-filter}
+use Rattle.ghg_categories.specs.declared.category.Category.{Category}
+use Rattle.ghg_categories.specs.Tree.{is_same, stands_under}
+use Rattle.ghg_equations.specs.declared.quantity.Gas.{Gas}
+use Rattle.ghg_equations.specs.Quantity.{gas_of}
+use Rattle.ghg_equations.specs.Table.{output}
+use Rattle.ghg_definitions.specs.declared.record.Record.{Record}
+use Rattle.ghg_definitions.specs.declared.record.RecordKey.{RecordKey}
+use Rattle.ghg_definitions.specs.declared.record.RecordKey.TheVariants as key
+use Rattle.ghg_definitions.specs.Compilation.{counts_in_gross, emits, gas_lines, gas_lines_at, line_gas}
+use Rattle.ghg_definitions.specs.Data.{Data, Name, as_category, as_line, category, line, line_names, name_cmp}
+use Rattle.ghg_definitions.specs.Listed.{IsListed}
+use Rattle.ghg_definitions.proofs.Alike.{first_so, second_so}
+use Rattle.ghg_definitions.proofs.Grounded.{line_listed}
+use Rattle.ghg_definitions.proofs.Lines.{lines_sorted}
+use Rattle.ghg_definitions.proofs.Listed.{contained, from_filter, in_either, listed, listed_filter, listed_right}
+use Rattle.ghg_definitions.proofs.NodeLists.{emitting}
+use Rattle.ghg_affected.specs.Subtotals.{is_above_parts}
+use Rattle.ghg_affected.proofs.Bools.{never_so, true_not_false}
+use Rattle.ghg_data.specs.Changes.{Change, applied}
+use Rattle.ghg_data.proofs.Covered.{changed_or_kept}
+use Rattle.ghg_data.proofs.Faults.{IsAmong}
+use Rattle.ghg_graph.specs.Entries.{IsEnteredOrder, are_entries, is_entry}
+use Rattle.ghg_graph.specs.Ordering.{IsBehind, IsLineOrder}
+use Rattle.ghg_engine.specs.declared.groups.Groups.{Groups}
+use Rattle.ghg_engine.specs.Grouping.{AddsLines, AreInOrder, IsGrouping, emitted_at, group_at}
+use Rattle.ghg_graph.proofs.Emitting.{same_names}
+use Rattle.ghg_graph.proofs.Entering.{present_in}
+use Rattle.ghg_engine.proofs.InPlaces.{HasMore, none_more, one_more, placed_if}
+
+-- ---- the lines that emit a gas at categories that pass
+
+-- the line emits a gas at a category that passes
+abbrev pub emits_at : (Category → Bool) → Data → Name → Bool
+emits_at test m name = option_map_or test (emitted_at m name) false
+
+-- it emits a gas, and its category passes
+both : (test : Category → Bool) (gas : Option Gas) (at : Option Category) → option_map_or test (option_and_then (λ g. at) gas) false ≡ true
+    → (is_some gas ≡ true) × (option_map_or test at false ≡ true)
+both test None at e = absurd (cc)
+both test (Some g) at e = (refl, e)
+
+of_both : (test : Category → Bool) (gas : Option Gas) (at : Option Category) → is_some gas ≡ true → option_map_or test at false ≡ true
+    → option_map_or test (option_and_then (λ g. at) gas) false ≡ true
+of_both test None at e f = absurd (cc)
+of_both test (Some g) at e f = f
+
+module _ (test : Category → Bool) (m : Data) where
+  abbrev passes : Name → Bool
+  passes name = option_map_or test (category m name) false
+
+  sorted_at : IsStrictlySortedBy name_cmp (gas_lines_at test m)
+  sorted_at = IsStrictlySortedBy-filter name_cmp passes (gas_lines m) (IsStrictlySortedBy-filter name_cmp (emits m) (line_names m) (lines_sorted m))
+
+  present_at : (name : Name) → emits_at test m name ≡ true → is_some (line m name) ≡ true
+  present_at name e = emitting m name (both test (line_gas m name) (category m name) e).0
+
+  to_emits_at : (name : Name) → IsListed name (gas_lines_at test m) → emits_at test m name ≡ true
+  to_emits_at name i =
+      let at = from_filter passes name (gas_lines m) i in
+      of_both test (line_gas m name) (category m name) (from_filter (emits m) name (line_names m) at.0).1 at.1
+
+  of_emits_at : (name : Name) → emits_at test m name ≡ true → IsListed name (gas_lines_at test m)
+  of_emits_at name e =
+      let at = both test (line_gas m name) (category m name) e in
+      listed_filter passes name (gas_lines m) (listed_filter (emits m) name (line_names m) (line_listed m name (emitting m name at.0)) at.0) at.1
+
+-- ---- the data have lines more
+
+either_way : (b : Bool) → (b ≡ true) ⊎ (b ≡ false)
+either_way true = inl refl
+either_way false = inr refl
+
+-- where a line stands that emits a gas, told by its record
+abbrev emitted_by : Option Record → Option Category
+emitted_by record_is = option_and_then (λ gas. as_category record_is) (option_and_then (λ id. gas_of (output id)) (as_line record_is))
+
+module _ (old new : Data) (lines : List Name) (adds : AddsLines old new lines) (test : Category → Bool) where
+  same_at : (name : Name) → is_some (line old name) ≡ true → emits_at test old name ≡ emits_at test new name
+  same_at name present = ap (λ r. option_map_or test (emitted_by r) false) (adds.kept name present)
+
+  all_at : (names : List Name) → HasMore (emits_at test new) (gas_lines_at test old) lines names → names ≡ gas_lines_at test new
+  all_at names more = same_names names (gas_lines_at test new) more.order (sorted_at test new)
+      (λ k i. of_emits_at test new k (elim ((more.named k).0 i) [
+        | inl j ↦ let on = to_emits_at test old k j in sym (same_at k (present_at test old k on)) ∙ on
+        | inr j ↦ j.1
+      ]))
+      (λ k i.
+      let on = to_emits_at test new k i in
+      (more.named k).1 (elim (either_way (is_some (line old k))) [
+        | inl present ↦ inl (of_emits_at test old k (same_at k present ∙ on))
+        | inr absent ↦ inr ((adds.added k).1 (present_at test new k on, absent), on)
+      ]))
+
+-- ---- the groups with the lines so far
+
+pub record IsGroupedWith (m : Data) (before : Groups) (names : List Name) (groups : Groups) : Type 0 where
+  pub under_with : (c : Category) → HasMore (emits_at (λ k. stands_under k c) m) (group_at before.under c) names (group_at groups.under c)
+  pub at_with : (c : Category) → HasMore (emits_at (λ k. is_same k c) m) (group_at before.at c) names (group_at groups.at c)
+  pub gross_with : HasMore (emits_at counts_in_gross m) before.gross.items names groups.gross.items
+  pub above_with : HasMore (emits_at is_above_parts m) before.above.items names groups.above.items
+
+pub in_order : (m : Data) (before : Groups) (names : List Name) (groups : Groups) → IsGroupedWith m before names groups → AreInOrder groups
+in_order m before names groups held = record {
+  under = λ c. (held.under_with c).order;
+  at = λ c. (held.at_with c).order;
+  gross = held.gross_with.order;
+  above = held.above_with.order;
+}
+
+copied : (test : Category → Bool) (old new : Data) (names xs : List Name) → names ≡ gas_lines_at test old → xs ≡ names → HasMore (emits_at test new) names [] xs
+copied test old new names xs is same =
+    subst (HasMore (emits_at test new) names []) (sym same) (none_more (emits_at test new) names (subst (IsStrictlySortedBy name_cmp) (sym is) (sorted_at test old)))
+
+pub grouped_none : (old new : Data) (before groups : Groups) → IsGrouping old before → ((c : Category) → group_at groups.under c ≡ group_at before.under c)
+    → ((c : Category) → group_at groups.at c ≡ group_at before.at c) → groups.gross.items ≡ before.gross.items → groups.above.items ≡ before.above.items
+    → IsGroupedWith new before [] groups
+grouped_none old new before groups are under at gross above = record {
+  under_with = λ c. copied (λ k. stands_under k c) old new _ _ (are.under c) (under c);
+  at_with = λ c. copied (λ k. is_same k c) old new _ _ (are.at c) (at c);
+  gross_with = copied counts_in_gross old new _ _ are.gross gross;
+  above_with = copied is_above_parts old new _ _ are.above above;
+}
+
+-- one line more
+one_at : (m : Data) (test : Category → Bool) (before names xs ys : List Name) (name : Name) (at : Option Category) → emitted_at m name ≡ at
+    → HasMore (emits_at test m) before names xs → ys ≡ placed_if name (option_map_or test at false) xs → HasMore (emits_at test m) before (names ++ name ∷ []) ys
+one_at m test before names xs ys name at is more put =
+    subst (HasMore (emits_at test m) before (names ++ name ∷ [])) (ap (λ o. placed_if name (option_map_or test o false) xs) is ∙ sym put) (one_more (emits_at test m) before names xs name more)
+
+pub grouped_next : (m : Data) (before : Groups) (names : List Name) (name : Name) (c : Category) (old new : Groups) → IsGroupedWith m before names old → emitted_at m name ≡ Some c
+    → ((d : Category) → group_at new.under d ≡ placed_if name (stands_under c d) (group_at old.under d)) → ((d : Category) → group_at new.at d ≡ placed_if name (is_same c d) (group_at old.at d))
+    → new.gross.items ≡ placed_if name (counts_in_gross c) old.gross.items → new.above.items ≡ placed_if name (is_above_parts c) old.above.items
+    → IsGroupedWith m before (names ++ name ∷ []) new
+grouped_next m before names name c old new held is under at gross above = record {
+  under_with = λ d. one_at m (λ k. stands_under k d) _ names _ _ name (Some c) is (held.under_with d) (under d);
+  at_with = λ d. one_at m (λ k. is_same k d) _ names _ _ name (Some c) is (held.at_with d) (at d);
+  gross_with = one_at m counts_in_gross _ names _ _ name (Some c) is held.gross_with gross;
+  above_with = one_at m is_above_parts _ names _ _ name (Some c) is held.above_with above;
+}
+
+pub grouped_still : (m : Data) (before : Groups) (names : List Name) (name : Name) (groups : Groups) → IsGroupedWith m before names groups → emitted_at m name ≡ None
+    → IsGroupedWith m before (names ++ name ∷ []) groups
+grouped_still m before names name groups held is = record {
+  under_with = λ d. one_at m (λ k. stands_under k d) _ names _ _ name None is (held.under_with d) refl;
+  at_with = λ d. one_at m (λ k. is_same k d) _ names _ _ name None is (held.at_with d) refl;
+  gross_with = one_at m counts_in_gross _ names _ _ name None is held.gross_with refl;
+  above_with = one_at m is_above_parts _ names _ _ name None is held.above_with refl;
+}
+
+-- all lines
+pub grouped_with : (old new : Data) (before groups : Groups) (lines : List Name) → IsGrouping old before → AddsLines old new lines → IsGroupedWith new before lines groups → IsGrouping new groups
+grouped_with old new before groups lines are adds held = record {
+  under = λ c. all_at old new lines adds (λ k. stands_under k c) _ (subst (λ xs. HasMore (emits_at (λ k. stands_under k c) new) xs lines (group_at groups.under c)) (are.under c) (held.under_with c));
+  at = λ c. all_at old new lines adds (λ k. is_same k c) _ (subst (λ xs. HasMore (emits_at (λ k. is_same k c) new) xs lines (group_at groups.at c)) (are.at c) (held.at_with c));
+  gross = all_at old new lines adds counts_in_gross _ (subst (λ xs. HasMore (emits_at counts_in_gross new) xs lines groups.gross.items) are.gross held.gross_with);
+  above = all_at old new lines adds is_above_parts _ (subst (λ xs. HasMore (emits_at is_above_parts new) xs lines groups.above.items) are.above held.above_with);
+}
+
+-- ---- lines that edits enter
+
+-- a record that is changed is an entry
+entry_of : (m : Data) (cs : List Change) → are_entries m cs ≡ true → (k : RecordKey) → IsAmong k (map (λ c. c.0) cs) → is_entry m k ≡ true
+entry_of m [] e k i = absurd i
+entry_of m (c ∷ cs) e k (inl same) = ap (is_entry m) same ∙ first_so (is_entry m c.0) _ e
+entry_of m (c ∷ cs) e k (inr i) = entry_of m cs (second_so (is_entry m c.0) _ e) k i
+
+-- a name that is done does not stand behind,
+not_done : (m : Data) (done names : List Name) → IsBehind m done names → (k : Name) → IsListed k done → IsListed k names → ⊥
+not_done m done [] behind k i j = j
+not_done m done (name ∷ names) behind k i (inl e) = behind.1 (contained done name (subst (λ l. IsListed l done) e i))
+not_done m done (name ∷ names) behind k i (inr j) = not_done m (name ∷ done) names behind.3 k (inr i) j
+
+-- so none stands in both parts of an order
+not_both : (m : Data) (done lines names : List Name) → IsBehind m done (lines ++ names) → (k : Name) → IsListed k lines → IsListed k names → ⊥
+not_both m done [] names behind k i j = i
+not_both m done (line ∷ lines) names behind k (inl e) j = not_done m (line ∷ done) (lines ++ names) behind.3 k (inl e) (listed_right k lines names j)
+not_both m done (line ∷ lines) names behind k (inr i) j = not_both m (line ∷ done) lines names behind.3 k i j
+
+pub entered_lines : (m : Data) (cs : List Change) (lines names : List Name) → are_entries m cs ≡ true → IsLineOrder m lines
+    → IsEnteredOrder m (applied m cs) names → AddsLines m (applied m cs) names
+entered_lines m cs lines names entries is entered = record {
+  kept = λ k present. elim (changed_or_kept m cs (key.Line k)) [
+    | inl i ↦ absurd (denied (is_some (line m k)) (entry_of m cs entries (key.Line k) i) present)
+    | inr same ↦ sym same
+  ];
+  added = λ k. (
+    λ i. (
+      present_in (applied m cs) [] (lines ++ names) order.behind k (listed_right k lines names i),
+      never_so (is_some (line m k)) (λ present. not_both (applied m cs) [] lines names order.behind k (listed lines k (is.complete k present)) i),
+    ),
+    λ h. elim (in_either k lines names (listed (lines ++ names) k (order.complete k h.0))) [
+      | inl i ↦ absurd (true_not_false (sym (present_in m [] lines is.behind k i) ∙ h.1))
+      | inr i ↦ i
+    ],
+  );
+}
+  where
+    order : IsLineOrder (applied m cs) (lines ++ names)
+    order = entered.behind lines is
+
+    denied : (b : Bool) → not b ≡ true → b ≡ true → ⊥
+    denied true e f = true_not_false (sym e)
+    denied false e f = true_not_false (sym f)

@@ -1,0 +1,127 @@
+//! Lines that come to, leave or change the category at which they emit a gas, and the totals that so add
+//! other lines.
+
+ghost use Rattle.std.specs.Prelude.{◌≡◌, filter, IfOk};
+ghost use Rattle.std.specs.FinMap.{get};
+ghost use Rattle.std.specs.List.{Contains, filter_map, list_any};
+ghost use Rattle.std.specs.Option.{option_map_or};
+ghost use Rattle.ghg_categories.specs.Tree.{is_same, stands_under, tree};
+ghost use Rattle.ghg_definitions.specs.declared.record.RecordKey.{RecordKey};
+ghost use Rattle.ghg_definitions.specs.Compilation.{counts_in_gross};
+ghost use Rattle.ghg_graph.specs.Moves.{AreMoved, crosses, emits_at, move_of};
+ghost use Rattle.ghg_graph.specs.Slots.{is_within};
+
+use crate::gases::line_gas;
+use crate::slots::{Scope, is_some_within};
+use ghg_categories::Category;
+use ghg_data::Records;
+use ghg_definitions::RecordKey;
+use ghg_units::Name;
+use std::alloc::{AllocError, Global};
+
+/// The category at which a line emits a gas in the old data, and that in the new ones.
+#[derive(Clone, Copy, Drop)]
+pub(crate) struct Move {
+    before: Option<Category>,
+    after: Option<Category>,
+}
+
+/// The categories whose totals add other lines than they did, and whether the gross total does.
+#[derive(Drop)]
+pub(crate) struct Moved {
+    tops: Vec<Category>,
+    pub(crate) gross: bool,
+}
+
+/// What the totals add otherwise, where the records differ at the keys alone. The lines of the keys are gone
+/// over, and no others.
+pub(crate) fn moved_totals<R: Records, S: Records>(
+    alloc: Global,
+    old: &R,
+    new: &S,
+    keys: &[RecordKey],
+) -> Result<Moved, AllocError>
+    requires kept { (k : RecordKey) → (Contains keys.now k → ⊥) →
+        get (R.content old.now) k ≡ get (S.content new.now) k }
+    ensures { IfOk result (AreMoved (R.content old.now) (S.content new.now)) }
+{
+    let moves = moves_of(alloc, old, new, keys)?;
+    let tops = moved_tops(alloc, &moves)?;
+    let gross = is_moved(&Scope::Gross, &moves);
+    Ok(Moved { tops, gross })
+}
+
+fn moves_of<R: Records, S: Records>(
+    alloc: Global,
+    old: &R,
+    new: &S,
+    keys: &[RecordKey],
+) -> Result<Vec<Move>, AllocError>
+    ensures { IfOk result (λ moves. moves.items ≡
+        filter_map (move_of (R.content old.now) (S.content new.now)) keys.now) }
+{
+    keys.iter()
+        .filter_map(|key| move_of(old, new, key))
+        .collect(alloc)
+}
+
+fn move_of<R: Records, S: Records>(old: &R, new: &S, key: &RecordKey) -> Option<Move>
+    ensures { result ≡ move_of (R.content old.now) (S.content new.now) key.now }
+{
+    match key {
+        RecordKey::Line(name) => {
+            let before = emits_at(old, name);
+            let after = emits_at(new, name);
+            Some(Move { before, after })
+        }
+        _ => None,
+    }
+}
+
+// The category at which a line emits a gas, if it does.
+fn emits_at<R: Records>(records: &R, name: &Name) -> Option<Category>
+    ensures { result ≡ emits_at (R.content records.now) name.now }
+{
+    line_gas(records, name)?;
+    let (category, _) = records.line(name)?;
+    Some(category)
+}
+
+fn moved_tops(alloc: Global, moves: &[Move]) -> Result<Vec<Category>, AllocError>
+    ensures { IfOk result (λ tops. tops.items ≡
+        filter (λ top. list_any (crosses (λ c. stands_under c top)) moves.now) tree) }
+{
+    ghg_categories::all()
+        .iter()
+        .filter(|top| is_moved_under(moves, **top))
+        .copied()
+        .collect(alloc)
+}
+
+fn is_moved_under(moves: &[Move], top: Category) -> bool
+    ensures { result ≡ list_any (crosses (λ c. stands_under c top)) moves.now }
+{
+    is_moved(&Scope::Under(top), moves)
+}
+
+// Whether one of the lines comes into the scope, or leaves it.
+fn is_moved(scope: &Scope, moves: &[Move]) -> bool
+    ensures { result ≡ list_any (crosses (is_within scope.now)) moves.now }
+{
+    moves.iter().any(|line| crosses(scope, line))
+}
+
+fn crosses(scope: &Scope, line: &Move) -> bool
+    ensures { result ≡ crosses (is_within scope.now) line.now }
+{
+    is_some_within(scope, line.before) != is_some_within(scope, line.after)
+}
+
+impl Moved {
+    /// Whether the total of a category adds other lines than it did.
+    pub(crate) fn has(&self, top: Category) -> bool
+        ensures { result ≡ list_any (is_same top) self.now.tops.items }
+    {
+        self.tops.iter().any(|moved| top == *moved)
+    }
+}
