@@ -1,7 +1,10 @@
-//! Tests of an office over a keeper: what was accepted is repeated by an office that is reopened.
+//! Tests of an office over a keeper: how many nodes a submission affects, and that what was accepted is
+//! repeated by an office that is reopened.
 //!
 //! They stand in a crate of their own, above the office and the kit's `sqlite`.
 #![tactic(auto)]
 
+#[cfg(test)]
+mod counted;
 #[cfg(test)]
 mod reopened;

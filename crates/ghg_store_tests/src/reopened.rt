@@ -43,7 +43,7 @@ fn keeps_the_plant<K: Keeper, L: Ledger>(
     }
     let first = submit(alloc, keeper, steps);
     let again = submit(alloc, keeper, steps);
-    matches!(first, Some(Reply::Accepted { seq: 1 }))
+    matches!(first, Some(Reply::Accepted { seq: 1, cells: 158 }))
         && matches!(again, Some(Reply::Repeated { seq: 1 }))
         && keeper.count() == Ok(1)
 }
