@@ -1,5 +1,5 @@
 -- The dates of a calendar, after a change.
-use Rattle.std.proofs.Common.{◌≡◌, ℕ, Bool, true, false, cond, ◌&&◌, ◌==◌, List, [], ◌∷◌, Option, Some, None, refl, sym, ap, ap₂, ◌∙◌, eqb-true}
+use Rattle.std.proofs.Common.{◌≡◌, ℕ, Bool, true, false, cond, ◌&&◌, ◌==◌, List, [], ◌∷◌, Option, Some, None, unwrap_or, refl, sym, ap, ap₂, ◌∙◌, subst, eqb-true}
 use Rattle.std.specs.Cmp.{eq_by_cmp_equiv}
 use Rattle.std.specs.Cmp.Lexicographic.{texts_ties}
 use Rattle.std.specs.Map.{lookup}
@@ -71,6 +71,71 @@ each_has_a_year old new k given some h each s set e = by (series_eq k s) (sym (h
     by : (b : Bool) → cond b given (lookup (series_eq s) old) ≡ Some set → ¬ HasNoYear set
     by true f = some set f
     by false f = each s set (sym (found s old) ∙ f)
+
+-- what a series is given has a year, where it is nothing
+pub nothing_given : (set : YearSet) → None ≡ Some set → ¬ HasNoYear set
+nothing_given set e = absurd (cc)
+
+-- and where it is years
+pub given : (years : YearSet) → ¬ HasNoYear years → (set : YearSet) → Some years ≡ Some set → ¬ HasNoYear set
+given years some set e = let same : years ≡ set = cc in subst (λ s. ¬ HasNoYear s) same some
+
+-- years with one more are some, where they were some
+pub still_some : (before after : YearSet) (here : ℕ → Bool) → ((y : ℕ) → has_year after y ≡ cond (here y) true (has_year before y)) → ¬ HasNoYear before → ¬ HasNoYear after
+still_some before after here with some none = some (λ y. by (here y) (has_year before y) (sym (with y) ∙ none y))
+  where
+    by : (b o : Bool) → cond b true o ≡ false → o ≡ false
+    by true o e = absurd (cc)
+    by false o e = e
+
+-- a year alone
+pub alone : (here : Bool) → cond here true false ≡ here
+alone true = refl
+alone false = refl
+
+-- the years that a series has
+pub had_years : (es : List (Series × YearSet)) (k : Series) (years : YearSet) → lookup (series_eq k) es ≡ Some years → lookup (same_series k) es ≡ Some years
+had_years es k years there = sym (found k es) ∙ there
+
+-- they are some, where a series without years is given some at first
+pub begun : (es : List (Series × YearSet)) (k : Series) (first before : YearSet) → before ≡ unwrap_or (lookup (series_eq k) es) first → ¬ HasNoYear first → EachHasAYear es → ¬ HasNoYear before
+begun es k first before is some each = by (lookup (series_eq k) es) refl is
+  where
+    by : (o : Option YearSet) → lookup (series_eq k) es ≡ o → before ≡ unwrap_or o first → ¬ HasNoYear before
+    by None at e = subst (λ s. ¬ HasNoYear s) (sym e) some
+    by (Some years) at e = subst (λ s. ¬ HasNoYear s) (sym e) (each k years (had_years es k years at))
+
+-- the years of a series with one more, which is the only one of a series that had none
+pub one_more : (es : List (Series × YearSet)) (k : Series) (first before after : YearSet) (here : ℕ → Bool) → before ≡ unwrap_or (lookup (series_eq k) es) first → ((y : ℕ) → has_year first y ≡ here y)
+    → ((y : ℕ) → has_year after y ≡ cond (here y) true (has_year before y)) → (y : ℕ) → has_year after y ≡ cond (here y) true (holds_year (lookup (same_series k) es) y)
+one_more es k first before after here is only with y =
+    with y ∙ ap (λ b. cond (here y) true (has_year b y)) is ∙ by (lookup (series_eq k) es) ∙ ap (λ o. cond (here y) true (holds_year o y)) (found k es)
+  where
+    either : (b : Bool) → cond b true b ≡ cond b true false
+    either true = refl
+    either false = refl
+
+    by : (o : Option YearSet) → cond (here y) true (has_year (unwrap_or o first) y) ≡ cond (here y) true (holds_year o y)
+    by None = ap (cond (here y) true) (only y) ∙ either (here y)
+    by (Some years) = refl
+
+-- what a write leaves of a series that is taken out then
+pub taken_out : (old between new : List (Series × YearSet)) (k : Series) (years : YearSet) → ((q : Series) → lookup (series_eq q) between ≡ cond (series_eq k q) (Some years) (lookup (series_eq q) old))
+    → ((q : Series) → lookup (series_eq q) new ≡ cond (series_eq k q) None (lookup (series_eq q) between)) → (q : Series) → lookup (series_eq q) new ≡ cond (series_eq k q) None (lookup (series_eq q) old)
+taken_out old between new k years first then q = then q ∙ ap (cond (series_eq k q) None) (first q) ∙ by (series_eq k q)
+  where
+    by : (b : Bool) → cond b None (cond b (Some years) (lookup (series_eq q) old)) ≡ cond b None (lookup (series_eq q) old)
+    by true = refl
+    by false = refl
+
+-- a series that is given the years that it has
+pub put_no_year : (old : Calendar) (k : Series) (given : ℕ → Bool) → ((y : ℕ) → has_date old k y ≡ given y) → (s : Series) (y : ℕ)
+    → has_date old s y ≡ cond (same_series k s) (given y) (has_date old s y)
+put_no_year old k given same s y = by (same_series k s) refl
+  where
+    by : (b : Bool) → same_series k s ≡ b → has_date old s y ≡ cond b (given y) (has_date old s y)
+    by true is = ap (λ x. has_date old x y) (sym (series_same k s is)) ∙ same y
+    by false is = refl
 
 -- ---- a key is noted
 

@@ -1,6 +1,6 @@
 //! The years of the records of each activity and factor.
 
-ghost use Rattle.std.specs.Prelude.{◌≡◌, ℕ, ◌+◌, ◌≤◌, ◌<◌, false, cond, ◌&&◌, OnOk};
+ghost use Rattle.std.specs.Prelude.{◌≡◌, ℕ, ◌+◌, ◌≤◌, ◌<◌, true, false, cond, ◌&&◌, ◌==◌, OnOk};
 ghost use Rattle.std.specs.Ordering.{eq_by_cmp};
 ghost use Rattle.indexmap.specs.IndexMap.{spare};
 ghost use Rattle.ghg_definitions.specs.Data.{key_cmp};
@@ -46,6 +46,10 @@ impl Calendar {
     pub(crate) fn years(&self, series: &Series) -> YearSet
         ensures { (y : ℕ) → has_year result y ≡ has_date self.now series.now y }
     {
+        // A look-up costs a hash of the series, even where there are no entries.
+        if self.years.is_empty() {
+            return YearSet::empty();
+        }
         match self.years.get(series) {
             Some(years) => *years,
             None => YearSet::empty(),
@@ -60,22 +64,47 @@ impl Calendar {
         ensures room { spare self.old.years ≤ spare self.new.years + 1 }
     {
         if let Some((series, year)) = date_of(key) {
-            let years = self.years(&series).with(year, present);
-            self.put(series, years);
+            if present {
+                self.put(series, year);
+            } else {
+                self.take(&series, year);
+            }
         }
     }
 
-    // Gives a series these years.
-    fn put(&mut self, series: Series, years: YearSet)
+    // Gives a series one more year.
+    fn put(&mut self, series: Series, year: u32)
         requires { 0 < spare self.old.years }
         ensures dates { (s : Series) (y : ℕ) → has_date self.new s y ≡ cond (same_series series s)
-            (has_year years y) (has_date self.old s y) }
+            (cond (is_year year && (y == year)) true (has_date self.old series y)) (has_date self.old s y) }
         ensures room { spare self.old.years ≤ spare self.new.years + 1 }
     {
-        if years.is_empty() {
-            self.years.swap_remove(&series);
-        } else {
-            self.years.insert(series, years).unwrap();
+        let first = YearSet::empty().with(year, true);
+        // A year that no record may be of is in no set.
+        if first.is_empty() {
+            return;
+        }
+        let years = self.years.entry(series).unwrap().or_insert(first);
+        *years = years.with(year, true);
+    }
+
+    // Takes a year from a series.
+    fn take(&mut self, series: &Series, year: u32)
+        ensures dates { (s : Series) (y : ℕ) → has_date self.new s y ≡ cond (same_series series.now s)
+            (cond (is_year year && (y == year)) false (has_date self.old series.now y))
+            (has_date self.old s y) }
+        ensures room { spare self.old.years ≤ spare self.new.years }
+    {
+        if self.years.is_empty() {
+            return;
+        }
+        if let Some(years) = self.years.get_mut(series) {
+            let rest = years.with(year, false);
+            if rest.is_empty() {
+                self.years.swap_remove(series);
+            } else {
+                *years = rest;
+            }
         }
     }
 }

@@ -86,6 +86,10 @@ impl Edits {
     pub(crate) fn get(&self, key: &RecordKey) -> Option<&Option<Record>>
         ensures { option_copied result ≡ find key_cmp key.now self.now }
     {
+        // A look-up costs a hash of the key, even where there are no changes.
+        if self.changes.is_empty() {
+            return None;
+        }
         self.changes.get(key)
     }
 

@@ -77,6 +77,10 @@ impl Holdings {
     pub(crate) fn get(&self, key: &RecordKey) -> Option<&Record>
         ensures { option_copied result ≡ finite.get self.now.content key.now }
     {
+        // A look-up costs a hash of the key, even where there are no records.
+        if self.records.is_empty() {
+            return None;
+        }
         self.records.get(key)
     }
 

@@ -1,15 +1,24 @@
-use Rattle.std.proofs.Common.{cond, ◌&&◌, ◌==◌, ◌∙◌, sym, ap}
+use Rattle.std.proofs.Common.{true, false, cond, ◌&&◌, sym, ap, ◌∙◌}
+use Rattle.std.specs.Ordering.{eq_by_cmp}
+use Rattle.ghg_definitions.specs.Data.{key_cmp}
 use Rattle.ghg_data.specs.Calendar.{has_date}
-use Rattle.ghg_data.specs.Series.{same_series}
+use Rattle.ghg_data.specs.Series.{dated}
 use Rattle.ghg_units.specs.Year.{is_year}
 use Rattle.ghg_data.proofs.Dates.{noted}
 use Rattle.ghg_data.proofs.calendar.Calendar.note.Goals as goal
 
-pub returns-in-Some-clause-dates : goal.returns-in-Some-clause-dates
-returns-in-Some-clause-dates c = λ s y.
+pub returns-then-present-clause-dates : goal.returns-then-present-clause-dates
+returns-then-present-clause-dates c = λ s y.
     let old = c.args.self.now in
-    let t = c.in-Some.series in
-    let z = c.in-Some.year in
+    let key = c.args.key.now in
     c.put.ensures.dates s y
-    ∙ ap (λ b. cond (same_series t s) b (has_date old s y)) (c.with-years.ensures y ∙ ap (λ b. cond (is_year z && (y == z)) c.args.present b) (c.years.ensures y))
-    ∙ noted old c.args.key.now c.args.present t z (sym c.date_of.ensures ∙ c.in-Some.is) s y
+    ∙ noted old key true c.in-Some.series c.in-Some.year (sym c.date_of.ensures ∙ c.in-Some.is) s y
+    ∙ ap (λ b. cond (is_year y && eq_by_cmp key_cmp (dated s y) key) b (has_date old s y)) (sym c.if-present.true)
+
+pub returns-else-present-clause-dates : goal.returns-else-present-clause-dates
+returns-else-present-clause-dates c = λ s y.
+    let old = c.args.self.now in
+    let key = c.args.key.now in
+    c.take.ensures.dates s y
+    ∙ noted old key false c.in-Some.series c.in-Some.year (sym c.date_of.ensures ∙ c.in-Some.is) s y
+    ∙ ap (λ b. cond (is_year y && eq_by_cmp key_cmp (dated s y) key) b (has_date old s y)) (sym c.if-present.false)

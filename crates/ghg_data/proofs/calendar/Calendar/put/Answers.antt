@@ -1,40 +1,53 @@
-use Rattle.std.proofs.Common.{◌≡◌, true, false, Some, None, Result, Ok, Err, IsOk, OnOk, refl, subst}
-use Rattle.ghg_data.specs.declared.year_set.YearSet.{YearSet}
-use Rattle.ghg_data.specs.YearSet.{HasNoYear}
-use Rattle.ghg_data.proofs.Applied.{on_ok}
-use Rattle.ghg_data.proofs.Dates.{each_has_a_year, put_none, put_years}
+use Rattle.std.proofs.Common.{◌≡◌, ℕ, true, true≢false, cond, ◌&&◌, ◌==◌, Some, Result, Ok, Err, IfOk, unwrap_or, refl, sym, ap, ◌∙◌, subst, arith}
+use Rattle.std.specs.Map.{lookup}
+use Rattle.indexmap.specs.Entry.{map_with_value}
+use Rattle.ghg_data.specs.Calendar.{has_date, holds_year}
+use Rattle.ghg_data.specs.Series.{EachHasAYear, same_series}
+use Rattle.ghg_units.specs.Year.{is_year}
+use Rattle.ghg_data.proofs.Dates.{alone, begun, each_has_a_year, given, one_more, put_no_year, put_years, still_some}
 use Rattle.ghg_data.proofs.calendar.Calendar.put.Goals as goal
+
+if_ok : {T E : Type 0} (r : Result T E) (x : T) (P : T → Type 0) → r ≡ Ok x → IfOk r P → P x
+if_ok (Ok y) x P e h = let same : y ≡ x = cc in subst P same h
+if_ok (Err y) x P e h = absurd (cc)
 
 pub returns-then-is_empty-clause-dates : goal.returns-then-is_empty-clause-dates
 returns-then-is_empty-clause-dates c =
-    put_none c.args.self.now.years.entries c.swap_remove.new.self.entries c.args.series c.args.years (c.if-is_empty.ensures.0 refl) c.swap_remove.ensures.updates.0
+    let old = c.args.self.now in
+    let k = c.args.series in
+    let z = c.args.year in
+    put_no_year old k (λ y. cond (is_year z && (y == z)) true (has_date old k y))
+    (λ y. ap (λ b. cond b true (has_date old k y))
+    (sym (c.if-is_empty.ensures.0 refl y) ∙ c.with-first.ensures y ∙ ap (cond (is_year z && (y == z)) true) (c.empty.ensures y) ∙ alone (is_year z && (y == z))))
 
-pub returns-else-is_empty-clause-dates : goal.returns-else-is_empty-clause-dates
-returns-else-is_empty-clause-dates c =
-    let updates = on_ok c.insert.result c.unwrap.result _ c.unwrap.ensures c.insert.ensures.updates in
-    put_years c.args.self.now.years.entries c.insert.new.self.entries c.args.series c.args.years updates.0
-
-nothing_given : (set : YearSet) → None ≡ Some set → ¬ HasNoYear set
-nothing_given set e = absurd (cc)
-
-given : (years : YearSet) → ¬ HasNoYear years → (set : YearSet) → Some years ≡ Some set → ¬ HasNoYear set
-given years some set e = let same : years ≡ set = cc in subst (λ s. ¬ HasNoYear s) same some
-
-never : false ≡ true → ⊥
-never e = cc
-
-went_well : {T E : Type 0} (r : Result T E) (P : Type 0) → IsOk r → OnOk r P → P
-went_well (Ok y) P is h = h
-went_well (Err y) P is h = absurd (cc)
+pub returns-clause-dates : goal.returns-clause-dates
+returns-clause-dates c = λ s y.
+    let old = c.args.self.now in
+    let k = c.args.series in
+    let z = c.args.year in
+    let first = c.with-first.result in
+    let after = c.with.result in
+    let new = map_with_value c.unwrap.result after in
+    let only = λ (x : ℕ). c.with-first.ensures x ∙ ap (cond (is_year z && (x == z)) true) (c.empty.ensures x) ∙ alone (is_year z && (x == z)) in
+    let before = c.or_insert-years.ensures.value ∙ ap (λ o. unwrap_or o first) (if_ok c.entry.result c.unwrap.result _ c.unwrap.ensures c.entry.ensures.value) in
+    let more = one_more old.years.entries k first c.or_insert-years.result.now after (λ x. is_year z && (x == z)) before only c.with.ensures in
+    let put : holds_year (lookup (same_series s) new.entries) y ≡ cond (same_series k s) (cond (is_year z && (y == z)) true (has_date old k y)) (has_date old s y) =
+    put_years old.years.entries new.entries k after ((if_ok c.entry.result c.unwrap.result _ c.unwrap.ensures c.entry.ensures.update).0 after).0 s y ∙ ap (λ b. cond (same_series k s) b (has_date old s y)) (more y) in
+    grind (arith, put)
 
 pub invariant_of-self : goal.invariant_of-self
-invariant_of-self c = record {
-  none_empty = each_has_a_year c.args.self.now.years.entries c.swap_remove.new.self.entries c.args.series None nothing_given c.swap_remove.ensures.updates.0 c.args.self.now.none_empty;
-}
-
-pub invariant_of-self-else-is_empty : goal.invariant_of-self-else-is_empty
-invariant_of-self-else-is_empty c =
-    let updates = went_well c.insert.result _ (c.insert.ensures.succeeds c.requires) c.insert.ensures.updates in
+invariant_of-self c =
+    let old = c.args.self.now in
+    let k = c.args.series in
+    let z = c.args.year in
+    let first = c.with-first.result in
+    let begins = c.or_insert-years.result.now in
+    let after = c.with.result in
+    let new = map_with_value c.unwrap.result after in
+    let before = c.or_insert-years.ensures.value ∙ ap (λ o. unwrap_or o first) (if_ok c.entry.result c.unwrap.result _ c.unwrap.ensures c.entry.ensures.value) in
+    let some = begun old.years.entries k first begins before (λ h. absurd (true≢false (sym (c.if-is_empty.ensures.1 h)))) old.none_empty in
+    let more = still_some begins after (λ y. is_year z && (y == z)) c.with.ensures some in
+    let each : EachHasAYear new.entries = each_has_a_year old.years.entries new.entries k (Some after) (given after more) ((if_ok c.entry.result c.unwrap.result _ c.unwrap.ensures c.entry.ensures.update).0 after).0 old.none_empty in
     record {
-      none_empty = each_has_a_year c.args.self.now.years.entries c.insert.new.self.entries c.args.series (Some c.args.years) (given c.args.years (λ h. absurd (never (c.if-is_empty.ensures.1 h)))) updates.0 c.args.self.now.none_empty;
+      none_empty = λ s set at. each s set (grind (arith, at));
     }
