@@ -28,3 +28,5 @@ pub mod Standing
 pub mod Entering
 pub mod Placing
 pub mod Emitting
+pub mod Above
+pub mod NewYears

@@ -20,6 +20,9 @@ use Rattle.ghg_definitions.proofs.Keys.{equal_by, names_same}
 use Rattle.ghg_definitions.proofs.Listed.{contained, from_filter, in_either, listed, listed_filter}
 use Rattle.ghg_affected.proofs.Bools.{true_not_false}
 use Rattle.ghg_graph.specs.Ordering.{IsBehind}
+use Rattle.ghg_graph.specs.Tops.{AreTops}
+use Rattle.ghg_graph.specs.declared.tops.Tops.{Tops}
+use Rattle.ghg_graph.specs.declared.reached.Lines.TheVariants as year_lines
 use Rattle.ghg_graph.specs.Reached.{HasReached, IsGasWalk, IsWalk, is_reached, reached_categories}
 use Rattle.ghg_graph.proofs.EquationParameters.{at_place}
 use Rattle.ghg_graph.proofs.Numbering.{take_next}
@@ -76,19 +79,22 @@ module _ (old new : Data) (year : ℕ) where
       ∙ ap (λ cs. reached_categories old new year (take i xs) ++ cs) (categories_one x b is)
 
   pub category_passed : (xs : List Name) (i : ℕ) (x : Name) → i < length xs → x ≡ get_or xs i x
-      → is_reached old new (node.Equiv x year) ≡ true → (was now : List Category)
-      → was ≡ reached_categories old new year (take i xs) → now ≡ was ++ option_to_list (category new x)
-      → now ≡ reached_categories old new year (take (i + 1) xs)
+      → is_reached old new (node.Equiv x year) ≡ true → (was now : Tops)
+      → AreTops (reached_categories old new year (take i xs)) was
+      → ((cs : List Category) → AreTops cs was → AreTops (cs ++ option_to_list (category new x)) now)
+      → AreTops (reached_categories old new year (take (i + 1) xs)) now
   category_passed xs i x h e is was now before after =
-      after ∙ ap (λ cs. cs ++ option_to_list (category new x)) before ∙ sym (categories_taken xs i x h e true is)
+      subst (λ cs. AreTops cs now) (sym (categories_taken xs i x h e true is))
+      (after (reached_categories old new year (take i xs)) before)
 
   pub category_left : (xs : List Name) (i : ℕ) (x : Name) → i < length xs → x ≡ get_or xs i x
-      → is_reached old new (node.Equiv x year) ≡ false → (was : List Category)
-      → was ≡ reached_categories old new year (take i xs)
-      → was ≡ reached_categories old new year (take (i + 1) xs)
+      → is_reached old new (node.Equiv x year) ≡ false → (was : Tops)
+      → AreTops (reached_categories old new year (take i xs)) was
+      → AreTops (reached_categories old new year (take (i + 1) xs)) was
   category_left xs i x h e off was before =
-      before ∙ sym (append-nil (reached_categories old new year (take i xs)))
-      ∙ sym (categories_taken xs i x h e false off)
+      subst (λ cs. AreTops cs was)
+      (sym (append-nil (reached_categories old new year (take i xs))) ∙ sym (categories_taken xs i x h e false off))
+      before
 
 -- ---- lines in order
 
@@ -266,7 +272,7 @@ module _ (old new : Data) (year : ℕ) where
   }
 
   pub all_gathered : (names : List Name) → IsWalk old new names → (s : BTreeSet Name) → IsSoFar names s
-      → HasReached old new year s
+      → HasReached old new year (year_lines.These s)
   all_gathered names walk s so k = same_truth _ _ (so.sound k) (λ r. elim (or_else (is_node new (node.Line k year))) [
     | inr off ↦ absurd (true_not_false (sym r ∙ none_reached old new (node.Line k year) off))
     | inl is ↦ elim (or_else (walk.test k)) [

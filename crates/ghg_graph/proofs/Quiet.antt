@@ -1,7 +1,6 @@
 -- A year in which no edited record is read, behind one in which no line is reached, has nothing that is reached.
 use Rattle.std.proofs.Common.{◌≡◌, ◌⊎◌, inl, inr, ℕ, ◌+◌, true, false, nat_le, le-leb, nat_eq, List, [], ◌∷◌, map, filter, Option, Some, None, refl, sym, ap, ◌∙◌, subst}
 use Rattle.std.proofs.lemmas.Bool.{eq-eqb}
-use Rattle.std.specs.BTreeSet.{BTreeSet}
 use Rattle.std.specs.FinMap.{get}
 use Rattle.std.specs.List.{Contains, list_any}
 use Rattle.ghg_categories.specs.Tree.{stands_under}
@@ -28,7 +27,8 @@ use Rattle.ghg_affected.proofs.Affected.{through}
 use Rattle.ghg_affected.proofs.Bools.{never_so, true_not_false}
 use Rattle.ghg_affected.proofs.Dependence.{untouched_are_unchanged}
 use Rattle.ghg_affected.proofs.Figures.{stands_by_none}
-use Rattle.ghg_graph.specs.Reached.{HasBefore, is_read_in, is_reached}
+use Rattle.ghg_graph.specs.declared.reached.Lines.{Lines}
+use Rattle.ghg_graph.specs.Reached.{HasBefore, has_line, is_read_in, is_reached}
 use Rattle.ghg_graph.specs.Years.{year_nodes}
 use Rattle.ghg_graph.proofs.YearNodes.{none_pass, of_this_year}
 use Rattle.ghg_graph.proofs.YearParts.{year_turned}
@@ -111,7 +111,7 @@ stands_in n k h = by k (stands_by_none n k h)
 module _ (old new : Data) (keys : List RecordKey)
     (kept : (k : RecordKey) → (Contains keys k → ⊥) → get old k ≡ get new k)
     (year : ℕ) (unread : list_any (is_read_in year) keys ≡ false)
-    (before : BTreeSet Name) (none : before.keys ≡ []) (has : HasBefore old new year before) where
+    (before : Lines) (none : (name : Name) → has_line new before name ≡ false) (has : HasBefore old new year before) where
   -- no record that a node of the year reads or stands by is edited
   same_record : (k : RecordKey) → is_read_in year k ≡ true → get old k ≡ get new k
   same_record k reads = kept k (λ c. true_not_false (sym (listed_any (is_read_in year) k keys (listed keys k c) reads) ∙ unread))
@@ -119,7 +119,7 @@ module _ (old new : Data) (keys : List RecordKey)
   none_before : (k : Name) (n : Node) → IsListed n (nodes_in (previous (nat_le year (first_year (span new))) k year))
       → is_reached old new n ≡ true → ⊥
   none_before k n i on = true_not_false (sym (listed_any (is_reached old new) n _ i on)
-      ∙ sym (has k) ∙ ap (list_any _) none)
+      ∙ sym (has k) ∙ none k)
 
   -- nothing of the year is affected by way of a node that is not
   led_on : (k : Node) (ks : List Node) (n : Node) → IsAffected old new k → (year_in k ≡ year → ⊥)
@@ -149,4 +149,4 @@ module _ (old new : Data) (keys : List RecordKey)
 
   pub quiet_turned : is_year_of (span new) year ≡ true → HasBefore old new (year + 1) before
   quiet_turned within = year_turned old new year before within
-      (λ name. ap (list_any _) none ∙ sym (quiet_node (node.Line name year) refl))
+      (λ name. none name ∙ sym (quiet_node (node.Line name year) refl))

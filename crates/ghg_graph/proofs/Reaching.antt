@@ -33,7 +33,7 @@ use Rattle.ghg_data.specs.Parameters.{quantity}
 use Rattle.ghg_equations.specs.declared.row.Param.{Param}
 use Rattle.ghg_graph.proofs.EquationParameters.{any_named, at_place}
 use Rattle.ghg_graph.specs.Moves.{are_moved}
-use Rattle.ghg_graph.specs.Reached.{binding_reached, is_reached, reached_categories, was_line}
+use Rattle.ghg_graph.specs.Reached.{binding_reached, is_reached, reached_categories}
 
 -- ---- truth values
 
@@ -194,6 +194,11 @@ sums_same year [] [] = refl
 sums_same year [] (y ∷ ys) = refl
 sums_same year (x ∷ xs) [] = refl
 sums_same year (x ∷ xs) (y ∷ ys) = ap₂ (λ (a b : Bool). a && b) (same_names_by x y year) (sums_same year xs ys)
+
+-- the line was there in the year, with the equation
+abbrev pub was_line : Data → Name → EqId → ℕ → Bool
+was_line old name e year =
+    is_year_of (span old) year && option_map_or (λ d. same_equation d e) (line old name) false
 
 module _ (old new : Data) where
   changed_is : (n : Node) → is_node new n ≡ true → is_changed old new n

@@ -1,23 +1,21 @@
 -- Lines that are selected by what they take.
-use Rattle.std.proofs.Common.{◌≡◌, ◌⊎◌, inl, inr, ℕ, zero, suc, ◌+◌, ◌<◌, ◌≤◌, Bool, true, false, cond, List, [], ◌∷◌, length, map, filter, drop, take, get_or, is_eq, Less, refl, sym, ap, ◌∙◌, subst, arith}
+use Rattle.std.proofs.Common.{◌≡◌, ◌⊎◌, inl, inr, ℕ, zero, suc, ◌+◌, ◌<◌, ◌≤◌, Bool, true, false, cond, List, [], ◌∷◌, length, map, filter, drop, take, get_or, Less, refl, sym, ap, ◌∙◌, subst, arith}
 use Rattle.std.proofs.lemmas.List.{drop_all, drop_more}
 use Rattle.std.proofs.lemmas.Map.Keys.{sorted_head, sorted_tail}
 use Rattle.std.proofs.lemmas.Map.Lookups.{exact_bytes}
-use Rattle.std.specs.BTreeSet.{BTreeSet, Updates, contains}
+use Rattle.std.specs.BTreeSet.{BTreeSet}
 use Rattle.std.specs.Cmp.Lexicographic.{nat_list_cmp_total}
 use Rattle.std.specs.List.{AllByRecursion, Contains}
 use Rattle.std.specs.List.Sorted.{IsStrictlySortedBy}
 use Rattle.std.specs.Ordering.{nat_cmp}
-use Rattle.ghg_definitions.specs.declared.record.RecordKey.{RecordKey}
-use Rattle.ghg_definitions.specs.declared.record.RecordKey.TheVariants as key
-use Rattle.ghg_definitions.specs.Data.{Data, Name, name_cmp}
+use Rattle.ghg_definitions.specs.Data.{Data, Name}
 use Rattle.ghg_definitions.specs.Listed.{IsListed}
 use Rattle.ghg_definitions.proofs.Listed.{contained, from_map, in_either, listed, listed_map}
 use Rattle.ghg_affected.proofs.Bools.{true_not_false}
 use Rattle.ghg_graph.specs.Index.{IsLineIndex}
 use Rattle.ghg_graph.specs.Numbers.{name_at}
 use Rattle.ghg_graph.specs.Ordering.{IsBehind}
-use Rattle.ghg_graph.specs.Selections.{IsSelection, has_figure, is_selected}
+use Rattle.ghg_graph.specs.Selections.{IsSelection, is_selected}
 use Rattle.ghg_graph.specs.Takers.{figures_taken, lines_taken, named_by, places_of}
 use Rattle.ghg_graph.specs.Worklists.{AreClosed, IsIn}
 use Rattle.ghg_graph.specs.declared.index.LineIndex.{LineIndex}
@@ -35,24 +33,6 @@ module _ {A : Type 0} (P : A → Type 0) where
     | inl k ↦ all y k
     | inr k ↦ elim k [ inl same ↦ subst P (sym same) new | inr none ↦ absurd none ]
   ]
-
--- ---- figures
-
-pub figure_kept : (s t : BTreeSet Name) (name : Name) → Updates name_cmp s t name true → (k : RecordKey)
-    → has_figure s k ≡ true → has_figure t k ≡ true
-figure_kept s t name updates k = by k
-  where
-    at : (b : Bool) (q : Name) → contains name_cmp s q ≡ true → cond b true (contains name_cmp s q) ≡ true
-    at true q e = refl
-    at false q e = e
-
-    by : (k : RecordKey) → has_figure s k ≡ true → has_figure t k ≡ true
-    by key.Span e = refl
-    by (key.Activity other year) e = updates.0 other ∙ at (is_eq (name_cmp name other)) other e
-    by (key.Factor other start) e = updates.0 other ∙ at (is_eq (name_cmp name other)) other e
-    by (key.Line other) e = refl
-    by (key.Bind other parameter) e = refl
-    by (key.Uncert other) e = refl
 
 -- ---- places in order
 

@@ -1,5 +1,5 @@
 -- Places that are selected one after the other.
-use Rattle.std.proofs.Common.{◌≡◌, ◌⊎◌, inl, inr, ℕ, zero, suc, ◌+◌, ◌-◌, ◌<◌, ◌≤◌, Bool, true, false, cond, not, List, [], ◌∷◌, ◌++◌, length, get_or, flat_map, map, take, is_eq, refl, sym, ap, ◌∙◌, subst, arith, length-append}
+use Rattle.std.proofs.Common.{◌≡◌, ◌⊎◌, inl, inr, ℕ, zero, suc, ◌+◌, ◌-◌, ◌<◌, ◌≤◌, Bool, true, false, cond, List, [], ◌∷◌, ◌++◌, length, get_or, flat_map, map, take, is_eq, refl, sym, ap, ◌∙◌, subst, arith, length-append}
 use Rattle.std.proofs.lemmas.List.{append-nil, append_assoc, get_or_default, map-append, take-append-le, take_all}
 use Rattle.std.proofs.lemmas.List.Concat.{flat_map-append}
 use Rattle.std.proofs.lemmas.Map.Lookups.{exact_bytes, exact_unsigned}
@@ -7,7 +7,6 @@ use Rattle.std.proofs.lemmas.Map.Views.{All-from_any, length-le_from_below, tell
 use Rattle.std.specs.BTreeSet.{BTreeSet, IsOrdered, Updates, btree_set_len, contains}
 use Rattle.std.specs.Cmp.{eq_by_cmp_equiv}
 use Rattle.std.specs.List.{list_any, range_with_len}
-use Rattle.std.specs.List.Sorted.{IsStrictlySortedBy}
 use Rattle.std.specs.Ordering.{nat_cmp}
 use Rattle.std.proofs.lemmas.Cmp.{nat_cmp_total}
 use Rattle.ghg_definitions.specs.Data.{Name}
@@ -59,10 +58,6 @@ module _ (s t : BTreeSet ℕ) (x : ℕ) (updates : Updates nat_cmp s t x true) w
 same_in : (s t : BTreeSet ℕ) → t.keys ≡ s.keys → (place : ℕ) → contains nat_cmp t place ≡ contains nat_cmp s place
 same_in s t keys place = ap (list_any (λ x. is_eq (nat_cmp place x))) keys
 
-pub was_in : (b : Bool) → not b ≡ false → b ≡ true
-was_in true e = refl
-was_in false e = sym e
-
 -- ---- what is added
 
 pub added_none : (w : Worklist) → AreAdded [] w w
@@ -91,20 +86,7 @@ added_more xs ys a b c first second = record {
   );
 }
 
--- one place that is new
-pub added_new : (old new : Worklist) (place : ℕ) → Updates nat_cmp old.selected new.selected place true
-    → new.queue.items ≡ old.queue.items ++ place ∷ [] → AreAdded (place ∷ []) old new
-added_new old new place updates queued = record {
-  kept = stays old.selected new.selected place updates;
-  added = λ other i. elim i [ inl same ↦ subst (IsIn new.selected) (sym same) updates.1 | inr none ↦ absurd none ];
-  only = λ other is. elim (comes old.selected new.selected place updates other is) [
-    | inl j ↦ inl j
-    | inr same ↦ inr (inl same)
-  ];
-  behind = (place ∷ [], queued);
-}
-
--- one that is not
+-- one place that is selected already
 pub added_old : (old new : Worklist) (place : ℕ) → IsIn old.selected place → new.selected.keys ≡ old.selected.keys
     → new.queue.items ≡ old.queue.items → AreAdded (place ∷ []) old new
 added_old old new place is keys queued = record {
@@ -135,17 +117,6 @@ queued_new old new place was ordered len updates queued = record {
         | inl j ↦ listed_left other old.queue.items (place ∷ []) (was.full other j)
         | inr same ↦ listed_right other old.queue.items (place ∷ []) (inl same)
       ]);
-}
-
-pub queued_old : (old new : Worklist) → IsQueued old → new.selected.keys ≡ old.selected.keys
-    → new.queue.items ≡ old.queue.items → IsQueued new
-queued_old old new was keys queued = record {
-  ordered = subst (IsStrictlySortedBy nat_cmp) (sym keys) was.ordered;
-  count = ap length queued ∙ was.count ∙ ap length (sym keys);
-  sound = λ other i. same_in old.selected new.selected keys other
-      ∙ was.sound other (subst (IsListed other) queued i);
-  full = λ other is. subst (IsListed other) (sym queued)
-      (was.full other (sym (same_in old.selected new.selected keys other) ∙ is));
 }
 
 -- ---- places that are gone through

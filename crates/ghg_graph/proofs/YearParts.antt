@@ -3,7 +3,6 @@ use Rattle.std.proofs.Common.{◌≡◌, inl, inr, ℕ, ◌+◌, ◌-◌, ◌≤
 use Rattle.std.proofs.lemmas.Bool.{lt-leb}
 use Rattle.std.proofs.lemmas.List.{append_assoc}
 use Rattle.std.proofs.lemmas.List.Elements.{filter-append}
-use Rattle.std.specs.BTreeSet.{BTreeSet}
 use Rattle.std.specs.List.{list_any}
 use Rattle.ghg_categories.specs.declared.category.Category.{Category}
 use Rattle.ghg_categories.specs.Tree.{is_same, stands_under, tree}
@@ -19,7 +18,10 @@ use Rattle.ghg_definitions.proofs.Listed.{contained, from_any, from_filter, list
 use Rattle.ghg_definitions.proofs.NodeLists.{category_same, tree_is}
 use Rattle.ghg_graph.specs.Moves.{AreMoved, are_moved}
 use Rattle.ghg_graph.specs.declared.moves.Moved.{Moved}
-use Rattle.ghg_graph.specs.Reached.{HasBefore, HasReached, is_gross_of, is_reached, is_total_of, reached_categories}
+use Rattle.ghg_graph.specs.declared.reached.Lines.{Lines}
+use Rattle.ghg_graph.specs.Reached.{HasBefore, HasReached, is_reached, is_total_of, reached_categories}
+use Rattle.ghg_graph.specs.Tops.{AreTops}
+use Rattle.ghg_graph.specs.declared.tops.Tops.{Tops}
 use Rattle.ghg_graph.specs.Years.{nodes_by_year, year_nodes}
 use Rattle.ghg_graph.proofs.Marks.{from_reverse}
 use Rattle.ghg_graph.proofs.Reaching.{gross_is_reached, same_truth, total_is_reached}
@@ -34,65 +36,64 @@ is_chosen p c i = same_truth _ _
     (λ e. listed_any (is_same c) c (filter p tree) (listed_filter p c tree i e) ((category_same c c).1 refl))
 
 module _ (old new : Data) (year : ℕ) (within : is_year_of (span new) year ≡ true)
-    (was : Bool) (was_is : was ≡ is_year_of (span old) year) (moved : Moved) (are : AreMoved old new moved) where
-  abbrev categories : List Category
-  categories = reached_categories old new year (gas_lines new)
-
+    (was : is_year_of (span old) year ≡ true) (moved : Moved) (are : AreMoved old new moved)
+    (tops : Tops) (led : AreTops (reached_categories old new year (gas_lines new)) tops) where
   total_is : (c : Category) → IsListed c tree
-      → is_reached old new (node.Total c year) ≡ is_total_of was moved categories c
+      → is_reached old new (node.Total c year) ≡ is_total_of moved tops c
   total_is c i =
+      let categories : List Category = reached_categories old new year (gas_lines new) in
       total_is_reached old new c year (both _ _ ((tree_is c).1 (contained tree c i)) within)
-      ∙ ap₂ (λ (a b : Bool). (not a || b) || list_any (λ d. stands_under d c) categories) (sym was_is)
+      ∙ ap₂ (λ (a b : Bool). (not a || b) || list_any (λ d. stands_under d c) categories) was
       (sym (ap (list_any (is_same c)) are.tops ∙ is_chosen (λ top. are_moved old new (λ d. stands_under d top)) c i))
+      ∙ ap (λ b. list_any (is_same c) moved.tops.items || b) (sym (led.above c))
 
   totals_by : (cs : List Category) → ((c : Category) → IsListed c cs → IsListed c tree)
       → filter (is_reached old new) (map (λ c. node.Total c year) cs)
-      ≡ map (λ c. node.Total c year) (filter (is_total_of was moved categories) cs)
+      ≡ map (λ c. node.Total c year) (filter (is_total_of moved tops) cs)
   totals_by [] all = refl
   totals_by (c ∷ cs) all =
-      by (is_total_of was moved categories c) refl (totals_by cs (λ d i. all d (inr i)))
+      by (is_total_of moved tops c) refl (totals_by cs (λ d i. all d (inr i)))
     where
-      by : (b : Bool) → is_total_of was moved categories c ≡ b
+      by : (b : Bool) → is_total_of moved tops c ≡ b
           → filter (is_reached old new) (map (λ c. node.Total c year) cs)
-          ≡ map (λ c. node.Total c year) (filter (is_total_of was moved categories) cs)
+          ≡ map (λ c. node.Total c year) (filter (is_total_of moved tops) cs)
           → filter (is_reached old new) (map (λ c. node.Total c year) (c ∷ cs))
-          ≡ map (λ c. node.Total c year) (filter (is_total_of was moved categories) (c ∷ cs))
+          ≡ map (λ c. node.Total c year) (filter (is_total_of moved tops) (c ∷ cs))
       by true is rest =
           ap (λ b. cond b (node.Total c year ∷ filter (is_reached old new) (map (λ c. node.Total c year) cs)) (filter (is_reached old new) (map (λ c. node.Total c year) cs)))
           (total_is c (all c (inl refl)) ∙ is)
           ∙ ap (λ ns. node.Total c year ∷ ns) rest
-          ∙ sym (ap (λ b. map (λ c. node.Total c year) (cond b (c ∷ filter (is_total_of was moved categories) cs) (filter (is_total_of was moved categories) cs))) is)
+          ∙ sym (ap (λ b. map (λ c. node.Total c year) (cond b (c ∷ filter (is_total_of moved tops) cs) (filter (is_total_of moved tops) cs))) is)
       by false is rest =
           ap (λ b. cond b (node.Total c year ∷ filter (is_reached old new) (map (λ c. node.Total c year) cs)) (filter (is_reached old new) (map (λ c. node.Total c year) cs)))
           (total_is c (all c (inl refl)) ∙ is)
           ∙ rest
-          ∙ sym (ap (λ b. map (λ c. node.Total c year) (cond b (c ∷ filter (is_total_of was moved categories) cs) (filter (is_total_of was moved categories) cs))) is)
+          ∙ sym (ap (λ b. map (λ c. node.Total c year) (cond b (c ∷ filter (is_total_of moved tops) cs) (filter (is_total_of moved tops) cs))) is)
 
   totals_are : filter (is_reached old new) (map (λ c. node.Total c year) (reverse tree))
-      ≡ map (λ c. node.Total c year) (filter (is_total_of was moved categories) (reverse tree))
+      ≡ map (λ c. node.Total c year) (filter (is_total_of moved tops) (reverse tree))
   totals_are = totals_by (reverse tree) (λ c i. from_reverse c tree i)
 
   gross_is : filter (is_reached old new) (node.Gross year ∷ [])
-      ≡ (if is_gross_of was moved categories then node.Gross year ∷ [] else [])
-  gross_is = ap (λ b. cond b (node.Gross year ∷ []) [])
+      ≡ (if moved.gross || tops.gross then node.Gross year ∷ [] else [])
+  gross_is =
+      let categories : List Category = reached_categories old new year (gas_lines new) in
+      ap (λ b. cond b (node.Gross year ∷ []) [])
       (gross_is_reached old new year within
-      ∙ ap₂ (λ (a b : Bool). (not a || b) || list_any counts_in_gross categories) (sym was_is) (sym are.gross))
+      ∙ ap₂ (λ (a b : Bool). (not a || b) || list_any counts_in_gross categories) was (sym are.gross)
+      ∙ ap (λ b. moved.gross || b) (sym led.gross))
 
-  pub year_added : (lines emitters : List Name) (found : List Category)
-      → reached_categories old new year emitters ≡ reached_categories old new year (gas_lines new) → found ≡ reached_categories old new year emitters
-      → (none one two three four : List Node)
+  pub year_added : (lines emitters : List Name) (none one two three four : List Node)
       → one ≡ none ++ filter (is_reached old new) (map (λ name. node.Line name year) lines)
       → two ≡ one ++ filter (is_reached old new) (map (λ name. node.Equiv name year) emitters)
-      → three ≡ two ++ map (λ c. node.Total c year) (filter (is_total_of was moved found) (reverse tree))
-      → four ≡ three ++ (if is_gross_of was moved found then node.Gross year ∷ [] else [])
+      → three ≡ two ++ map (λ c. node.Total c year) (filter (is_total_of moved tops) (reverse tree))
+      → four ≡ three ++ (if moved.gross || tops.gross then node.Gross year ∷ [] else [])
       → four ≡ none ++ filter (is_reached old new) (year_nodes lines emitters year)
-  year_added lines emitters found all which none one two three four first second third fourth =
-      let known : found ≡ categories = which ∙ all in
+  year_added lines emitters none one two three four first second third fourth =
       fourth
       ∙ ap₂ (λ (xs ys : List Node). xs ++ ys)
-      (third ∙ ap₂ (λ (xs ys : List Node). xs ++ ys) (second ∙ ap (λ xs. xs ++ equivalents) first)
-      (ap (λ cs. map (λ c. node.Total c year) (filter (is_total_of was moved cs) (reverse tree))) known ∙ sym totals_are))
-      (ap (λ cs. if is_gross_of was moved cs then node.Gross year ∷ [] else []) known ∙ sym gross_is)
+      (third ∙ ap₂ (λ (xs ys : List Node). xs ++ ys) (second ∙ ap (λ xs. xs ++ equivalents) first) (sym totals_are))
+      (sym gross_is)
       ∙ gathered none (map (λ name. node.Line name year) lines) (map (λ name. node.Equiv name year) emitters)
       (map (λ c. node.Total c year) (reverse tree)) (node.Gross year ∷ [])
     where
@@ -145,9 +146,9 @@ module _ (old new : Data) (lines emitters walked weighed : List Name)
 
 -- ---- the year after
 
-pub year_turned : (old new : Data) (year : ℕ) (s : BTreeSet Name) → is_year_of (span new) year ≡ true
-    → HasReached old new year s → HasBefore old new (year + 1) s
-year_turned old new year s within has name =
+pub year_turned : (old new : Data) (year : ℕ) (reached : Lines) → is_year_of (span new) year ≡ true
+    → HasReached old new year reached → HasBefore old new (year + 1) reached
+year_turned old new year reached within has name =
     has name ∙ by (span new) within
   where
     or_false : (b : Bool) → b ≡ (b || false)

@@ -18,3 +18,4 @@ pub mod Selections
 pub mod Falling
 pub mod Entries
 pub mod Moves
+pub mod Tops

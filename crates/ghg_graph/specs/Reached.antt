@@ -1,37 +1,34 @@
 -- Which nodes edits reach, told year by year.
-use Rattle.std.specs.Prelude.{◌≡◌, ℕ, Bool, true, false, not, ◌&&◌, ◌||◌, nat_eq, nat_le, List, filter, length, Option, Some}
+use Rattle.std.specs.Prelude.{◌≡◌, ℕ, Bool, true, false, is_some, not, ◌||◌, nat_eq, nat_le, List, filter, length, Option, Some}
 use Rattle.std.specs.BTreeSet.{BTreeSet, contains}
 use Rattle.std.specs.List.{Contains, filter_map, list_any}
-use Rattle.std.specs.Option.{option_map_or}
 use Rattle.ghg_categories.specs.declared.category.Category.{Category}
-use Rattle.ghg_categories.specs.Tree.{is_same, stands_under}
-use Rattle.ghg_equations.specs.declared.eq_id.EqId.{EqId}
+use Rattle.ghg_categories.specs.Tree.{is_same}
 use Rattle.ghg_units.specs.declared.node.Node.{Node}
 use Rattle.ghg_units.specs.declared.node.Node.TheVariants as node
 use Rattle.ghg_units.specs.declared.row.Binding.{Binding}
 use Rattle.ghg_units.specs.declared.row.Binding.TheVariants as bound
 use Rattle.ghg_definitions.specs.declared.record.RecordKey.{RecordKey}
 use Rattle.ghg_definitions.specs.declared.record.RecordKey.TheVariants as key
-use Rattle.ghg_definitions.specs.Compilation.{bound_to, counts_in_gross, first_year, gas_lines, is_year_of, nodes, previous}
+use Rattle.ghg_definitions.specs.Compilation.{bound_to, first_year, gas_lines, is_year_of, nodes, previous}
 use Rattle.ghg_definitions.specs.Data.{Data, Name, category, line, name_cmp, span}
 use Rattle.ghg_definitions.specs.Formulas.{map_operand, nodes_in}
 use Rattle.ghg_definitions.specs.Lookups.{given}
 use Rattle.ghg_affected.specs.Affected.{affected_within}
-use Rattle.ghg_affected.specs.Equalities.{same_equation, same_operand}
+use Rattle.ghg_affected.specs.Equalities.{same_operand}
 use Rattle.ghg_graph.specs.Ordering.{IsLineOrder}
+use Rattle.ghg_graph.specs.Tops.{has_top}
 use Rattle.ghg_graph.specs.declared.moves.Moved.{Moved}
+use Rattle.ghg_graph.specs.declared.reached.Lines.{Lines}
+use Rattle.ghg_graph.specs.declared.reached.Lines.TheVariants as year_lines
 use Rattle.ghg_graph.specs.declared.reached.Year.{Year}
+use Rattle.ghg_graph.specs.declared.tops.Tops.{Tops}
 
 -- ---- what is reached
 
 -- the node is affected: no chain of inputs is longer than the nodes are many
 abbrev pub is_reached : Data → Data → Node → Bool
 is_reached old new = affected_within old new (length (nodes new))
-
--- the line was there in the year, with the equation
-abbrev pub was_line : Data → Name → EqId → ℕ → Bool
-was_line old name e year =
-    is_year_of (span old) year && option_map_or (λ d. same_equation d e) (line old name) false
 
 -- what the new binding gives in a year differs from what the old one gave, or one of its nodes is reached
 abbrev pub binding_reached : Data → Data → ℕ → Option Binding → Option Binding → Bool
@@ -58,31 +55,36 @@ pub record IsGasWalk (old new : Data) (names : List Name) : Type 0 where
   pub idle : (name : Name) → Contains (gas_lines new) name → test name ≡ false → (year : ℕ) →
       is_reached old new (node.Equiv name year) ≡ false
 
--- ---- sets of lines
+-- ---- lines of a year
 
--- the lines of a set are those that are reached in a year
-abbrev pub HasReached : Data → Data → ℕ → BTreeSet Name → Type 0
-HasReached old new year s =
-    (name : Name) → contains name_cmp s name ≡ is_reached old new (node.Line name year)
+-- the line is one of them
+abbrev pub has_line : Data → Lines → Name → Bool
+has_line m year_lines.All name = is_some (line m name)
+has_line m (year_lines.These names) name = contains name_cmp names name
+
+-- they are those that are reached in a year
+abbrev pub HasReached : Data → Data → ℕ → Lines → Type 0
+HasReached old new year reached =
+    (name : Name) → has_line new reached name ≡ is_reached old new (node.Line name year)
 
 -- those that are reached in the year before, none in the first
-abbrev pub HasBefore : Data → Data → ℕ → BTreeSet Name → Type 0
-HasBefore old new year s = (name : Name) → contains name_cmp s name
+abbrev pub HasBefore : Data → Data → ℕ → Lines → Type 0
+HasBefore old new year reached = (name : Name) → has_line new reached name
     ≡ list_any (is_reached old new) (nodes_in (previous (nat_le year (first_year (span new))) name year))
 
--- a line that the binding takes is in the set of the year, or of the year before
-abbrev pub takes_from : BTreeSet Name → BTreeSet Name → Option Binding → Bool
-takes_from before now (Some (bound.Line name)) = contains name_cmp now name
-takes_from before now (Some (bound.Prev name)) = contains name_cmp before name
-takes_from before now (Some (bound.Sum names)) = list_any (contains name_cmp now) names
-takes_from before now _ = false
+-- a line that the binding takes is in the set of the year, or one of those of the year before
+abbrev pub takes_from : Data → Lines → BTreeSet Name → Option Binding → Bool
+takes_from new before now (Some (bound.Line name)) = contains name_cmp now name
+takes_from new before now (Some (bound.Prev name)) = has_line new before name
+takes_from new before now (Some (bound.Sum names)) = list_any (contains name_cmp now) names
+takes_from new before now _ = false
 
 -- ---- years
 
--- the year is one of the new data, and what is said of it holds
+-- the year is one of both data, whose first years these are
 pub record IsYear (old new : Data) (y : Year) : Type 0 where
   pub within : is_year_of (span new) y.number ≡ true
-  pub was : y.was ≡ is_year_of (span old) y.number
+  pub was : is_year_of (span old) y.number ≡ true
   pub first_before : y.first_before ≡ first_year (span old)
   pub first : y.first ≡ first_year (span new)
 
@@ -93,14 +95,9 @@ abbrev pub reached_categories : Data → Data → ℕ → List Name → List Cat
 reached_categories old new year names =
     filter_map (category new) (filter (λ name. is_reached old new (node.Equiv name year)) names)
 
--- there was no such year, or the total adds other lines, or the category stands at or above one of the others
-abbrev pub is_total_of : Bool → Moved → List Category → Category → Bool
-is_total_of was m categories top =
-    (not was || list_any (is_same top) m.tops.items) || list_any (λ c. stands_under c top) categories
-
--- the same of the gross total
-abbrev pub is_gross_of : Bool → Moved → List Category → Bool
-is_gross_of was m categories = (not was || m.gross) || list_any counts_in_gross categories
+-- the total adds other lines, or a reached equivalent leads to it
+abbrev pub is_total_of : Moved → Tops → Category → Bool
+is_total_of m t top = list_any (is_same top) m.tops.items || has_top t top
 
 -- ---- records
 

@@ -35,8 +35,8 @@ pub fn nodes_in_order<R: Records>(
     Ok(nodes)
 }
 
-// Adds the nodes of a year.
-fn add_year(
+/// Adds the nodes of a year. Nothing is looked up.
+pub(crate) fn add_year(
     nodes: &mut Vec<Node>,
     lines: &[Name],
     emitters: &[Name],

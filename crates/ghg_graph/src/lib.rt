@@ -22,6 +22,7 @@ mod search;
 mod selections;
 mod slots;
 mod takers;
+mod tops;
 mod walk;
 mod worklist;
 

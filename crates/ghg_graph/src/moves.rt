@@ -4,10 +4,8 @@
 ghost use Rattle.std.specs.Prelude.{◌≡◌, filter, IfOk};
 ghost use Rattle.std.specs.FinMap.{get};
 ghost use Rattle.std.specs.List.{Contains, filter_map, list_any};
-ghost use Rattle.std.specs.Option.{option_map_or};
 ghost use Rattle.ghg_categories.specs.Tree.{is_same, stands_under, tree};
 ghost use Rattle.ghg_definitions.specs.declared.record.RecordKey.{RecordKey};
-ghost use Rattle.ghg_definitions.specs.Compilation.{counts_in_gross};
 ghost use Rattle.ghg_graph.specs.Moves.{AreMoved, crosses, emits_at, move_of};
 ghost use Rattle.ghg_graph.specs.Slots.{is_within};
 

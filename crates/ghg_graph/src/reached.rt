@@ -1,28 +1,32 @@
 //! The nodes that edits reach, year by year.
 
-ghost use Rattle.std.specs.Prelude.{◌≡◌, ◌+◌, ◌∷◌, ◌++◌, [], ℕ, true, false, Some, filter, is_some, if◌then◌else◌, map, not, option_copied, reverse, IfOk, OnOk};
+ghost use Rattle.std.specs.Prelude.{◌≡◌, ◌+◌, ◌∷◌, ◌++◌, ◌||◌, [], List, true, false, filter, is_some, if◌then◌else◌, map, not, option_copied, reverse, IfOk, OnOk};
 ghost use Rattle.std.specs.BTreeSet.{contains};
 ghost use Rattle.std.specs.FinMap.{get};
 ghost use Rattle.std.specs.List.{Contains, list_any};
 ghost use Rattle.std.specs.Option.{option_map_or, option_to_list};
-ghost use Rattle.ghg_categories.specs.Tree.{stands_under, tree};
+ghost use Rattle.ghg_categories.specs.Tree.{tree};
+ghost use Rattle.ghg_categories.specs.declared.category.Category.{Category};
 ghost use Rattle.ghg_units.specs.declared.node.Node.TheVariants as node;
 ghost use Rattle.ghg_definitions.specs.declared.record.RecordKey.{RecordKey};
-ghost use Rattle.ghg_definitions.specs.Compilation.{counts_in_gross, gas_lines, is_year_of, line_gas, potential, years_of};
-ghost use Rattle.ghg_definitions.specs.Data.{Name, category, line, name_cmp, span};
-ghost use Rattle.ghg_definitions.specs.Lookups.{given};
+ghost use Rattle.ghg_definitions.specs.Compilation.{gas_lines, is_year_of, years_of};
+ghost use Rattle.ghg_definitions.specs.Data.{Data, Name, category, line, name_cmp, span};
 ghost use Rattle.ghg_definitions.specs.Rings.{Takes, TakesBinding};
 ghost use Rattle.ghg_affected.specs.Equalities.{same_equation, same_input};
 ghost use Rattle.ghg_graph.specs.Moves.{AreMoved};
-ghost use Rattle.ghg_graph.specs.Reached.{HasBefore, HasReached, IsGasWalk, IsWalk, IsYear, binding_reached, is_gross_of, is_read_in, is_reached, is_total_of, reached_categories, takes_from, was_line};
+ghost use Rattle.ghg_graph.specs.Reached.{HasBefore, HasReached, IsGasWalk, IsWalk, IsYear, binding_reached, has_line, is_read_in, is_reached, is_total_of, reached_categories, takes_from};
+ghost use Rattle.ghg_graph.specs.declared.reached.Lines.TheVariants as year_lines;
+ghost use Rattle.ghg_graph.specs.Tops.{AreTops};
 ghost use Rattle.ghg_graph.specs.Years.{nodes_by_year, year_nodes};
 
 use crate::gases::potential;
+use crate::in_order;
 use crate::moves::{Moved, moved_totals};
 use crate::numbers::equation_of;
 use crate::operands::{self, bound_operand};
-use crate::slots::{counts_in_gross, first_year};
-use ghg_categories::{Category, is_under};
+use crate::slots::first_year;
+use crate::tops::Tops;
+use ghg_categories::Category;
 use ghg_cell::Input;
 use ghg_data::{Records, params_of};
 use ghg_definitions::RecordKey;
@@ -36,14 +40,21 @@ use std::collections::BTreeSet;
 struct Reached {
     nodes: Vec<Node>,
     // The lines of the year before; none in the first year.
-    before: BTreeSet<Name>,
+    before: Lines,
 }
 
-// A year of the new data, whether the old data had it too, and the first years of both.
+// Lines that are reached in a year.
+#[derive(Drop)]
+enum Lines {
+    // All that are present.
+    All,
+    These(BTreeSet<Name>),
+}
+
+// A year that the old data have too, and the first years of both.
 #[derive(Clone, Copy, Drop)]
 struct Year {
     number: u32,
-    was: bool,
     first_before: u32,
     first: u32,
 }
@@ -69,41 +80,27 @@ pub(crate) fn reached_nodes<R: Records, S: Records>(
 {
     let mut reached = Reached {
         nodes: Vec::new(alloc),
-        before: BTreeSet::new(alloc),
+        before: Lines::These(BTreeSet::new(alloc)),
     };
     let Some(span) = new.span() else {
         return Ok(reached.nodes);
     };
     let moved = moved_totals(alloc, old, new, keys)?;
     for number in span.first..span.last + 1 {
-        if !reached.before.is_empty() || is_read(keys, number) {
-            let year = year_of(old, new, number);
-            add_year(alloc, old, new, lines, emitters, &moved, &mut reached, year)?;
+        if !reached.before.are_none() || is_read(keys, number) {
+            add_year(
+                alloc,
+                old,
+                new,
+                lines,
+                emitters,
+                &moved,
+                &mut reached,
+                number,
+            )?;
         }
     }
     Ok(reached.nodes)
-}
-
-fn year_of<R: Records, S: Records>(old: &R, new: &S, number: u32) -> Year
-    requires { is_year_of (span (S.content new.now)) number ≡ true }
-    ensures year { IsYear (R.content old.now) (S.content new.now) result }
-    ensures number { result.number ≡ number }
-{
-    Year {
-        number,
-        was: has_year(old, number),
-        first_before: first_year(old),
-        first: first_year(new),
-    }
-}
-
-fn has_year<R: Records>(records: &R, year: u32) -> bool
-    ensures { result ≡ is_year_of (span (R.content records.now)) year }
-{
-    match records.span() {
-        Some(span) => span.first <= year && year <= span.last,
-        None => false,
-    }
 }
 
 // Whether some node of the year may stand by a record of the keys, or read it.
@@ -133,6 +130,64 @@ fn add_year<R: Records, S: Records>(
     emitters: &[Name],
     moved: &Moved,
     reached: &mut Reached,
+    number: u32,
+) -> Result<(), AllocError>
+    requires lines { IsWalk (R.content old.now) (S.content new.now) lines.now }
+    requires emitters { IsGasWalk (R.content old.now) (S.content new.now) emitters.now }
+    requires moved { AreMoved (R.content old.now) (S.content new.now) moved.now }
+    requires year { is_year_of (span (S.content new.now)) number ≡ true }
+    requires before { HasBefore (R.content old.now) (S.content new.now) number reached.old.before }
+    ensures nodes { OnOk result (reached.new.nodes.items ≡ reached.old.nodes.items ++ filter
+        (is_reached (R.content old.now) (S.content new.now))
+        (year_nodes lines.now emitters.now number)) }
+    ensures before { OnOk result (HasBefore (R.content old.now) (S.content new.now)
+        (number + 1) reached.new.before) }
+{
+    if !has_year(old, number) {
+        return add_new_year(lines, emitters, reached, number);
+    }
+    let year = Year {
+        number,
+        first_before: first_year(old),
+        first: first_year(new),
+    };
+    add_old_year(alloc, old, new, lines, emitters, moved, reached, year)
+}
+
+fn has_year<R: Records>(records: &R, year: u32) -> bool
+    ensures { result ≡ is_year_of (span (R.content records.now)) year }
+{
+    match records.span() {
+        Some(span) => span.first <= year && year <= span.last,
+        None => false,
+    }
+}
+
+// Adds the nodes of a year that the old data do not have: all of them. Nothing is looked up.
+fn add_new_year(
+    lines: &[Name],
+    emitters: &[Name],
+    reached: &mut Reached,
+    number: u32,
+) -> Result<(), AllocError>
+    ensures nodes { OnOk result (reached.new.nodes.items ≡ reached.old.nodes.items ++
+        year_nodes lines.now emitters.now number) }
+    ensures before { OnOk result (reached.new.before ≡ year_lines.All) }
+{
+    in_order::add_year(&mut reached.nodes, lines, emitters, number)?;
+    reached.before = Lines::All;
+    Ok(())
+}
+
+// Adds those of a year that the old data have.
+fn add_old_year<R: Records, S: Records>(
+    alloc: Global,
+    old: &R,
+    new: &S,
+    lines: &[Name],
+    emitters: &[Name],
+    moved: &Moved,
+    reached: &mut Reached,
     year: Year,
 ) -> Result<(), AllocError>
     requires lines { IsWalk (R.content old.now) (S.content new.now) lines.now }
@@ -148,11 +203,33 @@ fn add_year<R: Records, S: Records>(
 {
     let nodes = &mut reached.nodes;
     let now = add_lines(alloc, old, new, lines, year, &reached.before, nodes)?;
-    let categories = add_equivalents(alloc, old, new, emitters, year.number, &now, nodes)?;
-    add_totals(&categories, moved, year, nodes)?;
-    add_gross(&categories, moved, year, nodes)?;
-    reached.before = now;
+    let tops = add_equivalents(alloc, old, new, emitters, year.number, &now, nodes)?;
+    add_totals(&tops, moved, year.number, nodes)?;
+    add_gross(&tops, moved, year.number, nodes)?;
+    reached.before = Lines::These(now);
     Ok(())
+}
+
+impl Lines {
+    // Whether it is seen that there are none.
+    fn are_none(&self) -> bool
+        ensures { result ≡ true → (m : Data) (name : Name) → has_line m self.now name ≡ false }
+    {
+        match self {
+            Lines::All => false,
+            Lines::These(names) => names.is_empty(),
+        }
+    }
+
+    // Whether a line is one of them, which are lines of the records.
+    fn contains<R: Records>(&self, records: &R, name: &Name) -> bool
+        ensures { result ≡ has_line (R.content records.now) self.now name.now }
+    {
+        match self {
+            Lines::All => equation_of(records, name).is_some(),
+            Lines::These(names) => names.contains(name),
+        }
+    }
 }
 
 // ---- lines
@@ -164,7 +241,7 @@ fn add_lines<R: Records, S: Records>(
     new: &S,
     lines: &[Name],
     year: Year,
-    before: &BTreeSet<Name>,
+    before: &Lines,
     nodes: &mut Vec<Node>,
 ) -> Result<BTreeSet<Name>, AllocError>
     requires lines { IsWalk (R.content old.now) (S.content new.now) lines.now }
@@ -173,7 +250,8 @@ fn add_lines<R: Records, S: Records>(
     ensures nodes { OnOk result (nodes.new.items ≡ nodes.old.items ++ filter
         (is_reached (R.content old.now) (S.content new.now))
         (map (λ name. node.Line name year.number) lines.now)) }
-    ensures names { IfOk result (HasReached (R.content old.now) (S.content new.now) year.number) }
+    ensures names { IfOk result (λ names. HasReached (R.content old.now) (S.content new.now) year.number
+        (year_lines.These names)) }
 {
     let mut now = BTreeSet::new(alloc);
     for line in lines {
@@ -185,14 +263,14 @@ fn add_lines<R: Records, S: Records>(
     Ok(now)
 }
 
-// Whether a line is reached in a year: it was none there or had another equation, what it takes differs, or
+// Whether a line is reached in a year: it was none or had another equation, what it takes differs, or
 // it takes a line that is reached.
 fn line_reached<R: Records, S: Records>(
     old: &R,
     new: &S,
     name: &Name,
     year: Year,
-    before: &BTreeSet<Name>,
+    before: &Lines,
     now: &BTreeSet<Name>,
 ) -> bool
     requires line { is_some (line (S.content new.now) name.now) ≡ true }
@@ -205,7 +283,7 @@ fn line_reached<R: Records, S: Records>(
     let Some(id) = equation_of(new, name) else {
         return false;
     };
-    if !was_line(old, name, id, year) {
+    if !has_equation(old, name, id) {
         return true;
     }
     for param in params_of(id) {
@@ -215,14 +293,6 @@ fn line_reached<R: Records, S: Records>(
         }
     }
     false
-}
-
-// Whether a line was there in the year, with the equation.
-fn was_line<R: Records>(old: &R, name: &Name, id: EqId, year: Year) -> bool
-    requires { year.was ≡ is_year_of (span (R.content old.now)) year.number }
-    ensures { result ≡ was_line (R.content old.now) name.now id year.number }
-{
-    year.was && has_equation(old, name, id)
 }
 
 // Whether a line is present, with the equation.
@@ -242,7 +312,7 @@ fn binding_reached<R: Records, S: Records>(
     was: Option<&Binding>,
     binding: Option<&Binding>,
     year: Year,
-    before: &BTreeSet<Name>,
+    before: &Lines,
     now: &BTreeSet<Name>,
 ) -> bool
     requires year { IsYear (R.content old.now) (S.content new.now) year }
@@ -254,16 +324,21 @@ fn binding_reached<R: Records, S: Records>(
 {
     let given = bound_operand(old, year.first_before, was, year.number);
     let gives = bound_operand(new, year.first, binding, year.number);
-    operands::differ(&given, &gives) || takes_from(before, now, binding)
+    operands::differ(&given, &gives) || takes_from(new, before, now, binding)
 }
 
 // Whether a line that a binding takes is in the set of the year, or of the year before.
-fn takes_from(before: &BTreeSet<Name>, now: &BTreeSet<Name>, binding: Option<&Binding>) -> bool
-    ensures { result ≡ takes_from before.now now.now (option_copied binding.entry) }
+fn takes_from<S: Records>(
+    new: &S,
+    before: &Lines,
+    now: &BTreeSet<Name>,
+    binding: Option<&Binding>,
+) -> bool
+    ensures { result ≡ takes_from (S.content new.now) before.now now.now (option_copied binding.entry) }
 {
     match binding {
         Some(Binding::Line(name)) => now.contains(name),
-        Some(Binding::Prev(name)) => before.contains(name),
+        Some(Binding::Prev(name)) => before.contains(new, name),
         Some(Binding::Sum(names)) => has_any(now, names.as_slice()),
         _ => false,
     }
@@ -277,7 +352,7 @@ fn has_any(set: &BTreeSet<Name>, names: &[Name]) -> bool
 
 // ---- equivalents
 
-// Adds the equivalents that are reached in a year, and gives the categories of their lines.
+// Adds the equivalents that are reached in a year, and gives the totals to which these lead.
 fn add_equivalents<R: Records, S: Records>(
     alloc: Global,
     old: &R,
@@ -286,39 +361,35 @@ fn add_equivalents<R: Records, S: Records>(
     year: u32,
     now: &BTreeSet<Name>,
     nodes: &mut Vec<Node>,
-) -> Result<Vec<Category>, AllocError>
+) -> Result<Tops, AllocError>
     requires emitters { IsGasWalk (R.content old.now) (S.content new.now) emitters.now }
     requires year { is_year_of (span (S.content new.now)) year ≡ true }
-    requires now { HasReached (R.content old.now) (S.content new.now) year now.now }
+    requires now { HasReached (R.content old.now) (S.content new.now) year (year_lines.These now.now) }
     ensures nodes { OnOk result (nodes.new.items ≡ nodes.old.items ++ filter
         (is_reached (R.content old.now) (S.content new.now))
         (map (λ name. node.Equiv name year) emitters.now)) }
-    ensures categories { IfOk result (λ categories. categories.items ≡
-        reached_categories (R.content old.now) (S.content new.now) year emitters.now) }
+    ensures tops { IfOk result (AreTops
+        (reached_categories (R.content old.now) (S.content new.now) year emitters.now)) }
 {
-    let mut categories = Vec::new(alloc);
+    let mut tops = Tops::new(alloc);
     for name in emitters {
         if equivalent_reached(old, new, name, year, now) {
             nodes.push(Node::Equiv(*name, year))?;
-            add_category(new, name, &mut categories)?;
+            add_category(new, name, &mut tops)?;
         }
     }
-    Ok(categories)
+    Ok(tops)
 }
 
-// Adds the category at which a line stands.
-fn add_category<S: Records>(
-    new: &S,
-    name: &Name,
-    categories: &mut Vec<Category>,
-) -> Result<(), AllocError>
-    ensures { OnOk result (categories.new.items ≡ categories.old.items ++
-        option_to_list (category (S.content new.now) name.now)) }
+// Adds the category at which a line stands, and those above it.
+fn add_category<S: Records>(new: &S, name: &Name, tops: &mut Tops) -> Result<(), AllocError>
+    ensures { OnOk result ((cs : List Category) → AreTops cs tops.old →
+        AreTops (cs ++ option_to_list (category (S.content new.now) name.now)) tops.new) }
 {
-    if let Some((category, _)) = new.line(name) {
-        categories.push(category)?;
+    match new.line(name) {
+        Some((category, _)) => tops.add(category),
+        None => Ok(()),
     }
-    Ok(())
 }
 
 // Whether the line is reached, or the warming potential of its gas differs.
@@ -331,7 +402,7 @@ fn equivalent_reached<R: Records, S: Records>(
 ) -> bool
     requires emits { Contains (gas_lines (S.content new.now)) name.now }
     requires year { is_year_of (span (S.content new.now)) year ≡ true }
-    requires now { HasReached (R.content old.now) (S.content new.now) year now.now }
+    requires now { HasReached (R.content old.now) (S.content new.now) year (year_lines.These now.now) }
     ensures { result ≡ is_reached (R.content old.now) (S.content new.now) (node.Equiv name.now year) }
 {
     now.contains(name) || differ(potential(old, name, year), potential(new, name, year))
@@ -345,55 +416,31 @@ fn differ(old: Input, new: Input) -> bool
 
 // ---- totals
 
-// Adds the totals of a year that are reached: all where the old data had no such year, those that add other
-// lines, and those at or above one of the categories.
+// Adds the totals of a year that add other lines, and those to which reached equivalents lead.
 fn add_totals(
-    categories: &[Category],
+    tops: &Tops,
     moved: &Moved,
-    year: Year,
+    year: u32,
     nodes: &mut Vec<Node>,
 ) -> Result<(), AllocError>
-    ensures { OnOk result (nodes.new.items ≡ nodes.old.items ++ map (λ c. node.Total c year.number)
-        (filter (is_total_of year.was moved.now categories.now) (reverse tree))) }
+    ensures { OnOk result (nodes.new.items ≡ nodes.old.items ++ map (λ c. node.Total c year)
+        (filter (is_total_of moved.now tops.now) (reverse tree))) }
 {
     for top in ghg_categories::all().iter().rev() {
-        if is_total_of(year.was, moved, categories, *top) {
-            nodes.push(Node::Total(*top, year.number))?;
+        if moved.has(*top) || tops.has(*top) {
+            nodes.push(Node::Total(*top, year))?;
         }
     }
     Ok(())
 }
 
-fn is_total_of(was: bool, moved: &Moved, categories: &[Category], top: Category) -> bool
-    ensures { result ≡ is_total_of was moved.now categories.now top }
-{
-    !was || moved.has(top) || has_under(categories, top)
-}
-
-fn has_under(categories: &[Category], top: Category) -> bool
-    ensures { result ≡ list_any (λ c. stands_under c top) categories.now }
-{
-    categories.iter().any(|category| is_under(*category, top))
-}
-
-// Adds the gross total of a year, if it is reached.
-fn add_gross(
-    categories: &[Category],
-    moved: &Moved,
-    year: Year,
-    nodes: &mut Vec<Node>,
-) -> Result<(), AllocError>
+// Adds the gross total of a year, if it adds other lines, or reached equivalents lead to it.
+fn add_gross(tops: &Tops, moved: &Moved, year: u32, nodes: &mut Vec<Node>) -> Result<(), AllocError>
     ensures { OnOk result (nodes.new.items ≡ nodes.old.items ++
-        (if is_gross_of year.was moved.now categories.now then node.Gross year.number ∷ [] else [])) }
+        (if moved.now.gross || tops.now.gross then node.Gross year ∷ [] else [])) }
 {
-    if !year.was || moved.gross || has_gross(categories) {
-        nodes.push(Node::Gross(year.number))?;
+    if moved.gross || tops.gross {
+        nodes.push(Node::Gross(year))?;
     }
     Ok(())
-}
-
-fn has_gross(categories: &[Category]) -> bool
-    ensures { result ≡ list_any counts_in_gross categories.now }
-{
-    categories.iter().any(|category| counts_in_gross(*category))
 }

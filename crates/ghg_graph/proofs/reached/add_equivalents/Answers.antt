@@ -1,7 +1,8 @@
-use Rattle.std.proofs.Common.{◌∙◌, ◌++◌, ap, sym, filter, map}
+use Rattle.std.proofs.Common.{◌∙◌, ◌++◌, ap, subst, sym, filter, map}
 use Rattle.std.proofs.lemmas.List.{take_all}
 use Rattle.ghg_units.specs.declared.node.Node.TheVariants as node
 use Rattle.ghg_graph.specs.Reached.{is_reached}
+use Rattle.ghg_graph.specs.Tops.{AreTops}
 use Rattle.ghg_graph.proofs.Marking.{category_left, category_passed, emitter_at, one_left, one_passed}
 use Rattle.ghg_graph.proofs.reached.add_equivalents.Goals as goal
 use Rattle.ghg_graph.proofs.reached.add_equivalents.Goals.{then-equivalent_reached+in_ok-push+in_ok-add_category, else-equivalent_reached}
@@ -25,17 +26,17 @@ loop-name-preserved g c =
                 c.args.nodes.now.items c.loop-name.nodes.items _ c.loop-name.invariant.0
                 (ap (λ v. v.items) w.nodes-is ∙ w.in_ok-push.ensures.items),
             category_passed old new c.args.year names i name c.loop-name-test.true c.name-item.is is
-                c.loop-name.categories.items _ c.loop-name.invariant.1
-                (ap (λ v. v.items) w.categories-is ∙ w.in_ok-add_category.ensures),
+                c.loop-name.tops _ c.loop-name.invariant.1
+                (λ cs are. subst (AreTops _) (sym w.tops-is) (w.in_ok-add_category.ensures cs are)),
           )
       | else-equivalent_reached w ↦
           let off = sym c.equivalent_reached.ensures ∙ w.if-equivalent_reached.false in (
             ap (λ v. v.items) w.nodes-is
                 ∙ one_left (is_reached old new) (λ k. node.Equiv k c.args.year) names i name c.loop-name-test.true c.name-item.is off
                 c.args.nodes.now.items c.loop-name.nodes.items c.loop-name.invariant.0,
-            ap (λ v. v.items) w.categories-is
-                ∙ category_left old new c.args.year names i name c.loop-name-test.true c.name-item.is off
-                c.loop-name.categories.items c.loop-name.invariant.1,
+            subst (AreTops _) (sym w.tops-is)
+                (category_left old new c.args.year names i name c.loop-name-test.true c.name-item.is off
+                c.loop-name.tops c.loop-name.invariant.1),
           )
     ]
 

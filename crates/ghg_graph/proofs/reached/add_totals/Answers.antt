@@ -12,4 +12,4 @@ returns c =
     (YieldsList-at c.into_iter-top-iterator.ensures.into_iter_gives (YieldsList-from_rev_slice tree cc))
     c.loop-top.yielded _ c.loop-top.yielded_by _ _ c.in-None.is c.next.ensures.steps in
     c.loop-top.invariant
-    ∙ ap (λ cs. c.args.nodes.now.items ++ map (λ d. node.Total d c.args.year.number) (filter (is_total_of c.args.year.was c.args.moved.now c.args.categories.now) cs)) seen.0
+    ∙ ap (λ cs. c.args.nodes.now.items ++ map (λ d. node.Total d c.args.year) (filter (is_total_of c.args.moved.now c.args.tops.now) cs)) seen.0

@@ -4,4 +4,4 @@ use Rattle.ghg_graph.specs.Reached.{is_total_of}
 use Rattle.ghg_graph.proofs.reached.add_totals.Given as goal
 
 abbrev pub invariant-loop-top : goal.invariant-loop-top
-invariant-loop-top l = l.nodes.items ≡ l.initial.nodes.items ++ map (λ c. node.Total c l.year.number) (filter (is_total_of l.year.was l.moved l.categories) (map (λ y. y.now) l.yielded))
+invariant-loop-top l = l.nodes.items ≡ l.initial.nodes.items ++ map (λ c. node.Total c l.year) (filter (is_total_of l.moved l.tops) (map (λ y. y.now) l.yielded))

@@ -5,12 +5,11 @@ use Rattle.ghg_definitions.specs.Compilation.{first_year, previous, years_from, 
 use Rattle.ghg_definitions.specs.Data.{name_cmp}
 use Rattle.ghg_definitions.specs.Formulas.{nodes_in}
 use Rattle.ghg_graph.specs.Reached.{HasBefore, is_reached}
-use Rattle.ghg_graph.specs.Years.{nodes_by_year, year_nodes}
-use Rattle.ghg_graph.proofs.Membership.{no_keys}
+use Rattle.ghg_graph.specs.Years.{nodes_by_year}
 use Rattle.ghg_graph.proofs.Quiet.{quiet_turned, quiet_year}
 use Rattle.ghg_graph.proofs.YearNodes.{passing_more, span_is, year_within}
 use Rattle.ghg_graph.proofs.reached.reached_nodes.Goals as goal
-use Rattle.ghg_graph.proofs.reached.reached_nodes.Goals.{then-not-is_empty+in_ok-add_year, else-not-is_empty+else-is_read}
+use Rattle.ghg_graph.proofs.reached.reached_nodes.Goals.{then-not-are_none+in_ok-add_year, else-not-are_none+else-is_read}
 
 pub overflow_add-number-end : goal.overflow_add-number-end
 overflow_add-number-end g c =
@@ -29,14 +28,9 @@ loop-number-init g c =
           (ap (λ s. nat_le first (first_year s)) (sym c.span.ensures.span ∙ c.in-Some.is) ∙ le-leb first first (omega arith))),
     )
 
-pub year_of-year-requires : goal.year_of-year-requires
-year_of-year-requires g c =
+pub add_year-requires-clause-year : goal.add_year-requires-clause-year
+add_year-requires-clause-year g c =
     year_within (g.S.Records.content c.args.new.now) c.in-Some.span c.loop-number.number (sym c.span.ensures.span ∙ c.in-Some.is) c.loop-number.auto.number c.loop-number-test.true
-
-pub add_year-requires-clause-before : goal.add_year-requires-clause-before
-add_year-requires-clause-before g c =
-    subst (λ y. HasBefore (g.R.Records.content c.args.old.now) (g.S.Records.content c.args.new.now) y c.loop-number.reached.before)
-    (sym c.year_of-year.ensures.number) c.loop-number.invariant.1
 
 pub loop-number-preserved : goal.loop-number-preserved
 loop-number-preserved g c =
@@ -46,17 +40,15 @@ loop-number-preserved g c =
     let emitters = c.args.emitters.now in
     let year = c.loop-number.number in
     let first = c.in-Some.span.first in
-    elim c.if-not-is_empty.branch [
-      | then-not-is_empty+in_ok-add_year w ↦ (
+    elim c.if-not-are_none.branch [
+      | then-not-are_none+in_ok-add_year w ↦ (
         passing_more (is_reached old new) lines emitters first year c.loop-number.auto.number
             c.loop-number.reached.nodes.items _ c.loop-number.invariant.0
-            (ap (λ r. r.nodes.items) w.reached-is ∙ w.in_ok-add_year.ensures.nodes
-            ∙ ap (λ y. c.loop-number.reached.nodes.items ++ filter (is_reached old new) (year_nodes lines emitters y)) w.year_of-year.ensures.number),
-        subst (λ r. HasBefore old new (year + 1) r.before) (sym w.reached-is)
-            (subst (λ y. HasBefore old new (y + 1) w.add_year.new.reached.before) w.year_of-year.ensures.number w.in_ok-add_year.ensures.before),
+            (ap (λ r. r.nodes.items) w.reached-is ∙ w.in_ok-add_year.ensures.nodes),
+        subst (λ r. HasBefore old new (year + 1) r.before) (sym w.reached-is) w.in_ok-add_year.ensures.before,
       )
-      | else-not-is_empty+else-is_read w ↦
-          let none = no_keys c.loop-number.reached.before (c.is_empty.ensures.0 w.if-not-is_empty.false) in
+      | else-not-are_none+else-is_read w ↦
+          let none = c.are_none.ensures w.if-not-are_none.false new in
           let unread = sym w.is_read.ensures ∙ w.if-is_read.false in (
             passing_more (is_reached old new) lines emitters first year c.loop-number.auto.number
                 c.loop-number.reached.nodes.items _ c.loop-number.invariant.0
