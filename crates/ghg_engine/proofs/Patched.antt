@@ -1,10 +1,11 @@
 -- Cells of affected nodes in front of those that the data had.
-use Rattle.std.proofs.Common.{◌≡◌, ◌≤◌, inl, inr, true, List, length, Option, Some, None, refl, sym, ap, ◌∙◌, arith}
+use Rattle.std.proofs.Common.{◌≡◌, ◌≤◌, inl, inr, true, is_some, List, length, Option, Some, None, refl, sym, ap, ◌∙◌, arith}
 use Rattle.std.specs.Option.{option_or}
 use Rattle.ghg_units.specs.declared.node.Node.{Node}
 use Rattle.ghg_affected.specs.Affected.{affected_nodes}
 use Rattle.ghg_affected.specs.Patches.{least_break}
-use Rattle.ghg_affected.proofs.Affected.{affected_nodes_are_listed, affected_or_not}
+use Rattle.ghg_affected.proofs.Affected.{affected_is_node, affected_nodes_are_listed, affected_or_not}
+use Rattle.ghg_affected.proofs.Bools.{true_not_false}
 use Rattle.ghg_affected.proofs.Kept.{overflows_are_in_patches, unaffected_keep}
 use Rattle.ghg_affected.proofs.Once.{affected_nodes_stand_once}
 use Rattle.ghg_definitions.specs.Compilation.{compilation, is_node, overflow}
@@ -17,10 +18,11 @@ use Rattle.ghg_definitions.proofs.Depth.{or_else}
 use Rattle.ghg_definitions.proofs.Listed.{contained, listed}
 use Rattle.ghg_definitions.proofs.OneTrial.{compilation_trial}
 use Rattle.ghg_engine.specs.Cells.{found_in}
-use Rattle.ghg_engine.specs.Compiled.{IsCompiled}
+use Rattle.ghg_engine.specs.Compiled.{AreOfLines, IsCompiled}
 use Rattle.ghg_engine.specs.Evaluation.{AreEvaluated, AreKept}
 use Rattle.ghg_engine.proofs.Compiled.{is_compiled}
 use Rattle.ghg_engine.proofs.Counted.{no_more}
+use Rattle.ghg_engine.proofs.Gone.{node_has_series}
 use Rattle.ghg_graph.specs.Corrections.{ListsAffected}
 
 module _ (old new : Data) where
@@ -32,6 +34,17 @@ module _ (old new : Data) where
       let many : length (affected_nodes old new) ≤ length ns = no_more (affected_nodes old new) ns (affected_nodes_stand_once old new)
       (λ n i. listed ns n (lists.complete n ((affected_nodes_are_listed old new n).0 (contained _ n i)))) in
       omega (arith, few, many)
+
+  -- what is evaluated is a node of the new data
+  pub fresh_of_lines : (ns : List Node) → ListsAffected old new ns → (fresh : Outcomes) → AreEvaluated new ns fresh → AreOfLines new fresh
+  fresh_of_lines ns lists fresh evaluated = record {
+    present = λ n there. elim (or_else (is_node new n)) [
+      | inl is ↦ node_has_series new n is
+      | inr none ↦
+          let off = evaluated.no_others n (λ i. true_not_false (sym (affected_is_node old new n (lists.sound n i)) ∙ none)) in
+          absurd (true_not_false (sym there ∙ ap is_some off))
+    ];
+  }
 
   module _ (workbook : IsWorkbook new) (after : IsAcyclic new) (outcomes : Outcomes) (is : IsCompiled old outcomes) where
     module _ (ns : List Node) (lists : ListsAffected old new ns) where

@@ -1,11 +1,14 @@
 -- What is compiled.
-use Rattle.std.specs.Prelude.{◌≡◌, true, None}
+use Rattle.std.specs.Prelude.{◌≡◌, Bool, true, if◌then◌else◌, is_some, None}
 use Rattle.ghg_units.specs.declared.node.Node.{Node}
-use Rattle.ghg_definitions.specs.Compilation.{compilation, is_node, overflow, sheet_of}
+use Rattle.ghg_definitions.specs.Compilation.{compilation, emits, is_node, overflow, sheet_of}
 use Rattle.ghg_definitions.specs.Containment.{HoldsExactValues}
-use Rattle.ghg_definitions.specs.Data.{Data}
+use Rattle.ghg_definitions.specs.Data.{Data, line}
 use Rattle.ghg_definitions.specs.Rings.{IsAcyclic}
 use Rattle.ghg_definitions.specs.Trials.{IsCompilation, Outcomes}
+use Rattle.ghg_engine.specs.declared.series.Series.{Series}
+use Rattle.ghg_engine.specs.declared.series.Series.TheVariants as series
+use Rattle.ghg_engine.specs.Cells.{series_of, without_series}
 
 -- the outcomes at the nodes of the data are its compilation, in which nothing is over and each known node
 -- holds its exact value
@@ -15,3 +18,20 @@ pub record IsCompiled (m : Data) (outcomes : Outcomes) : Type 0 where
   pub fits : IsCompilation (sheet_of m) (compilation m)
   pub none_over : overflow m ≡ None
   pub contained : HoldsExactValues m
+
+-- where the series is of a line's values, the line is present; where it is of a line's equivalents, the line
+-- emits a gas
+abbrev pub has_series : Data → Series → Bool
+has_series m (series.Line name) = is_some (line m name)
+has_series m (series.Equivalent name) = emits m name
+has_series m (series.Total category) = true
+has_series m series.Gross = true
+
+-- the outcomes, without those of the series unless the data have it
+abbrev pub without_missing : Data → Outcomes → Series → Outcomes
+without_missing m outcomes s = if has_series m s then outcomes else without_series outcomes s
+
+-- each outcome of a line's value is of a line that is present, and each of an equivalent of one that emits a
+-- gas
+pub record AreOfLines (m : Data) (outcomes : Outcomes) : Type 0 where
+  pub present : (n : Node) → is_some (outcomes n) ≡ true → has_series m (series_of n) ≡ true

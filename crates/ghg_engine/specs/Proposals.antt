@@ -14,7 +14,7 @@ use Rattle.ghg_engine.specs.declared.proposal.Proposal.{Proposal}
 use Rattle.ghg_engine.specs.declared.refusal.EngineRefusal.{EngineRefusal}
 use Rattle.ghg_engine.specs.declared.refusal.EngineRefusal.TheVariants as refusal
 use Rattle.ghg_engine.specs.Cells.{cell_at, found_in}
-use Rattle.ghg_engine.specs.Compiled.{IsCompiled}
+use Rattle.ghg_engine.specs.Compiled.{AreOfLines, IsCompiled}
 use Rattle.ghg_graph.specs.Corrections.{are_of_figures}
 use Rattle.ghg_engine.specs.Layouts.{IsLayout}
 
@@ -23,10 +23,11 @@ pub record IsArranged (engine : EngineView) (edits : List Change) : Type 0 where
   pub planned : IsPlanned (shelf_of engine) edits
   pub acyclic : IsAcyclic (applied engine.content edits)
 
--- over the compilation of the old data the cells are the compilation of the new, and as many nodes are
--- affected
+-- over the compilation of the old data the cells are the compilation of the new, none of them is of a line
+-- that the new data do not have, and as many nodes are affected
 pub record IsFresh (old new : Data) (fresh : Fresh) : Type 0 where
   pub compiled : IsCompiled new (found_in (cell_at fresh.cells) (compilation old))
+  pub of_lines : AreOfLines new (cell_at fresh.cells)
   pub count : fresh.count ≡ length (affected_nodes old new)
 
 -- the layout is that of the data which the edits lead to; where none is given, they are of figures alone, and
@@ -35,12 +36,14 @@ abbrev pub IsLaid : Data → List Change → Option Layout → Type 0
 IsLaid m edits None = are_of_figures edits ≡ true
 IsLaid m edits (Some layout) = IsLayout (applied m edits) layout
 
--- the edits were planned on the book as it stands, the cells and the layout are those that they lead to, as
--- many nodes are affected, and the engine has room for the cells
+-- the edits were planned on the book as it stands, the cells and the layout are those that they lead to, none
+-- of the cells is of a line that is not there then, as many nodes are affected, and the engine has room for
+-- the cells
 pub record IsProposed (engine : EngineView) (proposal : Proposal) : Type 0 where
   pub planned : IsPlanned (shelf_of engine) proposal.edits
   pub compiled : IsCompiled (applied engine.content proposal.edits)
       (found_in (cell_at proposal.fresh) (compilation engine.content))
+  pub of_lines : AreOfLines (applied engine.content proposal.edits) (cell_at proposal.fresh)
   pub laid : IsLaid engine.content proposal.edits proposal.layout
   pub cells : proposal.cells ≡ length (affected_nodes engine.content (applied engine.content proposal.edits))
   pub room : engine.room ≡ 1

@@ -55,7 +55,7 @@ impl Model for Engine {
     ghost use Rattle.std.specs.Prelude.{◌≡◌, true, if◌then◌else◌};
     ghost use Rattle.std.specs.Coded.{codes};
     ghost use Rattle.ghg_engine.specs.Cells.{cell_at, found_in, no_outcomes};
-    ghost use Rattle.ghg_engine.specs.Compiled.{IsCompiled};
+    ghost use Rattle.ghg_engine.specs.Compiled.{AreOfLines, IsCompiled};
     ghost use Rattle.ghg_engine.specs.Layouts.{IsLayout};
     ghost use Rattle.ghg_engine.specs.Views.{EngineView, engine_code};
 
@@ -70,7 +70,8 @@ impl Model for Engine {
     } };
 
     ghost invariant = { λ e. IsCompiled e.book.content (found_in (cell_at e.front) (cell_at e.cells))
-        × IsLayout e.book.content e.layout × (e.settled ≡ true → cell_at e.front ≡ no_outcomes) };
+        × IsLayout e.book.content e.layout × (e.settled ≡ true → cell_at e.front ≡ no_outcomes)
+        × AreOfLines e.book.content (found_in (cell_at e.front) (cell_at e.cells)) };
 }
 
 impl ghg_graph::Cells for Engine {

@@ -6,6 +6,7 @@ ghost use Rattle.ghg_definitions.specs.Compilation.{is_node};
 ghost use Rattle.ghg_data.specs.Changes.{applied};
 ghost use Rattle.ghg_data.specs.Shelf.{IsPlanned};
 ghost use Rattle.ghg_engine.specs.Cells.{cell_at};
+ghost use Rattle.ghg_engine.specs.Compiled.{AreOfLines, without_missing};
 
 use crate::cells::Cells;
 use crate::nodes::{emits, is_line};
@@ -16,9 +17,11 @@ use ghg_units::Name;
 
 /// Drops the cells of lines that edits withdraw, and the equivalents of those that emit no gas with them.
 pub(crate) fn drop_withdrawn(cells: &mut Cells, book: &Book, edits: &Edits)
-    requires { IsPlanned book.now edits.now }
-    ensures { (n : Node) → is_node (applied book.now.content edits.now) n ≡ true → cell_at cells.new n ≡
+    requires planned { IsPlanned book.now edits.now }
+    requires of_lines { AreOfLines book.now.content (cell_at cells.old) }
+    ensures kept { (n : Node) → is_node (applied book.now.content edits.now) n ≡ true → cell_at cells.new n ≡
         cell_at cells.old n }
+    ensures of_lines { AreOfLines (applied book.now.content edits.now) (cell_at cells.new) }
 {
     let records = after(book, edits);
     for key in edits.keys() {
@@ -30,8 +33,8 @@ pub(crate) fn drop_withdrawn(cells: &mut Cells, book: &Book, edits: &Edits)
 }
 
 fn drop_values<R: Records>(cells: &mut Cells, records: &R, name: &Name)
-    ensures { (n : Node) → is_node (R.content records.now) n ≡ true → cell_at cells.new n ≡
-        cell_at cells.old n }
+    ensures { cell_at cells.new ≡ without_missing (R.content records.now) (cell_at cells.old)
+        (Series.Line name.now) }
 {
     if is_line(records, name) {
         return;
@@ -40,8 +43,8 @@ fn drop_values<R: Records>(cells: &mut Cells, records: &R, name: &Name)
 }
 
 fn drop_equivalents<R: Records>(cells: &mut Cells, records: &R, name: &Name)
-    ensures { (n : Node) → is_node (R.content records.now) n ≡ true → cell_at cells.new n ≡
-        cell_at cells.old n }
+    ensures { cell_at cells.new ≡ without_missing (R.content records.now) (cell_at cells.old)
+        (Series.Equivalent name.now) }
 {
     if emits(records, name) {
         return;

@@ -8,12 +8,12 @@ use Rattle.ghg_data.specs.Changes.{applied}
 use Rattle.ghg_graph.specs.Corrections.{ListsAffected}
 use Rattle.ghg_graph.specs.NodeOrders.{AreInOrder}
 use Rattle.ghg_engine.specs.Cells.{cell_at, found_in}
-use Rattle.ghg_engine.specs.Compiled.{IsCompiled}
+use Rattle.ghg_engine.specs.Compiled.{AreOfLines, IsCompiled}
 use Rattle.ghg_engine.specs.Evaluation.{AreEvaluated, AreKept}
 use Rattle.ghg_engine.specs.Proposals.{IfOverflow}
 use Rattle.ghg_engine.proofs.Answered.{if_over}
 use Rattle.ghg_engine.proofs.Compiled.{settled_compiled}
-use Rattle.ghg_engine.proofs.Patched.{all_affected, fresh_compiled, fresh_over, unaffected_kept}
+use Rattle.ghg_engine.proofs.Patched.{all_affected, fresh_compiled, fresh_of_lines, fresh_over, unaffected_kept}
 use Rattle.ghg_engine.proofs.engine.Engine.evaluated.Goals as goal
 
 pub evaluate_all-requires-clause-order : goal.evaluate_all-requires-clause-order
@@ -77,6 +77,7 @@ returns-in-Ok-clause-fresh g c =
     record {
       compiled = subst (λ m. IsCompiled (applied m edits) (found_in fresh (compilation m))) is
           (fresh_compiled old new workbook after cells kept ns lists fresh evaluated);
+      of_lines = subst (λ m. AreOfLines (applied m edits) fresh) is (fresh_of_lines old new ns lists fresh evaluated);
       count = grind (arith, all, c.len-count.ensures, c.in_ok-nodes.nodes.ok);
     }
 
