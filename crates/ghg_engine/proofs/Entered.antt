@@ -1,6 +1,7 @@
 -- Groups of data that have lines more.
 use Rattle.std.proofs.Common.{◌≡◌, ◌⊎◌, inl, inr, Bool, true, false, not, is_some, List, [], ◌∷◌, ◌++◌, map, Option, Some, None, option_and_then, refl, sym, ap, ◌∙◌, subst}
 use Rattle.std.specs.List.Sorted.{IsStrictlySortedBy}
+use Rattle.std.specs.FinMap.{get}
 use Rattle.std.specs.Option.{option_map_or}
 use Rattle.std.proofs.lemmas.List.Kept.{IsStrictlySortedBy-filter}
 use Rattle.ghg_categories.specs.declared.category.Category.{Category}
@@ -19,6 +20,7 @@ use Rattle.ghg_definitions.proofs.Grounded.{line_listed}
 use Rattle.ghg_definitions.proofs.Lines.{lines_sorted}
 use Rattle.ghg_definitions.proofs.Listed.{contained, from_filter, in_either, listed, listed_filter, listed_right}
 use Rattle.ghg_definitions.proofs.NodeLists.{emitting}
+use Rattle.ghg_definitions.proofs.Depth.{or_else}
 use Rattle.ghg_affected.specs.Subtotals.{is_above_parts}
 use Rattle.ghg_affected.proofs.Bools.{never_so, true_not_false}
 use Rattle.ghg_data.specs.Changes.{Change, applied}
@@ -53,35 +55,35 @@ module _ (test : Category → Bool) (m : Data) where
   abbrev passes : Name → Bool
   passes name = option_map_or test (category m name) false
 
-  sorted_at : IsStrictlySortedBy name_cmp (gas_lines_at test m)
+  pub sorted_at : IsStrictlySortedBy name_cmp (gas_lines_at test m)
   sorted_at = IsStrictlySortedBy-filter name_cmp passes (gas_lines m) (IsStrictlySortedBy-filter name_cmp (emits m) (line_names m) (lines_sorted m))
 
   present_at : (name : Name) → emits_at test m name ≡ true → is_some (line m name) ≡ true
   present_at name e = emitting m name (both test (line_gas m name) (category m name) e).0
 
-  to_emits_at : (name : Name) → IsListed name (gas_lines_at test m) → emits_at test m name ≡ true
+  pub to_emits_at : (name : Name) → IsListed name (gas_lines_at test m) → emits_at test m name ≡ true
   to_emits_at name i =
       let at = from_filter passes name (gas_lines m) i in
       of_both test (line_gas m name) (category m name) (from_filter (emits m) name (line_names m) at.0).1 at.1
 
-  of_emits_at : (name : Name) → emits_at test m name ≡ true → IsListed name (gas_lines_at test m)
+  pub of_emits_at : (name : Name) → emits_at test m name ≡ true → IsListed name (gas_lines_at test m)
   of_emits_at name e =
       let at = both test (line_gas m name) (category m name) e in
       listed_filter passes name (gas_lines m) (listed_filter (emits m) name (line_names m) (line_listed m name (emitting m name at.0)) at.0) at.1
 
 -- ---- the data have lines more
 
-either_way : (b : Bool) → (b ≡ true) ⊎ (b ≡ false)
-either_way true = inl refl
-either_way false = inr refl
-
 -- where a line stands that emits a gas, told by its record
 abbrev emitted_by : Option Record → Option Category
 emitted_by record_is = option_and_then (λ gas. as_category record_is) (option_and_then (λ id. gas_of (output id)) (as_line record_is))
 
+-- a line with the same record
+pub emits_named : (old new : Data) (test : Category → Bool) (name : Name) → get old (key.Line name) ≡ get new (key.Line name) → emits_at test old name ≡ emits_at test new name
+emits_named old new test name same = ap (λ r. option_map_or test (emitted_by r) false) same
+
 module _ (old new : Data) (lines : List Name) (adds : AddsLines old new lines) (test : Category → Bool) where
   same_at : (name : Name) → is_some (line old name) ≡ true → emits_at test old name ≡ emits_at test new name
-  same_at name present = ap (λ r. option_map_or test (emitted_by r) false) (adds.kept name present)
+  same_at name present = emits_named old new test name (adds.kept name present)
 
   all_at : (names : List Name) → HasMore (emits_at test new) (gas_lines_at test old) lines names → names ≡ gas_lines_at test new
   all_at names more = same_names names (gas_lines_at test new) more.order (sorted_at test new)
@@ -91,7 +93,7 @@ module _ (old new : Data) (lines : List Name) (adds : AddsLines old new lines) (
       ]))
       (λ k i.
       let on = to_emits_at test new k i in
-      (more.named k).1 (elim (either_way (is_some (line old k))) [
+      (more.named k).1 (elim (or_else (is_some (line old k))) [
         | inl present ↦ inl (of_emits_at test old k (same_at k present ∙ on))
         | inr absent ↦ inr ((adds.added k).1 (present_at test new k on, absent), on)
       ]))

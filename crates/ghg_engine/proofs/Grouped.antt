@@ -14,7 +14,7 @@ use Rattle.ghg_definitions.proofs.NodeLists.{category_same}
 use Rattle.ghg_graph.proofs.Pushed.{item_pushed, items_in}
 use Rattle.ghg_affected.specs.Subtotals.{is_above_parts}
 use Rattle.ghg_engine.specs.declared.groups.Groups.{Groups}
-use Rattle.ghg_engine.specs.Grouping.{IsGrouping, code_order, group_at}
+use Rattle.ghg_engine.specs.Grouping.{AreGroupsOf, IsGrouping, code_order, group_at}
 
 -- the name, where the test passes
 abbrev pub name_if : Bool → Name → List Name
@@ -85,12 +85,6 @@ pushed_none name xs = append-nil xs
 abbrev pub passes : Data → (Category → Bool) → Name → Bool
 passes m test name = option_map_or test (category m name) false
 
-pub record IsGroupedSoFar (m : Data) (names : List Name) (groups : Groups) : Type 0 where
-  pub under_so_far : (c : Category) → group_at groups.under c ≡ filter (passes m (λ k. stands_under k c)) names
-  pub at_so_far : (c : Category) → group_at groups.at c ≡ filter (passes m (λ k. is_same k c)) names
-  pub gross_so_far : groups.gross.items ≡ filter (passes m counts_in_gross) names
-  pub above_so_far : groups.above.items ≡ filter (passes m is_above_parts) names
-
 filter_one : (p : Name → Bool) (name : Name) → filter p (name ∷ []) ≡ name_if (p name) name
 filter_one p name = by (p name)
   where
@@ -104,30 +98,30 @@ one_more m test names name c is = filter-append (passes m test) names (name ∷ 
 none_more : (m : Data) (test : Category → Bool) (names : List Name) (name : Name) → category m name ≡ None → filter (passes m test) (names ++ name ∷ []) ≡ filter (passes m test) names
 none_more m test names name is = filter-append (passes m test) names (name ∷ []) ∙ ap (λ ys. filter (passes m test) names ++ ys) (filter_one (passes m test) name ∙ ap (λ o. name_if (option_map_or test o false) name) is) ∙ append-nil _
 
-pub grouped_more : (m : Data) (names : List Name) (name : Name) (c : Category) (old new : Groups) → IsGroupedSoFar m names old → category m name ≡ Some c →
+pub grouped_more : (m : Data) (names : List Name) (name : Name) (c : Category) (old new : Groups) → AreGroupsOf m names old → category m name ≡ Some c →
     ((d : Category) → group_at new.under d ≡ group_at old.under d ++ name_if (stands_under c d) name) → ((d : Category) → group_at new.at d ≡ group_at old.at d ++ name_if (is_same c d) name) →
-    new.gross.items ≡ old.gross.items ++ name_if (counts_in_gross c) name → new.above.items ≡ old.above.items ++ name_if (is_above_parts c) name → IsGroupedSoFar m (names ++ name ∷ []) new
+    new.gross.items ≡ old.gross.items ++ name_if (counts_in_gross c) name → new.above.items ≡ old.above.items ++ name_if (is_above_parts c) name → AreGroupsOf m (names ++ name ∷ []) new
 grouped_more m names name c old new held is under at gross above = record {
-  under_so_far = λ d. under d ∙ ap (λ xs. xs ++ name_if (stands_under c d) name) (held.under_so_far d) ∙ sym (one_more m (λ k. stands_under k d) names name c is);
-  at_so_far = λ d. at d ∙ ap (λ xs. xs ++ name_if (is_same c d) name) (held.at_so_far d) ∙ sym (one_more m (λ k. is_same k d) names name c is);
-  gross_so_far = gross ∙ ap (λ xs. xs ++ name_if (counts_in_gross c) name) held.gross_so_far ∙ sym (one_more m counts_in_gross names name c is);
-  above_so_far = above ∙ ap (λ xs. xs ++ name_if (is_above_parts c) name) held.above_so_far ∙ sym (one_more m is_above_parts names name c is);
+  under = λ d. under d ∙ ap (λ xs. xs ++ name_if (stands_under c d) name) (held.under d) ∙ sym (one_more m (λ k. stands_under k d) names name c is);
+  at = λ d. at d ∙ ap (λ xs. xs ++ name_if (is_same c d) name) (held.at d) ∙ sym (one_more m (λ k. is_same k d) names name c is);
+  gross = gross ∙ ap (λ xs. xs ++ name_if (counts_in_gross c) name) held.gross ∙ sym (one_more m counts_in_gross names name c is);
+  above = above ∙ ap (λ xs. xs ++ name_if (is_above_parts c) name) held.above ∙ sym (one_more m is_above_parts names name c is);
 }
 
-pub grouped_same : (m : Data) (names : List Name) (name : Name) (groups : Groups) → IsGroupedSoFar m names groups → category m name ≡ None → IsGroupedSoFar m (names ++ name ∷ []) groups
+pub grouped_same : (m : Data) (names : List Name) (name : Name) (groups : Groups) → AreGroupsOf m names groups → category m name ≡ None → AreGroupsOf m (names ++ name ∷ []) groups
 grouped_same m names name groups held is = record {
-  under_so_far = λ d. held.under_so_far d ∙ sym (none_more m (λ k. stands_under k d) names name is);
-  at_so_far = λ d. held.at_so_far d ∙ sym (none_more m (λ k. is_same k d) names name is);
-  gross_so_far = held.gross_so_far ∙ sym (none_more m counts_in_gross names name is);
-  above_so_far = held.above_so_far ∙ sym (none_more m is_above_parts names name is);
+  under = λ d. held.under d ∙ sym (none_more m (λ k. stands_under k d) names name is);
+  at = λ d. held.at d ∙ sym (none_more m (λ k. is_same k d) names name is);
+  gross = held.gross ∙ sym (none_more m counts_in_gross names name is);
+  above = held.above ∙ sym (none_more m is_above_parts names name is);
 }
 
-pub grouped_all : (m : Data) (names : List Name) (groups : Groups) → IsGroupedSoFar m names groups → names ≡ gas_lines m → IsGrouping m groups
+pub grouped_all : (m : Data) (names : List Name) (groups : Groups) → AreGroupsOf m names groups → names ≡ gas_lines m → IsGrouping m groups
 grouped_all m names groups held is = record {
-  under = λ c. held.under_so_far c ∙ ap (filter (passes m (λ k. stands_under k c))) is;
-  at = λ c. held.at_so_far c ∙ ap (filter (passes m (λ k. is_same k c))) is;
-  gross = held.gross_so_far ∙ ap (filter (passes m counts_in_gross)) is;
-  above = held.above_so_far ∙ ap (filter (passes m is_above_parts)) is;
+  under = λ c. held.under c ∙ ap (filter (passes m (λ k. stands_under k c))) is;
+  at = λ c. held.at c ∙ ap (filter (passes m (λ k. is_same k c))) is;
+  gross = held.gross ∙ ap (filter (passes m counts_in_gross)) is;
+  above = held.above ∙ ap (filter (passes m is_above_parts)) is;
 }
 
 -- ---- one more in the group of a category
@@ -146,8 +140,8 @@ pushed old new before now at a c name is same unwraps items =
 
 -- ---- where nothing is put
 
-pub nothing_grouped : (m : Data) (groups : Groups) → ((c : Category) → group_at groups.under c ≡ []) → ((c : Category) → group_at groups.at c ≡ []) → groups.gross.items ≡ [] → groups.above.items ≡ [] → IsGroupedSoFar m [] groups
-nothing_grouped m groups under at gross above = record { under_so_far = under; at_so_far = at; gross_so_far = gross; above_so_far = above }
+pub nothing_grouped : (m : Data) (groups : Groups) → ((c : Category) → group_at groups.under c ≡ []) → ((c : Category) → group_at groups.at c ≡ []) → groups.gross.items ≡ [] → groups.above.items ≡ [] → AreGroupsOf m [] groups
+nothing_grouped m groups under at gross above = record { under = under; at = at; gross = gross; above = above }
 
 pub on_ok : {A E P Q : Type 0} (r : Result A E) → (P → Q) → OnOk r P → OnOk r Q
 on_ok (Ok x) f p = f p

@@ -24,3 +24,8 @@ pub mod Entered
 pub mod Layouts
 pub mod Patched
 pub mod Answered
+mod Changed
+mod Resummed
+mod Before
+mod Named
+mod Next

@@ -1,5 +1,5 @@
 -- Lines by the categories at and under which they stand.
-use Rattle.std.specs.Prelude.{◌≡◌, ◌↔◌, true, false, is_some, List, [], Option, option_and_then}
+use Rattle.std.specs.Prelude.{◌≡◌, ◌↔◌, Bool, true, false, is_some, List, [], filter, Option, option_and_then}
 use Rattle.std.specs.Option.{option_map_or}
 use Rattle.std.specs.BTreeMap.{get}
 use Rattle.std.specs.FinMap.{get as record_under}
@@ -31,6 +31,16 @@ pub record IsGrouping (m : Data) (groups : Groups) : Type 0 where
   pub at : (c : Category) → group_at groups.at c ≡ gas_lines_at (λ k. is_same k c) m
   pub gross : groups.gross.items ≡ gas_lines_at counts_in_gross m
   pub above : groups.above.items ≡ gas_lines_at is_above_parts m
+
+-- the same of those of the names that stand at categories that pass
+abbrev pub names_at : (Category → Bool) → Data → List Name → List Name
+names_at test m names = filter (λ name. option_map_or test (category m name) false) names
+
+pub record AreGroupsOf (m : Data) (names : List Name) (groups : Groups) : Type 0 where
+  pub under : (c : Category) → group_at groups.under c ≡ names_at (λ k. stands_under k c) m names
+  pub at : (c : Category) → group_at groups.at c ≡ names_at (λ k. is_same k c) m names
+  pub gross : groups.gross.items ≡ names_at counts_in_gross m names
+  pub above : groups.above.items ≡ names_at is_above_parts m names
 
 -- ---- lines more
 

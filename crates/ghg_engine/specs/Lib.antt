@@ -8,5 +8,6 @@ pub mod Layouts
 pub mod Parts
 pub mod Arguments
 pub mod Evaluation
+pub mod Changes
 pub mod Views
 pub mod Proposals

@@ -1,6 +1,6 @@
 //! A book with its cells.
 
-ghost use Rattle.std.specs.Prelude.{◌≡◌, ◌≤◌, ◌+◌, length, Ok, Err, Some, IfOk, MatchResult, OnOk, option_copied};
+ghost use Rattle.std.specs.Prelude.{◌≡◌, ◌≤◌, ◌+◌, length, Ok, Err, Some, IfOk, MatchResult, OnOk, IfSome, option_copied, true};
 ghost use Rattle.std.specs.FinMap as finite;
 ghost use Rattle.std.specs.List.{AllByRecursion};
 ghost use Rattle.ghg_units.specs.WellFormed.{IsWellFormed};
@@ -14,6 +14,7 @@ ghost use Rattle.ghg_data.specs.Refusal.{IfRule};
 ghost use Rattle.ghg_data.specs.Shelf.{IsPlanned};
 ghost use Rattle.ghg_definitions.specs.Rings.{IsAcyclic};
 ghost use Rattle.ghg_affected.specs.Affected.{affected_nodes};
+ghost use Rattle.ghg_graph.specs.Entries.{are_entries};
 ghost use Rattle.ghg_graph.specs.Refusal.{IfRing, IsLeastRingOf};
 ghost use Rattle.ghg_engine.specs.Layouts.{IsLayout};
 ghost use Rattle.ghg_engine.specs.Proposals.{IfOverflow, IsArranged, IsFresh, IsLaid, IsProposed};
@@ -248,9 +249,29 @@ impl Engine {
         let count = nodes.len() as u64;
         let permits = take(count, steps);
         let records = after(&self.book, edits);
-        match evaluate_all(alloc, &records, groups, &self.cells, &nodes, permits) {
+        let before = self.before(edits);
+        match evaluate_all(
+            alloc,
+            &records,
+            groups,
+            before,
+            &self.cells,
+            &nodes,
+            permits,
+        ) {
             Ok(cells) => Ok(Fresh { cells, count }),
             Err(refusal) => Err(refusal),
+        }
+    }
+
+    // These cells, where edits leave the years, and the lines that there are.
+    fn before(&self, edits: &Edits) -> Option<&Engine>
+        ensures { IfSome result (λ e. (e.now ≡ self.now) × (are_entries self.now.content edits.now ≡ true)) }
+    {
+        if are_entries(&self.book, edits) {
+            Some(self)
+        } else {
+            None
         }
     }
 

@@ -1,8 +1,9 @@
 //! The evaluation of nodes, each once and behind its inputs.
 
-ghost use Rattle.std.specs.Prelude.{◌≡◌, ◌≤◌, IfOk, MatchResult, Some, length};
-ghost use Rattle.ghg_definitions.specs.Compilation.{first_year, sheet_of};
-ghost use Rattle.ghg_definitions.specs.Data.{span};
+ghost use Rattle.std.specs.Prelude.{◌≡◌, ◌≤◌, IfOk, IfSome, MatchResult, Some, filter_map, length};
+ghost use Rattle.std.specs.BTreeSet.{IsFromIterResult};
+ghost use Rattle.ghg_definitions.specs.Compilation.{compilation, first_year, sheet_of};
+ghost use Rattle.ghg_definitions.specs.Data.{name_cmp, span};
 ghost use Rattle.ghg_definitions.specs.Nodes.{lesser_node};
 ghost use Rattle.ghg_definitions.specs.Rings.{IsAcyclic};
 ghost use Rattle.ghg_definitions.specs.Sound.{IsWorkbook};
@@ -11,32 +12,39 @@ ghost use Rattle.ghg_affected.specs.Patches.{least_break};
 ghost use Rattle.ghg_graph.specs.NodeOrders.{AreInOrder};
 ghost use Rattle.ghg_engine.specs.Breaking.{least_with};
 ghost use Rattle.ghg_engine.specs.Cells.{cell_at};
+ghost use Rattle.ghg_engine.specs.Changes.{AreChangedLines, AreNamesOf, IsBefore, IsReadyFrom, IsResummed, equivalent_line};
 ghost use Rattle.ghg_engine.specs.Evaluation.{AreEvaluated, AreKept, IsEvaluatedAt, IsOutcomeOf, IsReady, IsTotalOf};
 ghost use Rattle.ghg_engine.specs.Grouping.{IsGrouping};
 ghost use Rattle.ghg_engine.specs.Overlays.{outcomes_of};
+ghost use Rattle.ghg_engine.specs.Parts.{addends_for};
 ghost use Rattle.ghg_engine.specs.Proposals.{IfOverflow};
 
 use crate::arguments::Arguments;
 use crate::cells::Cells;
+use crate::changes::Changes;
 use crate::evaluated::Evaluated;
 use crate::groups::Groups;
 use crate::overlay::Overlay;
 use crate::parts::{Addends, Part, gather_addends, gather_parts};
 use crate::refusal::EngineRefusal;
-use ghg_cell::{Input, MOST_PARTS, Permits, Ticket, equiv, total};
+use ghg_cell::{Input, MOST_PARTS, Permits, Ticket, equiv, total, total_from};
 use ghg_data::Records;
 use ghg_graph::{first_year, potential};
 use ghg_interval::Over;
 use ghg_units::{Name, Node};
 use std::alloc::{AllocError, Global};
 use std::cmp::Ordering;
+use std::collections::BTreeSet;
 
 /// The cells of nodes, each evaluated in its turn over the others and over cells that are kept, which are
 /// right at all other nodes of the workbook; or the least of them that is over while none of its inputs is.
-pub(crate) fn evaluate_all<R: Records>(
+/// Where the cells of the workbook before are given, with its years and all its lines, a total follows from
+/// what it was and what has changed.
+pub(crate) fn evaluate_all<R: Records, C: ghg_graph::Cells>(
     alloc: Global,
     records: &R,
     groups: &Groups,
+    before: Option<&C>,
     kept: &Cells,
     nodes: &[Node],
     permits: Permits,
@@ -45,6 +53,7 @@ pub(crate) fn evaluate_all<R: Records>(
     requires acyclic { IsAcyclic (R.content records.now) }
     requires groups { IsGrouping (R.content records.now) groups.now }
     requires order { AreInOrder (R.content records.now) nodes.now }
+    requires before { IfSome before (λ b. IsBefore (C.content b.now) (R.content records.now) nodes.now) }
     requires kept { AreKept (R.content records.now) nodes.now (cell_at kept.now) }
     requires paid { permits ≡ length nodes.now }
     ensures { MatchResult result
@@ -52,13 +61,23 @@ pub(crate) fn evaluate_all<R: Records>(
         (IfOverflow (λ n. least_break (R.content records.now) nodes.now ≡ Some n)) }
 {
     let first = first_year(records);
+    let from = with_lines(alloc, records, before, nodes)?;
     let mut permits = permits;
     let mut buffers = Buffers::new(alloc);
     let mut cells = Overlay::over(alloc, kept);
     let mut least = None;
     for node in nodes {
         let ticket = permits.ticket().unwrap();
-        let evaluated = evaluate(records, groups, &cells, first, node, ticket, &mut buffers)?;
+        let evaluated = evaluate(
+            records,
+            groups,
+            &from,
+            &cells,
+            first,
+            node,
+            ticket,
+            &mut buffers,
+        )?;
         least = least_with(&least, evaluated.breaks, node);
         cells.insert(node, evaluated.outcome)?;
     }
@@ -68,11 +87,65 @@ pub(crate) fn evaluate_all<R: Records>(
     }
 }
 
+// The cells of the workbook before, and the lines of which an equivalent is evaluated anew, in groups.
+#[derive(Drop)]
+struct Before<'a, C> {
+    cells: &'a C,
+    changed: Groups,
+}
+
+fn with_lines<'a, R: Records, C: ghg_graph::Cells>(
+    alloc: Global,
+    records: &R,
+    before: Option<&'a C>,
+    nodes: &[Node],
+) -> Result<Option<Before<'a, C>>, AllocError>
+    requires { IfSome before (λ b. IsBefore (C.content b.now) (R.content records.now) nodes.now) }
+    ensures { IfOk result (λ o. IfSome o (λ b.
+        IsBefore (C.content b.cells.now) (R.content records.now) nodes.now
+        × AreChangedLines (R.content records.now) nodes.now b.changed)) }
+{
+    let Some(cells) = before else {
+        return Ok(None);
+    };
+    let names = equivalent_lines(alloc, nodes)?;
+    let changed = Groups::of(alloc, records, &names)?;
+    Ok(Some(Before { cells, changed }))
+}
+
+// The lines of which an equivalent is among nodes, by name.
+fn equivalent_lines(alloc: Global, nodes: &[Node]) -> Result<Vec<Name>, AllocError>
+    ensures { IfOk result (λ names. AreNamesOf nodes.now names.items) }
+{
+    let names = line_set(alloc, nodes)?;
+    names.iter().copied().collect(alloc)
+}
+
+fn line_set(alloc: Global, nodes: &[Node]) -> Result<BTreeSet<Name>, AllocError>
+    ensures { IfOk result (IsFromIterResult name_cmp (filter_map equivalent_line nodes.now)) }
+{
+    nodes
+        .iter()
+        .filter_map(|node| equivalent_line(node))
+        .collect(alloc)
+}
+
+// The line of an equivalent.
+fn equivalent_line(node: &Node) -> Option<Name>
+    ensures { result ≡ equivalent_line node.now }
+{
+    match node {
+        Node::Equiv(name, _) => Some(*name),
+        _ => None,
+    }
+}
+
 // What the evaluations of nodes share.
 #[derive(Drop)]
 struct Buffers {
     arguments: Arguments,
     parts: Vec<Input>,
+    changes: Changes,
 }
 
 impl Buffers {
@@ -80,6 +153,7 @@ impl Buffers {
         Buffers {
             arguments: Arguments::new(alloc),
             parts: Vec::new(alloc),
+            changes: Changes::new(alloc),
         }
     }
 }
@@ -106,9 +180,10 @@ fn lesser(node: &Node, least: &Option<Node>) -> Node
 
 // Evaluates a node over the cells of its inputs and its subtotals. `first` is the first year of the
 // inventory.
-fn evaluate<R: Records>(
+fn evaluate<R: Records, C: ghg_graph::Cells>(
     records: &R,
     groups: &Groups,
+    before: &Option<Before<'_, C>>,
     cells: &Overlay<'_>,
     first: u32,
     node: &Node,
@@ -120,18 +195,74 @@ fn evaluate<R: Records>(
     requires groups { IsGrouping (R.content records.now) groups.now }
     requires first { first ≡ first_year (span (R.content records.now)) }
     requires ready { IsReady (R.content records.now) (outcomes_of cells.now) node.now }
+    requires before { IfSome before.now (λ b. IsReadyFrom (C.content b.cells.now) (R.content records.now)
+        b.changed (cell_at cells.now.fresh) node.now) }
     ensures { IfOk result (IsOutcomeOf (R.content records.now) node.now) }
 {
-    let parts = &mut buffers.parts;
     match node {
         Node::Line(name, year) => {
             let arguments = &mut buffers.arguments;
             line(records, cells, first, name, *year, ticket, arguments)
         }
         Node::Equiv(name, year) => Ok(equivalent(records, cells, name, *year, ticket)),
-        Node::Total(category, year) => sum(cells, &groups.total(*category), *year, ticket, parts),
-        Node::Gross(year) => sum(cells, &groups.gross(), *year, ticket, parts),
+        Node::Total(category, year) => {
+            let addends = groups.total(*category);
+            match before {
+                Some(from) => {
+                    let changed = from.changed.total(*category);
+                    sum_from(
+                        from, cells, node, &addends, &changed, *year, ticket, buffers,
+                    )
+                }
+                None => sum(cells, &addends, *year, ticket, &mut buffers.parts),
+            }
+        }
+        Node::Gross(year) => {
+            let addends = groups.gross();
+            match before {
+                Some(from) => {
+                    let changed = from.changed.gross();
+                    sum_from(
+                        from, cells, node, &addends, &changed, *year, ticket, buffers,
+                    )
+                }
+                None => sum(cells, &addends, *year, ticket, &mut buffers.parts),
+            }
+        }
     }
+}
+
+// Evaluates a total in a year: what it was, and what has changed since, where that is a part of its own
+// lines, none of it is over and it is no more than a total may add; else the sum of what it adds. `changed`
+// are all addends that are evaluated anew, maybe among others.
+fn sum_from<C: ghg_graph::Cells>(
+    before: &Before<'_, C>,
+    cells: &Overlay<'_>,
+    node: &Node,
+    addends: &Addends<'_>,
+    changed: &Addends<'_>,
+    year: u32,
+    ticket: Ticket,
+    buffers: &mut Buffers,
+) -> Result<Evaluated, AllocError>
+    requires few { length addends.now.all.now ≤ most_lines }
+    requires before { IsResummed (outcomes_of cells.now) (cell_at cells.now.fresh)
+        (compilation (C.content before.now.cells.now)) node.now
+        (addends_for addends.now year) (addends_for changed.now year) }
+    ensures { IfOk result (IsTotalOf (outcomes_of cells.now) addends.now year) }
+{
+    let Buffers { parts, changes, .. } = buffers;
+    if changed.own.len() >= addends.own.len() {
+        return sum(cells, addends, year, ticket, parts);
+    }
+    let Some(value) = before.cells.value(node) else {
+        return sum(cells, addends, year, ticket, parts);
+    };
+    if changes.gather(cells, before.cells, changed, year)? && changes.gone.len() <= MOST_PARTS {
+        let value = total_from(ticket, value.input(), &changes.gone, &changes.come);
+        return Ok(Evaluated::of(value));
+    }
+    sum(cells, addends, year, ticket, parts)
 }
 
 // Evaluates a line's equation over what its parameters take.

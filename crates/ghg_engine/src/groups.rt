@@ -4,11 +4,11 @@ ghost use Rattle.std.specs.Prelude.{◌≡◌, IfOk, OnOk, [], ◌∷◌, ◌++�
 ghost use Rattle.std.specs.List.Sorted.{IsStrictlySortedBy};
 ghost use Rattle.ghg_categories.specs.Tree.{is_same, stands_under, stands_within};
 ghost use Rattle.ghg_categories.specs.declared.category.Category.{Category};
-ghost use Rattle.ghg_definitions.specs.Compilation.{counts_in_gross, gas_lines};
+ghost use Rattle.ghg_definitions.specs.Compilation.{counts_in_gross};
 ghost use Rattle.ghg_definitions.specs.Data.{Data, name_cmp};
 ghost use Rattle.ghg_affected.specs.Subtotals.{children, gross_parts, is_above_parts};
 ghost use Rattle.ghg_data.specs.Names.{with_name};
-ghost use Rattle.ghg_engine.specs.Grouping.{AddsLines, AreInOrder, IsGrouping, emitted_at, group_at};
+ghost use Rattle.ghg_engine.specs.Grouping.{AddsLines, AreGroupsOf, AreInOrder, IsGrouping, emitted_at, group_at};
 
 use crate::children::{GROSS_PARTS, children};
 use crate::parts::Addends;
@@ -126,17 +126,16 @@ impl Groups {
         }
     }
 
-    /// The groups of the lines that emit a gas.
+    /// The groups of lines.
     pub(crate) fn of<R: Records>(
         alloc: Global,
         records: &R,
-        emitters: &[Name],
+        names: &[Name],
     ) -> Result<Groups, AllocError>
-        requires { emitters.now ≡ gas_lines (R.content records.now) }
-        ensures { IfOk result (IsGrouping (R.content records.now)) }
+        ensures { IfOk result (AreGroupsOf (R.content records.now) names.now) }
     {
         let mut groups = Groups::new(alloc);
-        for name in emitters {
+        for name in names {
             if let Some((category, _)) = records.line(name) {
                 groups.put(category, name)?;
             }

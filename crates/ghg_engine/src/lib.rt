@@ -3,6 +3,7 @@
 
 mod arguments;
 mod cells;
+mod changes;
 mod children;
 mod column;
 mod engine;

@@ -41,6 +41,17 @@ impl<'a> Overlay<'a> {
         }
     }
 
+    /// The outcome of a node that is evaluated anew; `None` where it is not, or not yet.
+    pub(crate) fn fresh_outcome(&self, node: &Node) -> Option<Result<Input, Over>>
+        ensures { result ≡ cell_at self.now.fresh node.now }
+    {
+        match self.fresh.get(node) {
+            Some(Ok(value)) => Some(Ok(*value.input())),
+            Some(Err(Over)) => Some(Err(Over)),
+            None => None,
+        }
+    }
+
     /// Gives a node its outcome.
     pub(crate) fn insert(
         &mut self,

@@ -14,6 +14,7 @@ use Rattle.ghg_definitions.proofs.Chains.{turned}
 use Rattle.ghg_definitions.proofs.Listed.{from_filter, from_filter_map, listed, listed_filter, listed_filter_map}
 use Rattle.ghg_definitions.proofs.NodeLists.{named_line}
 use Rattle.ghg_definitions.proofs.Rings.{taken_present}
+use Rattle.ghg_definitions.proofs.Depth.{or_else}
 use Rattle.ghg_affected.proofs.Bools.{true_not_false}
 use Rattle.ghg_data.specs.Changes.{Change, applied}
 use Rattle.ghg_data.proofs.Covered.{changed_or_kept}
@@ -31,10 +32,6 @@ use Rattle.ghg_graph.proofs.Ordered.{next}
 not_both : (b : Bool) → not b ≡ true → b ≡ true → ⊥
 not_both true e f = true_not_false (sym e)
 not_both false e f = true_not_false (sym f)
-
-either_way : (b : Bool) → (b ≡ true) ⊎ (b ≡ false)
-either_way true = inl refl
-either_way false = inr refl
 
 -- a line of before, and its bindings, are kept
 pub record KeepsLines (old new : Data) : Type 0 where
@@ -135,7 +132,7 @@ module _ (old new : Data) (was : IsWorkbook old) (kept : KeepsLines old new) whe
   module _ (acyclic : IsAcyclic old) (names : List Name) (are : AreEntered old new names) where
     -- no line of before is on a ring
     pub rings_entered : (ring : List Name) → IsRing (Takes new) ring → (k : Name) → IsListed k ring → IsListed k names
-    rings_entered ring is k i = elim (either_way (is_some (line old k))) [
+    rings_entered ring is k i = elim (or_else (is_some (line old k))) [
       | inl present ↦
           let from = turned (Takes new) ring k is i in
           absurd (acyclic (k ∷ from.0) (leads_before k from.0 k present from.1))
@@ -147,7 +144,7 @@ module _ (old new : Data) (was : IsWorkbook old) (kept : KeepsLines old new) whe
       behind = behind_kept [] lines order.behind;
       apart = λ k i j. true_not_false (sym (present_in old [] lines order.behind k i) ∙ ((are.entered k).0 j).1);
       present = λ k i. ((are.entered k).0 i).0;
-      complete = λ k e. elim (either_way (is_some (line old k))) [
+      complete = λ k e. elim (or_else (is_some (line old k))) [
         | inl present ↦ inl (listed lines k (order.complete k present))
         | inr off ↦ inr ((are.entered k).1 (e, off))
       ];

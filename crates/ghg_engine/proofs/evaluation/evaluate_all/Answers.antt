@@ -1,9 +1,11 @@
 use Rattle.std.proofs.Common.{rules, [], ◌∷◌, ◌++◌, ◌≡◌, ◌+◌, ◌<◌, ◌∙◌, ℕ, ap₂, sym, subst, take, drop, Option, Some, None, ap, arith}
 use Rattle.std.proofs.lemmas.List.{take_more}
 use Rattle.std.specs.Option.{IsSome, MatchOption}
+use Rattle.ghg_engine.specs.declared.evaluation.Before.{Before}
 use Rattle.ghg_engine.specs.Cells.{cell_at, found_in}
 use Rattle.ghg_engine.specs.Evaluation.{AreKept}
 use Rattle.ghg_engine.specs.Overlays.{outcomes_of}
+use Rattle.ghg_engine.proofs.Next.{around, if_some, next_from}
 use Rattle.ghg_engine.proofs.Turns.{IsSoFar, at_next, ends_evaluated, ends_over, next_ready, nothing_fresh, nothing_so_far, one_so_far}
 use Rattle.ghg_engine.proofs.evaluation.evaluate_all.Goals as goal
 
@@ -26,6 +28,7 @@ loop-node-init g c =
           (subst (AreKept m c.args.nodes.now) (sym found) c.requires.kept) c.over-cells.ensures.fresh,
       omega (arith, c.requires.paid),
       c.over-cells.ensures.kept,
+      c.in_ok-from.ensures,
     )
 
 pub evaluate-requires-clause-ready : goal.evaluate-requires-clause-ready
@@ -36,6 +39,18 @@ evaluate-requires-clause-ready g c =
     let n = c.node-item.result in
     next_ready m c.requires.workbook (take i nodes) n (drop (i + 1) nodes) (outcomes_of c.loop-node.cells) (cell_at c.loop-node.cells.fresh) c.loop-node.least
     (at_next m nodes i n c.loop-node-test.true c.node-item.is (outcomes_of c.loop-node.cells) (cell_at c.loop-node.cells.fresh) c.loop-node.least c.loop-node.invariant.0)
+
+pub evaluate-requires-clause-before : goal.evaluate-requires-clause-before
+evaluate-requires-clause-before g c =
+    let m = g.R.Records.content c.args.records.now in
+    let nodes = c.args.nodes.now in
+    let i = c.loop-node.node-index in
+    let n = c.node-item.result in
+    let found = outcomes_of c.loop-node.cells in
+    let fresh = cell_at c.loop-node.cells.fresh in
+    if_some _ c.loop-node.invariant.3 (λ (b : Before _) h. next_from (g.C.Cells.content b.cells.now) m c.requires.acyclic b.changed (take i nodes) n (drop (i + 1) nodes) nodes
+    (around nodes i n c.loop-node-test.true c.node-item.is) found fresh c.loop-node.least
+    (at_next m nodes i n c.loop-node-test.true c.node-item.is found fresh c.loop-node.least c.loop-node.invariant.0) h.0 h.1)
 
 pub loop-node-preserved : goal.loop-node-preserved
 loop-node-preserved g c =
@@ -57,6 +72,7 @@ loop-node-preserved g c =
           c.in_ok-evaluated.ensures c.in_ok-insert.ensures.outcomes c.in_ok-insert.ensures.fresh)),
       omega (arith, c.loop-node.invariant.1, one, c.loop-node-test.true),
       c.in_ok-insert.ensures.kept ∙ c.loop-node.invariant.2,
+      c.loop-node.invariant.3,
     )
 
 pub returns-in-None : goal.returns-in-None

@@ -1,4 +1,4 @@
-use Rattle.std.proofs.Common.{◌≡◌, ◌∙◌, Some, length, sym, ap, subst, arith}
+use Rattle.std.proofs.Common.{◌≡◌, ◌∙◌, true, Some, length, sym, ap, subst, arith}
 use Rattle.ghg_affected.specs.Affected.{affected_nodes}
 use Rattle.ghg_affected.specs.Patches.{least_break}
 use Rattle.ghg_definitions.specs.Compilation.{compilation, overflow}
@@ -11,7 +11,11 @@ use Rattle.ghg_engine.specs.Cells.{cell_at, found_in}
 use Rattle.ghg_engine.specs.Compiled.{AreOfLines, IsCompiled}
 use Rattle.ghg_engine.specs.Evaluation.{AreEvaluated, AreKept}
 use Rattle.ghg_engine.specs.Proposals.{IfOverflow}
+use Rattle.ghg_engine.specs.Changes.{IsBefore}
+use Rattle.ghg_engine.specs.Views.{EngineView}
+use Rattle.ghg_graph.specs.Entries.{are_entries}
 use Rattle.ghg_engine.proofs.Answered.{if_over}
+use Rattle.ghg_engine.proofs.Next.{if_some, is_before}
 use Rattle.ghg_engine.proofs.Compiled.{settled_compiled}
 use Rattle.ghg_engine.proofs.Patched.{all_affected, fresh_compiled, fresh_of_lines, fresh_over, unaffected_kept}
 use Rattle.ghg_engine.proofs.engine.Engine.evaluated.Goals as goal
@@ -34,6 +38,22 @@ evaluate_all-requires-clause-kept g c =
     let lists = subst (ListsAffected old new) (sym c.deref.ensures.value) c.in_ok-nodes.ensures in
     subst (λ m. AreKept m c.deref.result.now cells) (sym c.after-records.ensures)
     (unaffected_kept old new workbook after cells kept c.deref.result.now lists)
+
+pub evaluate_all-requires-clause-before : goal.evaluate_all-requires-clause-before
+evaluate_all-requires-clause-before g c =
+    let edits = c.args.edits.now in
+    let old = c.self.inside.book.content in
+    let new = applied old edits in
+    let is = ap (λ s. s.content) c.self.view_is in
+    let cells = cell_at c.self.inside.cells in
+    let ns = c.deref.result.now in
+    let workbook = subst (λ m. IsWorkbook (applied m edits)) (sym is) c.requires.arranged.planned.workbook in
+    let after = subst (λ m. IsAcyclic (applied m edits)) (sym is) c.requires.arranged.acyclic in
+    let kept = settled_compiled old (cell_at c.self.inside.front) cells c.self.inside.settled (ap (λ s. s.room) c.self.view_is ∙ c.requires.room) c.self.invariant.2 c.self.invariant.0 in
+    let lists = subst (ListsAffected old new) (sym c.deref.ensures.value) c.in_ok-nodes.ensures in
+    if_some c.before-before.result c.before-before.ensures (λ b h. subst (λ m. IsBefore b.now.content m ns) (sym c.after-records.ensures)
+    (subst (λ m. IsBefore m new ns) (is ∙ sym (ap (λ (e : EngineView). e.content) h.0))
+    (is_before old edits (subst (λ m. are_entries m edits ≡ true) (sym is) h.1) workbook after cells kept ns lists)))
 
 -- what is said of the book is said of what contracts see
 pub returns-in-Ok-clause-steps : goal.returns-in-Ok-clause-steps

@@ -1,0 +1,105 @@
+-- What is known before of the next node in turn.
+use Rattle.std.proofs.Common.{◌≡◌, ◌⊎◌, inl, inr, ℕ, ◌+◌, ◌<◌, Bool, true, false, is_some, List, [], ◌∷◌, ◌++◌, Contains, length, get_or, take, drop, Option, Some, None, refl, sym, ap, ◌∙◌, subst}
+use Rattle.std.specs.Prelude.{IfSome}
+use Rattle.std.proofs.lemmas.List.{append_assoc, take-append-drop}
+use Rattle.ghg_units.specs.declared.node.Node.{Node}
+use Rattle.ghg_definitions.specs.declared.record.RecordKey.TheVariants as key
+use Rattle.ghg_definitions.specs.Compilation.{compilation, is_node}
+use Rattle.ghg_definitions.specs.Data.{Data, as_span}
+use Rattle.ghg_definitions.specs.Formulas.{Outcome}
+use Rattle.ghg_definitions.specs.Listed.{IsListed}
+use Rattle.ghg_definitions.specs.Rings.{IsAcyclic}
+use Rattle.ghg_definitions.specs.Sound.{IsWorkbook}
+use Rattle.ghg_definitions.specs.Trials.{Outcomes}
+use Rattle.ghg_definitions.proofs.Depth.{or_else}
+use Rattle.ghg_definitions.proofs.Listed.{contained, in_either, listed, listed_left}
+use Rattle.ghg_definitions.proofs.OneTrial.{compilation_trial}
+use Rattle.ghg_affected.specs.Equalities.{same_node}
+use Rattle.ghg_affected.specs.Subtotals.{subtotals}
+use Rattle.ghg_affected.proofs.Bools.{true_not_false}
+use Rattle.ghg_data.specs.Changes.{Change, applied}
+use Rattle.ghg_data.proofs.Covered.{changed_or_kept}
+use Rattle.ghg_graph.specs.Corrections.{ListsAffected}
+use Rattle.ghg_graph.specs.Entries.{are_entries, is_entry}
+use Rattle.ghg_graph.proofs.Corrected.{all_pass, among}
+use Rattle.ghg_graph.proofs.Entering.{keeps_lines}
+use Rattle.ghg_graph.proofs.Numbering.{take_next}
+use Rattle.ghg_engine.specs.declared.groups.Groups.{Groups}
+use Rattle.ghg_engine.specs.Changes.{AreChangedLines, IsBefore, IsReadyFrom, StaysWithLines}
+use Rattle.ghg_engine.specs.Compiled.{IsCompiled}
+use Rattle.ghg_engine.proofs.Compiled.{compiled_alike}
+use Rattle.ghg_engine.proofs.Patched.{unaffected_kept}
+use Rattle.ghg_engine.proofs.Places.{node_itself, node_same}
+use Rattle.ghg_engine.proofs.SubtotalNodes.{subtotals_are_nodes}
+use Rattle.ghg_engine.proofs.Turns.{IsSoFar}
+
+pub if_some : {A : Type 0} {P Q : A → Type 0} (o : Option A) → IfSome o P → ((x : A) → P x → Q x) → IfSome o Q
+if_some None p h = p
+if_some (Some x) p h = h x p
+
+-- a node is listed or not
+listed_or_not : (k : Node) (ns : List Node) → IsListed k ns ⊎ (IsListed k ns → ⊥)
+listed_or_not k [] = inr (λ i. i)
+listed_or_not k (n ∷ ns) = by (same_node k n) refl (listed_or_not k ns)
+  where
+    by : (b : Bool) → same_node k n ≡ b → IsListed k ns ⊎ (IsListed k ns → ⊥) → IsListed k (n ∷ ns) ⊎ (IsListed k (n ∷ ns) → ⊥)
+    by true same others = inl (inl (node_same k n same))
+    by false apart (inl i) = inl (inr i)
+    by false apart (inr off) = inr (λ i. elim i [
+      | inl e ↦ true_not_false (sym (ap (λ j. same_node j n) e ∙ node_itself n) ∙ apart)
+      | inr j ↦ off j
+    ])
+
+some_not_none : (o : Option Outcome) → is_some o ≡ true → o ≡ None → ⊥
+some_not_none o some none = true_not_false (sym some ∙ ap is_some none)
+
+-- a node of the list between those that are done and the others
+pub around : (ns : List Node) (i : ℕ) (n : Node) → i < length ns → n ≡ get_or ns i n → ns ≡ take i ns ++ n ∷ drop (i + 1) ns
+around ns i n within is = sym (take-append-drop (i + 1) ns) ∙ ap (λ t. t ++ drop (i + 1) ns) (take_next ns i n within is) ∙ append_assoc (take i ns) (n ∷ []) (drop (i + 1) ns)
+
+module _ (old m : Data) (acyclic : IsAcyclic m) (changed : Groups) (done : List Node) (n : Node) (rest nodes : List Node) (all : nodes ≡ done ++ n ∷ rest)
+    (found fresh : Outcomes) (least : Option Node) (so_far : IsSoFar m done (n ∷ rest) found fresh least) where
+  has_at : (k : Node) → is_node m k ≡ true → compilation m k ≡ None → ⊥
+  has_at k node none = some_not_none (compilation m k) (ap is_some ((compilation_trial m acyclic).by_formula k node)) none
+
+  fresh_among : (k : Node) → is_some (fresh k) ≡ true → (is_node m k ≡ true) × Contains nodes k
+  fresh_among k some = elim (listed_or_not k done) [
+    | inl i ↦
+        let same = so_far.fresh_are k (contained done k i) in (
+          elim (or_else (is_node m k)) [
+            | inl there ↦ there
+            | inr none ↦ absurd (some_not_none (fresh k) some (same ∙ (compilation_trial m acyclic).nowhere_else k none))
+          ],
+          subst (λ ns. Contains ns k) (sym all) (contained (done ++ n ∷ rest) k (listed_left k done (n ∷ rest) i)),
+        )
+    | inr off ↦ absurd (some_not_none (fresh k) some (so_far.no_others k (λ c. off (listed done k c))))
+  ]
+
+  none_among : (k : Node) → Contains (subtotals m n) k → fresh k ≡ None → Contains nodes k → ⊥
+  none_among k c none there = elim (in_either k done (n ∷ rest) (listed (done ++ n ∷ rest) k (subst (λ ns. Contains ns k) all there))) [
+    | inl i ↦ has_at k (subtotals_are_nodes m n so_far.in_turn.0 k c) (sym (so_far.fresh_are k (contained done k i)) ∙ none)
+    | inr i ↦ so_far.behind.0 k c (contained (n ∷ rest) k i)
+  ]
+
+  pub next_from : IsBefore old m nodes → AreChangedLines m nodes changed → IsReadyFrom old m changed fresh n
+  next_from before lines = record { nodes = nodes; before = before; lines = lines; among = fresh_among; others = none_among }
+
+-- ---- edits that enter lines
+
+module _ (m : Data) (cs : List Change) (entries : are_entries m cs ≡ true) where
+  entries_stay : StaysWithLines m (applied m cs)
+  entries_stay = record {
+    years = elim (changed_or_kept m cs key.Span) [
+      | inl i ↦ absurd (true_not_false (sym (all_pass (is_entry m) cs entries key.Span (among key.Span _ i))))
+      | inr same ↦ ap as_span (sym same)
+    ];
+    lines = λ name present. sym ((keeps_lines m cs entries).lines name present);
+  }
+
+  pub is_before : IsWorkbook (applied m cs) → IsAcyclic (applied m cs) → (cells : Outcomes) → IsCompiled m cells → (ns : List Node) → ListsAffected m (applied m cs) ns → IsBefore m (applied m cs) ns
+  is_before workbook after cells is ns lists = record {
+    acyclic = is.acyclic;
+    fits = is.fits;
+    stays = entries_stay;
+    kept = unaffected_kept m (applied m cs) workbook after (compilation m) (compiled_alike m cells (compilation m) (λ n node. sym (is.outcomes_are n node)) is) ns lists;
+  }

@@ -1,0 +1,123 @@
+//! What changes in a total.
+
+ghost use Rattle.std.specs.Prelude.{◌≡◌, ◌∷◌, [], true, IfOk, map};
+ghost use Rattle.ghg_units.specs.declared.node.Node.TheVariants as node;
+ghost use Rattle.ghg_definitions.specs.Compilation.{compilation};
+ghost use Rattle.ghg_engine.specs.Cells.{cell_at};
+ghost use Rattle.ghg_engine.specs.Changes.{AreChanges, HasMoreChanges, input_at};
+ghost use Rattle.ghg_engine.specs.Parts.{addends_for};
+
+use crate::overlay::Overlay;
+use crate::parts::Addends;
+use ghg_categories::Category;
+use ghg_cell::Input;
+use ghg_graph::Cells;
+use ghg_interval::Over;
+use ghg_units::{Name, Node};
+use std::alloc::{AllocError, Global};
+
+/// What some parts of a total gave before, and what they give now. The lists are shared by all totals.
+#[derive(Drop)]
+pub(crate) struct Changes {
+    pub(crate) gone: Vec<Input>,
+    pub(crate) come: Vec<Input>,
+}
+
+impl Changes {
+    pub(crate) fn new(alloc: Global) -> Changes {
+        Changes {
+            gone: Vec::new(alloc),
+            come: Vec::new(alloc),
+        }
+    }
+
+    /// Gathers what those of the addends gave that are evaluated anew, and what they give now. Answers
+    /// whether none of them is over.
+    pub(crate) fn gather<C: Cells>(
+        &mut self,
+        cells: &Overlay<'_>,
+        before: &C,
+        addends: &Addends<'_>,
+        year: u32,
+    ) -> Result<bool, AllocError>
+        ensures { IfOk result (λ whole. whole ≡ true → AreChanges (cell_at cells.now.fresh)
+            (compilation (C.content before.now)) (addends_for addends.now year) self.new) }
+    {
+        self.gone.clear();
+        self.come.clear();
+        if !self.add_totals(cells, before, addends.categories, year)? {
+            return Ok(false);
+        }
+        self.add_equivalents(cells, before, addends.own, year)
+    }
+
+    fn add_totals<C: Cells>(
+        &mut self,
+        cells: &Overlay<'_>,
+        before: &C,
+        categories: &[Category],
+        year: u32,
+    ) -> Result<bool, AllocError>
+        ensures { IfOk result (λ whole. whole ≡ true → HasMoreChanges (cell_at cells.now.fresh)
+            (compilation (C.content before.now)) (map (λ c. node.Total c year) categories.now)
+            self.old self.new) }
+    {
+        for category in categories {
+            if !self.add(cells, before, &Node::Total(*category, year))? {
+                return Ok(false);
+            }
+        }
+        Ok(true)
+    }
+
+    fn add_equivalents<C: Cells>(
+        &mut self,
+        cells: &Overlay<'_>,
+        before: &C,
+        names: &[Name],
+        year: u32,
+    ) -> Result<bool, AllocError>
+        ensures { IfOk result (λ whole. whole ≡ true → HasMoreChanges (cell_at cells.now.fresh)
+            (compilation (C.content before.now)) (map (λ name. node.Equiv name year) names.now)
+            self.old self.new) }
+    {
+        for name in names {
+            if !self.add(cells, before, &Node::Equiv(*name, year))? {
+                return Ok(false);
+            }
+        }
+        Ok(true)
+    }
+
+    // Adds what a node gave and what it gives now, where it is evaluated anew. Answers whether it is not
+    // over.
+    fn add<C: Cells>(
+        &mut self,
+        cells: &Overlay<'_>,
+        before: &C,
+        node: &Node,
+    ) -> Result<bool, AllocError>
+        ensures { IfOk result (λ whole. whole ≡ true → HasMoreChanges (cell_at cells.now.fresh)
+            (compilation (C.content before.now)) (node.now ∷ []) self.old self.new) }
+    {
+        match cells.fresh_outcome(node) {
+            None => Ok(true),
+            Some(Err(Over)) => Ok(false),
+            Some(Ok(input)) => {
+                self.gone.push(input_at(before, node))?;
+                self.come.push(input)?;
+                Ok(true)
+            }
+        }
+    }
+}
+
+// What a node is for others.
+fn input_at<C: Cells>(cells: &C, node: &Node) -> Input
+    ensures { result ≡ input_at (compilation (C.content cells.now)) node.now }
+{
+    match cells.value(node) {
+        Some(value) => *value.input(),
+        None => Input::Blank,
+    }
+}
