@@ -27,8 +27,10 @@ fn submit<K: Keeper, L: Ledger>(
     keeper: &mut K,
     steps: &mut Steps<L>,
 ) -> Option<Reply> {
-    let mut office = Office::reopen(alloc, keeper, steps).ok()?;
-    Some(office.submit(alloc, b"plant", PLANT, keeper, true, steps))
+    match Office::reopen(alloc, keeper, steps) {
+        Ok(mut office) => Some(office.submit(alloc, b"plant", PLANT, keeper, true, steps)),
+        Err(_) => None,
+    }
 }
 
 // Whether the plant is accepted under the first number, then repeated under it, and is the only row at the
