@@ -13,6 +13,7 @@ import sqlite3
 import struct
 import subprocess
 import tempfile
+import threading
 import time
 import unittest
 
@@ -161,27 +162,31 @@ class Country(unittest.TestCase):
 
 @unittest.skipUnless(shutil.which("curl"), "there is no curl")
 class Curl(unittest.TestCase):
-    def test_the_two_lines_of_the_readme(self):
-        lines = re.findall("^curl .*$", (TOP / "README.md").read_text("utf-8"), re.MULTILINE)
-        self.assertEqual(len(lines), 2)
-        first, *others = files()
-        with tempfile.TemporaryDirectory() as room, Service(len(others) + 2) as service:
-            shutil.copy(first, f"{room}/1-energy.csv")
-            self.assertEqual(self.printed(lines[0], service, room), b'{"reply":"accepted 1"}')
-            for number, path in enumerate(others, 2):
-                self.assertEqual(service.exchange(post(path.stem, path.read_bytes())),
-                                 reply("201 Created", f"accepted {number}"))
-            self.assertEqual(self.printed(lines[1], service, room),
-                             (TOP / "tests/country/summary-2020.csv").read_bytes())
-            self.assertEqual(service.status(), 0)
+    maxDiff = None
 
-    def printed(self, line, service, room):
-        """What a command of the page prints, with the port of this program."""
+    def test_the_two_lines_of_each_page(self):
+        for page in ("README.md", "docs/SERVICE.md"):
+            lines = re.findall("^ *(curl .*)$", (TOP / page).read_text("utf-8"), re.MULTILINE)
+            self.assertEqual(len(lines), 2, page)
+            with Service(2) as service:
+                self.assertEqual(self.printed(lines[0], service), b'{"reply":"accepted 1"}', page)
+                self.assertEqual(self.printed(lines[1], service), summary_without_lines(), page)
+                self.assertEqual(service.status(), 0)
+
+    def printed(self, line, service):
+        """What a command of a page prints at the top of the repository, with the port of this program."""
         words = shlex.split(line.replace(":8000/", f":{service.port}/"))
-        ran = subprocess.run([words[0], "--disable", "--noproxy", "*", "--silent", *words[1:]], cwd=room,
+        ran = subprocess.run([words[0], "--disable", "--noproxy", "*", "--silent", *words[1:]], cwd=TOP,
                              stdin=subprocess.DEVNULL, stdout=subprocess.PIPE, timeout=SECONDS, check=False)
         self.assertEqual(ran.returncode, 0, line)
         return ran.stdout
+
+
+def summary_without_lines():
+    """The summary of a year in which nothing is emitted: the categories of tests/country, with zeros."""
+    header, *rows = (TOP / "tests/country/summary-2020.csv").read_bytes().splitlines()
+    zeros = [b"%b,0.000,0.000,0.000" % row.split(b",")[0] for row in rows]
+    return b"\n".join([header, *zeros, b""])
 
 
 class Links(unittest.TestCase):
@@ -212,6 +217,18 @@ class Links(unittest.TestCase):
                     link.setsockopt(socket.SOL_SOCKET, socket.SO_LINGER, RESET)
             again = service.exchange(request)
             self.assertIn(again, (ACCEPTED, REPEATED))
+            self.assertEqual(service.status(), 0)
+
+    def test_a_client_that_goes_on_sending_behind_its_reply(self):
+        with Service(2) as service, service.connect() as link:
+            link.sendall(post("a", GAS))
+            self.assertEqual(read_to_the_end(link), ACCEPTED)
+            # It sends as long as the program takes it, so the next client waits until that ends.
+            sender = threading.Thread(target=send_slowly, args=[link], daemon=True)
+            sender.start()
+            self.assertEqual(service.exchange(post("a", GAS)), REPEATED)
+            sender.join(SECONDS)
+            self.assertFalse(sender.is_alive())
             self.assertEqual(service.status(), 0)
 
     def test_a_link_that_fails_before_it_is_read(self):
@@ -262,6 +279,14 @@ class Links(unittest.TestCase):
                     other.settimeout(SECONDS)
                     self.assertEqual(read_to_the_end(other), table(due))
             self.assertEqual(service.status(), 0)
+
+
+def send_slowly(link):
+    """Sends byte after byte until the other side refuses one."""
+    with contextlib.suppress(OSError):
+        while True:
+            link.sendall(b"x")
+            time.sleep(0.01)
 
 
 def without_room():

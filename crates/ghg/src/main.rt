@@ -1,5 +1,5 @@
 //! Compiles national greenhouse gas inventories after the 2006 IPCC Guidelines: answers a script of
-//! submissions and requests for tables.
+//! submissions and requests for tables, or serves such requests over HTTP.
 //!
 //! [`ghg_run::run`] does all that the program does, and its contract says what that is. `main` hands it the
 //! process's words, input, output, files and connections, and ends with its status.

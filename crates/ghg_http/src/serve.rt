@@ -36,8 +36,8 @@ pub enum LinkEnd {
 /// Reads one request from a link, answers it, and writes the reply, which is whole in memory before its first
 /// byte is written.
 ///
-/// Where a submission is to be stored, it is kept before it is in force. At most the nodes are evaluated that
-/// its rows affect.
+/// Where a submission is to be stored, it is kept before it is in force. No more nodes are evaluated than its
+/// rows affect.
 pub fn serve_one<T: Source + Sink, K: Keeper, L: Ledger>(
     alloc: Global,
     router: &Router<Route>,

@@ -29,8 +29,8 @@ use std::sync::ledger::{Blank, Ledger};
 ///
 /// The word `compile` asks it to answer the script that the input holds, and `serve` to serve connections at
 /// a port of loopback. With `--store NAME` the submissions that were kept in that store are replayed first,
-/// and those that are accepted now are kept there. Of each submission at most the nodes are evaluated that
-/// its rows affect.
+/// and those that are accepted now are kept there. For each submission no more nodes are evaluated than its
+/// rows affect.
 ///
 /// | Status | Meaning |
 /// |---|---|

@@ -48,8 +48,8 @@ impl End {
 const MOST_COMMANDS: u32 = 1_000_000;
 
 /// Answers a script to its end, command by command: each reply is written whole before the next command
-/// is read. Where submissions are stored, the keeper keeps each one before it is accepted. Of each one at
-/// most the nodes are evaluated that its rows affect.
+/// is read. Where submissions are stored, the keeper keeps each one before it is accepted. For each one no
+/// more nodes are evaluated than its rows affect.
 pub fn answer_script<S: Source, W: Sink, K: Keeper, L: Ledger>(
     alloc: Global,
     input: &mut S,
