@@ -1,7 +1,17 @@
--- The bounds that a session prints hold, since the data stay in force.
-use Rattle.std.proofs.Common.{ℕ, List, [], ◌∷◌, Option, Some, None, IfSome, refl}
+-- The bounds that are printed hold, since the data stay in force.
+use Rattle.std.proofs.Common.{inl, inr, ℕ, List, [], ◌∷◌, Option, Some, None, IfSome, refl, sym, subst}
+use Rattle.ghg_http.specs.declared.request.Request.{Request as LinkRequest}
+use Rattle.ghg_http.specs.declared.request.Request.TheVariants as on_link
+use Rattle.ghg_http.specs.declared.serve.LinkEnd.{LinkEnd}
+use Rattle.ghg_http.specs.declared.serve.LinkEnd.TheVariants as ended
+use Rattle.ghg_http.specs.Reply.{HttpReply}
+use Rattle.ghg_http.specs.Serve.{Exchange, Passes, Replies, ServesLink}
+use Rattle.ghg_http.specs.Serve.{Snapshot as LinkSnapshot}
+use Rattle.ghg_office.specs.declared.reply.Reply.{Reply}
+use Rattle.ghg_office.specs.declared.reply.Reply.TheVariants as answered
 use Rattle.ghg_office.specs.Laws.{IsInForce}
-use Rattle.ghg_office.specs.Office.{State, requested}
+use Rattle.ghg_office.specs.Office.{Answer, State, requested, submitted}
+use Rattle.ghg_office.specs.Replies.{Answers}
 use Rattle.ghg_office.proofs.InForce.{requested_sound, states_stay}
 use Rattle.ghg_outer.proofs.Tapes.{whole_prefix}
 use Rattle.ghg_session.specs.declared.command.Request.{Request}
@@ -37,3 +47,36 @@ pub done_begun : (before after : Snapshot State) (status : ℕ) → IsDone proto
     → IsBegun protocol (beginning before) after
 done_begun before after status done =
     for_some before.input.left _ _ (λ bytes d. whole_prefix before.output after.output _ d.0) done
+
+-- ---- a link
+
+answer_stays : (s after : State) (answer : Answer) (reply : Reply) → Answers answer reply s after → IsInForce s
+    → IsInForce answer.after → IsInForce after
+answer_stays s after answer answered.KeeperFault a h next = subst IsInForce (sym a) h
+answer_stays s after answer answered.Memory a h next = subst IsInForce (sym a) h
+answer_stays s after answer (answered.Accepted seq cells) a h next = subst IsInForce (sym a.1) next
+answer_stays s after answer (answered.Repeated seq) a h next = subst IsInForce (sym a.1) next
+answer_stays s after answer (answered.Refused rule) a h next = subst IsInForce (sym a.1) next
+answer_stays s after answer (answered.Table text) a h next = subst IsInForce (sym a.1) next
+answer_stays s after answer answered.NoTable a h next = subst IsInForce (sym a.1) next
+
+reply_stays : (s after : State) (asked : LinkRequest) (due : HttpReply) → Replies s asked due after → IsInForce s
+    → IsInForce after
+reply_stays s after (on_link.Refused reason) due r h = subst IsInForce (sym r.1) h
+reply_stays s after (on_link.Submit id body) due r h =
+    answer_stays s after (submitted s id body) r.0 r.1 h (states_stay.later s id body h)
+reply_stays s after (on_link.Show name year) due r h = subst IsInForce (sym r.4) h
+
+passes_stay : (x : Exchange) (end : LinkEnd) → Passes x end → IsInForce x.before → IsInForce x.after
+passes_stay x (ended.Served code) p h = reply_stays x.before x.after _ p.due p.answered.replies h
+passes_stay x ended.Cut p h = subst IsInForce (sym p.unanswered.same) h
+passes_stay x ended.LinkFault (inl p) h = subst IsInForce (sym p.unanswered.same) h
+passes_stay x ended.LinkFault (inr p) h = reply_stays x.before x.after _ p.due p.answered.replies h
+passes_stay x ended.Memory (inl p) h = subst IsInForce (sym p.same) h
+passes_stay x ended.Memory (inr p) h = reply_stays x.before x.after _ p.due p.answered.replies h
+
+-- However a link ends, the data stay in force.
+pub link_stays : (before after : LinkSnapshot) (end : LinkEnd) → ServesLink before after end → IsInForce before.state
+    → IsInForce after.state
+link_stays before after end s h =
+    subst IsInForce s.to (passes_stay s.exchange end s.passes (subst IsInForce (sym s.from) h))

@@ -7,7 +7,7 @@ use Rattle.std.proofs.lemmas.List.Sums.{sum_by_push}
 use Rattle.ghg_http.specs.declared.serve.LinkEnd.{LinkEnd}
 use Rattle.ghg_http.specs.declared.serve.LinkEnd.TheVariants.{Served, Cut, LinkFault, Memory}
 use Rattle.ghg_office.specs.Keeping.{Lists}
-use Rattle.ghg_outer.specs.Counts.{IsCounted, raised}
+use Rattle.ghg_outer.specs.Counts.{IsCounted}
 use Rattle.ghg_outer.specs.Doors.{GivesLink, IsKept, Opens, Register, TakesBack}
 use Rattle.ghg_outer.specs.Tape.{Tape}
 use Rattle.ghg_words.specs.declared.command.Service.{Service}

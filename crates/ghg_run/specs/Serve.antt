@@ -6,7 +6,8 @@ use Rattle.ghg_http.specs.Serve.{ServesLink}
 use Rattle.ghg_http.specs.Serve.{snapshot as link_snapshot}
 use Rattle.ghg_keeper.specs.Shelf.{Shelf}
 use Rattle.ghg_office.specs.Keeping.{Lists}
-use Rattle.ghg_office.specs.Office.{State}
+use Rattle.ghg_office.specs.Office.{State, requested}
+use Rattle.ghg_office.specs.Sound.{IsSoundReply}
 use Rattle.ghg_outer.specs.Doors.{Register}
 use Rattle.ghg_outer.specs.Links.{IsFresh}
 use Rattle.ghg_outer.specs.Tape.{Tape}
@@ -33,6 +34,10 @@ pub record ServesNew (before : OfficeAt) (served : ServedLink) (after : OfficeAt
   pub fresh : IsFresh new
   pub serves : ServesLink (link_snapshot before.state new before.steps)
       (link_snapshot after.state served.link after.steps) served.end
+  -- In each table that may be asked for, the bounds hold the exact values of the nodes of the data then in
+  -- force, wherever the inputs are within their supplied bounds.
+  pub bounds : (name : List ℕ) (year : ℕ)
+      → IsSoundReply before.state name year (requested before.state name year)
 
 -- The links are a serving: each takes the office before it to the one after it.
 abbrev pub IsServing : OfficeAt → List ServedLink → OfficeAt → Type 0

@@ -5,6 +5,7 @@ ghost use Rattle.ghg_run.specs.Serve.{ServesLinks, office_at, station};
 ghost use Rattle.ghg_run.specs.World.{register_of};
 ghost use Rattle.ghg_http.specs.Route.{routes};
 ghost use Rattle.ghg_office.specs.Keeping.{KeepsAccepted, Lists};
+ghost use Rattle.ghg_office.specs.Laws.{IsInForce};
 ghost use Rattle.ghg_office.specs.Office.{State};
 ghost use Rattle.ghg_outer.specs.Counts.{IsCounted};
 
@@ -19,8 +20,8 @@ use matchit::Router;
 use std::alloc::{AllocError, Global};
 use std::sync::ledger::Ledger;
 
-/// Opens the port, and serves as many connections as are asked for, by an office. However a connection ends,
-/// the next one is served.
+/// Opens the port, and serves as many connections as are asked for, by an office whose data are in force.
+/// However a connection ends, the next one is served.
 ///
 /// The result is the status that the program ends with: 0, 7 where the door failed, or 8.
 pub fn serve_office<K: Keeper, D: Door, L: Ledger>(
@@ -32,6 +33,7 @@ pub fn serve_office<K: Keeper, D: Door, L: Ledger>(
     steps: &mut Steps<L>,
 ) -> u8
     requires some { 1 ≤ service.now.connections }
+    requires in_force { IsInForce office }
     requires same { IsSome service.now.settings.store → Lists (K.shelf keeper.old) office.accepted }
     ensures links { (last : State) × ServesLinks service.now
         (station (office_at office steps.old) (K.shelf keeper.old)
@@ -62,6 +64,7 @@ fn serve_links<K: Keeper, D: Door, L: Ledger>(
 ) -> u8
     requires router { router.now ≡ routes }
     requires some { 1 ≤ service.now.connections }
+    requires in_force { IsInForce office.old }
     requires same { IsSome service.now.settings.store → Lists (K.shelf keeper.old) office.old.accepted }
     ensures links { ServesLinks service.now
         (station (office_at office.old steps.old) (K.shelf keeper.old)

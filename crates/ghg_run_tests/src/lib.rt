@@ -4,4 +4,10 @@
 #![tactic(auto)]
 
 #[cfg(test)]
+mod full_keeper;
+#[cfg(test)]
 mod runs;
+#[cfg(test)]
+mod serving;
+#[cfg(test)]
+mod words;

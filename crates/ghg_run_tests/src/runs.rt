@@ -1,6 +1,7 @@
 //! Runs whose input, output or store fails, and words that are no command. Sessions without faults are stored
 //! in `tests/`.
 
+use crate::words::words_of;
 use ghg_keeper::{Keeper, KeptRow, MemoryKeeper};
 use ghg_outer::{MemoryDoor, MemorySink, MemorySource};
 use ghg_run::run_counted;
@@ -49,10 +50,7 @@ const SCRIPT: &str =
 
 fn check(rt: &(impl Abort + AllocGlobal), case: &Case) -> Result<(), Fail> {
     let alloc = rt.alloc();
-    let mut words = Vec::new(alloc);
-    for word in case.words.split_whitespace() {
-        words.push(String::from_str(alloc, word)?)?;
-    }
+    let words = words_of(alloc, case.words)?;
     let text = case.input.as_bytes().to_vec(alloc)?;
     let mut input = MemorySource::new(text, [case.failing_read].to_vec(alloc)?);
     let mut out = MemorySink::new(alloc, [case.failing_write].to_vec(alloc)?);

@@ -1,5 +1,7 @@
-use Rattle.std.proofs.Common.{◌≡◌, ◌∙◌, inl, inr, List, [], ◌∷◌, ◌++◌, map, option_map, refl, sym, ap, arith}
+use Rattle.std.proofs.Common.{◌∙◌, inl, inr, [], ◌∷◌, ◌++◌, option_map, refl, sym, ap, arith}
+use Rattle.ghg_office.proofs.InForce.{requested_sound}
 use Rattle.ghg_session.proofs.Keeping.{keeps_listed, keeps_more}
+use Rattle.ghg_run.proofs.Held.{link_stays}
 use Rattle.ghg_run.proofs.Links.{none_served, one_more, port_stays, served_same, serving_drops, serving_ends, tells_given, tells_opened, tells_same, tells_taken}
 use Rattle.ghg_run.proofs.serving.serve_links.Goals as goal
 
@@ -14,6 +16,7 @@ links-init g c =
     let told = tells_opened g.D.Link.Told.tape (g.D.Door.register c.args.door.now) (g.D.Door.register c.listen.new.self) _ c.in_default.ensures.opened in
     record {
       served = none_served _ _ _ refl (omega arith) told.0 told.1;
+      in_force = c.requires.in_force;
       kept = λ stored. keeps_listed _ _ (c.requires.same (sym c.is_some-stored.ensures ∙ stored));
       untouched = λ _. refl;
       counts = omega arith;
@@ -34,7 +37,7 @@ returns-in-Err-finish-clause-links g c =
     let same = tells_same g.D.Link.Told.tape (g.D.Door.register c.next.new.self) (g.D.Door.register c.finish.new.self) c.in-Err-finish.ensures.kept in
     rw c.status.ensures (serving_drops _ _ _ _ c.links._served
     (record { link = g.D.Link.Told.tape c.serve_one.new.link; end = c.serve_one.result }) c.links.invariant.served
-    (record { new = g.D.Link.Told.tape c.in-Ok.link; fresh = c.in-Ok.ensures.fresh; serves = c.serve_one.ensures.serves })
+    (record { new = g.D.Link.Told.tape c.in-Ok.link; fresh = c.in-Ok.ensures.fresh; serves = c.serve_one.ensures.serves; bounds = requested_sound _ c.links.invariant.in_force })
     (same.given_is ∙ given.given_is) c.serve_one.ensures.faults c.serve_one.ensures.fault c.args.service.now c.is_some-stored.ensures (same.finished_is ∙ given.finished_is) c.links-test.true
     (λ some. (c.serve_one.ensures.kept (c.is_some-stored.ensures ∙ some)).rows))
 
@@ -45,9 +48,10 @@ links-preserved g c =
     record {
       served = one_more _ _ _ _ c.links._served
           (record { link = g.D.Link.Told.tape c.serve_one.new.link; end = c.serve_one.result }) c.links.invariant.served
-          (record { new = g.D.Link.Told.tape c.in-Ok.link; fresh = c.in-Ok.ensures.fresh; serves = c.serve_one.ensures.serves })
+          (record { new = g.D.Link.Told.tape c.in-Ok.link; fresh = c.in-Ok.ensures.fresh; serves = c.serve_one.ensures.serves; bounds = requested_sound _ c.links.invariant.in_force })
           (taken.given_is ∙ given.given_is) c.serve_one.ensures.faults c.serve_one.ensures.fault
           (taken.finished_is ∙ ap (option_map (λ links. links ++ g.D.Link.Told.tape c.serve_one.new.link ∷ [])) given.finished_is);
+      in_force = link_stays _ _ _ c.serve_one.ensures.serves c.links.invariant.in_force;
       kept = λ stored. keeps_more _ _ _ _ _ (c.links.invariant.kept stored) (c.serve_one.ensures.kept stored);
       untouched = λ none. c.serve_one.ensures.untouched none ∙ c.links.invariant.untouched none;
       counts = omega (arith, c.links.invariant.counts, c.serve_one.ensures.faults.later);

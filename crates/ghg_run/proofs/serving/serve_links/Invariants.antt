@@ -1,5 +1,6 @@
 use Rattle.std.proofs.Common.{◌≡◌, ◌≤◌, true, false, IfSome}
 use Rattle.ghg_office.specs.Keeping.{KeepsAccepted}
+use Rattle.ghg_office.specs.Laws.{IsInForce}
 use Rattle.ghg_run.specs.Serve.{office_at, station}
 use Rattle.ghg_run.specs.World.{register_of}
 use Rattle.ghg_run.proofs.Links.{ServedSoFar}
@@ -12,6 +13,7 @@ invariant-links g l = record {
       (register_of g.D.Link.Told.tape (g.D.Door.register l.fn.door)))
       (station (office_at l.office l.steps) (g.K.Keeper.shelf l.keeper)
       (register_of g.D.Link.Told.tape (g.D.Door.register l.door))) l._served;
+  in_force : IsInForce l.office;
   kept : l.stored ≡ true
       → KeepsAccepted (g.K.Keeper.shelf l.fn.keeper) (g.K.Keeper.shelf l.keeper) l.office.accepted;
   untouched : l.stored ≡ false → l.keeper ≡ l.fn.keeper;
