@@ -247,14 +247,14 @@ fn begins<K: Keeper, L: Ledger>(
 // Whether a submission is accepted after the earlier ones, with this count.
 fn counts<K: Keeper, L: Ledger>(
     alloc: Global,
+    office: &mut Office,
     keeper: &mut K,
     steps: &mut Steps<L>,
     case: &Case,
 ) -> bool {
-    let mut office = Office::new(alloc);
     let number = case.earlier.len();
-    begins(alloc, &mut office, keeper, steps, case)
-        && enter(alloc, &mut office, keeper, steps, number, case.rows, 0) == Some(case.count)
+    begins(alloc, office, keeper, steps, case)
+        && enter(alloc, office, keeper, steps, number, case.rows, 0) == Some(case.count)
 }
 
 // Fails the test where the case does not hold, and shows its rows.
@@ -273,8 +273,9 @@ fn check_with<K: Keeper, L: Ledger>(
     requires parts { blank.parts ≡ L.parts }
     requires some { 0 < blank.parts }
 {
+    let mut office = Office::new(alloc);
     let mut steps = Steps::<L>::new(blank);
-    counts(alloc, keeper, &mut steps, case)
+    counts(alloc, &mut office, keeper, &mut steps, case)
 }
 
 #[test]

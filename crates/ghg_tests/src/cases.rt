@@ -3,6 +3,7 @@
 use ghg_cell::Input;
 use ghg_interval::{Interval, LIMIT};
 use ghg_units::read_decimal;
+use std::alloc::Global;
 use std::process::Abort;
 use std::str;
 
@@ -14,6 +15,16 @@ pub fn check(rt: &impl Abort, holds: bool, case: &str) {
 /// A text that was written.
 pub fn word(text: &[u8]) -> &str {
     str::from_utf8(text).unwrap_or("?")
+}
+
+/// These bytes.
+pub fn bytes(rt: &impl Abort, alloc: Global, content: &[u8]) -> Vec<u8> {
+    Vec::from_slice(alloc, content).ok().expect(rt, "memory")
+}
+
+/// The calls that fail, by their numbers.
+pub fn faults(rt: &impl Abort, alloc: Global, calls: &[u64]) -> Vec<u64> {
+    Vec::from_slice(alloc, calls).ok().expect(rt, "memory")
 }
 
 /// A decimal, in 10^-12 of its unit.

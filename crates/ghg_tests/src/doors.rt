@@ -3,6 +3,7 @@
 ghost use Rattle.std.specs.Prelude.{◌<◌, All, length};
 ghost use Rattle.ghg_outer.specs.Doors.{IsFreshLink};
 
+use crate::cases::{bytes, check, faults, word};
 use ghg_outer::{
     Door, Failed, MemoryDoor, MemoryLink, Sink, Source, SteadyLink, TcpDoor, WriteError,
 };
@@ -11,37 +12,65 @@ use std::io::{Read, Write};
 use std::net::{Ipv4Addr, TcpStream};
 use std::test::Fail;
 
-// Reads two bytes, writes one piece and reads two bytes again, through the bounds.
-fn exchange<T: Source + Sink>(
-    link: &mut T,
-    piece: &[u8],
-) -> (
+// What two bytes of room, a piece and two bytes of room again came to.
+type Exchange = (
     Result<usize, Failed>,
     Result<usize, WriteError>,
     Result<usize, Failed>,
-)
+);
+
+// Whether a read, a write and a read through the bounds come to this.
+fn exchanges<T: Source + Sink>(link: &mut T, piece: &[u8], want: &Exchange) -> bool
     requires { 0 < length piece.now }
 {
     let mut buf = [0; 2];
     let first = link.read(&mut buf);
     let wrote = link.write(piece);
-    (first, wrote, link.read(&mut buf))
+    (first, wrote, link.read(&mut buf)) == *want
+}
+
+// Two bytes, a piece of one byte, and the last byte.
+const WHOLE: Exchange = (Ok(2), Ok(1), Ok(1));
+
+#[test]
+fn links_are_read_and_written(rt: HostRuntime) {
+    let mut link = SteadyLink::new(rt.alloc(), bytes(&rt, rt.alloc(), b"abc"));
+    check(&rt, exchanges(&mut link, b"x", &WHOLE), "an exchange");
+    check(&rt, word(link.written()) == "x", "a piece");
 }
 
 #[test]
-fn links_are_read_and_written(rt: HostRuntime) -> Result<(), Fail> {
-    let alloc = rt.alloc();
-    let mut steady = SteadyLink::new(alloc, b"abc".to_vec(alloc)?);
-    assert_eq!(rt; exchange(&mut steady, b"x"), (Ok(2), Ok(1), Ok(1)));
-    assert_eq!(rt; steady.written(), b"x".as_slice());
-    let mut memory = MemoryLink::new(alloc, b"abc".to_vec(alloc)?, [2, 6].to_vec(alloc)?);
-    let failing = (Ok(2), Err(WriteError::Failed), Ok(1));
-    assert_eq!(rt; exchange(&mut memory, b"x"), failing);
-    assert_eq!(rt; exchange(&mut memory, b"x"), (Ok(0), Ok(1), Err(Failed)));
-    Ok(())
+fn a_link_fails_at_its_faults(rt: HostRuntime) {
+    let failing = faults(&rt, rt.alloc(), &[2, 6]);
+    let mut link = MemoryLink::new(rt.alloc(), bytes(&rt, rt.alloc(), b"abc"), failing);
+    let first = (Ok(2), Err(WriteError::Failed), Ok(1));
+    check(
+        &rt,
+        exchanges(&mut link, b"x", &first),
+        "the second call fails",
+    );
+    let then = (Ok(0), Ok(1), Err(Failed));
+    check(
+        &rt,
+        exchanges(&mut link, b"x", &then),
+        "the sixth call fails",
+    );
 }
 
-// A door with one link, whose first call of `next` fails.
+// Whether a door gives a link that this piece is written to, and takes it back.
+fn serves<D: Door>(door: &mut D, piece: &[u8], want: &Exchange) -> bool
+    requires { 0 < length piece.now }
+{
+    match door.next() {
+        Ok(mut link) => {
+            let exchanged = exchanges(&mut link, piece, want);
+            door.finish(link).is_ok() && exchanged
+        }
+        Err(Failed) => false,
+    }
+}
+
+// A door with one link, whose second call fails, that of `next`.
 fn door_with_one_link(alloc: Global) -> Result<MemoryDoor, AllocError> {
     let link = MemoryLink::new(alloc, b"abc".to_vec(alloc)?, Vec::new(alloc));
     let links = Vec::from_array(alloc, [link])?;
@@ -49,36 +78,34 @@ fn door_with_one_link(alloc: Global) -> Result<MemoryDoor, AllocError> {
 }
 
 #[test]
-fn doors_give_their_links_once(rt: HostRuntime) -> Result<(), Fail> {
-    let alloc = rt.alloc();
-    let mut door = door_with_one_link(alloc)?;
-    assert_eq!(rt; door.listen(8000), Ok(()));
-    assert!(rt; door.next().is_err());
-    let Ok(mut link) = door.next() else {
-        return Err(Fail::from("no link"));
-    };
-    assert_eq!(rt; exchange(&mut link, b"x"), (Ok(2), Ok(1), Ok(1)));
-    assert!(rt; door.next().is_err());
-    door.finish(link)?;
-    assert_eq!(rt; door.finished().len(), 1);
-    Ok(())
+fn doors_give_their_links_once(rt: HostRuntime) {
+    let mut door = door_with_one_link(rt.alloc()).ok().expect(&rt, "memory");
+    check(&rt, door.listen(8000).is_ok(), "a port");
+    check(
+        &rt,
+        !serves(&mut door, b"x", &WHOLE),
+        "the second call fails",
+    );
+    check(&rt, serves(&mut door, b"x", &WHOLE), "a link");
+    check(&rt, !serves(&mut door, b"x", &WHOLE), "no second link");
+    check(&rt, door.finished().len() == 1, "the link is taken back");
 }
 
 // In one thread: the client connects and writes before the door is asked for it, and reads at the end.
 #[test]
 fn a_client_is_served_over_tcp(rt: HostRuntime) -> Result<(), Fail> {
     let mut door = TcpDoor::new(rt.clone()?);
-    assert!(rt; door.next().is_err());
-    assert_eq!(rt; door.listen(38_127), Ok(()));
+    check(&rt, door.next().is_err(), "no port");
+    check(&rt, door.listen(38_127).is_ok(), "a port");
     let mut client = TcpStream::connect(&rt, (Ipv4Addr::LOCALHOST, 38_127))?;
     client.write_all(b"abc")?;
-    let Ok(mut link) = door.next() else {
-        return Err(Fail::from("no link"));
-    };
-    assert_eq!(rt; exchange(&mut link, b"pong"), (Ok(2), Ok(4), Ok(1)));
-    door.finish(link)?;
+    check(
+        &rt,
+        serves(&mut door, b"pong", &(Ok(2), Ok(4), Ok(1))),
+        "a client",
+    );
     let mut reply = Vec::new(rt.alloc());
     client.read_to_end(&mut reply)?;
-    assert_eq!(rt; reply.as_slice(), b"pong".as_slice());
+    check(&rt, word(&reply) == "pong", "a reply");
     Ok(())
 }

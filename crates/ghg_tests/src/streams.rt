@@ -2,58 +2,68 @@
 
 ghost use Rattle.std.specs.Prelude.{◌<◌, length};
 
+use crate::cases::{bytes, check, faults, word};
 use ghg_outer::{
     Failed, InputSource, MemorySink, MemorySource, OutputSink, Sink, Source, SteadySink,
     SteadySource, WriteError,
 };
 use std::io;
 use std::io::{ErrorKind, Read, Write};
-use std::test::Fail;
 
-// Three reads through the bound, of at most two bytes each, and what the last gave.
-fn read_thrice<S: Source>(source: &mut S) -> ([Result<usize, Failed>; 3], u8) {
+// Three results of reads of at most two bytes each, and the first byte of the buffer behind them.
+type Reads = ([Result<usize, Failed>; 3], u8);
+
+// Whether three reads through the bound give this.
+fn gives<S: Source>(source: &mut S, want: &Reads) -> bool {
     let mut buf = [0; 2];
     let first = source.read(&mut buf);
     let second = source.read(&mut buf);
     let third = source.read(&mut buf);
-    ([first, second, third], buf[0])
+    [first, second, third] == want.0 && buf[0] == want.1
 }
 
-// Two writes through the bound.
-fn write_twice<W: Sink>(sink: &mut W, piece: &[u8]) -> [Result<usize, WriteError>; 2]
+// Whether two writes through the bound give this.
+fn takes<W: Sink>(sink: &mut W, piece: &[u8], want: &[Result<usize, WriteError>; 2]) -> bool
     requires { 0 < length piece.now }
 {
     let first = sink.write(piece);
-    [first, sink.write(piece)]
+    [first, sink.write(piece)] == *want
 }
 
+// Two bytes, the last byte, and the end.
+const WHOLE: Reads = ([Ok(2), Ok(1), Ok(0)], b'c');
+
 #[test]
-fn sources_give_their_bytes(rt: HostRuntime) -> Result<(), Fail> {
-    let alloc = rt.alloc();
-    let mut steady = SteadySource::new(b"abc".to_vec(alloc)?);
-    assert_eq!(rt; read_thrice(&mut steady), ([Ok(2), Ok(1), Ok(0)], b'c'));
-    let mut memory = MemorySource::new(b"abc".to_vec(alloc)?, [2, 4].to_vec(alloc)?);
-    let failing = ([Ok(2), Err(Failed), Ok(1)], b'c');
-    assert_eq!(rt; read_thrice(&mut memory), failing);
-    assert_eq!(rt; read_thrice(&mut memory).0, [Err(Failed), Ok(0), Ok(0)]);
+fn sources_give_their_bytes(rt: HostRuntime) {
+    let mut steady = SteadySource::new(bytes(&rt, rt.alloc(), b"abc"));
+    check(&rt, gives(&mut steady, &WHOLE), "a source without faults");
     let mut input = InputSource::new(b"abc".as_slice());
-    assert_eq!(rt; read_thrice(&mut input), ([Ok(2), Ok(1), Ok(0)], b'c'));
-    Ok(())
+    check(&rt, gives(&mut input, &WHOLE), "an input");
 }
 
 #[test]
-fn sinks_keep_what_is_written(rt: HostRuntime) -> Result<(), Fail> {
-    let alloc = rt.alloc();
-    let mut steady = SteadySink::new(alloc);
-    assert_eq!(rt; write_twice(&mut steady, b"ab"), [Ok(2), Ok(2)]);
-    assert_eq!(rt; steady.bytes(), b"abab".as_slice());
-    let mut memory = MemorySink::new(alloc, [1].to_vec(alloc)?);
-    assert_eq!(rt;
-        write_twice(&mut memory, b"ab"),
-        [Err(WriteError::Failed), Ok(2)]
-    );
-    assert_eq!(rt; memory.bytes(), b"ab".as_slice());
-    Ok(())
+fn a_source_fails_at_its_faults(rt: HostRuntime) {
+    let failing = faults(&rt, rt.alloc(), &[2, 4]);
+    let mut source = MemorySource::new(bytes(&rt, rt.alloc(), b"abc"), failing);
+    let first = ([Ok(2), Err(Failed), Ok(1)], b'c');
+    check(&rt, gives(&mut source, &first), "the second call fails");
+    let then = ([Err(Failed), Ok(0), Ok(0)], 0);
+    check(&rt, gives(&mut source, &then), "the fourth call fails");
+}
+
+#[test]
+fn sinks_keep_what_is_written(rt: HostRuntime) {
+    let mut sink = SteadySink::new(rt.alloc());
+    check(&rt, takes(&mut sink, b"ab", &[Ok(2), Ok(2)]), "two writes");
+    check(&rt, word(sink.bytes()) == "abab", "both pieces");
+}
+
+#[test]
+fn a_sink_fails_at_its_faults(rt: HostRuntime) {
+    let mut sink = MemorySink::new(rt.alloc(), faults(&rt, rt.alloc(), &[1]));
+    let want = [Err(WriteError::Failed), Ok(2)];
+    check(&rt, takes(&mut sink, b"ab", &want), "the first call fails");
+    check(&rt, word(sink.bytes()) == "ab", "one piece");
 }
 
 // A reader whose calls all fail.
@@ -67,16 +77,26 @@ impl Read for Broken {
 }
 
 #[test]
-fn streams_fail_as_their_inner_ones(rt: HostRuntime) {
+fn an_input_fails_as_its_reader(rt: HostRuntime) {
     let mut input = InputSource::new(Broken);
-    assert_eq!(rt;
-        read_thrice(&mut input).0,
-        [Err(Failed), Err(Failed), Err(Failed)]
-    );
+    let want = ([Err(Failed), Err(Failed), Err(Failed)], 0);
+    check(&rt, gives(&mut input, &want), "each call fails");
+}
+
+#[test]
+fn an_output_fails_where_there_is_no_room(rt: HostRuntime) {
     let mut room = [0; 3];
     let mut output = OutputSink::new(room.as_mut_slice());
-    assert_eq!(rt; write_twice(&mut output, b"ab"), [Ok(2), Ok(1)]);
-    assert_eq!(rt; output.write(b"ab"), Err(WriteError::Failed));
+    check(
+        &rt,
+        takes(&mut output, b"ab", &[Ok(2), Ok(1)]),
+        "three bytes",
+    );
+    check(
+        &rt,
+        output.write(b"ab") == Err(WriteError::Failed),
+        "no room",
+    );
 }
 
 // A reader and a writer whose first two calls a signal interrupts, and which moves a byte at each later call.
@@ -121,7 +141,11 @@ impl Write for Interrupted {
 #[test]
 fn interrupted_calls_are_made_again(rt: HostRuntime) {
     let mut input = InputSource::new(Interrupted { calls: 0 });
-    assert_eq!(rt; read_thrice(&mut input), ([Ok(1), Ok(1), Ok(1)], b'a'));
+    check(
+        &rt,
+        gives(&mut input, &([Ok(1), Ok(1), Ok(1)], b'a')),
+        "reads",
+    );
     let mut output = OutputSink::new(Interrupted { calls: 0 });
-    assert_eq!(rt; write_twice(&mut output, b"ab"), [Ok(1), Ok(1)]);
+    check(&rt, takes(&mut output, b"ab", &[Ok(1), Ok(1)]), "writes");
 }

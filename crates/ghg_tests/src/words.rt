@@ -71,6 +71,17 @@ const DECIMALS: &[(&str, Option<i128>)] = &[
     ("5 ", None),
 ];
 
+fn is_decimal(text: &str, want: Option<i128>) -> bool {
+    read_decimal(text.as_bytes()).map(|decimal| decimal.scaled) == want
+}
+
+#[test]
+fn decimals_are_read_within_their_digits(rt: HostRuntime) {
+    for (text, want) in DECIMALS {
+        check(&rt, is_decimal(text, *want), text);
+    }
+}
+
 // A text, and the year that it is.
 const YEARS: &[(&str, Option<u32>)] = &[
     ("1899", None),
@@ -80,6 +91,19 @@ const YEARS: &[(&str, Option<u32>)] = &[
     ("190", None),
     ("01900", None),
 ];
+
+#[test]
+fn years_are_read_within_their_digits(rt: HostRuntime) {
+    for (text, want) in YEARS {
+        check(&rt, read_year(text.as_bytes()) == *want, text);
+    }
+}
+
+#[test]
+fn numbers_are_read_within_their_digits(rt: HostRuntime) {
+    check(&rt, read_number(b"0190", 4) == Some(190), "four digits");
+    check(&rt, read_number(b"01900", 4).is_none(), "five digits");
+}
 
 // A text, and the half-life that it is, in years.
 const HALF_LIVES: &[(&str, Option<u32>)] = &[
@@ -94,6 +118,13 @@ const HALF_LIVES: &[(&str, Option<u32>)] = &[
     ("NO", None),
     ("", None),
 ];
+
+#[test]
+fn half_lives_are_read_within_their_limits(rt: HostRuntime) {
+    for (text, want) in HALF_LIVES {
+        check(&rt, read_half_life(text.as_bytes()) == *want, text);
+    }
+}
 
 // A text, and the percentage that it is, in hundredths of a percent.
 const UNCERTAINTIES: &[(&str, Option<u32>)] = &[
@@ -113,22 +144,10 @@ const UNCERTAINTIES: &[(&str, Option<u32>)] = &[
 ];
 
 #[test]
-fn numbers_are_read_within_their_digits(rt: HostRuntime) {
-    for (text, want) in DECIMALS {
-        let read = read_decimal(text.as_bytes()).map(|decimal| decimal.scaled);
-        check(&rt, read == *want, text);
-    }
-    for (text, want) in YEARS {
-        check(&rt, read_year(text.as_bytes()) == *want, text);
-    }
-    for (text, want) in HALF_LIVES {
-        check(&rt, read_half_life(text.as_bytes()) == *want, text);
-    }
+fn uncertainties_are_read_within_their_places(rt: HostRuntime) {
     for (text, want) in UNCERTAINTIES {
         check(&rt, read_uncertainty(text.as_bytes()) == *want, text);
     }
-    check(&rt, read_number(b"0190", 4) == Some(190), "four digits");
-    check(&rt, read_number(b"01900", 4).is_none(), "five digits");
 }
 
 // A text, whether it is a name, and whether it is one that is no warming potential's.

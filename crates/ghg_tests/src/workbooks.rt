@@ -5,7 +5,7 @@ ghost use Rattle.std.specs.List.{AllByRecursion};
 ghost use Rattle.ghg_units.specs.WellFormed.{IsWellFormed};
 
 use crate::cases::{check, input, word};
-use ghg_categories::Category;
+use ghg_categories::{Category, named};
 use ghg_cell::Input;
 use ghg_data::{Book, PlanRefusal, Records, after, params_of};
 use ghg_definitions::RecordKey;
@@ -42,7 +42,7 @@ fn body_of(alloc: Global, rows: &str) -> Result<Vec<u8>, AllocError> {
 }
 
 // What the rows say.
-pub(crate) fn read(rt: &impl Abort, alloc: Global, rows: &str) -> Rows
+fn read(rt: &impl Abort, alloc: Global, rows: &str) -> Rows
     ensures { AllByRecursion IsWellFormed result.rows.items }
 {
     let body = body_of(alloc, rows).ok().expect(rt, "memory");
@@ -123,24 +123,27 @@ fn rows_are_planned_and_committed(rt: HostRuntime) {
     );
 }
 
-#[test]
-fn bindings_are_looked_up(rt: HostRuntime) {
-    let line = name(&rt, "ELEC.GAS");
-    let book = book_of(&rt, rt.alloc(), PLANT);
-    let fuel = book.binding(&line, &parameter(&rt, "FC"));
+fn check_bindings(rt: &impl Abort, book: &Book) {
+    let line = name(rt, "ELEC.GAS");
+    let fuel = book.binding(&line, &parameter(rt, "FC"));
     check(
-        &rt,
+        rt,
         matches!(fuel, Some(Binding::Activity(_))),
         "an activity",
     );
     check(
-        &rt,
-        book.binding(&line, &parameter(&rt, "OX")).is_none(),
+        rt,
+        book.binding(&line, &parameter(rt, "OX")).is_none(),
         "no binding",
     );
     for param in params_of(EqId::Q10) {
-        check(&rt, book.bound(&line, param).is_some(), param.name);
+        check(rt, book.bound(&line, param).is_some(), param.name);
     }
+}
+
+#[test]
+fn bindings_are_looked_up(rt: HostRuntime) {
+    check_bindings(&rt, &book_of(&rt, rt.alloc(), PLANT));
 }
 
 const AWAY: &str = "withdraw,factor,,GAS.EF,1990,,,,,\nenter,activity,,V,1990,1e3,,,TJ,\n";
@@ -152,13 +155,16 @@ const KEPT: &[(u64, &str, &str)] = &[
     (536_870_912, "", ""),
 ];
 
+fn check_limit(rt: &impl Abort, alloc: Global, book: &mut Book) {
+    for (kept_bytes, rows, want) in KEPT {
+        let refusal = submit(rt, alloc, book, rows, *kept_bytes);
+        check(rt, word(&refusal) == *want, want);
+    }
+}
+
 #[test]
 fn a_book_has_its_limit_of_bytes(rt: HostRuntime) {
-    let mut book = book_of(&rt, rt.alloc(), PLANT);
-    for (kept_bytes, rows, want) in KEPT {
-        let refusal = submit(&rt, rt.alloc(), &mut book, rows, *kept_bytes);
-        check(&rt, word(&refusal) == *want, want);
-    }
+    check_limit(&rt, rt.alloc(), &mut book_of(&rt, rt.alloc(), PLANT));
 }
 
 // An activity as a row has it, and what it gives in the base unit.
@@ -211,34 +217,26 @@ fn gives(records: &impl Records, content: &Name, year: u32, want: &str) -> bool 
     Some(records.factor(content, year)) == input(want)
 }
 
+fn check_starts(rt: &impl Abort, alloc: Global, book: &mut Book) {
+    let content = name(rt, "GAS.EF");
+    for (year, want, _) in IN_FORCE {
+        check(rt, gives(book, &content, *year, want), want);
+    }
+    let rows = "withdraw,factor,,GAS.EF,2000,,,,,\n";
+    let refusal = submit(rt, alloc, book, rows, 0);
+    check(rt, refusal.is_empty(), "a factor is withdrawn");
+    for (year, _, want) in IN_FORCE {
+        check(rt, gives(book, &content, *year, want), want);
+    }
+    let start = book.start_year(&content, 2009);
+    check(rt, start == Some(1990), "a start year");
+    let potential = name(rt, "GWP.CH4");
+    check(rt, gives(book, &potential, 2100, "28"), "a potential");
+}
+
 #[test]
 fn the_latest_start_year_is_in_force(rt: HostRuntime) {
-    let content = name(&rt, "GAS.EF");
-    let mut book = book_of(&rt, rt.alloc(), STARTS);
-    for (year, want, _) in IN_FORCE {
-        check(&rt, gives(&book, &content, *year, want), want);
-    }
-    let refusal = submit(
-        &rt,
-        rt.alloc(),
-        &mut book,
-        "withdraw,factor,,GAS.EF,2000,,,,,\n",
-        0,
-    );
-    check(&rt, refusal.is_empty(), "a factor is withdrawn");
-    for (year, _, want) in IN_FORCE {
-        check(&rt, gives(&book, &content, *year, want), want);
-    }
-    check(
-        &rt,
-        book.start_year(&content, 2009) == Some(1990),
-        "a start year",
-    );
-    check(
-        &rt,
-        gives(&book, &name(&rt, "GWP.CH4"), 2100, "28"),
-        "a warming potential",
-    );
+    check_starts(&rt, rt.alloc(), &mut book_of(&rt, rt.alloc(), STARTS));
 }
 
 // Two balances of the energy of a fuel: A takes 1000 TJ of 1990, B, B of the year before, and B in a sum.
@@ -264,31 +262,18 @@ fn has_order(alloc: Global, book: &Book, lines: &[Name]) -> bool {
     }
 }
 
+fn check_order(rt: &impl Abort, alloc: Global, book: &mut Book) {
+    let (a, b) = (name(rt, "A"), name(rt, "B"));
+    check(rt, has_order(alloc, book, &[b, a]), "an order");
+    submit(rt, alloc, book, "correct,bind,B,PR,,line,A,,,\n", 0);
+    check(rt, has_ring(alloc, book, &[a, b]), "a ring of two lines");
+    submit(rt, alloc, book, "correct,bind,B,PR,,line,B,,,\n", 0);
+    check(rt, has_ring(alloc, book, &[b]), "a ring of one line");
+}
+
 #[test]
 fn lines_follow_those_that_they_take(rt: HostRuntime) {
-    let (a, b) = (name(&rt, "A"), name(&rt, "B"));
-    let mut book = book_of(&rt, rt.alloc(), BALANCES);
-    check(&rt, has_order(rt.alloc(), &book, &[b, a]), "an order");
-    submit(
-        &rt,
-        rt.alloc(),
-        &mut book,
-        "correct,bind,B,PR,,line,A,,,\n",
-        0,
-    );
-    check(
-        &rt,
-        has_ring(rt.alloc(), &book, &[a, b]),
-        "a ring of two lines",
-    );
-    submit(
-        &rt,
-        rt.alloc(),
-        &mut book,
-        "correct,bind,B,PR,,line,B,,,\n",
-        0,
-    );
-    check(&rt, has_ring(rt.alloc(), &book, &[b]), "a ring of one line");
+    check_order(&rt, rt.alloc(), &mut book_of(&rt, rt.alloc(), BALANCES));
 }
 
 // Whether a node takes so many operands.
@@ -307,22 +292,19 @@ fn taken(book: &Book, line: Name, parameter: &ParamName) -> Option<Input> {
     }
 }
 
+fn check_operands(rt: &impl Abort, alloc: Global, book: &Book) {
+    let a = name(rt, "A");
+    check(rt, takes(alloc, book, Node::Line(a, 1990), 5), "A");
+    check(rt, first_year(book) == 1990, "the first year");
+    let production = taken(book, a, &parameter(rt, "PR"));
+    check(rt, production == input("1000"), "PR");
+    let exports = taken(book, a, &parameter(rt, "EX"));
+    check(rt, exports == input("0"), "EX");
+}
+
 #[test]
 fn a_line_takes_an_operand_for_each_parameter(rt: HostRuntime) {
-    let a = name(&rt, "A");
-    let book = book_of(&rt, rt.alloc(), BALANCES);
-    check(&rt, takes(rt.alloc(), &book, Node::Line(a, 1990), 5), "A");
-    check(&rt, first_year(&book) == 1990, "the first year");
-    check(
-        &rt,
-        taken(&book, a, &parameter(&rt, "PR")) == input("1000"),
-        "PR",
-    );
-    check(
-        &rt,
-        taken(&book, a, &parameter(&rt, "EX")) == input("0"),
-        "EX",
-    );
+    check_operands(&rt, rt.alloc(), &book_of(&rt, rt.alloc(), BALANCES));
 }
 
 // A boiler, a forest and a plant, which burn fuel to CH4, and a balance.
@@ -343,27 +325,20 @@ fn emit(alloc: Global, book: &Book, lines: &[Name]) -> bool {
     }
 }
 
+fn check_equivalents(rt: &impl Abort, alloc: Global, book: &Book) {
+    let (boiler, forest, plant) = (name(rt, "BOILER"), name(rt, "FOREST"), name(rt, "PLANT"));
+    let equivalent = Node::Equiv(plant, 1990);
+    check(rt, takes(alloc, book, equivalent, 2), "two operands");
+    check(rt, takes(alloc, book, Node::Gross(1990), 1), "a sum");
+    let lines = [boiler, forest, plant];
+    check(rt, emit(alloc, book, &lines), "emitters");
+    let weight = Some(potential(book, &plant, 1990));
+    check(rt, weight == input("28"), "a warming potential");
+}
+
 #[test]
 fn totals_take_equivalents_which_weigh_lines(rt: HostRuntime) {
-    let (boiler, forest, plant) = (name(&rt, "BOILER"), name(&rt, "FOREST"), name(&rt, "PLANT"));
-    let book = book_of(&rt, rt.alloc(), EMITTERS);
-    let equivalent = Node::Equiv(plant, 1990);
-    check(
-        &rt,
-        takes(rt.alloc(), &book, equivalent, 2),
-        "a line and its warming potential",
-    );
-    check(&rt, takes(rt.alloc(), &book, Node::Gross(1990), 1), "a sum");
-    check(
-        &rt,
-        emit(rt.alloc(), &book, &[boiler, forest, plant]),
-        "emitters",
-    );
-    check(
-        &rt,
-        Some(potential(&book, &plant, 1990)) == input("28"),
-        "a warming potential",
-    );
+    check_equivalents(&rt, rt.alloc(), &book_of(&rt, rt.alloc(), EMITTERS));
     check(
         &rt,
         counts_in_gross(Category::C1A1a) && !counts_in_gross(Category::C3B1),
@@ -396,15 +371,46 @@ fn accept_with<L: Ledger>(
     }
 }
 
-pub(crate) fn accept(alloc: Global, engine: &mut Engine, rows: &[Row]) -> Result<(), Option<Node>>
+fn accept(alloc: Global, engine: &mut Engine, rows: &[Row]) -> Result<(), Option<Node>>
     requires { AllByRecursion IsWellFormed rows.now }
 {
     accept_with::<Brand>(Blank::new(1), alloc, engine, rows)
 }
 
-// Whether a node has this value; with no text it has none.
-fn has_value(engine: &Engine, node: Node, want: &str) -> bool {
-    engine.value(&node).map(|value| *value.input()) == input(want)
+/// Submits rows that break no rule.
+pub(crate) fn enter(rt: &impl Abort, alloc: Global, engine: &mut Engine, rows: &str) {
+    let read = read(rt, alloc, rows);
+    check(rt, accept(alloc, engine, &read.rows).is_ok(), rows);
+}
+
+// A kind of node.
+#[derive(Clone, Copy, Drop)]
+enum Kind {
+    Line,
+    Equivalent,
+    Total,
+    Gross,
+}
+
+// The node of a line or a category, by its name or code.
+fn node(kind: Kind, of: &str, year: u32) -> Option<Node> {
+    match kind {
+        Kind::Line => Some(Node::Line(Name::new(of.as_bytes())?, year)),
+        Kind::Equivalent => Some(Node::Equiv(Name::new(of.as_bytes())?, year)),
+        Kind::Total => Some(Node::Total(named(of.as_bytes())?, year)),
+        Kind::Gross => Some(Node::Gross(year)),
+    }
+}
+
+// A node, and its value; with no text it has none.
+type NodeValue = (Kind, &'static str, u32, &'static str);
+
+fn has_value(engine: &Engine, value: &NodeValue) -> bool {
+    let (kind, of, year, want) = *value;
+    match node(kind, of, year) {
+        Some(node) => engine.value(&node).map(|value| *value.input()) == input(want),
+        None => false,
+    }
 }
 
 // The plant's second year, a potential of 1 that may be 2, a boiler of 500 TJ, and a forest fire of 100 TJ.
@@ -415,82 +421,64 @@ const THREE_LINES: &str =
     enter,bind,BOILER,EF,,factor,GAS.EF,,,\nenter,line,3B1,FOREST,,Q10,,,,\n\
     enter,bind,FOREST,FC,,activity,FIRE.TJ,,,\nenter,bind,FOREST,EF,,factor,GAS.EF,,,\n";
 
-// Codes, years, and the totals at them.
-const TOTALS: &[(Category, u32, &str)] = &[
-    (Category::C1A1a, 1990, "56.1,54.3,116.6"),
-    (Category::C1A, 1990, "84.15,81.45,174.9"),
-    (Category::National, 1990, "89.76,86.88,186.56"),
-    (Category::C3B, 1991, "0"),
+// 56.1 kg of CO2 for each GJ, from 54.3 to 58.3: 1000 TJ emit 54.3 to 58.3 Gg, which weigh 54.3 to 116.6.
+const VALUES: &[NodeValue] = &[
+    (Kind::Line, "ELEC.GAS", 1990, "56.1,54.3,58.3"),
+    (Kind::Equivalent, "ELEC.GAS", 1990, "56.1,54.3,116.6"),
+    (Kind::Equivalent, "ELEC.GAS", 1991, "112.2,108.6,233.2"),
+    (Kind::Line, "BOILER", 1991, "NE"),
+    // no year of the span
+    (Kind::Line, "ELEC.GAS", 1992, ""),
+    (Kind::Gross, "", 1990, "84.15,81.45,174.9"),
+    (Kind::Gross, "", 1991, "112.2,108.6,233.2"),
+    (Kind::Total, "1A1a", 1990, "56.1,54.3,116.6"),
+    (Kind::Total, "1A", 1990, "84.15,81.45,174.9"),
+    (Kind::Total, "0", 1990, "89.76,86.88,186.56"),
+    (Kind::Total, "3B", 1991, "0"),
 ];
 
-// 56.1 kg of CO2 for each GJ, from 54.3 to 58.3: 1000 TJ emit 54.3 to 58.3 Gg, which weigh 54.3 to 116.6.
-#[test]
-fn nodes_have_their_values(rt: HostRuntime) {
-    let mut engine = Engine::new(rt.alloc());
-    let first = read(&rt, rt.alloc(), PLANT);
-    check(
-        &rt,
-        accept(rt.alloc(), &mut engine, &first.rows).is_ok(),
-        "a plant",
-    );
-    let others = read(&rt, rt.alloc(), THREE_LINES);
-    check(
-        &rt,
-        accept(rt.alloc(), &mut engine, &others.rows).is_ok(),
-        "three lines",
-    );
-    let gas = name(&rt, "ELEC.GAS");
-    for (node, want) in [
-        (Node::Line(gas, 1990), "56.1,54.3,58.3"),
-        (Node::Equiv(gas, 1990), "56.1,54.3,116.6"),
-        (Node::Equiv(gas, 1991), "112.2,108.6,233.2"),
-        (Node::Line(name(&rt, "BOILER"), 1991), "NE"),
-        // no year of the span
-        (Node::Line(gas, 1992), ""),
-        (Node::Gross(1990), "84.15,81.45,174.9"),
-        (Node::Gross(1991), "112.2,108.6,233.2"),
-    ] {
-        check(&rt, has_value(&engine, node, want), want);
+// Submits rows that break no rule, one after the other, and looks at nodes.
+//
+// A function that owns an engine makes one call of it, since the proof of each step sees all its fields.
+fn check_values(
+    rt: &impl Abort,
+    alloc: Global,
+    engine: &mut Engine,
+    submissions: &[&str],
+    values: &[NodeValue],
+) {
+    for rows in submissions {
+        enter(rt, alloc, engine, rows);
     }
-    for (category, year, want) in TOTALS {
-        check(
-            &rt,
-            has_value(&engine, Node::Total(*category, *year), want),
-            want,
-        );
+    for value in values {
+        check(rt, has_value(engine, value), value.3);
     }
 }
 
+#[test]
+fn nodes_have_their_values(rt: HostRuntime) {
+    let mut engine = Engine::new(rt.alloc());
+    check_values(&rt, rt.alloc(), &mut engine, &[PLANT, THREE_LINES], VALUES);
+}
+
+const CORRECTION: &str = "correct,activity,,FUEL.TJ,1990,1000,,,TJ,\n";
+
 // The boiler takes 1000 TJ in place of 500, so it emits 56.1 Gg in place of 28.05; all fuel is then 2100 TJ.
+const CORRECTED: &[NodeValue] = &[
+    (Kind::Line, "BOILER", 1990, "56.1,54.3,58.3"),
+    (Kind::Total, "1A", 1990, "112.2,108.6,233.2"),
+    (Kind::Total, "0", 1990, "117.81,114.03,244.86"),
+    (Kind::Gross, "", 1990, "112.2,108.6,233.2"),
+    // not affected
+    (Kind::Total, "1A1a", 1990, "56.1,54.3,116.6"),
+    (Kind::Gross, "", 1991, "112.2,108.6,233.2"),
+];
+
 #[test]
 fn a_correction_changes_what_it_affects(rt: HostRuntime) {
     let mut engine = Engine::new(rt.alloc());
-    for rows in [
-        PLANT,
-        THREE_LINES,
-        "correct,activity,,FUEL.TJ,1990,1000,,,TJ,\n",
-    ] {
-        let read = read(&rt, rt.alloc(), rows);
-        check(
-            &rt,
-            accept(rt.alloc(), &mut engine, &read.rows).is_ok(),
-            rows,
-        );
-    }
-    for (node, want) in [
-        (Node::Line(name(&rt, "BOILER"), 1990), "56.1,54.3,58.3"),
-        (Node::Total(Category::C1A, 1990), "112.2,108.6,233.2"),
-        (
-            Node::Total(Category::National, 1990),
-            "117.81,114.03,244.86",
-        ),
-        (Node::Gross(1990), "112.2,108.6,233.2"),
-        // not affected
-        (Node::Total(Category::C1A1a, 1990), "56.1,54.3,116.6"),
-        (Node::Gross(1991), "112.2,108.6,233.2"),
-    ] {
-        check(&rt, has_value(&engine, node, want), want);
-    }
+    let submissions = [PLANT, THREE_LINES, CORRECTION];
+    check_values(&rt, rt.alloc(), &mut engine, &submissions, CORRECTED);
 }
 
 const GREAT_PLANT: &str = "enter,span,,,1990,1991,1990,,,\nenter,line,1A1a,ELEC.GAS,,Q10,,,,\n\
@@ -499,20 +487,17 @@ const GREAT_PLANT: &str = "enter,span,,,1990,1991,1990,,,\nenter,line,1A1a,ELEC.
     enter,factor,,GWP.CO2,1990,2000,,,1,\n";
 
 // 10^7 TJ at 100000 kg/TJ are 10^6 Gg of CO2, which at a potential of 2000 weigh 2 x 10^9 Gg.
+fn check_great_plant(rt: &impl Abort, alloc: Global, engine: &mut Engine) {
+    let read = read(rt, alloc, GREAT_PLANT);
+    let over = accept(alloc, engine, &read.rows).err();
+    let equivalent = Node::Equiv(name(rt, "ELEC.GAS"), 1990);
+    check(rt, over == Some(Some(equivalent)), "the equivalent");
+    let nothing = (Kind::Line, "ELEC.GAS", 1990, "");
+    check(rt, has_value(engine, &nothing), "nothing is accepted");
+}
+
 #[test]
 fn an_equivalent_beyond_the_limit_is_named(rt: HostRuntime) {
     let mut engine = Engine::new(rt.alloc());
-    let gas = name(&rt, "ELEC.GAS");
-    let read = read(&rt, rt.alloc(), GREAT_PLANT);
-    let over = accept(rt.alloc(), &mut engine, &read.rows).err();
-    check(
-        &rt,
-        over == Some(Some(Node::Equiv(gas, 1990))),
-        "the equivalent",
-    );
-    check(
-        &rt,
-        engine.value(&Node::Line(gas, 1990)).is_none(),
-        "nothing is accepted",
-    );
+    check_great_plant(&rt, rt.alloc(), &mut engine);
 }
