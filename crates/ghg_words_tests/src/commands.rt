@@ -117,14 +117,14 @@ fn read_by_clap<'a>(alloc: Global, words: &'a [&'a str]) -> Result<ArgMatches<'a
         .try_get_matches_from(words)
 }
 
-// What `clap` reads is what the reader reads.
-fn agrees(matches: &ArgMatches, command: &Command) -> bool {
+// What `clap` reads is what the reader reads, with `--workers` as the line gives it.
+fn agrees(matches: &ArgMatches, command: &Command, workers: Option<u32>) -> bool {
     match (matches.subcommand(), command) {
         (Some(("compile", options)), Command::Compile(settings)) => {
-            agrees_on_settings(options, settings)
+            agrees_on_settings(options, settings, workers)
         }
         (Some(("serve", options)), Command::Serve(service)) => {
-            agrees_on_settings(options, &service.settings)
+            agrees_on_settings(options, &service.settings, workers)
                 && options.get_one::<u16>("port") == Some(service.port)
                 && options.get_one::<u32>("connections") == Some(service.connections)
         }
@@ -132,24 +132,29 @@ fn agrees(matches: &ArgMatches, command: &Command) -> bool {
     }
 }
 
-fn agrees_on_settings(options: &ArgMatches, settings: &Settings) -> bool {
+// Where the line does not give it, `clap` reads none, and the reader the default.
+fn agrees_on_settings(options: &ArgMatches, settings: &Settings, workers: Option<u32>) -> bool {
     options.get_str("store") == store_of(settings)
-        && options.get_one::<u32>("workers").unwrap_or(1) == settings.workers
+        && options.get_one::<u32>("workers") == workers
+        && settings.workers == workers.unwrap_or(DEFAULT_WORKERS)
 }
 
-// The lines that both read.
-const COMPARED: &[&str] = &[
-    "compile",
-    "compile --store s",
-    "compile --workers=1",
-    "serve --port 8000 --connections 2",
-    "serve --connections=2 --store s --port=8000",
+const DEFAULT_WORKERS: u32 = 1;
+
+// The lines that both read, with the number that stands behind `--workers`.
+const COMPARED: &[(&str, Option<u32>)] = &[
+    ("compile", None),
+    ("compile --store s", None),
+    ("compile --workers=1", Some(1)),
+    ("serve --port 8000 --connections 2", None),
+    ("serve --workers 1 --port 8000 --connections 2", Some(1)),
+    ("serve --connections=2 --store s --port=8000", None),
 ];
 
 #[test]
 fn clap_reads_commands_in_the_same_way(rt: HostRuntime) -> Result<(), Fail> {
     let alloc = rt.alloc();
-    for line in COMPARED {
+    for (line, workers) in COMPARED {
         let mut named = Vec::new(alloc);
         named.push("ghg")?;
         for word in line.split_whitespace() {
@@ -158,7 +163,7 @@ fn clap_reads_commands_in_the_same_way(rt: HostRuntime) -> Result<(), Fail> {
         let matches = read_by_clap(alloc, &named)?;
         let words = words_of(alloc, line)?;
         match read_command(&words) {
-            Some(command) => check(&rt, agrees(&matches, &command), line),
+            Some(command) => check(&rt, agrees(&matches, &command, *workers), line),
             None => check(&rt, false, line),
         }
     }
