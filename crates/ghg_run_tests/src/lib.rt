@@ -4,8 +4,6 @@
 #![tactic(auto)]
 
 #[cfg(test)]
-mod full_keeper;
-#[cfg(test)]
 mod runs;
 #[cfg(test)]
 mod serving;

@@ -1,9 +1,8 @@
-//! Connections that are served in memory: whole replies, a link that fails, and a keeper without memory.
+//! Connections that are served in memory: whole replies, and a link that fails.
 
 ghost use Rattle.std.specs.Prelude.{All, IfOk};
 ghost use Rattle.ghg_outer.specs.Doors.{IsFreshLink};
 
-use crate::full_keeper::FullKeeper;
 use crate::words::words_of;
 use ghg_keeper::{Keeper, SteadyKeeper};
 use ghg_outer::{MemoryDoor, MemoryLink, MemorySink, MemorySource};
@@ -24,9 +23,6 @@ const SUBMISSION: &str = "POST /submissions/a HTTP/1.1\r\nContent-Length: 52\r\n
 
 const ACCEPTED: &str = "HTTP/1.1 201 Created\r\ncontent-type: application/json\r\n\
     content-length: 22\r\nconnection: close\r\n\r\n{\"reply\":\"accepted 1\"}";
-
-const NO_MEMORY: &str = "HTTP/1.1 507 Insufficient Storage\r\ncontent-type: application/json\r\n\
-    content-length: 18\r\nconnection: close\r\n\r\n{\"reply\":\"memory\"}";
 
 // A link with this request, and the number of the call on it that fails, or 0 where none does.
 fn link(alloc: Global, request: &str, failing: u64) -> Result<MemoryLink, AllocError>
@@ -98,20 +94,5 @@ fn a_link_that_fails_ends_no_other(rt: HostRuntime) -> Result<(), Fail> {
         &mut SteadyKeeper::new(alloc),
         0,
         &["", ACCEPTED],
-    )
-}
-
-// Memory runs out where the row is to be kept.
-#[test]
-fn want_of_memory_is_replied_as_one(rt: HostRuntime) -> Result<(), Fail> {
-    let alloc = rt.alloc();
-    let links = Vec::from_array(alloc, [link(alloc, SUBMISSION, 0)?])?;
-    check(
-        &rt,
-        "serve --port 8000 --connections 1 --store s",
-        links,
-        &mut FullKeeper,
-        0,
-        &[NO_MEMORY],
     )
 }
