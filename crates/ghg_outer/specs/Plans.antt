@@ -26,6 +26,10 @@ after_call plan = record plan {
   faults = if fails_next plan then raised plan.faults else plan.faults;
 }
 
+-- one call later, which failed, listed or not
+abbrev pub after_failure : Plan → Plan
+after_failure plan = record (after_call plan) { faults = raised plan.faults }
+
 -- a source in memory
 pub record PlannedSource : Type 0 where
   pub bytes : SourceBytes

@@ -1,9 +1,9 @@
 // A door in memory.
-ghost use Rattle.std.specs.Prelude.{◌≡◌, ◌↔◌, ◌⊎◌, false, [], ◌∷◌, All, IfOk, IsErr, IsTrue, MatchResult, OnErr, OnOk, Some};
+ghost use Rattle.std.specs.Prelude.{◌≡◌, ◌↔◌, ◌⊎◌, false, [], ◌∷◌, ◌++◌, All, IfOk, IsErr, IsTrue, MatchResult, OnErr, OnOk, Some};
 ghost use Rattle.ghg_outer.specs.Counts.{IsCounted};
 ghost use Rattle.ghg_outer.specs.Doors.{GivesLink, IsFreshLink, IsKept, Opens, planned_door, planned_register};
 ghost use Rattle.ghg_outer.specs.Links.{IsFresh, planned_link_tape};
-ghost use Rattle.ghg_outer.specs.Plans.{planned, fails_next, after_call};
+ghost use Rattle.ghg_outer.specs.Plans.{planned, fails_next, after_call, after_failure};
 
 use crate::{Door, Failed, FaultPlan, MemoryLink};
 use std::alloc::{AllocError, Global};
@@ -75,6 +75,7 @@ impl Door for MemoryDoor {
         ensures port { OnOk result (self.new.port ≡ Some port) }
         ensures fails { IsErr result ↔ IsTrue (fails_next self.old.plan) }
         ensures plan { self.new.plan ≡ after_call self.old.plan }
+        ensures left { self.new.links ≡ self.old.links }
     {
         if self.plan.next_call() {
             return Err(Failed);
@@ -92,6 +93,10 @@ impl Door for MemoryDoor {
         ensures first { MatchResult result
             (λ link. (fails_next self.old.plan ≡ false) × (self.old.links ≡ link ∷ self.new.links))
             (λ _. IsTrue (fails_next self.old.plan) ⊎ (self.old.links ≡ [])) }
+        ensures left { OnErr result (self.new.links ≡ self.old.links) }
+        ensures plan { MatchResult result
+            (λ _. self.new.plan ≡ after_call self.old.plan)
+            (λ _. self.new.plan ≡ after_failure self.old.plan) }
     {
         if self.plan.next_call() {
             return Err(Failed);
@@ -105,7 +110,10 @@ impl Door for MemoryDoor {
         }
     }
 
-    fn finish(&mut self, link: MemoryLink) -> Result<(), AllocError> {
+    fn finish(&mut self, link: MemoryLink) -> Result<(), AllocError>
+        ensures ok { OnOk result (self.new ≡ record self.old { finished = self.old.finished ++ link ∷ [] }) }
+        ensures err { OnErr result (self.new ≡ self.old) }
+    {
         self.finished.push(link)?;
         Ok(())
     }
