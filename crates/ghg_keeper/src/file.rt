@@ -1,18 +1,18 @@
 // The keeper of the program, over a database file.
-ghost use Rattle.std.specs.Prelude.{◌≡◌, ◌⊎◌, ◌-◌, ◌≤◌, ◌^◌, pos, [], ◌∷◌, length, slice_get, codes, Some, IsTrue, IfOk, IsErrOf, OnOk, OnErr};
+ghost use Rattle.std.specs.Prelude.{◌≡◌, ◌⊎◌, ◌-◌, ◌≤◌, ◌^◌, pos, [], ◌∷◌, length, slice_get, codes, Some, Err, IsTrue, IfOk, IfErr, IsErrOf, OnOk, OnErr};
 ghost use Rattle.sqlite.specs.declared.types.Value.TheVariants.{Int, Text, Blob};
 ghost use Rattle.sqlite.specs.Files.{over_files};
 ghost use Rattle.ghg_outer.specs.Counts.{IsCounted};
 ghost use Rattle.ghg_keeper.specs.Accepted.{has_kept_table};
 ghost use Rattle.ghg_keeper.specs.Databases.{database};
-ghost use Rattle.ghg_keeper.specs.Errors.{CountsRows, HasCause, InsertsRow, IsCount, IsKept, ReadsRow, Refuses, RefusesRow};
+ghost use Rattle.ghg_keeper.specs.Errors.{CountsRows, HasCause, InsertsRow, IsCount, IsKept, ReadsRow, Refuses, RefusesRow, keep_error};
 ghost use Rattle.ghg_keeper.specs.Id.{is_id};
 ghost use Rattle.ghg_keeper.specs.Listed.{IsBeforeOrAfter, IsSafe};
 ghost use Rattle.ghg_keeper.specs.Shelf.{Adds, CountsFaults, Keeps};
 ghost use Rattle.ghg_keeper.specs.Texts.{count_text, insert_text, row_text};
 
 use crate::{KeepError, Keeper, KeptRow, SqlKeeper};
-use sqlite::{Connection, File, FileStore};
+use sqlite::{Alter, Connection, Error, File, FileStore};
 use std::rt::HostRuntime;
 
 /// Rows in the table of a database file, which `attach` opens, or makes where there is none. That call and
@@ -151,11 +151,20 @@ fn opened(rt: &HostRuntime, name: &str) -> Result<SqlKeeper<FileStore<File>>, Ke
     ensures table { IfOk result
         (λ keeper. IsTrue (has_kept_table (database over_files keeper).now.schema)) }
 {
-    let connection = match Connection::open(rt, name) {
-        Ok(connection) => connection,
-        Err(error) => return Err(KeepError::from(error)),
-    };
-    let mut store = SqlKeeper::over(connection);
-    store.attach(name)?;
-    Ok(store)
+    attached(Connection::open(rt, name), name)
+}
+
+// A keeper over a connection that was opened, which has its table. It is over any store, since a proof goes
+// over all parts of what a function owns.
+fn attached<S: Alter + Drop>(
+    opening: Result<Connection<S>, Error>,
+    name: &str,
+) -> Result<SqlKeeper<S>, KeepError>
+    ensures unopened { IfErr opening (λ error. result ≡ Err (keep_error error)) }
+    ensures table { IfOk result
+        (λ keeper. IsTrue (has_kept_table (database S.Store keeper).now.schema)) }
+{
+    let mut keeper = SqlKeeper::over(opening?);
+    keeper.attach(name)?;
+    Ok(keeper)
 }
