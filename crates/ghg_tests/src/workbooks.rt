@@ -437,30 +437,6 @@ const VALUES: &[NodeValue] = &[
     (Kind::Total, "3B", 1991, "0"),
 ];
 
-// Submits rows that break no rule, one after the other, and looks at nodes.
-//
-// A function that owns an engine makes one call of it, since the proof of each step sees all its fields.
-fn check_values(
-    rt: &impl Abort,
-    alloc: Global,
-    engine: &mut Engine,
-    submissions: &[&str],
-    values: &[NodeValue],
-) {
-    for rows in submissions {
-        enter(rt, alloc, engine, rows);
-    }
-    for value in values {
-        check(rt, has_value(engine, value), value.3);
-    }
-}
-
-#[test]
-fn nodes_have_their_values(rt: HostRuntime) {
-    let mut engine = Engine::new(rt.alloc());
-    check_values(&rt, rt.alloc(), &mut engine, &[PLANT, THREE_LINES], VALUES);
-}
-
 const CORRECTION: &str = "correct,activity,,FUEL.TJ,1990,1000,,,TJ,\n";
 
 // The boiler takes 1000 TJ in place of 500, so it emits 56.1 Gg in place of 28.05; all fuel is then 2100 TJ.
@@ -474,30 +450,67 @@ const CORRECTED: &[NodeValue] = &[
     (Kind::Gross, "", 1991, "112.2,108.6,233.2"),
 ];
 
-#[test]
-fn a_correction_changes_what_it_affects(rt: HostRuntime) {
-    let mut engine = Engine::new(rt.alloc());
-    let submissions = [PLANT, THREE_LINES, CORRECTION];
-    check_values(&rt, rt.alloc(), &mut engine, &submissions, CORRECTED);
-}
-
 const GREAT_PLANT: &str = "enter,span,,,1990,1991,1990,,,\nenter,line,1A1a,ELEC.GAS,,Q10,,,,\n\
     enter,bind,ELEC.GAS,FC,,activity,GAS.TJ,,,\nenter,bind,ELEC.GAS,EF,,factor,GAS.EF,,,\n\
     enter,activity,,GAS.TJ,1990,10000000,,,TJ,\nenter,factor,,GAS.EF,1990,100000,,,kg/TJ,\n\
     enter,factor,,GWP.CO2,1990,2000,,,1,\n";
 
-// 10^7 TJ at 100000 kg/TJ are 10^6 Gg of CO2, which at a potential of 2000 weigh 2 x 10^9 Gg.
-fn check_great_plant(rt: &impl Abort, alloc: Global, engine: &mut Engine) {
-    let read = read(rt, alloc, GREAT_PLANT);
-    let over = accept(alloc, engine, &read.rows).err();
-    let equivalent = Node::Equiv(name(rt, "ELEC.GAS"), 1990);
-    check(rt, over == Some(Some(equivalent)), "the equivalent");
-    let nothing = (Kind::Line, "ELEC.GAS", 1990, "");
-    check(rt, has_value(engine, &nothing), "nothing is accepted");
+// Nothing is accepted.
+const REFUSED: &[NodeValue] = &[(Kind::Line, "ELEC.GAS", 1990, "")];
+
+// Rows, and the node that is over by them; where there is none, they are accepted.
+type Submission = (&'static str, Option<(Kind, &'static str, u32)>);
+
+// Submissions to one engine, and then nodes with their values.
+const CASES: &[(&[Submission], &[NodeValue])] = &[
+    (&[(PLANT, None), (THREE_LINES, None)], VALUES),
+    (
+        &[(PLANT, None), (THREE_LINES, None), (CORRECTION, None)],
+        CORRECTED,
+    ),
+    // 10^7 TJ at 100000 kg/TJ are 10^6 Gg of CO2, which at a potential of 2000 weigh 2 x 10^9 Gg.
+    (
+        &[(GREAT_PLANT, Some((Kind::Equivalent, "ELEC.GAS", 1990)))],
+        REFUSED,
+    ),
+];
+
+// Whether the rows come to what they should.
+fn submits(rt: &impl Abort, alloc: Global, engine: &mut Engine, submission: &Submission) -> bool {
+    let (rows, over) = *submission;
+    let read = read(rt, alloc, rows);
+    let answer = accept(alloc, engine, &read.rows);
+    match over {
+        Some((kind, of, year)) => answer == Err(node(kind, of, year)),
+        None => answer.is_ok(),
+    }
 }
 
+fn check_values(
+    rt: &impl Abort,
+    alloc: Global,
+    engine: &mut Engine,
+    submissions: &[Submission],
+    values: &[NodeValue],
+) {
+    for submission in submissions {
+        check(rt, submits(rt, alloc, engine, submission), submission.0);
+    }
+    for value in values {
+        check(rt, has_value(engine, value), value.3);
+    }
+}
+
+// A function that owns an engine makes one call of it, since the proof of each step sees all its fields.
 #[test]
-fn an_equivalent_beyond_the_limit_is_named(rt: HostRuntime) {
-    let mut engine = Engine::new(rt.alloc());
-    check_great_plant(&rt, rt.alloc(), &mut engine);
+fn nodes_have_their_values(rt: HostRuntime) {
+    for (submissions, values) in CASES {
+        check_values(
+            &rt,
+            rt.alloc(),
+            &mut Engine::new(rt.alloc()),
+            submissions,
+            values,
+        );
+    }
 }
