@@ -3,6 +3,7 @@ tests/country.
 """
 import contextlib
 import http.client
+import io
 import re
 import resource
 import shlex
@@ -99,12 +100,15 @@ class Exchanges(unittest.TestCase):
             (b"POST /submissions/ HTTP/1.1\r\nContent-Length: 0\r\n\r\n", NOT_FOUND),
             (b"GET /tables/cells HTTP/1.1\r\n\r\n", NOT_FOUND),
             (chunked, LENGTH), (b"POST /submissions/a HTTP/1.1\r\n\r\n", LENGTH),
+            (post("a", GAS, "Transfer-Encoding: chunked"), LENGTH),
+            (post("a", GAS, "Transfer-Encoding: chunked", length="many"), LENGTH),
             (post("a", GAS, length="many"), BAD), (post("a", GAS, length="12345678901"), BAD),
             (post("a", GAS, "Content-Length: 0291"), BAD), (post("a", GAS, "Content-Length: 290"), BAD),
             (post("a", GAS, length=""), BAD), (get("cells", 1990, "Content-Length: many"), BAD),
             (get("cells", 1990, "Content-Length: 1", "Content-Length: 01"), BAD),
             (post("a", GAS, "Content-Encoding: gzip"), CODED),
             (post("a", b"", length=LONGEST + 1), TOO_LONG),
+            (post("a", b"", "Content-Encoding: gzip", length=LONGEST + 1), CODED),
             (b"\r\n\x01\r\n", BAD), (b"GET /\xff HTTP/1.1\r\n\r\n", BAD), (b"GET / HTTP/2.0\r\n\r\n", BAD),
             (post("\xff", GAS), BAD), (b"GET /tables/cells/\xc3\x28 HTTP/1.1\r\n\r\n", BAD),
             (get("cells", 1990, *fields), TOO_LARGE), (get("cells", 1990, *fields)[:-2], TOO_LARGE),
@@ -136,16 +140,27 @@ class Exchanges(unittest.TestCase):
                        (post("long", body), REPEATED))
 
 
+class WholeReply(http.client.HTTPResponse):
+    """A reply that a client of the standard library reads, and all of its bytes."""
+
+    def __init__(self, link, **given):
+        super().__init__(link, **given)
+        with self.fp as came:
+            self.whole = came.read()
+        self.fp = io.BytesIO(self.whole)
+
+
 class Country(unittest.TestCase):
     maxDiff = None
 
     def ask(self, service, method, path, body=None):
-        """The code, the type and the body of a reply, as a client of the standard library reads them."""
+        """The bytes of a reply, and the body that a client of the standard library reads."""
         link = http.client.HTTPConnection(HOST, service.port, timeout=SECONDS)
+        link.response_class = WholeReply
         link.request(method, path, body)
         answer = link.getresponse()
         link.close()
-        return answer.status, answer.getheader("content-type"), answer.read()
+        return answer.whole, answer.read()
 
     def test_files_of_the_country_and_all_tables(self):
         bodies, names = files(), sorted((TOP / "tests/country").glob("*.csv"))
@@ -153,10 +168,11 @@ class Country(unittest.TestCase):
         with Service(len(bodies) + len(names)) as service:
             for number, path in enumerate(bodies, 1):
                 answer = self.ask(service, "POST", f"/submissions/{path.stem}", path.read_bytes())
-                self.assertEqual(answer, (201, "application/json", b'{"reply":"accepted %d"}' % number))
+                due = reply("201 Created", f"accepted {number}"), b'{"reply":"accepted %d"}' % number
+                self.assertEqual(answer, due, path.name)
             for path in names:
                 answer = self.ask(service, "GET", "/tables/" + path.stem.replace("-", "/"))
-                self.assertEqual(answer, (200, "text/csv", path.read_bytes()), path.name)
+                self.assertEqual(answer, (table(path.read_bytes()), path.read_bytes()), path.name)
             self.assertEqual(service.status(), 0)
 
 
