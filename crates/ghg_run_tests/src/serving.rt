@@ -1,8 +1,9 @@
-//! Connections that are served in memory: whole replies, and a link that fails.
+//! Connections that are served in memory: whole replies, a link that fails, and a keeper without memory.
 
 ghost use Rattle.std.specs.Prelude.{All, IfOk};
 ghost use Rattle.ghg_outer.specs.Doors.{IsFreshLink};
 
+use crate::full_at_first::FullAtFirst;
 use crate::words::words_of;
 use ghg_keeper::{Keeper, SteadyKeeper};
 use ghg_outer::{MemoryDoor, MemoryLink, MemorySink, MemorySource};
@@ -23,6 +24,9 @@ const SUBMISSION: &str = "POST /submissions/a HTTP/1.1\r\nContent-Length: 52\r\n
 
 const ACCEPTED: &str = "HTTP/1.1 201 Created\r\ncontent-type: application/json\r\n\
     content-length: 22\r\nconnection: close\r\n\r\n{\"reply\":\"accepted 1\"}";
+
+const NO_MEMORY: &str = "HTTP/1.1 507 Insufficient Storage\r\ncontent-type: application/json\r\n\
+    content-length: 18\r\nconnection: close\r\n\r\n{\"reply\":\"memory\"}";
 
 // A link with this request, and the number of the call on it that fails, or 0 where none does.
 fn link(alloc: Global, request: &str, failing: u64) -> Result<MemoryLink, AllocError>
@@ -95,4 +99,23 @@ fn a_link_that_fails_ends_no_other(rt: HostRuntime) -> Result<(), Fail> {
         0,
         &["", ACCEPTED],
     )
+}
+
+// Memory runs out where the row is to be kept, and the next link submits the same.
+#[test]
+fn want_of_memory_is_replied_to(rt: HostRuntime) -> Result<(), Fail> {
+    let alloc = rt.alloc();
+    let first = link(alloc, SUBMISSION, 0)?;
+    let again = link(alloc, SUBMISSION, 0)?;
+    let mut keeper = FullAtFirst::new(alloc);
+    check(
+        &rt,
+        "serve --port 8000 --connections 2 --store s",
+        Vec::from_array(alloc, [first, again])?,
+        &mut keeper,
+        0,
+        &[NO_MEMORY, ACCEPTED],
+    )?;
+    assert!(rt; keeper.count() == Ok(1));
+    Ok(())
 }
