@@ -5,6 +5,7 @@ pub mod Keeping
 mod Lines
 mod Local
 mod Readings
+pub mod Statuses
 pub mod Stops
 mod Texts
 mod Turns

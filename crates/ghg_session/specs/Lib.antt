@@ -6,5 +6,6 @@ pub mod Reader
 pub mod Replies
 pub mod Script
 pub mod Session
+pub mod Statuses
 pub mod Texts
 pub mod Writing

@@ -1,6 +1,6 @@
 -- What a session writes and how it ends, over any requests: as a function of the bytes that are read, and
 -- as what a session has done so far.
-use Rattle.std.specs.Prelude.{◌≡◌, ℕ, ◌+◌, ◌-◌, ◌≤◌, ◌⊎◌, List, [], ◌∷◌, ◌++◌, length, Option, Some, None, Result, Ok, Err, codes}
+use Rattle.std.specs.Prelude.{◌≡◌, ⊤, ℕ, ◌+◌, ◌-◌, ◌≤◌, ◌⊎◌, Bool, ◌||◌, ◌==◌, List, [], ◌∷◌, ◌++◌, length, Option, Some, None, Result, Ok, Err, codes}
 use Rattle.std.specs.Fmt.{decimal}
 use Rattle.ghg_outer.specs.Tape.{Appends, Consumes, IsAtEnd, Tape}
 use Rattle.ghg_session.specs.declared.session.End.{End}
@@ -16,6 +16,13 @@ use Rattle.ghg_session.specs.Writing.{stop_status}
 abbrev pub replies : {State Request : Type 0} → Protocol State Request → State → List Request → List ℕ
 replies p s [] = []
 replies p s (asked ∷ rest) = p.reply s asked ++ replies p (p.next_state s asked) rest
+
+-- Of the lines of each reply this holds, and of the request and the state that the ones before it leave.
+abbrev pub EachReply : {State Request : Type 0} → Protocol State Request
+    → (State → Request → List ℕ → Type 0) → State → List Request → Type 0
+EachReply p holds s [] = ⊤
+EachReply p holds s (asked ∷ rest) =
+    holds s asked (p.reply s asked) × EachReply p holds (p.next_state s asked) rest
 
 -- the state after them
 abbrev pub state_after : {State Request : Type 0} → Protocol State Request → State → List Request → State
@@ -56,6 +63,10 @@ status_of (Some number) = 3
 abbrev pub end_status : End → ℕ
 end_status end.Script = 0
 end_status end.NoScript = 3
+
+-- whether a status is one of these
+abbrev pub is_end : ℕ → Bool
+is_end status = (status == 0) || (status == 3)
 
 -- the status of a session
 abbrev pub result_status : Result End Stop → ℕ
