@@ -1,12 +1,11 @@
 -- Links that are served one after the other.
-use Rattle.std.proofs.Common.{◌≡◌, ◌≢◌, ◌∙◌, ◌⊎◌, inl, inr, ℕ, ◌+◌, ◌<◌, ◌≤◌, Bool, true, false, cond, List, [], ◌∷◌, ◌++◌, length, map, option_map, Option, Some, None, IfSome, IsSome, append-nil, add-zero, add_assoc, append_assoc, length-append, refl, sym, ap, subst, arith}
+use Rattle.std.proofs.Common.{◌≡◌, ◌≢◌, ◌∙◌, ◌⊎◌, inl, inr, ℕ, ◌+◌, ◌<◌, ◌≤◌, Bool, true, false, cond, List, [], ◌∷◌, ◌++◌, length, map, option_map, Option, Some, None, IfSome, append-nil, add-zero, add_assoc, append_assoc, length-append, refl, sym, ap, subst, arith}
 use Rattle.std.specs.Option.{is_some}
 use Rattle.std.proofs.lemmas.Bool.{eqb-true, false≢true}
 use Rattle.std.proofs.lemmas.List.{map-append, nil_from_length}
 use Rattle.std.proofs.lemmas.List.Sums.{sum_by_push}
 use Rattle.ghg_http.specs.declared.serve.LinkEnd.{LinkEnd}
 use Rattle.ghg_http.specs.declared.serve.LinkEnd.TheVariants.{Served, Cut, LinkFault, Memory}
-use Rattle.ghg_office.specs.Keeping.{Lists}
 use Rattle.ghg_outer.specs.Counts.{IsCounted}
 use Rattle.ghg_outer.specs.Doors.{GivesLink, IsKept, Opens, Register, TakesBack}
 use Rattle.ghg_outer.specs.Tape.{Tape}
@@ -176,8 +175,8 @@ module _ (stored : Bool) (a b c : Station) (number : ℕ) (one : ServedLink) (so
 
   -- the link could not be taken back
   pub serving_drops : (service : Service) → stored ≡ is_some service.settings.store → c.door.finished ≡ b.door.finished
-      → number < service.connections → (IsSome service.settings.store → Lists c.shelf c.office.state.accepted) → ServesLinks service a c 8
-  serving_drops service store finished fewer kept = record {
+      → number < service.connections → ServesLinks service a c 8
+  serving_drops service store finished fewer = record {
     taken = so_far.links;
     dropped = one ∷ [];
     serving = serving_more a.office b.office c.office so_far.links one so_far.serving s;
@@ -192,14 +191,13 @@ module _ (stored : Bool) (a b c : Station) (number : ℕ) (one : ServedLink) (so
     memory = λ _. inl refl;
     unavailable = unavailable_more so_far.links one a.shelf.faults b.shelf.faults c.shelf.faults so_far.unavailable counted;
     available = λ none. available_still (store ∙ ap is_some none);
-    kept = kept;
   }
 
 pub serving_ends : (stored : Bool) (service : Service) (a b : Station) (number status : ℕ) → ServedSoFar stored a b number
     → stored ≡ is_some service.settings.store → (status ≡ 8 → number ≡ 0) → (status ≡ 0) ⊎ ((status ≡ 7) ⊎ (status ≡ 8)) → (status ≡ 0 → number ≡ service.connections)
     → (status ≡ 0 → IfSome b.door.port (λ open_port. open_port ≡ service.port)) → (status ≢ 0 → number < service.connections)
-    → (IsSome service.settings.store → Lists b.shelf b.office.state.accepted) → ServesLinks service a b status
-serving_ends stored service a b number status so_far store memory kind all port fewer kept =
+    → ServesLinks service a b status
+serving_ends stored service a b number status so_far store memory kind all port fewer =
     let same : so_far.links ++ [] ≡ so_far.links = append-nil so_far.links in
     record {
       taken = so_far.links;
@@ -216,7 +214,6 @@ serving_ends stored service a b number status so_far store memory kind all port 
       memory = λ e. inr (nil_from_length so_far.links (so_far.number_is ∙ memory e));
       unavailable = rw same so_far.unavailable;
       available = λ none. rw same (so_far.available (store ∙ ap is_some none));
-      kept = kept;
     }
 
 -- a count that is lower to begin with
@@ -237,7 +234,6 @@ serving_since service a b c status office door counts links = record {
   memory = links.memory;
   unavailable = let later = links.unavailable in omega (arith, later, counts);
   available = links.available;
-  kept = links.kept;
 }
 
 pub port_stays : (port : ℕ) (before after : Option ℕ) → after ≡ before → IfSome before (λ p. p ≡ port) → IfSome after (λ p. p ≡ port)

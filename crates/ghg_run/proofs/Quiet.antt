@@ -1,5 +1,5 @@
 -- What is done to the outside where nothing is read, and at most a line is written.
-use Rattle.std.proofs.Common.{◌≡◌, ◌∙◌, ◌⊎◌, inl, inr, ℕ, ◌≤◌, true, List, [], None, Some, refl, sym, ap, subst}
+use Rattle.std.proofs.Common.{◌≡◌, ◌∙◌, ◌⊎◌, inl, inr, ℕ, ◌≤◌, List, [], None, Some, refl, sym, ap, subst}
 use Rattle.ghg_outer.specs.Counts.{IsCounted}
 use Rattle.ghg_outer.specs.Tape.{Appends, Consumes, Tape}
 use Rattle.ghg_outer.proofs.Tapes.{appends_nothing, consumes_nothing}
@@ -9,8 +9,9 @@ use Rattle.ghg_session.specs.Session.{Outcome}
 use Rattle.ghg_session.specs.Writing.{StoppedWriting, stop_status}
 use Rattle.ghg_session.proofs.Stops.{input_is_not_written}
 use Rattle.ghg_run.specs.Opening.{ReportsRow}
-use Rattle.ghg_run.specs.World.{ActsOutside, Reports, World, is_status}
-use Rattle.ghg_run.proofs.Whole.{one_stop, stop_is_no_door, stop_is_status, stop_of}
+use Rattle.ghg_run.specs.Run.{IsRun, NoCommandRun, usage}
+use Rattle.ghg_run.specs.World.{ActsOutside, Reports, WholeRun, World}
+use Rattle.ghg_session.proofs.Statuses.{one_stop, stop_is_no_door, stop_of}
 
 -- ---- nothing is written
 
@@ -33,11 +34,6 @@ not_seven status (inl e) seven = let same : ◌≡◌ {A = ℕ} 0 7 = sym e ∙ 
 not_seven status (inr (inl e)) seven = let same : ◌≡◌ {A = ℕ} 6 7 = sym e ∙ seven in cc
 not_seven status (inr (inr e)) seven = let same : ◌≡◌ {A = ℕ} 8 7 = sym e ∙ seven in cc
 
-quiet_known : (status : ℕ) → IsQuiet status → is_status status ≡ true
-quiet_known status (inl e) = ap is_status e
-quiet_known status (inr (inl e)) = ap is_status e
-quiet_known status (inr (inr e)) = ap is_status e
-
 pub quiet_acts : (before after : World) (status : ℕ) → after.input ≡ before.input → after.output ≡ before.output
     → IsCounted before.shelf.faults after.shelf.faults (status ≡ 6) → before.door.faults ≤ after.door.faults → IsQuiet status
     → ActsOutside before after status
@@ -46,7 +42,6 @@ quiet_acts before after status input output counted door quiet = record {
   output = λ five. absurd (not_five status quiet five);
   keeper = counted;
   door = record { later = door; rose = λ seven. absurd (not_seven status quiet seven) };
-  known = quiet_known status quiet;
   reads = ([], subst (λ (t : Tape). Consumes before.input t []) (sym input) (consumes_nothing before.input));
   writes = ([], subst (λ (t : Tape). Appends before.output t []) (sym output) (appends_nothing before.output));
 }
@@ -59,7 +54,7 @@ keeper_is_not_written (inr e) = cc
 
 -- a status that tells of no failure
 abbrev pub TellsOfNone : ℕ → Type 0
-TellsOfNone status = (stop_of status ≡ None) × (is_status status ≡ true) × (status ≡ 7 → ⊥)
+TellsOfNone status = (stop_of status ≡ None) × (status ≡ 7 → ⊥)
 
 tells : (due : ℕ) (stop : Stop) → TellsOfNone due → due ≡ stop_status stop → ⊥
 tells due Input none e = let same : None ≡ Some Input = sym none.0 ∙ ap stop_of e in cc
@@ -77,8 +72,7 @@ module _ (before after : World) (due : Outcome) (none : TellsOfNone due.status) 
     input = λ four. absurd (tells due.status Input none four);
     output = λ five. absurd (tells due.status Output none five);
     keeper = record { later = counts; rose = λ six. absurd (tells due.status Keeper none six) };
-    door = record { later = door; rose = λ seven. absurd (none.2 seven) };
-    known = none.1;
+    door = record { later = door; rose = λ seven. absurd (none.1 seven) };
     reads = unread;
     writes = (due.output, wrote);
   }
@@ -92,7 +86,6 @@ module _ (before after : World) (due : Outcome) (none : TellsOfNone due.status) 
       rose = λ six. absurd (keeper_is_not_written (subst (λ x. (x ≡ Output) ⊎ (x ≡ Memory)) (one_stop stop Keeper six) s.only));
     };
     door = record { later = door; rose = λ seven. absurd (stop_is_no_door stop seven) };
-    known = stop_is_status stop;
     reads = unread;
     writes = (_, s.wrote.wrote);
   }
@@ -101,11 +94,27 @@ module _ (before after : World) (due : Outcome) (none : TellsOfNone due.status) 
   reports_acts status (inl whole) = subst (ActsOutside before after) (sym whole.1) (whole_acts whole.0)
   reports_acts status (inr stopped) = subst (ActsOutside before after) (sym stopped.2) (stopped_acts stopped.0 stopped.1)
 
+-- and no line that is due stops at the keeper
+not_the_keeper : (before after : Tape) (due : Outcome) (status : ℕ) → TellsOfNone due.status → Reports before after due status
+    → status ≡ 6 → ⊥
+not_the_keeper before after due status none (inl whole) six = tells due.status Keeper none (sym whole.1 ∙ six)
+not_the_keeper before after due status none (inr stopped) six =
+    keeper_is_not_written (subst (λ x. (x ≡ Output) ⊎ (x ≡ Memory)) (one_stop stopped.0 Keeper (sym stopped.2 ∙ six)) stopped.1.only)
+
+pub no_command_run : (run : WholeRun) → NoCommandRun run → run.before.shelf.faults ≤ run.after.shelf.faults
+    → run.before.door.faults ≤ run.after.door.faults → IsRun None run
+no_command_run run does counts door = record {
+  does = does;
+  outside = reports_acts run.before run.after usage (refl, λ e. cc) does.input counts door run.status does.told;
+  words = λ _. refl;
+  store = λ six. absurd (not_the_keeper run.before.output run.after.output usage run.status (refl, λ e. cc) does.told six);
+}
+
 pub row_acts : (before after : World) (line : List ℕ) (status : ℕ) → after.input ≡ before.input
     → before.shelf.faults ≤ after.shelf.faults → before.door.faults ≤ after.door.faults
     → ReportsRow before.output after.output line status → ActsOutside before after status
 row_acts before after line status input counts door (inl told) =
-    reports_acts before after (record { output = line; status = 9 }) (refl, refl, λ e. cc) input counts door status told
+    reports_acts before after (record { output = line; status = 9 }) (refl, λ e. cc) input counts door status told
 row_acts before after line status input counts door (inr left) =
     quiet_acts before after status input left.0 (record { later = counts; rose = λ six. absurd (let same : ◌≡◌ {A = ℕ} 8 6 = sym left.1 ∙ six in cc) }) door
     (inr (inr left.1))
@@ -118,11 +127,6 @@ serving_not status other (inl e) zero seven eight is = zero (sym e ∙ is)
 serving_not status other (inr (inl e)) zero seven eight is = seven (sym e ∙ is)
 serving_not status other (inr (inr e)) zero seven eight is = eight (sym e ∙ is)
 
-serving_known : (status : ℕ) → (status ≡ 0) ⊎ ((status ≡ 7) ⊎ (status ≡ 8)) → is_status status ≡ true
-serving_known status (inl e) = ap is_status e
-serving_known status (inr (inl e)) = ap is_status e
-serving_known status (inr (inr e)) = ap is_status e
-
 pub serving_acts : (before after : World) (status : ℕ) → after.input ≡ before.input → after.output ≡ before.output
     → before.shelf.faults ≤ after.shelf.faults → IsCounted before.door.faults after.door.faults (status ≡ 7)
     → (status ≡ 0) ⊎ ((status ≡ 7) ⊎ (status ≡ 8)) → ActsOutside before after status
@@ -131,7 +135,6 @@ serving_acts before after status input output counts door kind = record {
   output = λ five. absurd (serving_not status 5 kind (λ e. cc) (λ e. cc) (λ e. cc) five);
   keeper = record { later = counts; rose = λ six. absurd (serving_not status 6 kind (λ e. cc) (λ e. cc) (λ e. cc) six) };
   door = door;
-  known = serving_known status kind;
   reads = ([], subst (λ (t : Tape). Consumes before.input t []) (sym input) (consumes_nothing before.input));
   writes = ([], subst (λ (t : Tape). Appends before.output t []) (sym output) (appends_nothing before.output));
 }

@@ -6,10 +6,11 @@ use Rattle.ghg_office.specs.Keeping.{KeepsAccepted, Lists}
 use Rattle.ghg_office.specs.Office.{State, start}
 use Rattle.ghg_office.specs.Replays.{replay_evaluations}
 use Rattle.ghg_outer.proofs.Tapes.{appends_more, consumes_more, rose_later}
-use Rattle.ghg_run.specs.Compile.{CompileRun, ScriptRun}
-use Rattle.ghg_run.specs.Opening.{Begins, BeginsNot, HadRows, Opens}
+use Rattle.ghg_session.specs.Session.{Snapshot}
+use Rattle.ghg_run.specs.Compile.{AnswersInput, CompileRun}
+use Rattle.ghg_run.specs.Opening.{BeginsNot, FailsAtOnce, HadRows, IsInUse, IsKeptIn, OfficeRun, Opens, RefusesRow, RunsOffice}
 use Rattle.ghg_run.specs.Serve.{ServeRun, ServesLinks, office_at, station}
-use Rattle.ghg_run.specs.World.{ActsOutside, World, office_in}
+use Rattle.ghg_run.specs.World.{ActsOutside, WholeRun, World, office_in, whole_run}
 use Rattle.ghg_words.specs.declared.command.Service.{Service}
 use Rattle.ghg_run.proofs.Links.{serving_since}
 
@@ -32,7 +33,6 @@ acts_later a b c first status p q = record {
     later = omega (arith, p.door.later, q.door.later);
     rose = λ seven. omega (arith, p.door.later, q.door.rose seven);
   };
-  known = q.known;
   reads = (_, consumes_more a.input b.input c.input _ _ p.reads.1 q.reads.1);
   writes = (_, appends_more a.output b.output c.output _ _ p.writes.1 q.writes.1);
 }
@@ -43,64 +43,76 @@ pub had_rows : (before after : World) (rows : List KeptRow) → KeepsRows before
     → HadRows before after rows
 had_rows before after rows keeps lists = λ t. (keeps.told t, sym (lists t) ∙ keeps.same t)
 
--- the keeper failed or memory ran out
-pub opens_nothing : (before after : World) (rows : List KeptRow) (status : ℕ) → HadRows before after rows
-    → KeepsRows before.shelf after.shelf → after.input ≡ before.input → after.output ≡ before.output → after.door ≡ before.door
-    → after.steps ≤ before.steps + replay_evaluations start rows → (status ≡ 6) ⊎ (status ≡ 8)
-    → Opens before after (Err status)
-opens_nothing before after rows status had keeps input output door steps why =
-    (rows, had, record { why = inr (output, why); input = input; door = door; kept = keeps; steps = steps })
+pub opens_none : (name : List ℕ) (before after : World) (rows : List KeptRow) (status : ℕ) → HadRows before after rows
+    → KeepsRows before.shelf after.shelf → after.input ≡ before.input → after.door ≡ before.door
+    → after.steps ≤ before.steps + replay_evaluations start rows
+    → (RefusesRow before after status rows × IsInUse name after.shelf) ⊎ FailsAtOnce name before after status
+    → Opens name before after (Err status)
+opens_none name before after rows status had keeps input door steps why =
+    record { rows = rows; had = had; why = why; input = input; door = door; kept = keeps; steps = steps }
+
+-- the name in use stayed
+pub stays_in_use : (name : List ℕ) (mid after : Shelf) → after.name ≡ mid.name → IsInUse name mid → IsInUse name after
+stays_in_use name mid after e h = subst (λ (n : Option (List ℕ)). IfSome n (λ used. used ≡ name)) (sym e) h
 
 -- the run goes on with the office that the rows give
-pub begins_stored : (name : List ℕ) (before mid after : World) (office : State) → Opens before mid (Ok office)
-    → (after.shelf.tells → mid.shelf.tells) → Begins (Some name) before after (office_in mid office)
-begins_stored name before mid after office opened told = (opened.0, λ t. opened.1 (told t), opened.2)
+pub stored_run : (name : List ℕ) (run : WholeRun) (mid : World) (office last : State)
+    (holds : Snapshot State → Snapshot State → Type 0) → Opens name run.before mid (Ok office)
+    → IsKeptIn name mid.shelf office.accepted → KeepsAccepted mid.shelf run.after.shelf last.accepted
+    → holds (office_in mid office) (office_in run.after last) → OfficeRun (Some name) run holds
+stored_run name run mid office last holds opened had kept does = record {
+  from = office_in mid office;
+  last = last;
+  begins = (opened.0, λ t. opened.1 (kept.told t), opened.2);
+  does = does;
+  kept = record { used = stays_in_use name mid.shelf run.after.shelf kept.name had.used; rows = kept.rows };
+}
+
+-- or with an office that accepted nothing
+pub plain_run : (run : WholeRun) (last : State) (holds : Snapshot State → Snapshot State → Type 0)
+    → holds (office_in run.before start) (office_in run.after last) → OfficeRun None run holds
+plain_run run last holds does =
+    record { from = office_in run.before start; last = last; begins = refl; does = does; kept = tt }
 
 pub stored_script : (name : List ℕ) (before mid after : World) (office last : State) (status : ℕ)
-    → Opens before mid (Ok office) → ScriptRun (office_in mid office) (office_in after last) status
-    → KeepsAccepted mid.shelf after.shelf last.accepted → CompileRun (Some name) before after status
-stored_script name before mid after office last status opened script kept = inr (
-  office_in mid office,
-  begins_stored name before mid after office opened kept.told,
-  record { last = last; script = script; kept = λ _. kept.rows },
-)
+    → Opens name before mid (Ok office) → IsKeptIn name mid.shelf office.accepted
+    → KeepsAccepted mid.shelf after.shelf last.accepted → AnswersInput (office_in mid office) (office_in after last) status
+    → CompileRun (Some name) (whole_run before after status)
+stored_script name before mid after office last status opened had kept does =
+    inr (stored_run name (whole_run before after status) mid office last _ opened had kept does)
 
 pub plain_script : (before after : World) (last : State) (status : ℕ)
-    → ScriptRun (office_in before start) (office_in after last) status → CompileRun None before after status
-plain_script before after last status script =
-    inr (office_in before start, refl, record { last = last; script = script; kept = λ h. absurd cc })
+    → AnswersInput (office_in before start) (office_in after last) status → CompileRun None (whole_run before after status)
+plain_script before after last status does = inr (plain_run (whole_run before after status) last _ does)
+
+-- what an office did that served links, and wrote nothing to the output
+abbrev Serves : Service → WholeRun → Snapshot State → Snapshot State → Type 0
+Serves service run from to =
+    ServesLinks service (station (office_at from.state from.steps) run.before.shelf run.before.door)
+    (station (office_at to.state to.steps) run.after.shelf run.after.door) run.status
+    × (to.output ≡ from.output)
 
 pub stored_serving : (name : List ℕ) (service : Service) (before mid after : World) (office last : State) (status : ℕ)
-    → service.settings.store ≡ Some name → Opens before mid (Ok office) → mid.door ≡ before.door → before.shelf.faults ≤ mid.shelf.faults
+    → service.settings.store ≡ Some name → Opens name before mid (Ok office) → IsKeptIn name mid.shelf office.accepted
+    → KeepsAccepted mid.shelf after.shelf last.accepted → mid.door ≡ before.door → before.shelf.faults ≤ mid.shelf.faults
     → ServesLinks service (station (office_at office mid.steps) mid.shelf mid.door) (station (office_at last after.steps) after.shelf after.door) status
-    → KeepsAccepted mid.shelf after.shelf last.accepted → after.output ≡ mid.output → ServeRun service before after status
-stored_serving name service before mid after office last status store opened door counts links kept output = inr (
-  office_in mid office,
-  last,
-  subst (λ (s : Option (List ℕ)). Begins s before after (office_in mid office)) (sym store)
-      (begins_stored name before mid after office opened kept.told),
-  serving_since service (station (office_at office mid.steps) before.shelf before.door) (station (office_at office mid.steps) mid.shelf mid.door)
-      (station (office_at last after.steps) after.shelf after.door) status refl door counts links,
-  output ∙ opened.2.output,
-)
+    → after.output ≡ mid.output → ServeRun service (whole_run before after status)
+stored_serving name service before mid after office last status store opened had kept door counts links output =
+    let run : WholeRun = whole_run before after status in
+    let since = serving_since service (station (office_at office mid.steps) before.shelf before.door) (station (office_at office mid.steps) mid.shelf mid.door)
+    (station (office_at last after.steps) after.shelf after.door) status refl door counts links in
+    subst (λ (s : Option (List ℕ)). RunsOffice s run (Serves service run)) (sym store)
+    (inr (stored_run name run mid office last (Serves service run) opened had kept (since, output)))
 
 pub plain_serving : (service : Service) (before after : World) (last : State) (status : ℕ) → service.settings.store ≡ None
     → ServesLinks service (station (office_at start before.steps) before.shelf before.door) (station (office_at last after.steps) after.shelf after.door) status
-    → after.output ≡ before.output → ServeRun service before after status
-plain_serving service before after last status store links output = inr (
-  office_in before start,
-  last,
-  subst (λ (s : Option (List ℕ)). Begins s before after (office_in before start)) (sym store) refl,
-  links,
-  output,
-)
+    → after.output ≡ before.output → ServeRun service (whole_run before after status)
+plain_serving service before after last status store links output =
+    let run : WholeRun = whole_run before after status in
+    subst (λ (s : Option (List ℕ)). RunsOffice s run (Serves service run)) (sym store)
+    (inr (plain_run run last (Serves service run) (links, output)))
 
 pub no_serving : (name : List ℕ) (service : Service) (before after : World) (status : ℕ) → service.settings.store ≡ Some name
-    → Opens before after (Err status) → ServeRun service before after status
+    → Opens name before after (Err status) → ServeRun service (whole_run before after status)
 no_serving name service before after status store opened =
     inl (subst (λ (s : Option (List ℕ)). BeginsNot s before after status) (sym store) opened)
-
--- and the name in use stayed
-pub name_stays : (name : List ℕ) (mid after : Option (List ℕ)) → after ≡ mid → IfSome mid (λ used. used ≡ name)
-    → IfSome after (λ used. used ≡ name)
-name_stays name mid after e h = subst (λ (n : Option (List ℕ)). IfSome n (λ used. used ≡ name)) (sym e) h

@@ -4,10 +4,10 @@ use Rattle.ghg_office.specs.Laws.{IsInForce}
 use Rattle.ghg_office.specs.Office.{State}
 use Rattle.ghg_session.specs.declared.command.Request.{Request}
 use Rattle.ghg_session.specs.Replies.{protocol}
-use Rattle.ghg_session.specs.Session.{replies}
-use Rattle.ghg_run.specs.Bounds.{AreSoundReplies}
+use Rattle.ghg_session.specs.Session.{EachReply}
+use Rattle.ghg_run.specs.Bounds.{AreSoundLines}
 
 -- From a state in force, the bounds in each table among the replies to any requests hold the exact values.
 abbrev pub RepliesAreSound : Type 0
 RepliesAreSound = (s : State) → IsInForce s → (requests : List Request)
-    → AreSoundReplies s requests (replies protocol s requests)
+    → EachReply protocol AreSoundLines s requests

@@ -1,22 +1,32 @@
--- The office that a run begins with.
-use Rattle.std.specs.Prelude.{◌≡◌, ◌⊎◌, ℕ, ◌+◌, ◌≤◌, List, ◌++◌, Option, Some, None, Result, Ok, Err, MatchResult, codes}
+-- The office that a run begins with, and what it leaves in a store.
+use Rattle.std.specs.Prelude.{◌≡◌, ◌⊎◌, ℕ, ◌+◌, ◌≤◌, List, ◌++◌, Option, Some, None, IfSome, Result, Ok, Err, MatchResult, codes}
 use Rattle.std.specs.Fmt.{decimal}
 use Rattle.ghg_keeper.specs.declared.row.KeptRow.{KeptRow}
-use Rattle.ghg_keeper.specs.Shelf.{KeepsRows}
+use Rattle.ghg_keeper.specs.Shelf.{KeepsRows, Shelf}
 use Rattle.ghg_office.specs.declared.fault.OpenFault.TheVariants.{Kept}
 use Rattle.ghg_office.specs.declared.reply.Reply.{Reply}
+use Rattle.ghg_office.specs.Keeping.{Lists}
 use Rattle.ghg_office.specs.Office.{State, start}
 use Rattle.ghg_office.specs.Replays.{replay_evaluations, replayed}
 use Rattle.ghg_office.specs.Replies.{reply_text}
 use Rattle.ghg_outer.specs.Tape.{Tape}
 use Rattle.ghg_session.specs.Session.{Snapshot, line_of}
-use Rattle.ghg_run.specs.World.{Reports, World, office_in}
+use Rattle.ghg_run.specs.World.{Reports, WholeRun, World, office_in}
 
--- ---- the rows of a store
+-- ---- a store
 
 -- The store had these rows: where the keeper tells its rows in the end, those that it told before.
 abbrev pub HadRows : World → World → List KeptRow → Type 0
 HadRows before after rows = after.shelf.tells → before.shelf.tells × (rows ≡ before.shelf.rows)
+
+-- The store of this name is in use, where the keeper tells which one is.
+abbrev pub IsInUse : List ℕ → Shelf → Type 0
+IsInUse name shelf = IfSome shelf.name (λ used. used ≡ name)
+
+-- The store of this name is in use, and the rows that the keeper tells are these submissions.
+pub record IsKeptIn (name : List ℕ) (shelf : Shelf) (accepted : List KeptRow) : Type 0 where
+  pub used : IsInUse name shelf
+  pub rows : Lists shelf accepted
 
 -- The office that rows give. Nothing was read or written, and no more steps were taken than the rows ask for.
 pub record IsReplayed (before : World) (rows : List KeptRow) (from : Snapshot State) : Type 0 where
@@ -43,30 +53,24 @@ pub record RefusesRow (before after : World) (status : ℕ) (rows : List KeptRow
   pub refused : replayed rows ≡ Err (Kept seq reply)
   pub told : ReportsRow before.output after.output (kept_line seq reply) status
 
--- the keeper failed or memory ran out, and nothing was written
-abbrev pub FailsAtOnce : World → World → ℕ → Type 0
-FailsAtOnce before after status = (after.output ≡ before.output) × ((status ≡ 6) ⊎ (status ≡ 8))
+-- The keeper failed or memory ran out, and nothing was written. That memory ran out has no cause that is
+-- told. The store in use is the one that was, or the one of this name.
+pub record FailsAtOnce (name : List ℕ) (before after : World) (status : ℕ) : Type 0 where
+  pub kind : (status ≡ 6) ⊎ (status ≡ 8)
+  pub output : after.output ≡ before.output
+  pub used : (after.shelf.name ≡ before.shelf.name) ⊎ IsInUse name after.shelf
 
--- No office was opened with these rows. Nothing was read, no connection was taken, and the rows are kept as
--- they were.
-pub record OpensNone (before after : World) (status : ℕ) (rows : List KeptRow) : Type 0 where
-  pub why : RefusesRow before after status rows ⊎ FailsAtOnce before after status
+-- No office was opened from the store of this name, which is in use where a row of it is refused. Nothing was
+-- read, no connection was taken, and the rows are kept as they were.
+pub record OpensNone (name : List ℕ) (before after : World) (status : ℕ) : Type 0 where
+  pub rows : List KeptRow
+  pub had : HadRows before after rows
+  pub why : (RefusesRow before after status rows × IsInUse name after.shelf)
+      ⊎ FailsAtOnce name before after status
   pub input : after.input ≡ before.input
   pub door : after.door ≡ before.door
   pub kept : KeepsRows before.shelf after.shelf
   pub steps : after.steps ≤ before.steps + replay_evaluations start rows
-
--- ---- opening one
-
--- 0 where there is an office, or the status to end with
-abbrev pub opening_status : Result State ℕ → ℕ
-opening_status (Ok office) = 0
-opening_status (Err status) = status
-
--- a store was opened: there is an office, or a status to end with
-abbrev pub Opens : World → World → Result State ℕ → Type 0
-Opens before after result = (rows : List KeptRow) × HadRows before after rows × MatchResult result
-    (λ office. IsReplayed before rows (office_in after office)) (λ status. OpensNone before after status rows)
 
 -- ---- with a store or without
 
@@ -80,5 +84,31 @@ Begins (Some name) before after from =
 -- The store that is named gave no office.
 abbrev pub BeginsNot : Option (List ℕ) → World → World → ℕ → Type 0
 BeginsNot None before after status = ⊥
-BeginsNot (Some name) before after status =
-    (rows : List KeptRow) × HadRows before after rows × OpensNone before after status rows
+BeginsNot (Some name) before after status = OpensNone name before after status
+
+-- This holds of the office that the run begins with, from its beginning to its end. Where a store is named,
+-- the accepted submissions are kept in it in the end, whatever the status.
+pub record OfficeRun (store : Option (List ℕ)) (run : WholeRun)
+    (holds : Snapshot State → Snapshot State → Type 0) : Type 0 where
+  pub from : Snapshot State
+  pub last : State
+  pub begins : Begins store run.before run.after from
+  pub does : holds from (office_in run.after last)
+  pub kept : IfSome store (λ name. IsKeptIn name run.after.shelf last.accepted)
+
+-- This holds of the office that the run begins with, or there was none.
+abbrev pub RunsOffice : Option (List ℕ) → WholeRun → (Snapshot State → Snapshot State → Type 0) → Type 0
+RunsOffice store run holds =
+    BeginsNot store run.before run.after run.status ⊎ OfficeRun store run holds
+
+-- ---- opening a store
+
+-- 0 where there is an office, or the status to end with
+abbrev pub opening_status : Result State ℕ → ℕ
+opening_status (Ok office) = 0
+opening_status (Err status) = status
+
+-- the store of this name was opened: there is an office, or a status to end with
+abbrev pub Opens : List ℕ → World → World → Result State ℕ → Type 0
+Opens name before after result = MatchResult result
+    (λ office. Begins (Some name) before after (office_in after office)) (OpensNone name before after)

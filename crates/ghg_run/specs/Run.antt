@@ -1,11 +1,13 @@
 -- What the program owes for its words.
-use Rattle.std.specs.Prelude.{◌≡◌, ℕ, true, false, Bool, ◌||◌, ◌==◌, List, Option, Some, None, codes}
+use Rattle.std.specs.Prelude.{◌≡◌, ℕ, true, false, Bool, List, map, Option, Some, None, IsSome, String, codes}
+use Rattle.std.specs.String.{string_bytes}
 use Rattle.ghg_session.specs.Session.{Outcome, line_of}
+use Rattle.ghg_words.specs.Command.{command_in}
 use Rattle.ghg_words.specs.declared.command.Command.{Command}
 use Rattle.ghg_words.specs.declared.command.Command.TheVariants.{Compile, Serve}
 use Rattle.ghg_run.specs.Compile.{CompileRun}
 use Rattle.ghg_run.specs.Serve.{ServeRun}
-use Rattle.ghg_run.specs.World.{Reports, World, is_end}
+use Rattle.ghg_run.specs.World.{ActsOutside, Reports, WholeRun}
 
 -- ---- words that are no command
 
@@ -13,18 +15,22 @@ abbrev pub usage : Outcome
 usage = record { output = line_of (codes "bad command line"); status = 2 }
 
 -- Nothing was read and no step taken.
-pub record NoCommandRun (before after : World) (status : ℕ) : Type 0 where
-  pub told : Reports before.output after.output usage status
-  pub input : after.input ≡ before.input
-  pub steps : after.steps ≡ before.steps
+pub record NoCommandRun (run : WholeRun) : Type 0 where
+  pub told : Reports run.before.output run.after.output usage run.status
+  pub input : run.after.input ≡ run.before.input
+  pub steps : run.after.steps ≡ run.before.steps
 
 -- ---- any words
 
--- what the run owes for the command that its words are
-abbrev pub Runs : Option Command → World → World → ℕ → Type 0
-Runs None before after status = NoCommandRun before after status
-Runs (Some (Compile settings)) before after status = CompileRun settings.store before after status
-Runs (Some (Serve service)) before after status = ServeRun service before after status
+-- the command that the words ask for
+abbrev pub asked_for : {Z : Type 0} → List (String Z) → Option Command
+asked_for words = command_in (map string_bytes words)
+
+-- what a run does for its command, and so the statuses that it may end with
+abbrev pub Runs : Option Command → WholeRun → Type 0
+Runs None run = NoCommandRun run
+Runs (Some (Compile settings)) run = CompileRun settings.store run
+Runs (Some (Serve service)) run = ServeRun service run
 
 -- the store that a command names
 abbrev pub store_in : Option Command → Option (List ℕ)
@@ -42,6 +48,9 @@ abbrev pub opens_door : Option Command → Bool
 opens_door (Some (Serve service)) = true
 opens_door _ = false
 
--- the statuses with which a run that names a store leaves it in use
-abbrev pub is_attached : ℕ → Bool
-is_attached status = is_end status || (status == 7) || (status == 9)
+-- What a run does for its command. Whatever that is, each other status has its cause.
+pub record IsRun (command : Option Command) (run : WholeRun) : Type 0 where
+  pub does : Runs command run
+  pub outside : ActsOutside run.before run.after run.status
+  pub words : run.status ≡ 2 → command ≡ None
+  pub store : run.status ≡ 6 → IsSome (store_in command)

@@ -1,20 +1,18 @@
 -- `serve`: connections are served.
-use Rattle.std.specs.Prelude.{◌≡◌, ◌≢◌, ◌⊎◌, ℕ, ◌+◌, ◌-◌, ◌^◌, ◌<◌, ◌≤◌, Bool, false, ◌==◌, min, List, [], ◌∷◌, ◌++◌, length, map, count_by, None, option_map, IfSome, IsSome}
+use Rattle.std.specs.Prelude.{◌≡◌, ◌≢◌, ◌⊎◌, ℕ, ◌+◌, ◌-◌, ◌^◌, ◌<◌, ◌≤◌, Bool, false, ◌==◌, min, List, [], ◌∷◌, ◌++◌, length, map, count_by, None, option_map, IfSome}
 use Rattle.ghg_http.specs.declared.serve.LinkEnd.{LinkEnd}
 use Rattle.ghg_http.specs.declared.serve.LinkEnd.TheVariants.{Served}
 use Rattle.ghg_http.specs.Serve.{ServesLink}
 use Rattle.ghg_http.specs.Serve.{snapshot as link_snapshot}
 use Rattle.ghg_keeper.specs.Shelf.{Shelf}
-use Rattle.ghg_office.specs.Keeping.{Lists}
 use Rattle.ghg_office.specs.Office.{State, requested}
 use Rattle.ghg_office.specs.Sound.{IsSoundReply}
 use Rattle.ghg_outer.specs.Doors.{Register}
 use Rattle.ghg_outer.specs.Links.{IsFresh}
 use Rattle.ghg_outer.specs.Tape.{Tape}
-use Rattle.ghg_session.specs.Session.{Snapshot}
 use Rattle.ghg_words.specs.declared.command.Service.{Service}
-use Rattle.ghg_run.specs.Opening.{Begins, BeginsNot}
-use Rattle.ghg_run.specs.World.{World}
+use Rattle.ghg_run.specs.Opening.{RunsOffice}
+use Rattle.ghg_run.specs.World.{WholeRun}
 
 -- ---- links, one after the other
 
@@ -94,13 +92,10 @@ pub record ServesLinks (service : Service) (before after : Station) (status : �
   -- The keeper failed at least as often as that was the reply, which it never was without a store.
   pub unavailable : raised_by (unavailable_count (taken ++ dropped)) before.shelf.faults ≤ after.shelf.faults
   pub available : service.settings.store ≡ None → unavailable_count (taken ++ dropped) ≡ 0
-  -- Where submissions are stored, the rows that the keeper tells in the end are the accepted submissions.
-  pub kept : IsSome service.settings.store → Lists after.shelf after.office.state.accepted
 
--- The office that the run begins with served the links, and nothing was written. Or there was none.
-abbrev pub ServeRun : Service → World → World → ℕ → Type 0
-ServeRun service before after status = BeginsNot service.settings.store before after status
-    ⊎ ((from : Snapshot State) × (last : State) × Begins service.settings.store before after from
-    × ServesLinks service (station (office_at from.state from.steps) before.shelf before.door)
-    (station (office_at last after.steps) after.shelf after.door) status
-    × (after.output ≡ before.output))
+-- An office served the links, and nothing was written to the output.
+abbrev pub ServeRun : Service → WholeRun → Type 0
+ServeRun service run = RunsOffice service.settings.store run (λ from to.
+    ServesLinks service (station (office_at from.state from.steps) run.before.shelf run.before.door)
+    (station (office_at to.state to.steps) run.after.shelf run.after.door) run.status
+    × (to.output ≡ from.output))

@@ -1,5 +1,5 @@
 -- What a run acts on, and what it does to the outside.
-use Rattle.std.specs.Prelude.{◌≡◌, ◌⊎◌, ℕ, true, Bool, ◌&&◌, ◌||◌, ◌==◌, nat_le, List, map, option_map}
+use Rattle.std.specs.Prelude.{◌≡◌, ◌⊎◌, ℕ, List, map, option_map}
 use Rattle.ghg_keeper.specs.Shelf.{Shelf}
 use Rattle.ghg_office.specs.Office.{State}
 use Rattle.ghg_outer.specs.Counts.{IsCounted}
@@ -22,6 +22,15 @@ abbrev pub world : Tape → Tape → Shelf → Register Tape → ℕ → World
 world input output shelf door steps =
     record { input = input; output = output; shelf = shelf; door = door; steps = steps }
 
+-- a whole run: what it acts on, before and after, and the status that it ends with
+pub record WholeRun : Type 1 where
+  pub before : World
+  pub after : World
+  pub status : ℕ
+
+abbrev pub whole_run : World → World → ℕ → WholeRun
+whole_run before after status = record { before = before; after = after; status = status }
+
 -- what a door tells, with each link by what that tells
 abbrev pub register_of : {Link : Type 0} → (Link → Tape) → Register Link → Register Tape
 register_of tape door = record {
@@ -35,16 +44,6 @@ register_of tape door = record {
 abbrev pub office_in : World → State → Snapshot State
 office_in w state = snapshot state w.input w.output w.steps
 
--- ---- statuses
-
--- those of a session that came to its end
-abbrev pub is_end : ℕ → Bool
-is_end status = (status == 0) || (status == 3)
-
--- all of them
-abbrev pub is_status : ℕ → Bool
-is_status status = (status == 0) || (nat_le 2 status && nat_le status 9)
-
 -- ---- the outside
 
 -- What a run does to the outside, whatever the words: each status that tells of a failure has its cause. The
@@ -54,7 +53,6 @@ pub record ActsOutside (before after : World) (status : ℕ) : Type 0 where
   pub output : status ≡ 5 → Rose before.output after.output
   pub keeper : IsCounted before.shelf.faults after.shelf.faults (status ≡ 6)
   pub door : IsCounted before.door.faults after.door.faults (status ≡ 7)
-  pub known : is_status status ≡ true
   pub reads : (text : List ℕ) × Consumes before.input after.input text
   pub writes : (text : List ℕ) × Appends before.output after.output text
 

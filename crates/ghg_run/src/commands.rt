@@ -1,18 +1,16 @@
 //! All that the program does.
 
-ghost use Rattle.std.specs.Prelude.{◌≡◌, ◌<◌, ◌≤◌, ℕ, false, Some, None, IfSome, IsSome, map, true};
-ghost use Rattle.std.specs.String.{string_bytes};
-ghost use Rattle.ghg_run.specs.Compile.{CompileRun, ScriptRun};
-ghost use Rattle.ghg_run.specs.Run.{NoCommandRun, Runs, is_attached, opens_door, reads_input, store_in};
+ghost use Rattle.std.specs.Prelude.{◌≡◌, ◌<◌, ◌≤◌, ℕ, false, None, IsSome, true};
+ghost use Rattle.ghg_run.specs.Compile.{AnswersInput, CompileRun};
+ghost use Rattle.ghg_run.specs.Run.{IsRun, asked_for, opens_door, reads_input, store_in};
 ghost use Rattle.ghg_run.specs.Serve.{ServeRun};
-ghost use Rattle.ghg_run.specs.World.{ActsOutside, register_of, world};
+ghost use Rattle.ghg_run.specs.World.{ActsOutside, register_of, whole_run, world};
 ghost use Rattle.ghg_office.specs.Keeping.{KeepsAccepted, Lists};
 ghost use Rattle.ghg_office.specs.Laws.{IsInForce};
 ghost use Rattle.ghg_office.specs.Office.{State};
 ghost use Rattle.ghg_outer.specs.Doors.{Register};
 ghost use Rattle.ghg_outer.specs.Tape.{Tape};
 ghost use Rattle.ghg_session.specs.Session.{snapshot};
-ghost use Rattle.ghg_words.specs.Command.{command_in};
 
 use crate::opening::open_store;
 use crate::serving::serve_office;
@@ -52,30 +50,17 @@ pub fn run<S: Source, W: Sink, K: Keeper, D: Door, L: Ledger>(
     door: &mut D,
     steps: &mut Steps<L>,
 ) -> u8
-    // What was done, by the command that the words are. For status 8 it says where memory ran out.
-    ensures run { Runs (command_in (map string_bytes words.now))
+    // What was done for the command that the words ask for, and what holds whatever the words.
+    ensures run { IsRun (asked_for words.now) (whole_run
         (world (S.tape input.old) (W.tape out.old) (K.shelf keeper.old)
         (register_of D.Link.Told.tape (D.register door.old)) steps.old)
         (world (S.tape input.new) (W.tape out.new) (K.shelf keeper.new)
-        (register_of D.Link.Told.tape (D.register door.new)) steps.new) result }
-
-    // Whatever the words, each other status has its cause, and no count of faults falls.
-    ensures outside { ActsOutside
-        (world (S.tape input.old) (W.tape out.old) (K.shelf keeper.old)
-        (register_of D.Link.Told.tape (D.register door.old)) steps.old)
-        (world (S.tape input.new) (W.tape out.new) (K.shelf keeper.new)
-        (register_of D.Link.Told.tape (D.register door.new)) steps.new) result }
-    ensures words { result ≡ 2 → command_in (map string_bytes words.now) ≡ None }
-    ensures store { result ≡ 6 → IsSome (store_in (command_in (map string_bytes words.now))) }
+        (register_of D.Link.Told.tape (D.register door.new)) steps.new) result) }
 
     // What the command does not ask for is as it was.
-    ensures unread { reads_input (command_in (map string_bytes words.now)) ≡ false → input.new ≡ input.old }
-    ensures unkept { store_in (command_in (map string_bytes words.now)) ≡ None → keeper.new ≡ keeper.old }
-    ensures unopened { opens_door (command_in (map string_bytes words.now)) ≡ false → door.new ≡ door.old }
-
-    // With statuses 0, 3, 7 and 9 the store that the words name is in use, where the keeper tells that.
-    ensures name { is_attached result ≡ true → IfSome (store_in (command_in (map string_bytes words.now)))
-        (λ name. IfSome (K.shelf keeper.new).name (λ used. used ≡ name)) }
+    ensures unread { reads_input (asked_for words.now) ≡ false → input.new ≡ input.old }
+    ensures unkept { store_in (asked_for words.now) ≡ None → keeper.new ≡ keeper.old }
+    ensures unopened { opens_door (asked_for words.now) ≡ false → door.new ≡ door.old }
 {
     match read_command(words) {
         Some(Command::Compile(settings)) => {
@@ -104,11 +89,14 @@ pub fn run_counted<S: Source, W: Sink, K: Keeper, D: Door, L: Ledger>(
     requires name { blank.name ≡ L.name }
     requires parts { blank.parts ≡ L.parts }
     requires some { 0 < blank.parts }
-    ensures { (steps : ℕ) × Runs (command_in (map string_bytes words.now))
+    ensures run { (steps : ℕ) × IsRun (asked_for words.now) (whole_run
         (world (S.tape input.old) (W.tape out.old) (K.shelf keeper.old)
         (register_of D.Link.Told.tape (D.register door.old)) 0)
         (world (S.tape input.new) (W.tape out.new) (K.shelf keeper.new)
-        (register_of D.Link.Told.tape (D.register door.new)) steps) result }
+        (register_of D.Link.Told.tape (D.register door.new)) steps) result) }
+    ensures unread { reads_input (asked_for words.now) ≡ false → input.new ≡ input.old }
+    ensures unkept { store_in (asked_for words.now) ≡ None → keeper.new ≡ keeper.old }
+    ensures unopened { opens_door (asked_for words.now) ≡ false → door.new ≡ door.old }
 {
     let mut steps = Steps::<L>::new(blank);
     run(alloc, words, input, out, keeper, door, &mut steps)
@@ -124,17 +112,15 @@ fn compile<S: Source, W: Sink, K: Keeper, L: Ledger>(
     steps: &mut Steps<L>,
 ) -> u8
     // The door is not touched, whatever it tells.
-    ensures run { (door : Register Tape) → CompileRun store.now
+    ensures run { (door : Register Tape) → CompileRun store.now (whole_run
         (world (S.tape input.old) (W.tape out.old) (K.shelf keeper.old) door steps.old)
-        (world (S.tape input.new) (W.tape out.new) (K.shelf keeper.new) door steps.new) result }
+        (world (S.tape input.new) (W.tape out.new) (K.shelf keeper.new) door steps.new) result) }
     ensures outside { (door : Register Tape) → ActsOutside
         (world (S.tape input.old) (W.tape out.old) (K.shelf keeper.old) door steps.old)
         (world (S.tape input.new) (W.tape out.new) (K.shelf keeper.new) door steps.new) result }
     ensures words { result ≡ 2 → ⊥ }
     ensures store { result ≡ 6 → IsSome store.now }
     ensures unkept { store.now ≡ None → keeper.new ≡ keeper.old }
-    ensures name { is_attached result ≡ true → IfSome store.now
-        (λ name. IfSome (K.shelf keeper.new).name (λ used. used ≡ name)) }
 {
     match store {
         None => answer(alloc, input, out, Office::new(alloc), keeper, false, steps),
@@ -156,11 +142,11 @@ fn serve<W: Sink, K: Keeper, D: Door, L: Ledger>(
 ) -> u8
     requires { 1 ≤ service.now.connections }
     // The input is not touched, whatever it tells.
-    ensures run { (input : Tape) → ServeRun service.now
+    ensures run { (input : Tape) → ServeRun service.now (whole_run
         (world input (W.tape out.old) (K.shelf keeper.old)
         (register_of D.Link.Told.tape (D.register door.old)) steps.old)
         (world input (W.tape out.new) (K.shelf keeper.new)
-        (register_of D.Link.Told.tape (D.register door.new)) steps.new) result }
+        (register_of D.Link.Told.tape (D.register door.new)) steps.new) result) }
     ensures outside { (input : Tape) → ActsOutside
         (world input (W.tape out.old) (K.shelf keeper.old)
         (register_of D.Link.Told.tape (D.register door.old)) steps.old)
@@ -169,8 +155,6 @@ fn serve<W: Sink, K: Keeper, D: Door, L: Ledger>(
     ensures words { result ≡ 2 → ⊥ }
     ensures store { result ≡ 6 → IsSome service.now.settings.store }
     ensures unkept { service.now.settings.store ≡ None → keeper.new ≡ keeper.old }
-    ensures name { is_attached result ≡ true → IfSome service.now.settings.store
-        (λ name. IfSome (K.shelf keeper.new).name (λ used. used ≡ name)) }
 {
     match &service.settings.store {
         None => serve_office(alloc, service, Office::new(alloc), keeper, door, steps),
@@ -194,7 +178,7 @@ fn answer<S: Source, W: Sink, K: Keeper, L: Ledger>(
     requires in_force { IsInForce office }
     requires same { stored ≡ true → Lists (K.shelf keeper.old) office.accepted }
     ensures script { (last : State)
-        × ScriptRun (snapshot office (S.tape input.old) (W.tape out.old) steps.old)
+        × AnswersInput (snapshot office (S.tape input.old) (W.tape out.old) steps.old)
         (snapshot last (S.tape input.new) (W.tape out.new) steps.new) result
         × (stored ≡ true → KeepsAccepted (K.shelf keeper.old) (K.shelf keeper.new) last.accepted) }
     ensures outside { (door : Register Tape) → ActsOutside

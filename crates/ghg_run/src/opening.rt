@@ -1,12 +1,10 @@
 //! The office that a run with a store begins with.
 
-ghost use Rattle.std.specs.Prelude.{◌≡◌, ◌≢◌, ◌⊎◌, ◌+◌, true, IfErr, IfOk, IfSome, IsErrOf, IsOk};
-ghost use Rattle.ghg_run.specs.Opening.{Opens, ReportsRow, kept_line, opening_status};
-ghost use Rattle.ghg_run.specs.Run.{is_attached};
+ghost use Rattle.std.specs.Prelude.{◌≡◌, ◌≢◌, ◌⊎◌, ◌+◌, IfErr, IfOk, IsErrOf, IsOk};
+ghost use Rattle.ghg_run.specs.Opening.{IsKeptIn, Opens, ReportsRow, kept_line, opening_status};
 ghost use Rattle.ghg_run.specs.World.{ActsOutside, world};
 ghost use Rattle.ghg_outer.specs.Doors.{Register};
 ghost use Rattle.ghg_keeper.specs.Shelf.{Shelf};
-ghost use Rattle.ghg_office.specs.Keeping.{Lists};
 ghost use Rattle.ghg_office.specs.Laws.{IsInForce};
 ghost use Rattle.ghg_outer.specs.Tape.{Tape};
 
@@ -30,7 +28,7 @@ pub fn open_store<W: Sink, K: Keeper, L: Ledger>(
     steps: &mut Steps<L>,
 ) -> Result<Office, u8>
     // The input and the door are not touched, whatever they tell.
-    ensures opened { (input : Tape) (door : Register Tape) → Opens
+    ensures opened { (input : Tape) (door : Register Tape) → Opens name.now
         (world input (W.tape out.old) (K.shelf keeper.old) door steps.old)
         (world input (W.tape out.new) (K.shelf keeper.new) door steps.new) result }
     ensures outside { (input : Tape) (door : Register Tape) → ActsOutside
@@ -38,10 +36,7 @@ pub fn open_store<W: Sink, K: Keeper, L: Ledger>(
         (world input (W.tape out.new) (K.shelf keeper.new) door steps.new) (opening_status result) }
     ensures words { IsErrOf result 2 → ⊥ }
     ensures in_force { IfOk result IsInForce }
-    ensures same { IfOk result (λ office. Lists (K.shelf keeper.new) office.accepted) }
-    // The store is in use where there is an office or a row is refused.
-    ensures name { is_attached (opening_status result) ≡ true
-        → IfSome (K.shelf keeper.new).name (λ used. used ≡ name.now) }
+    ensures kept { IfOk result (λ office. IsKeptIn name.now (K.shelf keeper.new) office.accepted) }
 {
     match keeper.attach(name) {
         Ok(()) => {}

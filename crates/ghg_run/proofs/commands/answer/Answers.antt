@@ -1,12 +1,18 @@
 use Rattle.std.proofs.Common.{ap, arith, Err}
 use Rattle.ghg_session.specs.declared.stop.Stop.TheVariants.{Keeper}
-use Rattle.ghg_run.proofs.Whole.{ended_acts, interrupted_acts, one_stop, script_ended, script_interrupted}
+use Rattle.ghg_session.specs.Replies.{protocol}
+use Rattle.ghg_session.proofs.Statuses.{one_stop, script_ended, script_interrupted}
+use Rattle.ghg_run.proofs.Held.{sound_replies}
+use Rattle.ghg_run.proofs.Whole.{ended_acts, interrupted_acts}
 use Rattle.ghg_run.proofs.commands.answer.Goals as goal
 
 pub returns-in-Ok-clause-script : goal.returns-in-Ok-clause-script
 returns-in-Ok-clause-script g c = (
   c.answer_script.new.office,
-  rw c.status.ensures (script_ended _ _ _ c.requires.in_force c.in-Ok.ensures.session),
+  rw c.status.ensures (record {
+    script = script_ended protocol _ _ _ c.in-Ok.ensures.session;
+    bounds = sound_replies c.args.office c.requires.in_force;
+  }),
   c.answer_script.ensures.kept,
 )
 
@@ -17,7 +23,10 @@ returns-in-Ok-clause-outside g c = λ door.
 pub returns-clause-script : goal.returns-clause-script
 returns-clause-script g c = (
   c.answer_script.new.office,
-  rw c.status-in-Err.ensures (script_interrupted _ _ _ c.requires.in_force c.in-Err.ensures.session),
+  rw c.status-in-Err.ensures (record {
+    script = script_interrupted protocol _ _ _ c.in-Err.ensures.session;
+    bounds = sound_replies c.args.office c.requires.in_force;
+  }),
   c.answer_script.ensures.kept,
 )
 

@@ -18,7 +18,8 @@ returns-in-Ok-clause-run g c = λ door.
     (world (g.S.Told.tape c.args.input.now) (g.W.Told.tape c.args.out.now) (g.K.Keeper.shelf c.args.keeper.now) door c.args.steps.now)
     (world (g.S.Told.tape c.args.input.now) (g.W.Told.tape c.open_store.new.out) (g.K.Keeper.shelf c.open_store.new.keeper) door c.open_store.new.steps)
     (world (g.S.Told.tape c.answer-in-Ok.new.input) (g.W.Told.tape c.answer-in-Ok.new.out) (g.K.Keeper.shelf c.answer-in-Ok.new.keeper) door c.answer-in-Ok.new.steps)
-    c.in-Ok.office script.0 _ (c.in-Ok.ensures.opened (g.S.Told.tape c.args.input.now) door) script.1 (script.2 refl))
+    c.in-Ok.office script.0 _ (c.in-Ok.ensures.opened (g.S.Told.tape c.args.input.now) door)
+    (rw c.as_str.ensures.text at c.in-Ok.ensures.kept) (script.2 refl) script.1)
 
 pub returns-in-Ok-clause-outside : goal.returns-in-Ok-clause-outside
 returns-in-Ok-clause-outside g c = λ door.
@@ -26,7 +27,7 @@ returns-in-Ok-clause-outside g c = λ door.
 
 pub returns-in-Err-clause-run : goal.returns-in-Err-clause-run
 returns-in-Err-clause-run g c = λ door.
-    let opened = c.in-Err.ensures.opened (g.S.Told.tape c.args.input.now) door in
+    let opened = rw c.as_str.ensures.text at c.in-Err.ensures.opened (g.S.Told.tape c.args.input.now) door in
     rw c.in-Some.is (inl opened)
 
 pub returns-in-Err-clause-outside : goal.returns-in-Err-clause-outside

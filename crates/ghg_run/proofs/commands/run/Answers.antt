@@ -1,24 +1,40 @@
 use Rattle.std.proofs.Common.{◌∙◌, inl, inr, ap, sym, refl, Some, arith}
-use Rattle.ghg_run.specs.Run.{usage}
 use Rattle.ghg_run.specs.World.{register_of}
-use Rattle.ghg_run.proofs.Quiet.{reports_acts}
+use Rattle.ghg_run.proofs.Quiet.{no_command_run}
 use Rattle.ghg_run.proofs.commands.run.Goals as goal
 
-pub returns-in-Ok-clause-outside : goal.returns-in-Ok-clause-outside
-returns-in-Ok-clause-outside g c = reports_acts _ _ usage (refl, refl, λ e. cc) refl (omega arith) (omega arith) 2 (inl (c.in-Ok.ensures, refl))
+pub returns-in-Ok-clause-run : goal.returns-in-Ok-clause-run
+returns-in-Ok-clause-run g c =
+    let none = sym c.read_command.ensures.command ∙ c.in-None.is in
+    rw none (no_command_run _ (record { told = inl (c.in-Ok.ensures, refl); input = refl; steps = refl }) (omega arith) (omega arith))
 
-pub returns-in-Err-clause-outside : goal.returns-in-Err-clause-outside
-returns-in-Err-clause-outside g c =
-    reports_acts _ _ usage (refl, refl, λ e. cc) refl (omega arith) (omega arith) _ (inr (c.in-Err.stop, c.in-Err.ensures, c.status.ensures))
+pub returns-in-Err-clause-run : goal.returns-in-Err-clause-run
+returns-in-Err-clause-run g c =
+    let none = sym c.read_command.ensures.command ∙ c.in-None.is in
+    rw none (no_command_run _ (record {
+      told = inr (c.in-Err.stop, c.in-Err.ensures, c.status.ensures);
+      input = refl;
+      steps = refl;
+    }) (omega arith) (omega arith))
 
-pub returns-in-Some-Compile-clause-outside : goal.returns-in-Some-Compile-clause-outside
-returns-in-Some-Compile-clause-outside g c =
-    c.compile.ensures.outside (register_of g.D.Link.Told.tape (g.D.Door.register c.args.door.now))
+pub returns-in-Some-Compile-clause-run : goal.returns-in-Some-Compile-clause-run
+returns-in-Some-Compile-clause-run g c =
+    let command = sym c.read_command.ensures.command ∙ c.in-Some-Compile.is ∙ ap Some c.in-Some-Compile.field-0-is in
+    let door = register_of g.D.Link.Told.tape (g.D.Door.register c.args.door.now) in
+    rw command (record {
+      does = c.compile.ensures.run door;
+      outside = c.compile.ensures.outside door;
+      words = λ two. absurd (c.compile.ensures.words two);
+      store = c.compile.ensures.store;
+    })
 
 pub returns-in-Some-Serve-clause-run : goal.returns-in-Some-Serve-clause-run
 returns-in-Some-Serve-clause-run g c =
     let command = sym c.read_command.ensures.command ∙ c.in-Some-Serve.is ∙ ap Some c.in-Some-Serve.field-0-is in
-    rw command (c.serve.ensures.run (g.S.Told.tape c.args.input.now))
-
-pub returns-in-Some-Serve-clause-outside : goal.returns-in-Some-Serve-clause-outside
-returns-in-Some-Serve-clause-outside g c = c.serve.ensures.outside (g.S.Told.tape c.args.input.now)
+    let input = g.S.Told.tape c.args.input.now in
+    rw command (record {
+      does = c.serve.ensures.run input;
+      outside = c.serve.ensures.outside input;
+      words = λ two. absurd (c.serve.ensures.words two);
+      store = c.serve.ensures.store;
+    })

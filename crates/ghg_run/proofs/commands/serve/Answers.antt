@@ -25,8 +25,9 @@ returns-in-Ok-clause-run g c = λ input.
     (world input (g.W.Told.tape c.args.out.now) (g.K.Keeper.shelf c.args.keeper.now) (register_of g.D.Link.Told.tape (g.D.Door.register c.args.door.now)) c.args.steps.now)
     (world input (g.W.Told.tape c.open_store.new.out) (g.K.Keeper.shelf c.open_store.new.keeper) (register_of g.D.Link.Told.tape (g.D.Door.register c.args.door.now)) c.open_store.new.steps)
     (world input (g.W.Told.tape c.open_store.new.out) (g.K.Keeper.shelf c.serve_office-in-Ok.new.keeper) (register_of g.D.Link.Told.tape (g.D.Door.register c.serve_office-in-Ok.new.door)) c.serve_office-in-Ok.new.steps)
-    c.in-Ok.office links.0 _ c.in-Some.is (c.in-Ok.ensures.opened input door) refl
-    (c.in-Ok.ensures.outside input door).keeper.later links.1 (links.2 some) refl
+    c.in-Ok.office links.0 _ c.in-Some.is (c.in-Ok.ensures.opened input door)
+    (rw c.as_str.ensures.text at c.in-Ok.ensures.kept) (links.2 some) refl
+    (c.in-Ok.ensures.outside input door).keeper.later links.1 refl
 
 pub returns-in-Ok-clause-outside : goal.returns-in-Ok-clause-outside
 returns-in-Ok-clause-outside g c = λ input.
@@ -42,7 +43,7 @@ returns-in-Err-clause-run g c = λ input.
     no_serving c.in-Some.name c.args.service.now
     (world input (g.W.Told.tape c.args.out.now) (g.K.Keeper.shelf c.args.keeper.now) (register_of g.D.Link.Told.tape (g.D.Door.register c.args.door.now)) c.args.steps.now)
     (world input (g.W.Told.tape c.open_store.new.out) (g.K.Keeper.shelf c.open_store.new.keeper) (register_of g.D.Link.Told.tape (g.D.Door.register c.args.door.now)) c.open_store.new.steps)
-    _ c.in-Some.is (c.in-Err.ensures.opened input door)
+    _ c.in-Some.is (rw c.as_str.ensures.text at c.in-Err.ensures.opened input door)
 
 pub returns-in-Err-clause-outside : goal.returns-in-Err-clause-outside
 returns-in-Err-clause-outside g c = λ input.

@@ -2,24 +2,26 @@ use Rattle.std.proofs.Common.{◌≡◌, ◌∙◌, ℕ, inl, inr, ap, refl, sym
 use Rattle.ghg_run.specs.Opening.{kept_line}
 use Rattle.ghg_run.specs.World.{world}
 use Rattle.ghg_run.proofs.Quiet.{quiet_acts, row_acts}
-use Rattle.ghg_run.proofs.Stored.{opens_nothing}
+use Rattle.ghg_run.proofs.Stored.{had_rows, keeps_rows_more, opens_none, stays_in_use}
 use Rattle.ghg_run.proofs.opening.open_store.Goals as goal
 
 -- ---- the store is not attached
 
 pub returns-in-Err-Failed-clause-opened : goal.returns-in-Err-Failed-clause-opened
 returns-in-Err-Failed-clause-opened g c = λ input door.
-    opens_nothing (world input (g.W.Told.tape c.args.out.now) (g.K.Keeper.shelf c.args.keeper.now) door c.args.steps.now)
+    opens_none c.args.name.now
+    (world input (g.W.Told.tape c.args.out.now) (g.K.Keeper.shelf c.args.keeper.now) door c.args.steps.now)
     (world input (g.W.Told.tape c.args.out.now) (g.K.Keeper.shelf c.attach.new.self) door c.args.steps.now)
-    (g.K.Keeper.shelf c.args.keeper.now).rows _ (λ t. (c.attach.ensures.rows.told t, refl)) c.attach.ensures.rows refl refl refl
-    (omega arith) (inl c.status.ensures)
+    (g.K.Keeper.shelf c.args.keeper.now).rows _ (λ t. (c.attach.ensures.rows.told t, refl)) c.attach.ensures.rows refl refl
+    (omega arith) (inr (record { kind = inl c.status.ensures; output = refl; used = inl c.in-Err-Failed.ensures.err }))
 
 pub returns-in-Err-Memory-clause-opened : goal.returns-in-Err-Memory-clause-opened
 returns-in-Err-Memory-clause-opened g c = λ input door.
-    opens_nothing (world input (g.W.Told.tape c.args.out.now) (g.K.Keeper.shelf c.args.keeper.now) door c.args.steps.now)
+    opens_none c.args.name.now
+    (world input (g.W.Told.tape c.args.out.now) (g.K.Keeper.shelf c.args.keeper.now) door c.args.steps.now)
     (world input (g.W.Told.tape c.args.out.now) (g.K.Keeper.shelf c.attach.new.self) door c.args.steps.now)
-    (g.K.Keeper.shelf c.args.keeper.now).rows _ (λ t. (c.attach.ensures.rows.told t, refl)) c.attach.ensures.rows refl refl refl
-    (omega arith) (inr c.status-in-Err-Memory.ensures)
+    (g.K.Keeper.shelf c.args.keeper.now).rows _ (λ t. (c.attach.ensures.rows.told t, refl)) c.attach.ensures.rows refl refl
+    (omega arith) (inr (record { kind = inr c.status-in-Err-Memory.ensures; output = refl; used = inl c.in-Err-Memory.ensures.err }))
 
 pub returns-in-Err-Memory-clause-outside : goal.returns-in-Err-Memory-clause-outside
 returns-in-Err-Memory-clause-outside g c = λ input door.
@@ -34,6 +36,18 @@ returns-in-Ok-reopen-clause-outside g c = λ input door.
     quiet_acts _ _ 0 refl refl
     (record { later = omega (arith, c.attach.ensures.faults.later, c.reopen.ensures.faults.later); rose = λ six. absurd cc }) (omega arith)
     (inl refl)
+
+pub returns-in-Err-Kept-clause-opened : goal.returns-in-Err-Kept-clause-opened
+returns-in-Err-Kept-clause-opened g c = λ input door.
+    let before = world input (g.W.Told.tape c.args.out.now) (g.K.Keeper.shelf c.args.keeper.now) door c.args.steps.now in
+    let after = world input (g.W.Told.tape c.refuse_row.new.out) (g.K.Keeper.shelf c.reopen.new.keeper) door c.reopen.new.steps in
+    let replays = rw c.in-Err-Kept.field-0-is at c.in-Err-Kept.ensures.replays in
+    let keeps = keeps_rows_more _ _ _ c.attach.ensures.rows c.reopen.ensures.keeps.rows in
+    opens_none c.args.name.now before after replays.0 _ (had_rows before after replays.0 keeps replays.1) keeps refl refl replays.3
+    (inl (
+      record { seq = c.in-Err-Kept.seq; reply = c.in-Err-Kept.reply; refused = replays.2; told = c.refuse_row.ensures },
+      stays_in_use c.args.name.now (g.K.Keeper.shelf c.attach.new.self) after.shelf c.reopen.ensures.keeps.name c.in-Ok.ensures.ok,
+    ))
 
 pub returns-in-Err-Kept-clause-outside : goal.returns-in-Err-Kept-clause-outside
 returns-in-Err-Kept-clause-outside g c = λ input door.

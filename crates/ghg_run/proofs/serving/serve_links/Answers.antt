@@ -9,7 +9,7 @@ pub returns-in-Err-clause-links : goal.returns-in-Err-clause-links
 returns-in-Err-clause-links g c =
     let told = tells_same g.D.Link.Told.tape (g.D.Door.register c.args.door.now) (g.D.Door.register c.listen.new.self) c.in-Err.ensures.kept in
     serving_ends _ _ _ _ 0 7 (none_served _ _ _ refl (omega arith) told.given_is told.finished_is) c.is_some-stored.ensures (λ e. absurd cc) (inr (inl refl))
-    (λ e. absurd cc) (λ e. absurd cc) (λ _. omega (arith, c.requires.some)) c.requires.same
+    (λ e. absurd cc) (λ e. absurd cc) (λ _. omega (arith, c.requires.some))
 
 pub links-init : goal.links-init
 links-init g c =
@@ -29,7 +29,7 @@ returns-in_default-next-clause-links g c =
     let told = tells_same g.D.Link.Told.tape (g.D.Door.register c.links.door) (g.D.Door.register c.next.new.self) c.in_default-next.ensures.kept in
     serving_ends _ _ _ _ c.links._served 7
     (served_same _ _ _ _ _ c.links.invariant.served refl (omega arith) told.given_is told.finished_is) c.is_some-stored.ensures (λ e. absurd cc)
-    (inr (inl refl)) (λ e. absurd cc) (λ e. absurd cc) (λ _. c.links-test.true) (λ some. (c.links.invariant.kept (c.is_some-stored.ensures ∙ some)).rows)
+    (inr (inl refl)) (λ e. absurd cc) (λ e. absurd cc) (λ _. c.links-test.true)
 
 pub returns-in-Err-finish-clause-links : goal.returns-in-Err-finish-clause-links
 returns-in-Err-finish-clause-links g c =
@@ -38,8 +38,7 @@ returns-in-Err-finish-clause-links g c =
     rw c.status.ensures (serving_drops _ _ _ _ c.links._served
     (record { link = g.D.Link.Told.tape c.serve_one.new.link; end = c.serve_one.result }) c.links.invariant.served
     (record { new = g.D.Link.Told.tape c.in-Ok.link; fresh = c.in-Ok.ensures.fresh; serves = c.serve_one.ensures.serves; bounds = requested_sound _ c.links.invariant.in_force })
-    (same.given_is ∙ given.given_is) c.serve_one.ensures.faults c.serve_one.ensures.fault c.args.service.now c.is_some-stored.ensures (same.finished_is ∙ given.finished_is) c.links-test.true
-    (λ some. (c.serve_one.ensures.kept (c.is_some-stored.ensures ∙ some)).rows))
+    (same.given_is ∙ given.given_is) c.serve_one.ensures.faults c.serve_one.ensures.fault c.args.service.now c.is_some-stored.ensures (same.finished_is ∙ given.finished_is) c.links-test.true)
 
 pub links-preserved : goal.links-preserved
 links-preserved g c =
@@ -62,4 +61,4 @@ links-preserved g c =
 pub returns-clause-links : goal.returns-clause-links
 returns-clause-links g c =
     serving_ends _ _ _ _ c.links._served 0 c.links.invariant.served c.is_some-stored.ensures (λ e. absurd cc) (inl refl) (λ _. omega (arith, c.links-test.false, c.links.auto._served-end))
-    (λ _. c.links.invariant.port) (λ h. absurd (h refl)) (λ some. (c.links.invariant.kept (c.is_some-stored.ensures ∙ some)).rows)
+    (λ _. c.links.invariant.port) (λ h. absurd (h refl))

@@ -8,6 +8,6 @@ pub returns-clause-links : goal.returns-clause-links
 returns-clause-links g c = (
   c.args.office,
   rw c.status.ensures (serving_ends (is_some c.args.service.now.settings.store) _ _ _ 0 8 (none_served _ _ _ refl (omega arith) refl refl) refl (λ _. refl) (inr (inr refl)) (λ e. absurd cc)
-      (λ e. absurd cc) (λ _. omega (arith, c.requires.some)) c.requires.same),
+      (λ e. absurd cc) (λ _. omega (arith, c.requires.some))),
   λ some. keeps_listed _ _ (c.requires.same some),
 )
