@@ -1,7 +1,7 @@
 -- The dates of a calendar, after a change.
 use Rattle.std.proofs.Common.{◌≡◌, ℕ, Bool, true, false, cond, ◌&&◌, ◌==◌, List, [], ◌∷◌, Option, Some, None, unwrap_or, refl, sym, ap, ap₂, ◌∙◌, subst, eqb-true}
-use Rattle.std.specs.Cmp.{eq_by_cmp_equiv}
-use Rattle.std.specs.Cmp.Lexicographic.{texts_ties}
+use Rattle.std.specs.Cmp.{IsEquivalence, eq_by_cmp_equiv}
+use Rattle.std.specs.Cmp.Lexicographic.{nat_list_eq_equiv, texts_ties}
 use Rattle.std.specs.Map.{lookup}
 use Rattle.std.specs.Ordering.{eq_by_cmp}
 use Rattle.std.specs.Str.{bytes_eq}
@@ -39,6 +39,22 @@ series_same (series.Activity a) (series.Activity b) e = ap series.Activity (one_
 series_same (series.Activity a) (series.Factor b) e = absurd (cc)
 series_same (series.Factor a) (series.Activity b) e = absurd (cc)
 series_same (series.Factor a) (series.Factor b) e = ap series.Factor (one_name a b e)
+
+pub series_equal : (s t : Series) → series_eq s t ≡ true → s ≡ t
+series_equal s t e = series_same s t (sym (series_ties s t) ∙ e)
+
+series_itself : (s : Series) → series_eq s s ≡ true
+series_itself (series.Activity a) = nat_list_eq_equiv.refl a
+series_itself (series.Factor a) = nat_list_eq_equiv.refl a
+
+series_back : (s t : Series) → series_eq s t ≡ series_eq t s
+series_back (series.Activity a) (series.Activity b) = nat_list_eq_equiv.symm a b
+series_back (series.Activity a) (series.Factor b) = refl
+series_back (series.Factor a) (series.Activity b) = refl
+series_back (series.Factor a) (series.Factor b) = nat_list_eq_equiv.symm a b
+
+pub series_eq_laws : IsEquivalence series_eq
+series_eq_laws = record { refl = series_itself; symm = series_back; congr = λ s t u e. ap (λ x. series_eq x u) (series_equal s t e) }
 
 found : (s : Series) (es : List (Series × YearSet)) → lookup (series_eq s) es ≡ lookup (same_series s) es
 found s [] = refl

@@ -1,5 +1,5 @@
 -- Which record of a factor is in force, by a search in the years of its records.
-use Rattle.std.proofs.Common.{◌≡◌, ◌≤◌, ◌<◌, ◌∙◌, ℕ, Bool, true, false, ◌&&◌, Option, Some, None, MatchOption, is_some, refl, sym}
+use Rattle.std.proofs.Common.{◌≡◌, ◌≤◌, ◌<◌, ◌∙◌, ℕ, Bool, true, false, ◌&&◌, Option, Some, None, MatchOption, is_some, refl, sym, subst, arith}
 use Rattle.std.specs.FinMap.{get}
 use Rattle.std.specs.Option.{option_map}
 use Rattle.std.proofs.lemmas.Bool.{and_from as both, le-leb}
@@ -12,7 +12,9 @@ use Rattle.ghg_definitions.specs.declared.record.RecordKey.TheVariants as key
 use Rattle.ghg_definitions.specs.Data.{Data, Name, as_figure, figure}
 use Rattle.ghg_definitions.specs.Lookups.{factor_key}
 use Rattle.ghg_definitions.specs.Sound.{IsRecord, IsWorkbook}
-use Rattle.ghg_definitions.proofs.InForce.{latest_in_force, none_in_force}
+use Rattle.ghg_definitions.specs.declared.record.RecordKey.{RecordKey}
+use Rattle.ghg_definitions.specs.Laws.{IsFactorInForce, IsLatest}
+use Rattle.ghg_definitions.proofs.InForce.{factors_in_force_are_latest, latest_in_force, none_in_force}
 
 record_starts : (name : Name) (start : ℕ) (r : Record) → IsRecord (key.Factor name start) r → is_some (as_figure (Some r)) ≡ is_year start && true
 record_starts name start (entry.Factor g) h = sym (both _ _ (both _ _ (le-leb 1900 start h.1.0) (le-leb start 2100 h.1.1)) refl)
@@ -41,3 +43,21 @@ module _ (m : Data) (w : IsWorkbook m) (name : Name) where
     present = begins_dated s ∙ sym (has s) ∙ found.1;
     latest = λ y a b. none_so _ (begins_dated y ∙ sym (has y) ∙ found.2 y a b);
   }))
+
+-- the record that is in force last is so from its start on
+pub stays_in_force : (m : Data) (name : Name) (last : ℕ) (o : Option RecordKey) → factor_key m name last ≡ o → (start : ℕ) → o ≡ Some (key.Factor name start) → (year : ℕ) → start ≤ year → year ≤ last → factor_key m name year ≡ Some (key.Factor name start)
+stays_in_force m name last o at start is year after until = by (subst (IsFactorInForce m name last) (at ∙ is) (factors_in_force_are_latest m name last))
+  where
+    by : IsFactorInForce m name last (Some (key.Factor name start)) → factor_key m name year ≡ Some (key.Factor name start)
+    by h =
+        let same : h.0 ≡ start = cc (h.1) in
+        let was = subst (IsLatest m name last) same h.2 in
+        latest_in_force m name year start (record {
+          begun = after;
+          present = was.present;
+          latest = λ y a b. was.latest y a (omega (arith, b, until));
+        })
+
+-- and where none is in force at last, none was before
+pub stays_out : (m : Data) (name : Name) (last : ℕ) → factor_key m name last ≡ None → (year : ℕ) → year ≤ last → factor_key m name year ≡ None
+stays_out m name last none year until = none_in_force m name year (λ start begun. subst (IsFactorInForce m name last) none (factors_in_force_are_latest m name last) start (omega (arith, begun, until)))

@@ -60,6 +60,14 @@ impl Records for Book {
         self.holdings.get(key)
     }
 
+    fn get_at(&self, key: &RecordKey, _place: usize) -> Option<&Record> {
+        self.holdings.get(key)
+    }
+
+    fn place(&self, _key: &RecordKey) -> usize {
+        0
+    }
+
     fn span(&self) -> Option<Span> {
         span_in(self.holdings.get(&RecordKey::Span))
     }

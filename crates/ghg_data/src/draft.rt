@@ -20,7 +20,7 @@ use crate::year_set::YearSet;
 use ghg_definitions::{Record, RecordKey};
 use ghg_equations::EqId;
 use ghg_interval::Interval;
-use ghg_units::{Binding, Figure, LATEST_YEAR, Name, ParamName, Span};
+use ghg_units::{Binding, EARLIEST_YEAR, Figure, LATEST_YEAR, Name, ParamName, Span};
 use std::alloc::{AllocError, Global};
 use std::marker::Model;
 
@@ -66,11 +66,39 @@ impl<'a> Draft<'a> {
         }
     }
 
-    /// The figure of an activity's or a factor's record.
+    /// The record under a key, whose change is looked for first at a place.
+    pub(crate) fn get_at(&self, key: &RecordKey, place: usize) -> Option<&Record>
+        ensures { option_copied result ≡ finite.get self.now key.now }
+    {
+        match self.edits.get_at(key, place) {
+            Some(change) => change.as_ref(),
+            None => self.holdings.get(key),
+        }
+    }
+
+    /// Whether a key has a record. Those of a series are seen in its years.
+    pub(crate) fn has(&self, key: &RecordKey) -> bool
+        ensures { result ≡ is_some (finite.get self.now key.now) }
+    {
+        match date_of(key) {
+            Some((series, year)) if EARLIEST_YEAR <= year && year <= LATEST_YEAR => {
+                self.years(&series).has(year)
+            }
+            _ => self.get(key).is_some(),
+        }
+    }
+
+    /// The place of a key's change.
+    pub(crate) fn place(&self, key: &RecordKey) -> usize {
+        self.edits.place(key)
+    }
+
+    /// The figure of an activity's or a factor's record. The last change is looked at first, since rows of
+    /// one name often follow each other.
     pub(crate) fn figure(&self, key: &RecordKey) -> Option<Figure>
         ensures { result ≡ figure self.now key.now }
     {
-        match self.get(key) {
+        match self.get_at(key, self.edits.len().saturating_sub(1)) {
             Some(Record::Activity(figure) | Record::Factor(figure)) => Some(*figure),
             _ => None,
         }

@@ -93,6 +93,21 @@ impl Edits {
         self.changes.get(key)
     }
 
+    /// The change of a key, which is looked for first at a place.
+    pub(crate) fn get_at(&self, key: &RecordKey, place: usize) -> Option<&Option<Record>>
+        ensures { option_copied result ≡ find key_cmp key.now self.now }
+    {
+        match self.changes.get_index(place) {
+            Some((there, change)) if there == key => Some(change),
+            _ => self.get(key),
+        }
+    }
+
+    /// The place of a key's change; that behind the last where it has none.
+    pub(crate) fn place(&self, key: &RecordKey) -> usize {
+        self.changes.get_index_of(key).unwrap_or(self.changes.len())
+    }
+
     /// A line's record is removed.
     pub(crate) fn withdraws_line(&self, name: &Name) -> bool
         ensures { result ≡ is_taken (find key_cmp (key.Line name.now) self.now) }

@@ -8,6 +8,7 @@ mod calendar;
 mod draft;
 mod edits;
 mod holdings;
+mod lasting;
 mod limits;
 mod lookups;
 mod measures;
@@ -24,6 +25,7 @@ mod year_set;
 
 pub use book::{Book, after};
 pub use edits::Edits;
+pub use lasting::Lasting;
 pub use lookups::input_of_key;
 pub use parameters::params_of;
 pub use records::Records;

@@ -5,14 +5,16 @@ ghost use Rattle.ghg_definitions.specs.Data.{figure};
 ghost use Rattle.ghg_definitions.specs.Lookups.{activity_input, decay_input, decay_of_figure, factor_input, input_of_amount, input_of_figure, input_of_key, zero_input};
 ghost use Rattle.ghg_definitions.specs.Sound.{IsWorkbook};
 ghost use Rattle.ghg_interval.specs.Bounds.{AreBounded, point};
+ghost use Rattle.ghg_data.specs.Lasting.{IsLasting};
 ghost use Rattle.ghg_units.specs.Units.{converted};
 ghost use Rattle.ghg_units.specs.WellFormed.{IsAmountOf, IsFigure};
 
+use crate::lasting::Lasting;
 use crate::records::Records;
 use ghg_cell::Input;
 use ghg_definitions::{Record, RecordKey};
 use ghg_interval::Interval;
-use ghg_units::{Amount, Decimal, Figure, Name, NotationKey, Unit, to_interval};
+use ghg_units::{Amount, Decimal, Figure, LATEST_YEAR, Name, NotationKey, Unit, to_interval};
 
 /// What an activity's record of the year gives.
 pub(crate) fn activity<R: Records>(records: &R, name: &Name, year: u32) -> Input
@@ -20,6 +22,13 @@ pub(crate) fn activity<R: Records>(records: &R, name: &Name, year: u32) -> Input
     ensures workbook { IsWorkbook (R.content records.now) }
 {
     input(figure(records, &RecordKey::Activity(*name, year)))
+}
+
+/// The same. The record is looked for first at a place.
+pub(crate) fn activity_at<R: Records>(records: &R, name: &Name, year: u32, place: usize) -> Input
+    ensures { result ≡ activity_input (R.content records.now) name.now year }
+{
+    input(figure_at(records, &RecordKey::Activity(*name, year), place))
 }
 
 /// What a factor's record with the greatest start year that is not after the year gives.
@@ -30,6 +39,19 @@ pub(crate) fn factor<R: Records>(records: &R, name: &Name, year: u32) -> Input
     match records.start_year(name, year) {
         Some(start) => input(figure(records, &RecordKey::Factor(*name, start))),
         None => Input::Blank,
+    }
+}
+
+/// What a factor's record with the greatest start year gives.
+pub(crate) fn lasting_factor<R: Records>(records: &R, name: &Name) -> Lasting
+    ensures { IsLasting (R.content records.now) name.now result }
+{
+    match records.start_year(name, LATEST_YEAR) {
+        Some(first) => Lasting {
+            first,
+            input: input(figure(records, &RecordKey::Factor(*name, first))),
+        },
+        None => Lasting::blank(),
     }
 }
 
@@ -51,6 +73,18 @@ fn figure<'a, R: Records>(records: &'a R, key: &RecordKey) -> Option<&'a Figure>
     ensures workbook { IsWorkbook (R.content records.now) }
 {
     match records.get(key) {
+        Some(Record::Activity(figure)) => Some(figure),
+        Some(Record::Factor(figure)) => Some(figure),
+        _ => None,
+    }
+}
+
+// The same. The record is looked for first at a place.
+fn figure_at<'a, R: Records>(records: &'a R, key: &RecordKey, place: usize) -> Option<&'a Figure>
+    ensures figure { option_copied result ≡ figure (R.content records.now) key.now }
+    ensures keeps { IfSome result (λ f. IsFigure f.now) }
+{
+    match records.get_at(key, place) {
         Some(Record::Activity(figure)) => Some(figure),
         Some(Record::Factor(figure)) => Some(figure),
         _ => None,

@@ -12,7 +12,9 @@ ghost use Rattle.ghg_definitions.specs.Lookups.{activity, activity_input, decay,
 ghost use Rattle.ghg_definitions.specs.Sound.{IsWorkbook};
 ghost use Rattle.ghg_roots.specs.Decay.{decay_bounds};
 ghost use Rattle.ghg_units.specs.WellFormed.{IsHalfLife};
+ghost use Rattle.ghg_data.specs.Lasting.{IsLasting};
 
+use crate::lasting::Lasting;
 use crate::lookups;
 use crate::parameters::name_of;
 use ghg_categories::Category;
@@ -31,6 +33,15 @@ pub trait Records {
     fn get(&self, key: &RecordKey) -> Option<&Record>
         ensures record { option_copied result ≡ get (content self.now) key.now }
         ensures workbook { IsWorkbook (content self.now) };
+
+    /// The same. Where a place of the key is given, it may cost no search.
+    fn get_at(&self, key: &RecordKey, place: usize) -> Option<&Record>
+        ensures record { option_copied result ≡ get (content self.now) key.now }
+        ensures workbook { IsWorkbook (content self.now) };
+
+    /// A place of a key. Keys whose records were entered one after the other mostly have places that follow
+    /// each other.
+    fn place(&self, key: &RecordKey) -> usize;
 
     /// The years of the inventory; `None` exactly where there is no record of them.
     fn span(&self) -> Option<Span>
@@ -95,6 +106,13 @@ pub trait Records {
         lookups::activity(self, name, year)
     }
 
+    /// The same. Where a place of the activity's record is given, it may cost no search.
+    final fn activity_at(&self, name: &Name, year: u32, place: usize) -> Input
+        ensures { result ≡ activity_input (content self.now) name.now year }
+    {
+        lookups::activity_at(self, name, year, place)
+    }
+
     /// What a factor gives in a year: the figures in the base unit of the record with the greatest start year
     /// that is not after the year, which hold what is chosen likewise. Blank where there is none, or where it
     /// is not estimated.
@@ -103,6 +121,13 @@ pub trait Records {
         ensures holds { HoldsSource (content self.now) (factor (content self.now) name.now year) result }
     {
         lookups::factor(self, name, year)
+    }
+
+    /// What a factor gives from the start year of its last record on; a blank in all years where it has none.
+    final fn lasting_factor(&self, name: &Name) -> Lasting
+        ensures { IsLasting (content self.now) name.now result }
+    {
+        lookups::lasting_factor(self, name)
     }
 
     /// The share of decaying waste that a year leaves, by the half-life that a factor has in the year: the

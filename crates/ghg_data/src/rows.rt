@@ -74,7 +74,7 @@ pub(crate) fn row_fault(draft: &Draft<'_>, row: &Row) -> Option<Rule>
     if breaks_unit(draft, &row.form) {
         return Some(Rule::WrongUnit(row.number));
     }
-    presence_fault(row.number, row.act, draft.get(&key_of(&row.form)).is_some())
+    presence_fault(row.number, row.act, draft.has(&key_of(&row.form)))
 }
 
 // A global warming potential is a ratio.

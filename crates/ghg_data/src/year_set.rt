@@ -76,6 +76,16 @@ impl YearSet {
         }
     }
 
+    /// Whether it holds a year.
+    pub(crate) fn has(&self, year: u32) -> bool
+        ensures { result ≡ has_year self.now year }
+    {
+        match self.last_until(year) {
+            Some(found) => found == year,
+            None => false,
+        }
+    }
+
     // The first place from this one on that is taken.
     fn next_place(&self, from: u32) -> Option<u32>
         ensures { MatchOption result ((i : ℕ) → from ≤ i → has_place self.now i ≡ false)

@@ -1,4 +1,5 @@
 pub mod Links
+pub mod Gases
 pub mod Stops
 pub mod Walks
 pub mod Trails

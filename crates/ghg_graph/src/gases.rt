@@ -4,10 +4,11 @@ ghost use Rattle.std.specs.Prelude.{◌≡◌, IfOk};
 ghost use Rattle.ghg_definitions.specs.Compilation.{gas_lines, line_gas, potential};
 ghost use Rattle.ghg_definitions.specs.Data.{line_names};
 ghost use Rattle.ghg_definitions.specs.Lookups.{given};
+ghost use Rattle.ghg_graph.specs.Gases.{IsLastingPotential};
 
 use crate::numbers::equation_of;
 use ghg_cell::Input;
-use ghg_data::Records;
+use ghg_data::{Lasting, Records};
 use ghg_equations::{Gas, equation};
 use ghg_units::Name;
 use std::alloc::{AllocError, Global};
@@ -37,6 +38,17 @@ pub fn potential<R: Records>(records: &R, line: &Name, year: u32) -> Input
     match line_gas(records, line) {
         Some(gas) => records.factor(&Name::potential(gas), year),
         None => Input::Blank,
+    }
+}
+
+/// The global warming potential of a line's gas from the start year of its last record on; a blank in all
+/// years where the line emits none, or there is no record.
+pub fn lasting_potential<R: Records>(records: &R, line: &Name) -> Lasting
+    ensures { IsLastingPotential (R.content records.now) line.now result }
+{
+    match line_gas(records, line) {
+        Some(gas) => records.lasting_factor(&Name::potential(gas)),
+        None => Lasting::blank(),
     }
 }
 

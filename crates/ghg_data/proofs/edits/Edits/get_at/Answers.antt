@@ -1,0 +1,13 @@
+use Rattle.std.proofs.Common.{◌∙◌, sym, ap}
+use Rattle.std.specs.FinMap.{find}
+use Rattle.ghg_definitions.specs.Data.{key_cmp}
+use Rattle.ghg_definitions.proofs.Entries.{found}
+use Rattle.ghg_definitions.proofs.Keys.{equal_by, key_eq, key_ties, keys_same, keys_total}
+use Rattle.ghg_data.proofs.edits.Edits.get_at.Goals as goal
+
+pub returns-in-Some : goal.returns-in-Some
+returns-in-Some c =
+    let entries = c.self.inside.changes.entries in
+    let there = c.in-Some.there.now in
+    let same = keys_same there c.args.key.now (equal_by _ (sym (key_ties there c.args.key.now) ∙ sym c.eq.ensures ∙ c.if-eq.true)) in
+    sym c.in-Some.ensures.value ∙ found keys_total key_eq key_ties there entries ∙ ap (λ k. find key_cmp k entries) same ∙ ap (find key_cmp c.args.key.now) c.self.view_is
