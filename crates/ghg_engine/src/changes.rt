@@ -24,7 +24,11 @@ pub(crate) struct Changes {
 }
 
 impl Changes {
-    pub(crate) fn new(alloc: Global) -> Changes {
+    /// No changes. It takes no memory.
+    pub(crate) fn new(alloc: Global) -> Changes
+        ensures gone { result.gone.items ≡ [] }
+        ensures come { result.come.items ≡ [] }
+    {
         Changes {
             gone: Vec::new(alloc),
             come: Vec::new(alloc),
