@@ -170,7 +170,8 @@ const CASES: &[Case] = &[
         rows: "correct,activity,,WASTE,1990,70000,,,t,\n",
         count: 1 + 10 + 9 * 8,
     },
-    // The stock of each year, also of the first, and the eight of each year: all take the half-life.
+    // The stock of each year, also of the first, and the eight of each year: the stock and the decayed mass
+    // take the half-life.
     Case {
         earlier: &[LANDFILL, METHANE],
         lines: 0,
