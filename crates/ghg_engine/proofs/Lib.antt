@@ -17,6 +17,7 @@ pub mod Limits
 pub mod Held
 pub mod Ready
 pub mod Facts
+mod Each
 pub mod LineOutcomes
 pub mod Grouped
 pub mod InPlaces

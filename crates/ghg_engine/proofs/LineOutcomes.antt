@@ -5,18 +5,18 @@ use Rattle.ghg_cell.specs.declared.input.Input.{Input}
 use Rattle.ghg_cell.specs.Totals.{equation_outcome}
 use Rattle.ghg_cell.specs.Values.{is_blank, then}
 use Rattle.ghg_equations.specs.declared.eq_id.EqId.{EqId}
-use Rattle.ghg_equations.specs.declared.row.Param.{Param}
-use Rattle.ghg_equations.specs.Table.{Quantity, parameters, ◌of◌}
+use Rattle.ghg_equations.specs.Table.{Quantity, parameters}
 use Rattle.ghg_units.specs.declared.node.Node.TheVariants as node
 use Rattle.ghg_definitions.specs.Compilation.{bound_to, first_year, line_formula, sheet_of}
 use Rattle.ghg_definitions.specs.Data.{Data, Name, binding, line, span}
 use Rattle.ghg_definitions.specs.Formulas.{Operand, Outcome, gather, map_operand, operand_outcome}
 use Rattle.ghg_definitions.specs.Lookups.{Source, given}
 use Rattle.ghg_definitions.specs.Trials.{Outcomes, is_over}
-use Rattle.ghg_engine.specs.Arguments.{IsHeld, IsTaken, named_outcome, param_outcomes, parameter_outcomes}
+use Rattle.ghg_engine.specs.Arguments.{IsHeld, IsTaken, bound_outcomes, named_outcome, parameter_outcomes}
 use Rattle.ghg_engine.specs.declared.evaluated.Evaluated.{Evaluated}
 use Rattle.ghg_engine.specs.Evaluation.{IsEvaluatedAt}
 use Rattle.ghg_engine.specs.Cells.{outcome_in}
+use Rattle.ghg_engine.specs.declared.known.Bound.{Bound}
 use Rattle.ghg_engine.specs.declared.arguments.Arguments.{Arguments}
 use Rattle.ghg_engine.specs.declared.arguments.Taken.{Taken}
 use Rattle.ghg_engine.proofs.Gathered.{computed_evaluated, gather_stops}
@@ -29,29 +29,6 @@ module _ (m : Data) (cells : Outcomes) (name : Name) (year : ℕ) where
   operands_are : (qs : List Quantity) → map (operand_outcome (outcome_in cells)) (map (map_operand (given m)) (map operand qs)) ≡ parameter_outcomes m cells name year qs
   operands_are [] = refl
   operands_are (q ∷ qs) = ap (λ xs. named_outcome m cells name year q.name ∷ xs) (operands_are qs)
-
-  -- the parameters of the code are those of the table
-  pub params_are : (ps : List Param) → parameter_outcomes m cells name year (map (λ p. p.name.now of p.dim) ps) ≡ param_outcomes m cells name year ps
-  params_are [] = refl
-  params_are (p ∷ ps) = ap (λ xs. named_outcome m cells name year p.name.now ∷ xs) (params_are ps)
-
-  module _ (front : List Param) (p : Param) where
-    abbrev behind : List Outcome
-    behind = param_outcomes m cells name year front
-
-    one_behind : param_outcomes m cells name year (front ++ p ∷ []) ≡ behind ++ named_outcome m cells name year p.name.now ∷ []
-    one_behind = map-append (λ (q : Param). named_outcome m cells name year q.name.now) front (p ∷ [])
-
-    -- one more is taken
-    pub param_held : (old new : Arguments) (t : Taken) → IsHeld behind old → IsTaken (named_outcome m cells name year p.name.now) t →
-        new.inputs.items ≡ old.inputs.items ++ t.input ∷ [] → new.fit ≡ (old.fit && t.fits) → new.blank ≡ (old.blank || is_blank t.input) → IsHeld (param_outcomes m cells name year (front ++ p ∷ [])) new
-    param_held old new t held taken inputs fit blank = subst (λ xs. IsHeld xs new) (sym one_behind) (one_held behind old new (named_outcome m cells name year p.name.now) t held taken inputs fit blank)
-
-    -- or it is over
-    pub param_over : (back : List Param) (held : Arguments) → IsHeld behind held → named_outcome m cells name year p.name.now ≡ Err (record {}) → gather (param_outcomes m cells name year ((front ++ p ∷ []) ++ back)) ≡ Err (record {})
-    param_over back held is over =
-        ap gather (map-append (λ (q : Param). named_outcome m cells name year q.name.now) (front ++ p ∷ []) back ∙ ap (λ xs. xs ++ param_outcomes m cells name year back) one_behind)
-        ∙ gather_stops behind (param_outcomes m cells name year back) is.found (named_outcome m cells name year p.name.now) is.gathered over
 
   module _ (id : EqId) (is : line m name ≡ Some id) (e : Evaluated) where
     evaluated : e.outcome ≡ then (gather (parameter_outcomes m cells name year (parameters id))) (equation_outcome id) →
@@ -77,3 +54,37 @@ module _ (m : Data) (cells : Outcomes) (name : Name) (year : ℕ) where
         and_false : (b : Bool) → (b && false) ≡ false
         and_false true = refl
         and_false false = refl
+
+module _ (m : Data) (cells : Outcomes) (name : Name) (year : ℕ) where
+  abbrev gives : Name → Outcome
+  gives parameter = named_outcome m cells name year parameter
+
+  names_are : (qs : List Quantity) → map gives (map (λ q. q.name) qs) ≡ parameter_outcomes m cells name year qs
+  names_are [] = refl
+  names_are (q ∷ qs) = ap (λ xs. gives q.name ∷ xs) (names_are qs)
+
+  bounds_are : (bs : List Bound) → map gives (map (λ b. b.parameter) bs) ≡ bound_outcomes m cells name year bs
+  bounds_are [] = refl
+  bounds_are (b ∷ bs) = ap (λ xs. gives b.parameter ∷ xs) (bounds_are bs)
+
+  -- the parameters of the code are those of the table
+  pub outcomes_are : (bs : List Bound) (qs : List Quantity) → map (λ b. b.parameter) bs ≡ map (λ q. q.name) qs → bound_outcomes m cells name year bs ≡ parameter_outcomes m cells name year qs
+  outcomes_are bs qs are = sym (bounds_are bs) ∙ ap (map gives) are ∙ names_are qs
+
+  module _ (front : List Bound) (b : Bound) where
+    abbrev behind : List Outcome
+    behind = bound_outcomes m cells name year front
+
+    one_behind : bound_outcomes m cells name year (front ++ b ∷ []) ≡ behind ++ gives b.parameter ∷ []
+    one_behind = map-append (λ (x : Bound). gives x.parameter) front (b ∷ [])
+
+    -- one more is taken
+    pub bound_held : (old new : Arguments) (t : Taken) → IsHeld behind old → IsTaken (gives b.parameter) t →
+        new.inputs.items ≡ old.inputs.items ++ t.input ∷ [] → new.fit ≡ (old.fit && t.fits) → new.blank ≡ (old.blank || is_blank t.input) → IsHeld (bound_outcomes m cells name year (front ++ b ∷ [])) new
+    bound_held old new t held taken inputs fit blank = subst (λ xs. IsHeld xs new) (sym one_behind) (one_held behind old new (gives b.parameter) t held taken inputs fit blank)
+
+    -- or it is over
+    pub bound_over : (back : List Bound) (held : Arguments) → IsHeld behind held → gives b.parameter ≡ Err (record {}) → gather (bound_outcomes m cells name year ((front ++ b ∷ []) ++ back)) ≡ Err (record {})
+    bound_over back held is over =
+        ap gather (map-append (λ (x : Bound). gives x.parameter) (front ++ b ∷ []) back ∙ ap (λ xs. xs ++ bound_outcomes m cells name year back) one_behind)
+        ∙ gather_stops behind (bound_outcomes m cells name year back) is.found (gives b.parameter) is.gathered over

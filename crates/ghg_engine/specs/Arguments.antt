@@ -4,7 +4,6 @@ use Rattle.std.specs.List.{list_all, list_any}
 use Rattle.ghg_cell.specs.declared.input.Input.{Input}
 use Rattle.ghg_cell.specs.Totals.{is_limited}
 use Rattle.ghg_cell.specs.Values.{is_blank}
-use Rattle.ghg_equations.specs.declared.row.Param.{Param}
 use Rattle.ghg_equations.specs.Table.{Quantity}
 use Rattle.ghg_units.specs.declared.node.Node.{Node}
 use Rattle.ghg_definitions.specs.Compilation.{bound_to, first_year}
@@ -13,6 +12,7 @@ use Rattle.ghg_definitions.specs.Formulas.{Outcome, SumOf, gather, map_operand, 
 use Rattle.ghg_definitions.specs.Lookups.{given, zero_input}
 use Rattle.ghg_engine.specs.declared.arguments.Arguments.{Arguments}
 use Rattle.ghg_engine.specs.declared.arguments.Taken.{Taken}
+use Rattle.ghg_engine.specs.declared.known.Bound.{Bound}
 use Rattle.ghg_definitions.specs.Trials.{Outcomes}
 use Rattle.ghg_engine.specs.Cells.{outcome_in}
 
@@ -31,8 +31,8 @@ abbrev pub parameter_outcomes : Data → Outcomes → Name → ℕ → List Quan
 parameter_outcomes m outcomes line year qs = map (λ q. named_outcome m outcomes line year q.name) qs
 
 -- the same, of parameters as the code has them
-abbrev pub param_outcomes : Data → Outcomes → Name → ℕ → List Param → List Outcome
-param_outcomes m outcomes line year ps = map (λ p. named_outcome m outcomes line year p.name.now) ps
+abbrev pub bound_outcomes : Data → Outcomes → Name → ℕ → List Bound → List Outcome
+bound_outcomes m outcomes line year bs = map (λ b. named_outcome m outcomes line year b.parameter) bs
 
 -- ---- what is taken
 

@@ -5,7 +5,6 @@ ghost use Rattle.std.specs.List.{AllByRecursion};
 ghost use Rattle.ghg_equations.specs.Table.{parameters};
 ghost use Rattle.ghg_cell.specs.Totals.{equation_outcome};
 ghost use Rattle.ghg_cell.specs.Values.{is_blank, then};
-ghost use Rattle.ghg_units.specs.Parameter.{is_parameter};
 ghost use Rattle.ghg_definitions.specs.Compilation.{first_year};
 ghost use Rattle.ghg_definitions.specs.Data.{span};
 ghost use Rattle.ghg_definitions.specs.Formulas.{Outcome, gather, nodes_in, operand_outcome};
@@ -13,18 +12,20 @@ ghost use Rattle.ghg_definitions.specs.Sound.{IsWorkbook};
 ghost use Rattle.ghg_definitions.specs.Lookups.{zero_input};
 ghost use Rattle.ghg_definitions.specs.Rules.{most_lines};
 ghost use Rattle.ghg_graph.specs.Operands.{operand_of};
-ghost use Rattle.ghg_engine.specs.Arguments.{AreGathered, IsArgument, IsHeld, IsTaken, param_outcomes, parameter_outcomes, sum_outcome};
+ghost use Rattle.ghg_engine.specs.Arguments.{AreGathered, IsArgument, IsHeld, IsTaken, bound_outcomes, parameter_outcomes, sum_outcome};
 ghost use Rattle.ghg_engine.specs.Cells.{outcome_in};
+ghost use Rattle.ghg_engine.specs.Known.{IsBound, IsKnownLine};
 ghost use Rattle.ghg_engine.specs.Overlays.{outcomes_of};
 ghost use Rattle.ghg_engine.specs.Parts.{nodes_for};
 
 use crate::equations::evaluate;
+use crate::known::{Bound, KnownLine};
 use crate::overlay::Overlay;
 use crate::parts::{Part, gather_parts};
 use ghg_cell::{Input, Ticket, Value, sum};
-use ghg_data::{Records, input_of_key, params_of};
-use ghg_equations::{EqId, Param};
-use ghg_graph::{Operand, bound_operand};
+use ghg_data::{Records, input_of_key};
+use ghg_equations::EqId;
+use ghg_graph::Operand;
 use ghg_interval::Over;
 use ghg_units::{Name, NotationKey};
 use std::alloc::{AllocError, Global};
@@ -99,44 +100,45 @@ impl Arguments {
         records: &R,
         cells: &Overlay<'_>,
         first: u32,
-        line: &Name,
-        id: EqId,
+        name: &Name,
+        line: &KnownLine,
         year: u32,
     ) -> Result<bool, AllocError>
         requires workbook { IsWorkbook (R.content records.now) }
+        requires line { IsKnownLine (R.content records.now) name.now line.now }
         requires first { first ≡ first_year (span (R.content records.now)) }
         ensures { IfOk result (AreGathered
-            (parameter_outcomes (R.content records.now) (outcomes_of cells.now) line.now year (parameters id))
-            self.new) }
+            (parameter_outcomes (R.content records.now) (outcomes_of cells.now) name.now year
+            (parameters line.now.id)) self.new) }
     {
         self.inputs.clear();
         self.fit = true;
         self.blank = false;
-        self.gather_params(records, cells, first, line, params_of(id), year)
+        self.gather_bounds(records, cells, first, name, &line.bounds, year)
     }
 
-    // Gathers what these parameters take.
-    fn gather_params<R: Records>(
+    // Gathers what these parameters of a line take.
+    fn gather_bounds<R: Records>(
         &mut self,
         records: &R,
         cells: &Overlay<'_>,
         first: u32,
         line: &Name,
-        params: &[Param],
+        bounds: &[Bound],
         year: u32,
     ) -> Result<bool, AllocError>
         requires workbook { IsWorkbook (R.content records.now) }
+        requires bounds { AllByRecursion (IsBound (R.content records.now) line.now) bounds.now }
         requires first { first ≡ first_year (span (R.content records.now)) }
-        requires named { AllByRecursion (λ p. is_parameter p.name.now ≡ true) params.now }
         requires empty { self.old.inputs.items ≡ [] }
         requires fit { self.old.fit ≡ true }
         requires blank { self.old.blank ≡ false }
         ensures { IfOk result (AreGathered
-            (param_outcomes (R.content records.now) (outcomes_of cells.now) line.now year params.now)
+            (bound_outcomes (R.content records.now) (outcomes_of cells.now) line.now year bounds.now)
             self.new) }
     {
-        for param in params {
-            let operand = bound_operand(records, first, records.bound(line, param), year);
+        for bound in bounds {
+            let operand = bound.operand(records, first, line, year);
             let Some(taken) = argument(cells, &operand, &mut self.parts)? else {
                 return Ok(false);
             };

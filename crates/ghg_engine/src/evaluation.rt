@@ -15,6 +15,7 @@ ghost use Rattle.ghg_engine.specs.Cells.{cell_at};
 ghost use Rattle.ghg_engine.specs.Changes.{AreChangedLines, AreNamesOf, IsBefore, IsReadyFrom, IsResummed, equivalent_line};
 ghost use Rattle.ghg_engine.specs.Evaluation.{AreEvaluated, AreKept, IsEvaluatedAt, IsOutcomeOf, IsReady, IsTotalOf};
 ghost use Rattle.ghg_engine.specs.Grouping.{IsGrouping};
+ghost use Rattle.ghg_engine.specs.Known.{IsKnown, IsKnownLine};
 ghost use Rattle.ghg_engine.specs.Overlays.{outcomes_of};
 ghost use Rattle.ghg_engine.specs.Parts.{addends_for};
 ghost use Rattle.ghg_engine.specs.Proposals.{IfOverflow};
@@ -24,12 +25,13 @@ use crate::cells::Cells;
 use crate::changes::Changes;
 use crate::evaluated::Evaluated;
 use crate::groups::Groups;
+use crate::known::{Known, KnownLine, Turn};
 use crate::overlay::Overlay;
 use crate::parts::{Addends, Part, gather_addends, gather_parts};
 use crate::refusal::EngineRefusal;
 use ghg_cell::{Input, MOST_PARTS, Permits, Ticket, equiv, total, total_from};
 use ghg_data::Records;
-use ghg_graph::{first_year, potential};
+use ghg_graph::first_year;
 use ghg_interval::Over;
 use ghg_units::{Name, Node};
 use std::alloc::{AllocError, Global};
@@ -61,6 +63,7 @@ pub(crate) fn evaluate_all<R: Records, C: ghg_graph::Cells>(
         (IfOverflow (λ n. least_break (R.content records.now) nodes.now ≡ Some n)) }
 {
     let first = first_year(records);
+    let known = Known::of(alloc, records, nodes)?;
     let from = with_lines(alloc, records, before, nodes)?;
     let mut permits = permits;
     let mut buffers = Buffers::new(alloc);
@@ -70,6 +73,7 @@ pub(crate) fn evaluate_all<R: Records, C: ghg_graph::Cells>(
         let ticket = permits.ticket().unwrap();
         let evaluated = evaluate(
             records,
+            &known,
             groups,
             &from,
             &cells,
@@ -143,6 +147,7 @@ fn equivalent_line(node: &Node) -> Option<Name>
 // What the evaluations of nodes share.
 #[derive(Drop)]
 struct Buffers {
+    turn: Turn,
     arguments: Arguments,
     parts: Vec<Input>,
     changes: Changes,
@@ -151,6 +156,7 @@ struct Buffers {
 impl Buffers {
     fn new(alloc: Global) -> Buffers {
         Buffers {
+            turn: Turn::new(),
             arguments: Arguments::new(alloc),
             parts: Vec::new(alloc),
             changes: Changes::new(alloc),
@@ -182,6 +188,7 @@ fn lesser(node: &Node, least: &Option<Node>) -> Node
 // inventory.
 fn evaluate<R: Records, C: ghg_graph::Cells>(
     records: &R,
+    known: &Known,
     groups: &Groups,
     before: &Option<Before<'_, C>>,
     cells: &Overlay<'_>,
@@ -192,6 +199,7 @@ fn evaluate<R: Records, C: ghg_graph::Cells>(
 ) -> Result<Evaluated, AllocError>
     requires workbook { IsWorkbook (R.content records.now) }
     requires acyclic { IsAcyclic (R.content records.now) }
+    requires known { IsKnown (R.content records.now) known.now }
     requires groups { IsGrouping (R.content records.now) groups.now }
     requires first { first ≡ first_year (span (R.content records.now)) }
     requires ready { IsReady (R.content records.now) (outcomes_of cells.now) node.now }
@@ -201,10 +209,20 @@ fn evaluate<R: Records, C: ghg_graph::Cells>(
 {
     match node {
         Node::Line(name, year) => {
-            let arguments = &mut buffers.arguments;
-            line(records, cells, first, name, *year, ticket, arguments)
+            let Buffers {
+                turn,
+                arguments,
+                ..
+            } = buffers;
+            let place = turn.next_line(*year);
+            line(
+                records, known, place, cells, first, name, *year, ticket, arguments,
+            )
         }
-        Node::Equiv(name, year) => Ok(equivalent(records, cells, name, *year, ticket)),
+        Node::Equiv(name, year) => {
+            let place = buffers.turn.next_emitter(*year);
+            Ok(equivalent(records, known, place, cells, name, *year, ticket))
+        }
         Node::Total(category, year) => {
             let addends = groups.total(*category);
             match before {
@@ -265,9 +283,12 @@ fn sum_from<C: ghg_graph::Cells>(
     sum(cells, addends, year, ticket, parts)
 }
 
-// Evaluates a line's equation over what its parameters take.
+// Evaluates a line's equation over what its parameters take. A line that is known at the place is not looked
+// up again.
 fn line<R: Records>(
     records: &R,
+    known: &Known,
+    place: usize,
     cells: &Overlay<'_>,
     first: u32,
     name: &Name,
@@ -276,33 +297,62 @@ fn line<R: Records>(
     arguments: &mut Arguments,
 ) -> Result<Evaluated, AllocError>
     requires workbook { IsWorkbook (R.content records.now) }
+    requires known { IsKnown (R.content records.now) known.now }
     requires first { first ≡ first_year (span (R.content records.now)) }
     ensures { IfOk result (IsEvaluatedAt (sheet_of (R.content records.now)) (outcomes_of cells.now)
         (Node.Line name.now year)) }
 {
-    let Some((_, id)) = records.line(name) else {
-        return Ok(Evaluated::of(total(ticket, &[])));
-    };
-    if arguments.gather(records, cells, first, name, id, year)? {
-        Ok(Evaluated::of(arguments.value(id, ticket)))
+    if let Some(line) = known.line(place, name) {
+        return known_line(records, cells, first, name, line, year, ticket, arguments);
+    }
+    match KnownLine::of(known.alloc, records, name, year)? {
+        Some(line) => known_line(records, cells, first, name, &line, year, ticket, arguments),
+        None => Ok(Evaluated::of(total(ticket, &[]))),
+    }
+}
+
+fn known_line<R: Records>(
+    records: &R,
+    cells: &Overlay<'_>,
+    first: u32,
+    name: &Name,
+    line: &KnownLine,
+    year: u32,
+    ticket: Ticket,
+    arguments: &mut Arguments,
+) -> Result<Evaluated, AllocError>
+    requires workbook { IsWorkbook (R.content records.now) }
+    requires line { IsKnownLine (R.content records.now) name.now line.now }
+    requires first { first ≡ first_year (span (R.content records.now)) }
+    ensures { IfOk result (IsEvaluatedAt (sheet_of (R.content records.now)) (outcomes_of cells.now)
+        (Node.Line name.now year)) }
+{
+    if arguments.gather(records, cells, first, name, line, year)? {
+        Ok(Evaluated::of(arguments.value(line.id, ticket)))
     } else {
         Ok(Evaluated::passed_on())
     }
 }
 
-// Evaluates the equivalent of a line.
+// Evaluates the equivalent of a line. The line is a known emitter if it stands at the place.
 fn equivalent<R: Records>(
     records: &R,
+    known: &Known,
+    place: usize,
     cells: &Overlay<'_>,
     name: &Name,
     year: u32,
     ticket: Ticket,
 ) -> Evaluated
+    requires { IsKnown (R.content records.now) known.now }
     ensures { IsEvaluatedAt (sheet_of (R.content records.now)) (outcomes_of cells.now)
         (Node.Equiv name.now year) result }
 {
     match cells.outcome(&Node::Line(*name, year)) {
-        Ok(value) => Evaluated::of(equiv(ticket, &value, &potential(records, name, year))),
+        Ok(value) => {
+            let potential = known.potential(records, place, name, year);
+            Evaluated::of(equiv(ticket, &value, &potential))
+        }
         Err(Over) => Evaluated::passed_on(),
     }
 }

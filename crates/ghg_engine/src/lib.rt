@@ -11,6 +11,7 @@ mod equations;
 mod evaluated;
 mod evaluation;
 mod groups;
+mod known;
 mod layout;
 mod nodes;
 mod overlay;

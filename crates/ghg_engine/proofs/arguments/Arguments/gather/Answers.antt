@@ -1,12 +1,15 @@
-use Rattle.std.proofs.Common.{ap, ◌∙◌, sym, subst, IfOk}
+use Rattle.std.proofs.Common.{◌∙◌, ap, subst, IfOk}
+use Rattle.ghg_equations.specs.Table.{parameters}
 use Rattle.ghg_engine.specs.Overlays.{outcomes_of}
-use Rattle.ghg_engine.specs.Arguments.{AreGathered, parameter_outcomes}
-use Rattle.ghg_engine.proofs.LineOutcomes.{params_are}
+use Rattle.ghg_engine.specs.Arguments.{AreGathered, bound_outcomes}
+use Rattle.ghg_engine.proofs.LineOutcomes.{outcomes_are}
 use Rattle.ghg_engine.proofs.arguments.Arguments.gather.Goals as goal
 
 pub returns : goal.returns
 returns g c =
     let m = g.R.Records.content c.args.records.now in
-    subst (λ xs. IfOk c.gather_params.result (AreGathered xs c.gather_params.new.self))
-    (sym (params_are m (outcomes_of c.args.cells.now) c.args.line.now c.args.year c.params_of.result.now) ∙ ap (parameter_outcomes m (outcomes_of c.args.cells.now) c.args.line.now c.args.year) c.params_of.ensures.table)
-    c.gather_params.ensures
+    let cells = outcomes_of c.args.cells.now in
+    let line = c.args.line.now in
+    subst (λ xs. IfOk c.gather_bounds.result (AreGathered xs c.gather_bounds.new.self))
+    (ap (bound_outcomes m cells c.args.name.now c.args.year) c.deref.ensures.value ∙ outcomes_are m cells c.args.name.now c.args.year line.bounds.items (parameters line.id) c.requires.line.names)
+    c.gather_bounds.ensures

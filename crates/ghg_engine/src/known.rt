@@ -1,0 +1,322 @@
+//! What is looked up of lines once for all years.
+
+ghost use Rattle.std.specs.Prelude.{◌≡◌, true, map, option_copied, IfOk, IfSome, OnOk, None};
+ghost use Rattle.std.specs.List.{AllByRecursion};
+ghost use Rattle.ghg_units.specs.Parameter.{is_parameter};
+ghost use Rattle.ghg_definitions.specs.Compilation.{bound_to, line_gas, potential};
+ghost use Rattle.ghg_definitions.specs.Data.{Data, binding, line};
+ghost use Rattle.ghg_definitions.specs.Formulas.{map_operand};
+ghost use Rattle.ghg_definitions.specs.Lookups.{factor_input, given};
+ghost use Rattle.ghg_data.specs.Lasting.{IsLasting};
+ghost use Rattle.ghg_graph.specs.Gases.{IsLastingPotential};
+ghost use Rattle.ghg_graph.specs.Operands.{operand_of};
+ghost use Rattle.ghg_engine.specs.Known.{IsBound, IsKnown, IsKnownLine, IsSource};
+
+use crate::series::year_of;
+use ghg_cell::Input;
+use ghg_data::{Lasting, Records, params_of};
+use ghg_definitions::RecordKey;
+use ghg_equations::{EqId, Param};
+use ghg_graph::{Operand, bound_operand, lasting_potential, potential};
+use ghg_units::{Binding, Name, Node, ParamName};
+use std::alloc::{AllocError, Global};
+
+/// A parameter of a line, and what it is bound to.
+#[derive(Clone, Copy, Drop)]
+pub(crate) struct Bound {
+    parameter: ParamName,
+    source: Source,
+}
+
+// What a parameter is bound to, as far as it is kept.
+#[derive(Clone, Copy, Drop)]
+enum Source {
+    // An activity, and where its record of a year may stand.
+    Activity(Name, usize, u32),
+    // A factor, and what it gives from a year on.
+    Factor(Name, Lasting),
+    // A line.
+    Line(Name),
+    // What is looked up for each year.
+    Other,
+}
+
+impl Bound {
+    // A parameter of a line. The year is the first in which it is evaluated.
+    fn of<R: Records>(records: &R, line: &Name, param: &Param, year: u32) -> Bound
+        requires { is_parameter param.now.name.now ≡ true }
+        ensures parameter { result.parameter ≡ param.now.name.now }
+        ensures bound { IsBound (R.content records.now) line.now result }
+    {
+        Bound {
+            parameter: ParamName::new(param.name.as_bytes()).unwrap(),
+            source: source_of(records, records.bound(line, param), year),
+        }
+    }
+
+    /// What it gives in a year of an inventory that begins with `first`.
+    pub(crate) fn operand<'a, R: Records>(
+        &self,
+        records: &'a R,
+        first: u32,
+        line: &Name,
+        year: u32,
+    ) -> Operand<'a>
+        requires { IsBound (R.content records.now) line.now self.now }
+        ensures { operand_of result ≡ map_operand (given (R.content records.now))
+            (bound_to (R.content records.now) first year
+            (binding (R.content records.now) line.now self.now.parameter)) }
+    {
+        match &self.source {
+            Source::Activity(name, place, from) => {
+                Operand::Given(records.activity_at(name, year, place_in(*place, *from, year)))
+            }
+            Source::Factor(name, lasting) => Operand::Given(factor(records, name, year, lasting)),
+            Source::Line(name) => Operand::Value(Node::Line(*name, year)),
+            Source::Other => {
+                let binding = records.binding(line, &self.parameter);
+                bound_operand(records, first, binding, year)
+            }
+        }
+    }
+}
+
+fn source_of<R: Records>(records: &R, binding: Option<&Binding>, year: u32) -> Source
+    ensures { IsSource (R.content records.now) (option_copied binding.entry) result }
+{
+    match binding {
+        Some(Binding::Activity(name)) => {
+            let place = records.place(&RecordKey::Activity(*name, year));
+            Source::Activity(*name, place, year)
+        }
+        Some(Binding::Factor(name)) => Source::Factor(*name, records.lasting_factor(name)),
+        Some(Binding::Line(name)) => Source::Line(*name),
+        _ => Source::Other,
+    }
+}
+
+// Where the record of a year may stand if that of another year stands at a place: rows of one activity mostly
+// follow each other, year by year.
+fn place_in(place: usize, from: u32, year: u32) -> usize {
+    place.saturating_add(year.saturating_sub(from) as usize)
+}
+
+// What a factor gives in a year.
+fn factor<R: Records>(records: &R, name: &Name, year: u32, lasting: &Lasting) -> Input
+    requires { IsLasting (R.content records.now) name.now lasting.now }
+    ensures { result ≡ factor_input (R.content records.now) name.now year }
+{
+    match lasting.in_year(year) {
+        Some(input) => input,
+        None => records.factor(name, year),
+    }
+}
+
+/// A line with its equation, and the parameters of this, in their order.
+#[derive(Drop)]
+pub(crate) struct KnownLine {
+    name: Name,
+    pub(crate) id: EqId,
+    pub(crate) bounds: Vec<Bound>,
+}
+
+impl KnownLine {
+    /// A line that is present. The year is the first in which it is evaluated.
+    pub(crate) fn of<R: Records>(
+        alloc: Global,
+        records: &R,
+        name: &Name,
+        year: u32,
+    ) -> Result<Option<KnownLine>, AllocError>
+        ensures none { IfOk result (λ o. o ≡ None → line (R.content records.now) name.now ≡ None) }
+        ensures some { IfOk result (λ o. IfSome o (λ l. (l.name ≡ name.now) ×
+            IsKnownLine (R.content records.now) name.now l)) }
+    {
+        let Some((_, id)) = records.line(name) else {
+            return Ok(None);
+        };
+        let bounds = bounds_of(alloc, records, name, params_of(id), year)?;
+        Ok(Some(KnownLine {
+            name: *name,
+            id,
+            bounds,
+        }))
+    }
+}
+
+fn bounds_of<R: Records>(
+    alloc: Global,
+    records: &R,
+    name: &Name,
+    params: &[Param],
+    year: u32,
+) -> Result<Vec<Bound>, AllocError>
+    requires { AllByRecursion (λ p. is_parameter p.name.now ≡ true) params.now }
+    ensures parameters { IfOk result (λ bs. map (λ b. b.parameter) bs.items ≡
+        map (λ p. p.name.now) params.now) }
+    ensures bounds { IfOk result (λ bs. AllByRecursion (IsBound (R.content records.now) name.now) bs.items) }
+{
+    let mut bounds = Vec::with_capacity(alloc, params.len())?;
+    for param in params {
+        bounds.push(Bound::of(records, name, param, year))?;
+    }
+    Ok(bounds)
+}
+
+/// A line that emits a gas, and the warming potential of this.
+#[derive(Clone, Copy, Drop)]
+pub(crate) struct Emitter {
+    name: Name,
+    potential: Lasting,
+}
+
+/// The lines and the emitters with which nodes begin, in their order.
+#[derive(Drop)]
+pub(crate) struct Known {
+    pub(crate) alloc: Global,
+    lines: Vec<KnownLine>,
+    emitters: Vec<Emitter>,
+}
+
+impl Known {
+    /// The lines and the emitters of the first year of nodes, of which the lines come first, and the emitters
+    /// next.
+    pub(crate) fn of<R: Records>(
+        alloc: Global,
+        records: &R,
+        nodes: &[Node],
+    ) -> Result<Known, AllocError>
+        ensures { IfOk result (IsKnown (R.content records.now)) }
+    {
+        let mut known = Known {
+            alloc,
+            lines: Vec::new(alloc),
+            emitters: Vec::new(alloc),
+        };
+        let Some(begin) = nodes.first() else {
+            return Ok(known);
+        };
+        let first = year_of(begin);
+        for node in nodes {
+            match node {
+                Node::Line(name, year) if *year == first => known.add_line(records, name, first)?,
+                Node::Equiv(name, year) if *year == first => known.add_emitter(records, name)?,
+                _ => return Ok(known),
+            }
+        }
+        Ok(known)
+    }
+
+    fn add_line<R: Records>(
+        &mut self,
+        records: &R,
+        name: &Name,
+        year: u32,
+    ) -> Result<(), AllocError>
+        requires { IsKnown (R.content records.now) self.old }
+        ensures { OnOk result (IsKnown (R.content records.now) self.new) }
+    {
+        match KnownLine::of(self.alloc, records, name, year)? {
+            Some(line) => {
+                self.lines.push(line)?;
+                Ok(())
+            }
+            None => Ok(()),
+        }
+    }
+
+    fn add_emitter<R: Records>(&mut self, records: &R, name: &Name) -> Result<(), AllocError>
+        requires { IsKnown (R.content records.now) self.old }
+        ensures { OnOk result (IsKnown (R.content records.now) self.new) }
+    {
+        self.emitters.push(Emitter {
+            name: *name,
+            potential: lasting_potential(records, name),
+        })?;
+        Ok(())
+    }
+
+    /// A line, if it stands at the place.
+    pub(crate) fn line(&self, place: usize, name: &Name) -> Option<&KnownLine>
+        ensures { IfSome result (λ l. (m : Data) → IsKnown m self.now → IsKnownLine m name.now l.now) }
+    {
+        match self.lines.get(place) {
+            Some(line) if line.name == *name => Some(line),
+            _ => None,
+        }
+    }
+
+    /// The warming potential of the gas of a line in a year. It is known if the line stands at the place.
+    pub(crate) fn potential<R: Records>(
+        &self,
+        records: &R,
+        place: usize,
+        name: &Name,
+        year: u32,
+    ) -> Input
+        requires { IsKnown (R.content records.now) self.now }
+        ensures { result ≡ given (R.content records.now)
+            (potential (R.content records.now) year (line_gas (R.content records.now) name.now)) }
+    {
+        match self.lasting(place, name).in_year(year) {
+            Some(input) => input,
+            None => potential(records, name, year),
+        }
+    }
+
+    // The warming potential of the gas of a line, if the line stands at the place.
+    fn lasting(&self, place: usize, name: &Name) -> Lasting
+        ensures { (m : Data) → IsKnown m self.now → IsLastingPotential m name.now result }
+    {
+        match self.emitters.get(place) {
+            Some(emitter) if emitter.name == *name => emitter.potential,
+            _ => Lasting::nothing(),
+        }
+    }
+}
+
+/// Which of the known lines and emitters come next, if those of a year come as those of the first.
+#[derive(Clone, Copy, Drop)]
+pub(crate) struct Turn {
+    year: u32,
+    line: usize,
+    emitter: usize,
+}
+
+impl Turn {
+    /// The first of them.
+    pub(crate) fn new() -> Turn {
+        Turn {
+            year: 0,
+            line: 0,
+            emitter: 0,
+        }
+    }
+
+    /// The place of the line that is likely to come next.
+    pub(crate) fn next_line(&mut self, year: u32) -> usize {
+        self.begin(year);
+        let place = self.line;
+        self.line = place.saturating_add(1);
+        place
+    }
+
+    /// The place of the emitter that is likely to come next.
+    pub(crate) fn next_emitter(&mut self, year: u32) -> usize {
+        self.begin(year);
+        let place = self.emitter;
+        self.emitter = place.saturating_add(1);
+        place
+    }
+
+    // Begins another year.
+    fn begin(&mut self, year: u32) {
+        if year != self.year {
+            *self = Turn {
+                year,
+                line: 0,
+                emitter: 0,
+            };
+        }
+    }
+}
