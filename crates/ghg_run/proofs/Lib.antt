@@ -1,3 +1,4 @@
+mod Known
 mod Links
 mod Quiet
 mod Stored

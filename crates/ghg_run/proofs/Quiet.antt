@@ -9,9 +9,10 @@ use Rattle.ghg_session.specs.Session.{Outcome}
 use Rattle.ghg_session.specs.Writing.{StoppedWriting, stop_status}
 use Rattle.ghg_session.proofs.Stops.{input_is_not_written}
 use Rattle.ghg_run.specs.Opening.{ReportsRow}
-use Rattle.ghg_run.specs.Run.{IsRun, NoCommandRun, usage}
+use Rattle.ghg_run.specs.Run.{IsRun, NoCommandRun, bad_command_line}
 use Rattle.ghg_run.specs.World.{ActsOutside, Reports, WholeRun, World}
 use Rattle.ghg_session.proofs.Statuses.{one_stop, stop_is_no_door, stop_of}
+use Rattle.ghg_run.proofs.Known.{is_run}
 
 -- ---- nothing is written
 
@@ -103,12 +104,9 @@ not_the_keeper before after due status none (inr stopped) six =
 
 pub no_command_run : (run : WholeRun) → NoCommandRun run → run.before.shelf.faults ≤ run.after.shelf.faults
     → run.before.door.faults ≤ run.after.door.faults → IsRun None run
-no_command_run run does counts door = record {
-  does = does;
-  outside = reports_acts run.before run.after usage (refl, λ e. cc) does.input counts door run.status does.told;
-  words = λ _. refl;
-  store = λ six. absurd (not_the_keeper run.before.output run.after.output usage run.status (refl, λ e. cc) does.told six);
-}
+no_command_run run does counts door = is_run None run does
+    (reports_acts run.before run.after bad_command_line (refl, λ e. cc) does.input counts door run.status does.told) (λ _. refl)
+    (λ six. absurd (not_the_keeper run.before.output run.after.output bad_command_line run.status (refl, λ e. cc) does.told six))
 
 pub row_acts : (before after : World) (line : List ℕ) (status : ℕ) → after.input ≡ before.input
     → before.shelf.faults ≤ after.shelf.faults → before.door.faults ≤ after.door.faults

@@ -9,7 +9,7 @@ use Rattle.ghg_outer.proofs.Tapes.{appends_more, consumes_more, rose_later}
 use Rattle.ghg_session.specs.Session.{Snapshot}
 use Rattle.ghg_run.specs.Compile.{AnswersInput, CompileRun}
 use Rattle.ghg_run.specs.Opening.{BeginsNot, FailsAtOnce, HadRows, IsInUse, IsKeptIn, OfficeRun, Opens, RefusesRow, RunsOffice}
-use Rattle.ghg_run.specs.Serve.{ServeRun, ServesLinks, office_at, station}
+use Rattle.ghg_run.specs.Serve.{ServeRun, Serves, ServesLinks, office_at, station}
 use Rattle.ghg_run.specs.World.{ActsOutside, WholeRun, World, office_in, whole_run}
 use Rattle.ghg_words.specs.declared.command.Service.{Service}
 use Rattle.ghg_run.proofs.Links.{serving_since}
@@ -84,13 +84,6 @@ stored_script name before mid after office last status opened had kept does =
 pub plain_script : (before after : World) (last : State) (status : ℕ)
     → AnswersInput (office_in before start) (office_in after last) status → CompileRun None (whole_run before after status)
 plain_script before after last status does = inr (plain_run (whole_run before after status) last _ does)
-
--- what an office did that served links, and wrote nothing to the output
-abbrev Serves : Service → WholeRun → Snapshot State → Snapshot State → Type 0
-Serves service run from to =
-    ServesLinks service (station (office_at from.state from.steps) run.before.shelf run.before.door)
-    (station (office_at to.state to.steps) run.after.shelf run.after.door) run.status
-    × (to.output ≡ from.output)
 
 pub stored_serving : (name : List ℕ) (service : Service) (before mid after : World) (office last : State) (status : ℕ)
     → service.settings.store ≡ Some name → Opens name before mid (Ok office) → IsKeptIn name mid.shelf office.accepted

@@ -9,7 +9,7 @@ use Rattle.ghg_run.specs.Bounds.{AreSoundLines}
 use Rattle.ghg_run.specs.Opening.{RunsOffice}
 use Rattle.ghg_run.specs.World.{WholeRun}
 
--- An office answered the script that the input holds.
+-- What an office did of the script that the input holds.
 pub record AnswersInput (from to : Snapshot State) (status : ℕ) : Type 0 where
   pub script : ScriptRun protocol from to status
   -- In each table among the replies to any requests, so to those that were read and to those that are due,
@@ -17,5 +17,6 @@ pub record AnswersInput (from to : Snapshot State) (status : ℕ) : Type 0 where
   -- their supplied bounds.
   pub bounds : (requests : List Request) → EachReply protocol AreSoundLines from.state requests
 
+-- The office that the run begins with did that, or there was none.
 abbrev pub CompileRun : Option (List ℕ) → WholeRun → Type 0
 CompileRun store run = RunsOffice store run (λ from to. AnswersInput from to run.status)

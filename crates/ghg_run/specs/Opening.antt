@@ -86,8 +86,8 @@ abbrev pub BeginsNot : Option (List ℕ) → World → World → ℕ → Type 0
 BeginsNot None before after status = ⊥
 BeginsNot (Some name) before after status = OpensNone name before after status
 
--- This holds of the office that the run begins with, from its beginning to its end. Where a store is named,
--- the accepted submissions are kept in it in the end, whatever the status.
+-- The run begins with an office, and `holds` is true of where that begins and where it ends. Where a store is
+-- named, the accepted submissions are kept in it in the end, whatever the status.
 pub record OfficeRun (store : Option (List ℕ)) (run : WholeRun)
     (holds : Snapshot State → Snapshot State → Type 0) : Type 0 where
   pub from : Snapshot State
@@ -96,7 +96,7 @@ pub record OfficeRun (store : Option (List ℕ)) (run : WholeRun)
   pub does : holds from (office_in run.after last)
   pub kept : IfSome store (λ name. IsKeptIn name run.after.shelf last.accepted)
 
--- This holds of the office that the run begins with, or there was none.
+-- The run begins with an office of which `holds` is true, or with none.
 abbrev pub RunsOffice : Option (List ℕ) → WholeRun → (Snapshot State → Snapshot State → Type 0) → Type 0
 RunsOffice store run holds =
     BeginsNot store run.before run.after run.status ⊎ OfficeRun store run holds

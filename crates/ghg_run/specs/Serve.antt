@@ -10,6 +10,7 @@ use Rattle.ghg_office.specs.Sound.{IsSoundReply}
 use Rattle.ghg_outer.specs.Doors.{Register}
 use Rattle.ghg_outer.specs.Links.{IsFresh}
 use Rattle.ghg_outer.specs.Tape.{Tape}
+use Rattle.ghg_session.specs.Session.{Snapshot}
 use Rattle.ghg_words.specs.declared.command.Service.{Service}
 use Rattle.ghg_run.specs.Opening.{RunsOffice}
 use Rattle.ghg_run.specs.World.{WholeRun}
@@ -87,15 +88,19 @@ pub record ServesLinks (service : Service) (before after : Station) (status : �
   pub port : status ≡ 0 → IfSome after.door.port (λ open_port. open_port ≡ service.port)
   pub fewer : status ≢ 0 → length taken < service.connections
   pub none : status ≢ 8 → dropped ≡ []
-  -- With status 8 a link was dropped, or there was no memory before the first one was opened.
+  -- With status 8 a link was dropped, or none was taken back.
   pub memory : status ≡ 8 → (length dropped ≡ 1) ⊎ (taken ≡ [])
-  -- The keeper failed at least as often as that was the reply, which it never was without a store.
+  -- The keeper failed at least as often as a reply has status 503, which none has without a store.
   pub unavailable : raised_by (unavailable_count (taken ++ dropped)) before.shelf.faults ≤ after.shelf.faults
   pub available : service.settings.store ≡ None → unavailable_count (taken ++ dropped) ≡ 0
 
--- An office served the links, and nothing was written to the output.
-abbrev pub ServeRun : Service → WholeRun → Type 0
-ServeRun service run = RunsOffice service.settings.store run (λ from to.
+-- An office served links, and wrote nothing to the output.
+abbrev pub Serves : Service → WholeRun → Snapshot State → Snapshot State → Type 0
+Serves service run from to =
     ServesLinks service (station (office_at from.state from.steps) run.before.shelf run.before.door)
     (station (office_at to.state to.steps) run.after.shelf run.after.door) run.status
-    × (to.output ≡ from.output))
+    × (to.output ≡ from.output)
+
+-- The office that the run begins with served links, or there was none.
+abbrev pub ServeRun : Service → WholeRun → Type 0
+ServeRun service run = RunsOffice service.settings.store run (Serves service run)

@@ -46,8 +46,8 @@ office_in w state = snapshot state w.input w.output w.steps
 
 -- ---- the outside
 
--- What a run does to the outside, whatever the words: each status that tells of a failure has its cause. The
--- input changes by reading alone, and the output by writing alone. No count of faults falls.
+-- What a run does to the outside, whatever the words. With statuses 4 to 7 a count of faults rose. The input
+-- changes by reading alone, and the output by writing alone. No count of faults falls.
 pub record ActsOutside (before after : World) (status : ℕ) : Type 0 where
   pub input : status ≡ 4 → Rose before.input after.input
   pub output : status ≡ 5 → Rose before.output after.output

@@ -17,7 +17,7 @@ abbrev pub replies : {State Request : Type 0} → Protocol State Request → Sta
 replies p s [] = []
 replies p s (asked ∷ rest) = p.reply s asked ++ replies p (p.next_state s asked) rest
 
--- Of the lines of each reply this holds, and of the request and the state that the ones before it leave.
+-- `holds` is true of the state before each request, the request, and the lines that reply to it.
 abbrev pub EachReply : {State Request : Type 0} → Protocol State Request
     → (State → Request → List ℕ → Type 0) → State → List Request → Type 0
 EachReply p holds s [] = ⊤
@@ -64,7 +64,7 @@ abbrev pub end_status : End → ℕ
 end_status end.Script = 0
 end_status end.NoScript = 3
 
--- whether a status is one of these
+-- whether a status is that of a session that came to its end
 abbrev pub is_end : ℕ → Bool
 is_end status = (status == 0) || (status == 3)
 

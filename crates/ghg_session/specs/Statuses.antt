@@ -7,8 +7,8 @@ use Rattle.ghg_session.specs.Interruptions.{AnswersScript, IsDue, IsLeftBehind, 
 use Rattle.ghg_session.specs.Protocol.{Protocol}
 use Rattle.ghg_session.specs.Session.{Snapshot, beginning, is_end, result_status}
 
--- The script that the input holds was answered. Where the input tells what it has left, what is due is the
--- session of that.
+-- What a session did of the script that the input holds. Where the input tells what it has left, what is due
+-- is the session of that.
 pub record ScriptRun {State Request : Type 0} (p : Protocol State Request) (before after : Snapshot State)
     (status : ℕ) : Type 0 where
   -- The session ended, or it was interrupted: what was read of it, what was written, and the state of the

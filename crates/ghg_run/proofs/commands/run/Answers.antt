@@ -1,5 +1,6 @@
 use Rattle.std.proofs.Common.{◌∙◌, inl, inr, ap, sym, refl, Some, arith}
 use Rattle.ghg_run.specs.World.{register_of}
+use Rattle.ghg_run.proofs.Known.{is_run}
 use Rattle.ghg_run.proofs.Quiet.{no_command_run}
 use Rattle.ghg_run.proofs.commands.run.Goals as goal
 
@@ -21,20 +22,12 @@ pub returns-in-Some-Compile-clause-run : goal.returns-in-Some-Compile-clause-run
 returns-in-Some-Compile-clause-run g c =
     let command = sym c.read_command.ensures.command ∙ c.in-Some-Compile.is ∙ ap Some c.in-Some-Compile.field-0-is in
     let door = register_of g.D.Link.Told.tape (g.D.Door.register c.args.door.now) in
-    rw command (record {
-      does = c.compile.ensures.run door;
-      outside = c.compile.ensures.outside door;
-      words = λ two. absurd (c.compile.ensures.words two);
-      store = c.compile.ensures.store;
-    })
+    rw command (is_run _ _ (c.compile.ensures.run door) (c.compile.ensures.outside door)
+    (λ two. absurd (c.compile.ensures.words two)) c.compile.ensures.store)
 
 pub returns-in-Some-Serve-clause-run : goal.returns-in-Some-Serve-clause-run
 returns-in-Some-Serve-clause-run g c =
     let command = sym c.read_command.ensures.command ∙ c.in-Some-Serve.is ∙ ap Some c.in-Some-Serve.field-0-is in
     let input = g.S.Told.tape c.args.input.now in
-    rw command (record {
-      does = c.serve.ensures.run input;
-      outside = c.serve.ensures.outside input;
-      words = λ two. absurd (c.serve.ensures.words two);
-      store = c.serve.ensures.store;
-    })
+    rw command (is_run _ _ (c.serve.ensures.run input) (c.serve.ensures.outside input)
+    (λ two. absurd (c.serve.ensures.words two)) c.serve.ensures.store)
