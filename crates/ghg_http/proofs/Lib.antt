@@ -1,6 +1,8 @@
+pub mod Excess
 pub mod Framings
 pub mod Heads
 pub mod Lengths
+pub mod OneRequest
 pub mod Paths
 pub mod Prefixes
 pub mod Received

@@ -1,13 +1,19 @@
--- Which targets of requests find which route, and what a repeat is replied to.
-use Rattle.std.specs.Prelude.{◌≡◌, ◌↔◌, ℕ, Bool, not, ◌&&◌, ◌==◌, nat_lt, List, ◌++◌, length, codes, Some, IsTrue}
+-- Which targets of requests find which route, what a repeat is replied to, and that bytes hold one request.
+use Rattle.std.specs.Prelude.{◌≡◌, ◌↔◌, ◌⊎◌, ◌≤◌, ℕ, Bool, not, ◌&&◌, ◌==◌, nat_lt, List, ◌++◌, length, codes, Some, IsTrue}
 use Rattle.std.specs.List.{list_all}
+use Rattle.httparse.specs.Grammar.{EndsInTarget, NeverHasRequest}
+use Rattle.httparse.specs.Spans.{RequestExceeds}
 use Rattle.ghg_office.specs.Office.{State, repeated, submitted}
 use Rattle.ghg_office.specs.declared.reply.Reply.TheVariants.{Repeated}
+use Rattle.ghg_http.specs.Head.{max_fields, max_head}
+use Rattle.ghg_http.specs.Receive.{EndsEarly, HoldsRequest}
 use Rattle.ghg_http.specs.Reply.{HttpReply}
 use Rattle.ghg_http.specs.Route.{Target, is_slash, path_of, submission, table, target_of}
 use Rattle.ghg_http.specs.Serve.{Replies}
 use Rattle.ghg_http.specs.Statuses.{office_reply}
-use Rattle.ghg_http.specs.declared.request.Request.TheVariants.{Submit}
+use Rattle.ghg_http.specs.declared.decision.Refusal.TheVariants.{BadRequest, HeadTooLarge}
+use Rattle.ghg_http.specs.declared.request.Request.{Request}
+use Rattle.ghg_http.specs.declared.request.Request.TheVariants.{Refused, Submit}
 
 -- any byte but a slash and a question mark
 abbrev pub is_segment_byte : ℕ → Bool
@@ -35,3 +41,25 @@ abbrev pub RepliesToRepeats : Type 0
 RepliesToRepeats = (s after : State) (id body : List ℕ) (seq : ℕ) (due : HttpReply)
     → submitted s id body ≡ repeated s seq → Replies s (Submit id body) due after
     → (due ≡ office_reply (Repeated seq)) × (after ≡ s)
+
+-- The request is refused as malformed, or as too large.
+abbrev pub IsHeadFault : Request → Type 0
+IsHeadFault request = (request ≡ Refused BadRequest) ⊎ (request ≡ Refused HeadTooLarge)
+
+-- No bytes can follow that make a head. But these fill the room of a head and break off in a target, or they
+-- have more fields than a head may have.
+abbrev pub HasTwoFaults : List ℕ → Type 0
+HasTwoFaults bytes = NeverHasRequest bytes
+    × ((EndsInTarget bytes × (max_head ≤ length bytes)) ⊎ RequestExceeds max_fields bytes)
+
+-- Bytes hold one request. Only where a head has two faults may it be refused as malformed and as too large.
+abbrev pub HoldsOneRequest : Type 0
+HoldsOneRequest = (bytes : List ℕ) (x y : Request) → HoldsRequest bytes x → HoldsRequest bytes y
+    → (x ≡ y) ⊎ (IsHeadFault x × IsHeadFault y × HasTwoFaults bytes)
+
+-- Bytes that end early hold no request. Only where they break off in a target that no bytes can complete may
+-- it be refused as malformed, and only where they have too many fields as too large.
+abbrev pub HoldsNoneEarly : Type 0
+HoldsNoneEarly = (bytes : List ℕ) (x : Request) → EndsEarly bytes → HoldsRequest bytes x
+    → ((x ≡ Refused BadRequest) × NeverHasRequest bytes × EndsInTarget bytes)
+    ⊎ ((x ≡ Refused HeadTooLarge) × RequestExceeds max_fields bytes)

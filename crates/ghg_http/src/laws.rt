@@ -1,6 +1,6 @@
-//! Laws of targets and of repeats.
+//! Laws of targets, of repeats and of the bytes of requests.
 
-ghost use Rattle.ghg_http.specs.Laws.{FindsTargets, RepliesToRepeats};
+ghost use Rattle.ghg_http.specs.Laws.{FindsTargets, HoldsNoneEarly, HoldsOneRequest, RepliesToRepeats};
 
 /// A request target asks for a submission exactly where its path is `/submissions/ID`, and for a table
 /// exactly where it is `/tables/TABLE/YEAR`, of one segment for each of these words. No other path has a
@@ -13,4 +13,16 @@ pub fn finds_targets()
 /// neither a fault of the keeper nor want of memory at the office.
 pub fn replies_to_repeats()
     ensures { RepliesToRepeats }
+{}
+
+/// Bytes hold at most one request. Only bytes that can begin no head may be refused in two ways, as malformed
+/// and as too large: where 16,384 bytes break off in a request target, or where there are more than 64 fields.
+pub fn holds_one_request()
+    ensures { HoldsOneRequest }
+{}
+
+/// Bytes that end early hold no request. Only bytes that break off in a request target may also be refused,
+/// as malformed, where no bytes can complete it; and only those with more than 64 fields, as too large.
+pub fn holds_none_early()
+    ensures { HoldsNoneEarly }
 {}
