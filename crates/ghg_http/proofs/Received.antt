@@ -1,14 +1,14 @@
 -- What was read from a link by several reads holds a request.
 use Rattle.std.proofs.Common.{◌≡◌, ℕ, ◌+◌, ◌<◌, ◌≤◌, List, [], ◌++◌, length, take, drop, sym, ap, ◌∙◌, append_assoc, append-nil, length-append, refl, subst, arith, inl, inr, ◌⊎◌, length-drop, Option, Some, None, Result, Ok, Err, Bor}
 use Rattle.std.specs.Prelude.{IfErr, IfOk}
-use Rattle.std.proofs.lemmas.List.{take-append-drop, nil_from_length}
+use Rattle.std.proofs.lemmas.List.{append_cancel_left, length-take-le, nil_from_length, take-append-drop}
 use Rattle.httparse.specs.Grammar.{ReadsRequest}
 use Rattle.httparse.proofs.GrammarLemmas.{ReadsRequest-append}
-use Rattle.ghg_outer.specs.Tape.{Consumes, IsAtEnd, Tape}
+use Rattle.ghg_outer.specs.Tape.{Consumes, Tape}
 use Rattle.ghg_outer.proofs.Tapes.{consumes_more, consumes_nothing, rose_later}
 use Rattle.ghg_http.specs.Decision.{seen, show, submit}
 use Rattle.ghg_http.specs.Head.{HasHead, IsWhole}
-use Rattle.ghg_http.specs.Receive.{CompletesBody, CutsBody, EndsEarly, Fills, FollowsHead, Grows, HasShortBody, IsPrompt, ReadsLast, Stopped, TakesRequest, max_read}
+use Rattle.ghg_http.specs.Receive.{CompletesBody, CutsBody, EndsEarly, FollowsHead, Grows, HasShortBody, IsFilled, IsPrompt, Stopped, TakesRequest, max_read}
 use Rattle.ghg_http.specs.declared.decision.Decision.{Decision}
 use Rattle.ghg_http.specs.declared.decision.Decision.TheVariants as decided
 use Rattle.ghg_http.specs.declared.decision.Refusal.{Refusal}
@@ -70,29 +70,23 @@ count_came : (b c : Tape) (old new : List ℕ) (n : ℕ) (grows : Grows b c old 
 count_came b c old new n grows count =
     let size = ap length grows.buffer ∙ length-append old grows.got in omega (arith, size, count)
 
--- a buffer that is filled grows
-pub fills_nothing : (a : Tape) (x : List ℕ) (size : ℕ) → Fills a a x x size
-fills_nothing a x size = record {
-  grows = record { got = []; buffer = sym (append-nil x); read = consumes_nothing a };
-  last = inl refl;
-}
+-- one read more, while the buffer was shorter than this size
+pub filled_more : (a b c : Tape) (x y z : List ℕ) (size n : ℕ) → Grows a b x y → length y < size → Grows b c y z
+    → length z ≡ length y + n → n ≤ max_read → IsFilled x z size
+filled_more a b c x y z size n p room q count once =
+    inr (record {
+      front = p.got;
+      last = q.got;
+      whole = q.buffer ∙ ap (λ t. t ++ q.got) p.buffer;
+      short = subst (λ t. length t < size) p.buffer room;
+      few = let came = count_came b c y z n q count in omega (arith, came, once);
+    })
 
-pub fills_more : (a b c : Tape) (x y z : List ℕ) (size n : ℕ) → Fills a b x y size → length y < size → Grows b c y z
-    → length z ≡ length y + n → n ≤ max_read → Fills a c x z size
-fills_more a b c x y z size n p room q count once = record {
-  grows = record {
-    got = p.grows.got ++ q.got;
-    buffer = q.buffer ∙ ap (λ t. t ++ q.got) p.grows.buffer ∙ append_assoc x p.grows.got q.got;
-    read = consumes_more a b c p.grows.got q.got p.grows.read q.read;
-  };
-  last = inr (record {
-    front = p.grows.got;
-    last = q.got;
-    whole = refl;
-    short = subst (λ t. length t < size) p.grows.buffer room;
-    few = let came = count_came b c y z n q count in omega (arith, came, once);
-  });
-}
+-- a buffer that is as before grew by nothing
+none_got : (a b : Tape) (old new : List ℕ) (grows : Grows a b old new) → new ≡ old → grows.got ≡ []
+none_got a b old new grows same =
+    let size = ap length grows.buffer ∙ length-append old grows.got in
+    let as_before = ap length same in nil_from_length grows.got (omega (arith, size, as_before))
 
 -- nothing was read behind a request: at first, and after a read while the bytes ended early
 pub prompt_empty : IsPrompt []
@@ -132,34 +126,22 @@ stopped_grown Kind a b c old new e grows h =
 -- ---- a body
 
 -- the body that is cut from what came, and the rest of it
-pub body_cut : (a b : Tape) (rest all body : List ℕ) (n : ℕ) → Fills a b rest all n → body ≡ take n all
-    → (all ≡ rest) ⊎ (length all ≤ n) → CompletesBody a b rest n body
-body_cut a b rest all body n fills cut near = record {
-  got = fills.grows.got;
+pub body_cut : (a b : Tape) (rest all body : List ℕ) (n : ℕ) → Grows a b rest all → IsFilled rest all n → body ≡ take n all
+    → n ≤ length all → (all ≡ rest) ⊎ (length all ≤ n) → CompletesBody a b rest body
+body_cut a b rest all body n grows filled cut whole near = record {
+  all = all;
   extra = drop n all;
-  read = fills.grows.read;
-  last = fills.last;
-  whole = sym fills.grows.buffer ∙ sym (take-append-drop n all) ∙ ap (λ t. t ++ drop n all) (sym cut);
+  grows = grows;
+  whole = sym (take-append-drop n all) ∙ ap (λ t. t ++ drop n all) (sym cut);
   near = by near;
+  last = subst (IsFilled rest all) (sym (ap length cut ∙ length-take-le n all whole)) filled;
 }
   where
-    by : (all ≡ rest) ⊎ (length all ≤ n) → (fills.grows.got ≡ []) ⊎ (drop n all ≡ [])
-    by (inl same) =
-        let size = ap length fills.grows.buffer ∙ length-append rest fills.grows.got in
-        let as_before = ap length same in
-        inl (nil_from_length fills.grows.got (omega (arith, size, as_before)))
+    by : (all ≡ rest) ⊎ (length all ≤ n) → (all ≡ rest) ⊎ (drop n all ≡ [])
+    by (inl same) = inl same
     by (inr few) =
         let size = length-drop n all in
         inr (nil_from_length (drop n all) (omega (arith, size, few)))
-
-pub cut_short : (a b : Tape) (rest all : List ℕ) (n : ℕ) → Fills a b rest all n → IsAtEnd b → length all < n
-    → CutsBody a b rest n
-cut_short a b rest all n fills end few = record {
-  got = fills.grows.got;
-  read = fills.grows.read;
-  end = end;
-  short = let size = ap length fills.grows.buffer in omega (arith, size, few);
-}
 
 -- ---- requests
 
@@ -175,9 +157,11 @@ module _ (bytes : List ℕ) (made : Decision) (size : ℕ) (h : IsWhole bytes ma
   no_more : length (bytes ++ []) ≤ 16384
   no_more = subst (λ t. length t ≤ 16384) (sym (append-nil bytes)) small
 
-  near_body : (got extra : List ℕ) → (got ≡ []) ⊎ (extra ≡ []) → (length (bytes ++ got) ≤ 16384) ⊎ (extra ≡ [])
-  near_body got extra (inl none) = inl (subst (λ t. length (bytes ++ t) ≤ 16384) (sym none) no_more)
-  near_body got extra (inr none) = inr none
+  near_body : (a b : Tape) (all extra : List ℕ) (grows : Grows a b (drop size bytes) all)
+      → (all ≡ drop size bytes) ⊎ (extra ≡ []) → (length (bytes ++ grows.got) ≤ 16384) ⊎ (extra ≡ [])
+  near_body a b all extra grows (inl same) =
+      inl (subst (λ t. length (bytes ++ t) ≤ 16384) (sym (none_got a b _ all grows same)) no_more)
+  near_body a b all extra grows (inr none) = inr none
 
   still_prompt : IsPrompt bytes → IsPrompt (bytes ++ [])
   still_prompt = subst IsPrompt (sym (append-nil bytes))
@@ -240,33 +224,38 @@ module _ (bytes : List ℕ) (made : Decision) (size : ℕ) (h : IsWhole bytes ma
       stopped_so (λ text. EndsEarly (bytes ++ text)) (λ text. length (drop size bytes ++ text) < n) a b e
       (λ text short. inr (has_short_body id n text is short))
 
-  prompt_body : (id : Bor (List ℕ)) (n : ℕ) (got : List ℕ) → IsPrompt bytes → made ≡ decided.Submit id n
-      → (got ≡ []) ⊎ ReadsLast (drop size bytes) got n → IsPrompt (bytes ++ got)
-  prompt_body id n got prompt is (inl none) = subst (λ t. IsPrompt (bytes ++ t)) (sym none) (still_prompt prompt)
-  prompt_body id n got prompt is (inr some) = record {
+  prompt_body : (a b : Tape) (id : Bor (List ℕ)) (n : ℕ) (all : List ℕ) (grows : Grows a b (drop size bytes) all) → IsPrompt bytes
+      → made ≡ decided.Submit id n → IsFilled (drop size bytes) all n → IsPrompt (bytes ++ grows.got)
+  prompt_body a b id n all grows prompt is (inl same) =
+      subst (λ t. IsPrompt (bytes ++ t)) (sym (none_got a b _ all grows same)) (still_prompt prompt)
+  prompt_body a b id n all grows prompt is (inr some) = record {
     front = bytes ++ some.front;
     last = some.last;
-    whole = ap (λ t. bytes ++ t) some.whole ∙ sym (append_assoc bytes some.front some.last);
+    whole =
+        let got : grows.got ≡ some.front ++ some.last =
+        append_cancel_left (drop size bytes) grows.got (some.front ++ some.last)
+        (sym grows.buffer ∙ some.whole ∙ append_assoc (drop size bytes) some.front some.last) in
+        ap (λ t. bytes ++ t) got ∙ sym (append_assoc bytes some.front some.last);
     early = inr (inr (has_short_body id n some.front is some.short));
     few = some.few;
   }
 
   -- it is a submission whose body came
   pub submits : (a b : Tape) (id : Bor (List ℕ)) (n : ℕ) (name body : List ℕ) → IsPrompt bytes → made ≡ decided.Submit id n
-      → name ≡ id.now → CompletesBody a b (drop size bytes) n body → length body ≡ n
+      → name ≡ id.now → CompletesBody a b (drop size bytes) body → length body ≡ n
       → FollowsHead a b bytes (Some (Submit name body))
   submits a b id n name body prompt is named came count = record {
-    got = came.got;
-    read = came.read;
+    got = came.grows.got;
+    read = came.grows.read;
     holds = (
       record {
         head = h.head;
         extra = came.extra;
-        has_head = has_head came.got (body ++ came.extra) came.whole;
+        has_head = has_head came.grows.got (body ++ came.extra) (sym came.grows.buffer ∙ came.whole);
         decides = sym h.decides ∙ ap seen is ∙ ap (λ i. submit i n) (sym named) ∙ ap (submit name) (sym count);
-        near = near_body came.got came.extra came.near;
+        near = near_body a b came.all came.extra came.grows came.near;
       },
-      prompt_body id n came.got prompt is came.last,
+      prompt_body a b id n came.all came.grows prompt is (subst (IsFilled (drop size bytes) came.all) count came.last),
     );
   }
 

@@ -24,19 +24,17 @@ pub record Grows (before after : Tape) (old new : List ℕ) : Type 0 where
   pub buffer : new ≡ old ++ got
   pub read : Consumes before after got
 
--- What was read behind these bytes came by several reads, and before the last of them all had been fewer than
--- this size.
-pub record ReadsLast (old got : List ℕ) (size : ℕ) : Type 0 where
+-- A buffer grew by several reads, and before the last of them it had been shorter than this size.
+pub record ReadsLast (old new : List ℕ) (size : ℕ) : Type 0 where
   pub front : List ℕ
   pub last : List ℕ
-  pub whole : got ≡ front ++ last
+  pub whole : new ≡ (old ++ front) ++ last
   pub short : length (old ++ front) < size
   pub few : length last ≤ max_read
 
--- A buffer grew by reads, each of them while it was shorter than this size.
-pub record Fills (before after : Tape) (old new : List ℕ) (size : ℕ) : Type 0 where
-  pub grows : Grows before after old new
-  pub last : (grows.got ≡ []) ⊎ ReadsLast old grows.got size
+-- A buffer is as before, or grew by reads, each of them while it was shorter than this size.
+abbrev pub IsFilled : List ℕ → List ℕ → ℕ → Type 0
+IsFilled old new size = (new ≡ old) ⊎ ReadsLast old new size
 
 -- Some text was read. Then the link failed, where its count rose and the text is of this kind, or memory ran
 -- out.
@@ -46,15 +44,15 @@ pub record Stopped (Kind : List ℕ → Type 0) (before after : Tape) (error : R
   pub cause : error ≡ Failed → Rose before after
   pub kind : error ≡ Failed → Kind text
 
--- What was read completes a body of this size, of which the rest had come before. Some bytes may have come
--- behind it, but then nothing more was read.
-pub record CompletesBody (before after : Tape) (rest : List ℕ) (size : ℕ) (body : List ℕ) : Type 0 where
-  pub got : List ℕ
+-- What was read completes this body, of which the rest had come before. Some bytes may have come behind it,
+-- but then nothing more was read.
+pub record CompletesBody (before after : Tape) (rest body : List ℕ) : Type 0 where
+  pub all : List ℕ
   pub extra : List ℕ
-  pub read : Consumes before after got
-  pub whole : rest ++ got ≡ body ++ extra
-  pub near : (got ≡ []) ⊎ (extra ≡ [])
-  pub last : (got ≡ []) ⊎ ReadsLast rest got size
+  pub grows : Grows before after rest all
+  pub whole : all ≡ body ++ extra
+  pub near : (all ≡ rest) ⊎ (extra ≡ [])
+  pub last : IsFilled rest all (length body)
 
 -- The input ended before a body of this size, of which the rest had come before.
 pub record CutsBody (before after : Tape) (rest : List ℕ) (size : ℕ) : Type 0 where

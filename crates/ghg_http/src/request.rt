@@ -2,7 +2,7 @@
 
 ghost use Rattle.std.specs.Prelude.{◌≡◌, ◌⊎◌, ◌+◌, ◌++◌, ◌<◌, ◌≤◌, [], IfErr, IfOk, IfSome, MatchOption, false, length, true};
 ghost use Rattle.ghg_http.specs.Head.{IsWhole};
-ghost use Rattle.ghg_http.specs.Receive.{CompletesBody, CutsBody, EndsEarly, Fills, FollowsHead, Grows, IsPrompt, Stopped, TakesRequest, max_read};
+ghost use Rattle.ghg_http.specs.Receive.{CompletesBody, CutsBody, EndsEarly, FollowsHead, Grows, IsFilled, IsPrompt, Stopped, TakesRequest, max_read};
 ghost use Rattle.ghg_http.specs.Route.{routes};
 ghost use Rattle.ghg_outer.specs.Tape.{IsAtEnd};
 
@@ -140,7 +140,7 @@ fn receive_body<T: Source>(
 ) -> Result<Option<Text>, ReceiveError>
     ensures body { IfOk result (λ body. MatchOption body
         (CutsBody (T.tape link.old) (T.tape link.new) rest.now size)
-        (CompletesBody (T.tape link.old) (T.tape link.new) rest.now size)) }
+        (CompletesBody (T.tape link.old) (T.tape link.new) rest.now)) }
     ensures size { IfOk result (λ body. IfSome body (λ bytes. length bytes ≡ size)) }
     ensures stopped { IfErr result (Stopped (λ text. length (rest.now ++ text) < size)
         (T.tape link.old) (T.tape link.new)) }
@@ -155,8 +155,9 @@ fn receive_body<T: Source>(
 
 // Receives bytes until there are so many, and says whether that came before the end of the input.
 fn fill<T: Source>(link: &mut T, body: &mut Vec<u8>, size: usize) -> Result<bool, ReceiveError>
-    ensures fills { IfOk result (λ _.
-        Fills (T.tape link.old) (T.tape link.new) body.old.items body.new.items size) }
+    ensures got { IfOk result (λ _.
+        Grows (T.tape link.old) (T.tape link.new) body.old.items body.new.items) }
+    ensures last { IfOk result (λ _. IsFilled body.old.items body.new.items size) }
     ensures whole { IfOk result (λ whole. whole ≡ true → size ≤ length body.new.items) }
     ensures near { IfOk result (λ _. (body.new.items ≡ body.old.items) ⊎ (length body.new.items ≤ size)) }
     ensures cut { IfOk result (λ whole. whole ≡ false → length body.new.items < size) }

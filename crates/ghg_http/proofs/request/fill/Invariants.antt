@@ -1,10 +1,11 @@
 use Rattle.std.proofs.Common.{◌≡◌, ◌⊎◌, ◌≤◌, ◌-◌, length, vec_len}
-use Rattle.ghg_http.specs.Receive.{Fills}
+use Rattle.ghg_http.specs.Receive.{Grows, IsFilled}
 use Rattle.ghg_http.proofs.request.fill.Given as goal
 
 abbrev pub invariant-loop-link : goal.invariant-loop-link
 invariant-loop-link g l =
-    Fills (g.T.Told.tape l.fn.link) (g.T.Told.tape l.link) l.fn.body.items l.body.items l.size
+    Grows (g.T.Told.tape l.fn.link) (g.T.Told.tape l.link) l.fn.body.items l.body.items
+    × IsFilled l.fn.body.items l.body.items l.size
     × ((l.body.items ≡ l.fn.body.items) ⊎ (length l.body.items ≤ l.size))
 
 abbrev pub decreases-loop-link : goal.decreases-loop-link
