@@ -6,7 +6,6 @@ ghost use Rattle.std.specs.Cmp.{on_equiv, on_po, on_total, partial_equiv_from_eq
 ghost use Rattle.std.specs.Cmp.Lexicographic.{pointwise, slice_cmp, nat_list_eq_equiv, nat_list_cmp_total, texts_po, texts_ties};
 ghost use Rattle.ghg_categories.specs.Tree.{code_of};
 
-use crate::tree::code;
 use std::cmp::Ordering;
 
 /// A category of emissions and removals, by its code without dots (2006 IPCC Guidelines, Volume 1, Chapter 8,
@@ -200,8 +199,9 @@ impl PartialEq for Category {
 
     ghost laws = { partial_equiv_from_equiv (on_equiv code_of nat_list_eq_equiv) };
 
+    #[tactic(auto, using(crate::proofs::Places::places_equal))]
     fn eq(&self, other: &Category) -> bool {
-        code(*self).as_bytes() == code(*other).as_bytes()
+        *self as u8 == *other as u8
     }
 }
 
@@ -228,7 +228,9 @@ impl Ord for Category {
 
     ghost matches_eq = { λ a b. texts_ties (code_of a) (code_of b) };
 
+    // The variants are declared in the order of the codes' bytes.
+    #[tactic(auto, using(crate::proofs::Places::places_order))]
     fn cmp(&self, other: &Category) -> Ordering {
-        code(*self).as_bytes().cmp(code(*other).as_bytes())
+        (*self as u8).cmp(&(*other as u8))
     }
 }
