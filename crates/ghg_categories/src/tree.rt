@@ -49,7 +49,7 @@ pub fn is_under(category: Category, top: Category) -> bool
 fn stands_within_levels(levels: u8, category: Category, top: Category) -> bool
     ensures { result ≡ stands_within levels category top }
 {
-    if code(category).as_bytes() == code(top).as_bytes() {
+    if category == top {
         return true;
     }
     if levels == 0 {
