@@ -1,33 +1,55 @@
 -- Categories at and above some.
-use Rattle.std.proofs.Common.{◌≡◌, ℕ, zero, suc, Bool, true, false, cond, ◌||◌, List, [], ◌∷◌, ◌++◌, is_eq, Some, None, refl, sym, ap, ◌∙◌}
+use Rattle.std.proofs.Common.{◌≡◌, ℕ, zero, suc, ◌<◌, ◌*◌, ◌/◌, ◌%◌, ◌^◌, ◌==◌, bit_and, bit_or, lit≤, Bool, true, false, cond, ◌||◌, List, [], ◌∷◌, ◌++◌, Some, None, refl, sym, ap, ◌∙◌}
 use Rattle.std.proofs.Math.Bool.{or-false, or_assoc, or_comm}
 use Rattle.std.proofs.lemmas.List.Folds.{list_any-append}
-use Rattle.std.proofs.lemmas.Map.Text.{is_eq-slice_cmp}
-use Rattle.std.specs.BTreeSet.{BTreeSet, Updates, contains}
+use Rattle.std.proofs.lemmas.Nat.{and_mask}
+use Rattle.std.proofs.lemmas.Nat.Bits.{bit_at-zero}
 use Rattle.std.specs.List.{list_any}
 use Rattle.std.specs.Option.{option_map_or}
 use Rattle.ghg_categories.specs.declared.category.Category.{Category}
 use Rattle.ghg_categories.specs.declared.tree.TheConstants.{DEPTH}
 use Rattle.ghg_categories.specs.Laws.{IsUnder, by_parent, itself}
-use Rattle.ghg_categories.specs.Tree.{code_of, is_same, parent_of, stands_under, stands_within}
+use Rattle.ghg_categories.specs.declared.category.Category.TheVariants as at
+use Rattle.ghg_categories.specs.Tree.{is_same, parent_of, stands_under, stands_within}
+use Rattle.ghg_categories.proofs.Places.{places_equal}
 use Rattle.ghg_categories.proofs.Under.{by_parents}
 use Rattle.ghg_definitions.specs.Compilation.{counts_in_gross}
-use Rattle.ghg_definitions.proofs.Listed.{from_any, listed_any}
+use Rattle.ghg_definitions.proofs.NodeLists.{category_same}
+use Rattle.ghg_data.specs.YearSet.{has_bit}
+use Rattle.ghg_data.proofs.YearBits.{set_bit}
 use Rattle.ghg_graph.specs.declared.tops.Tops.{Tops}
-use Rattle.ghg_graph.specs.Tops.{AreTops, code_order, has_top}
+use Rattle.ghg_graph.specs.Tops.{AreTops, has_top, place_of}
+use Rattle.ghg_graph.proofs.Reaching.{same_truth}
 
 -- ---- up by levels
 
-pub put_in : (old new : BTreeSet Category) (c top : Category) → Updates code_order old new c true
-    → contains code_order new top ≡ (is_same c top || contains code_order old top)
-put_in old new c top updates =
-    updates.0 top ∙ by (is_eq (code_order c top)) (is_same c top) (is_eq-slice_cmp (code_of c) (code_of top))
+-- the bit of a category that is put in
+bit_same : (c top : Category) → (place_of top == place_of c) ≡ is_same c top
+bit_same c top = places_equal top c ∙ same_truth (is_same top c) (is_same c top)
+    (λ e. (category_same c top).1 (sym ((category_same top c).0 e)))
+    (λ e. (category_same top c).1 (sym ((category_same c top).0 e)))
+
+pub within_word : (c : Category) → place_of c < 128
+within_word at.National = lit≤ tt
+within_word _ = lit≤ tt
+
+pub put_in : (old new : Tops) (c top : Category) → new.bits ≡ bit_or old.bits (1 * 2 ^ place_of c % 2 ^ 128)
+    → has_top new top ≡ (is_same c top || has_top old top)
+put_in old new c top is =
+    ap (λ n. has_bit n (place_of top)) is
+    ∙ set_bit old.bits (place_of c) (place_of top) (within_word c)
+    ∙ ap (λ b. cond b true (has_top old top)) (bit_same c top)
+    ∙ either (is_same c top) (has_top old top)
   where
-    by : (a b : Bool) → a ≡ b → cond a true (contains code_order old top) ≡ (b || contains code_order old top)
-    by true true e = refl
-    by true false e = absurd (cc)
-    by false true e = absurd (cc)
-    by false false e = refl
+    either : (a b : Bool) → cond a true b ≡ (a || b)
+    either true b = refl
+    either false b = refl
+
+pub bit_read : (n k : ℕ) → (bit_and (n / 2 ^ k) 1 == 1) ≡ has_bit n k
+bit_read n k = ap (λ b. b == 1) (and_mask (n / 2 ^ k) 1)
+
+pub no_tops : AreTops [] (record { bits = 0; gross = false })
+no_tops = record { above = λ top. ap (λ b. b == 1) (bit_at-zero (place_of top)); gross = refl }
 
 pub up_above : (levels k : ℕ) (a p top : Category) (x : Bool) → levels ≡ suc k → parent_of a ≡ Some p
     → (stands_within k p top || (is_same a top || x)) ≡ (stands_within levels a top || x)
@@ -73,23 +95,6 @@ module _ (cs : List Category) (old new : Tops) (c : Category) (are : AreTops cs 
     above = λ top. added top
         ∙ or_comm (stands_under c top) (has_top old top)
         ∙ ap (λ b. b || stands_under c top) (are.above top)
-        ∙ sym (one_more (λ d. stands_under d top) cs c);
-    gross = gross_more;
-  }
-
-  -- where it is there, those above it are too
-  covered : (top : Category) → has_top old c ≡ true → (under : Bool) → stands_under c top ≡ under
-      → list_any (λ d. stands_under d top) cs ≡ (list_any (λ d. stands_under d top) cs || under)
-  covered top has false is = sym (or-false (list_any (λ d. stands_under d top) cs))
-  covered top has true is =
-      let found = from_any (λ d. stands_under d c) cs (sym (are.above c) ∙ has) in
-      let on = listed_any (λ d. stands_under d top) found.0 cs found.1 (under_under found.0 c top found.2 is) in
-      on ∙ sym (ap (λ b. b || true) on)
-
-  pub with_same : has_top old c ≡ true → new.categories ≡ old.categories → AreTops (cs ++ c ∷ []) new
-  with_same has same = record {
-    above = λ top. ap (λ s. contains code_order s top) same ∙ are.above top
-        ∙ covered top has (stands_under c top) refl
         ∙ sym (one_more (λ d. stands_under d top) cs c);
     gross = gross_more;
   }

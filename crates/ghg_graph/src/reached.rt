@@ -203,7 +203,7 @@ fn add_old_year<R: Records, S: Records>(
 {
     let nodes = &mut reached.nodes;
     let now = add_lines(alloc, old, new, lines, year, &reached.before, nodes)?;
-    let tops = add_equivalents(alloc, old, new, emitters, year.number, &now, nodes)?;
+    let tops = add_equivalents(old, new, emitters, year.number, &now, nodes)?;
     add_totals(&tops, moved, year.number, nodes)?;
     add_gross(&tops, moved, year.number, nodes)?;
     reached.before = Lines::These(now);
@@ -354,7 +354,6 @@ fn has_any(set: &BTreeSet<Name>, names: &[Name]) -> bool
 
 // Adds the equivalents that are reached in a year, and gives the totals to which these lead.
 fn add_equivalents<R: Records, S: Records>(
-    alloc: Global,
     old: &R,
     new: &S,
     emitters: &[Name],
@@ -371,24 +370,23 @@ fn add_equivalents<R: Records, S: Records>(
     ensures tops { IfOk result (AreTops
         (reached_categories (R.content old.now) (S.content new.now) year emitters.now)) }
 {
-    let mut tops = Tops::new(alloc);
+    let mut tops = Tops::none();
     for name in emitters {
         if equivalent_reached(old, new, name, year, now) {
             nodes.push(Node::Equiv(*name, year))?;
-            add_category(new, name, &mut tops)?;
+            add_category(new, name, &mut tops);
         }
     }
     Ok(tops)
 }
 
 // Adds the category at which a line stands, and those above it.
-fn add_category<S: Records>(new: &S, name: &Name, tops: &mut Tops) -> Result<(), AllocError>
-    ensures { OnOk result ((cs : List Category) → AreTops cs tops.old →
-        AreTops (cs ++ option_to_list (category (S.content new.now) name.now)) tops.new) }
+fn add_category<S: Records>(new: &S, name: &Name, tops: &mut Tops)
+    ensures { (cs : List Category) → AreTops cs tops.old →
+        AreTops (cs ++ option_to_list (category (S.content new.now) name.now)) tops.new }
 {
-    match new.line(name) {
-        Some((category, _)) => tops.add(category),
-        None => Ok(()),
+    if let Some((category, _)) = new.line(name) {
+        tops.add(category);
     }
 }
 

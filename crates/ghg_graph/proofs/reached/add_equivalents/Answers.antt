@@ -5,7 +5,7 @@ use Rattle.ghg_graph.specs.Reached.{is_reached}
 use Rattle.ghg_graph.specs.Tops.{AreTops}
 use Rattle.ghg_graph.proofs.Marking.{category_left, category_passed, emitter_at, one_left, one_passed}
 use Rattle.ghg_graph.proofs.reached.add_equivalents.Goals as goal
-use Rattle.ghg_graph.proofs.reached.add_equivalents.Goals.{then-equivalent_reached+in_ok-push+in_ok-add_category, else-equivalent_reached}
+use Rattle.ghg_graph.proofs.reached.add_equivalents.Goals.{then-equivalent_reached+in_ok-push, else-equivalent_reached}
 
 pub equivalent_reached-requires-clause-emits : goal.equivalent_reached-requires-clause-emits
 equivalent_reached-requires-clause-emits g c =
@@ -20,14 +20,14 @@ loop-name-preserved g c =
     let i = c.loop-name.name-index in
     let name = c.name-item.result in
     elim c.if-equivalent_reached.branch [
-      | then-equivalent_reached+in_ok-push+in_ok-add_category w ↦
+      | then-equivalent_reached+in_ok-push w ↦
           let is = sym c.equivalent_reached.ensures ∙ w.if-equivalent_reached.true in (
             one_passed (is_reached old new) (λ k. node.Equiv k c.args.year) names i name c.loop-name-test.true c.name-item.is is
                 c.args.nodes.now.items c.loop-name.nodes.items _ c.loop-name.invariant.0
                 (ap (λ v. v.items) w.nodes-is ∙ w.in_ok-push.ensures.items),
             category_passed old new c.args.year names i name c.loop-name-test.true c.name-item.is is
                 c.loop-name.tops _ c.loop-name.invariant.1
-                (λ cs are. subst (AreTops _) (sym w.tops-is) (w.in_ok-add_category.ensures cs are)),
+                (λ cs are. subst (AreTops _) (sym w.tops-is) (w.add_category.ensures cs are)),
           )
       | else-equivalent_reached w ↦
           let off = sym c.equivalent_reached.ensures ∙ w.if-equivalent_reached.false in (
