@@ -16,7 +16,8 @@ pub fn replies_to_repeats()
 {}
 
 /// Bytes hold at most one request. Only bytes that can begin no head may be refused in two ways, as malformed
-/// and as too large: where 16,384 bytes break off in a request target, or where there are more than 64 fields.
+/// and as too large: where 16,384 bytes break off in a request target, or where there are more than 64
+/// fields.
 pub fn holds_one_request()
     ensures { HoldsOneRequest }
 {}
