@@ -13,6 +13,7 @@ import socket
 import sqlite3
 import struct
 import subprocess
+import sys
 import tempfile
 import threading
 import time
@@ -251,6 +252,15 @@ class Links(unittest.TestCase):
             self.assertEqual(service.exchange(post("a", GAS)), REPEATED)
             sender.join(SECONDS)
             self.assertFalse(sender.is_alive())
+            self.assertEqual(service.status(), 0)
+
+    @unittest.skipUnless(sys.platform == "linux", "127.0.0.2 may be no address of this machine")
+    def test_no_other_address_of_loopback_is_served(self):
+        with Service(1) as service:
+            # A program that listened at all addresses would take this connection.
+            with self.assertRaises(ConnectionRefusedError):
+                socket.create_connection(("127.0.0.2", service.port), timeout=SECONDS).close()
+            self.assertEqual(service.exchange(post("a", GAS)), ACCEPTED)
             self.assertEqual(service.status(), 0)
 
     def test_a_link_that_fails_before_it_is_read(self):
