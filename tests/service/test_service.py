@@ -138,7 +138,10 @@ class Exchanges(unittest.TestCase):
         self.exchanged(
             (post("a", GAS, "content-encoding: Identity", "Expect: 100-continue"), ACCEPTED),
             (post("a", GAS, "CONTENT-LENGTH: 291"), REPEATED),
-            (post("a?of=me", GAS + b"and what follows", version="1.0", length=291), REPEATED))
+            (post("a?of=me", GAS + b"and what follows", version="1.0", length=291), REPEATED),
+            (get("cells", 1990, "Transfer-Encoding: chunked"), table(CELLS)),
+            (get("cells", 1990, "Content-Encoding: gzip"), table(CELLS)),
+            (get("cells", 1990, f"Content-Length: {LONGEST + 1}"), table(CELLS)))
 
     def test_a_body_of_four_mebibytes(self):
         note = b"n" * (LONGEST - len(HEADER) - len(b"enter,activity,,A,1990,1,,,t,\n"))
