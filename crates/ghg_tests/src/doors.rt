@@ -96,8 +96,8 @@ fn doors_give_their_links_once(rt: HostRuntime) {
 fn a_client_is_served_over_tcp(rt: HostRuntime) -> Result<(), Fail> {
     let mut door = TcpDoor::new(rt.clone()?);
     check(&rt, door.next().is_err(), "no port");
-    check(&rt, door.listen(38_127).is_ok(), "a port");
-    let mut client = TcpStream::connect(&rt, (Ipv4Addr::LOCALHOST, 38_127))?;
+    check(&rt, door.listen(21_127).is_ok(), "a port");
+    let mut client = TcpStream::connect(&rt, (Ipv4Addr::LOCALHOST, 21_127))?;
     client.write_all(b"abc")?;
     check(
         &rt,
