@@ -1,6 +1,6 @@
-use Rattle.std.proofs.Common.{◌∙◌, ◌≡◌, ◌||◌, ◌-◌, ◌*◌, ◌%◌, ◌^◌, ap, arith, sym, bit_or}
+use Rattle.std.proofs.Common.{◌∙◌, ◌||◌, ◌-◌, ◌*◌, ◌%◌, ◌^◌, ap, arith, sym, bit_or}
 use Rattle.ghg_categories.specs.Tree.{stands_within}
-use Rattle.ghg_graph.specs.Tops.{has_top, place_of}
+use Rattle.ghg_graph.specs.Tops.{has_top}
 use Rattle.ghg_graph.proofs.Above.{put_in, up_above, up_last, up_top}
 use Rattle.ghg_graph.proofs.tops.Tops.+add_up.Goals as goal
 
