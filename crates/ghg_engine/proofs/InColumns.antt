@@ -7,6 +7,7 @@ use Rattle.std.specs.Map.{lookup}
 use Rattle.std.specs.Option.{option_and_then, option_map}
 use Rattle.ghg_cell.specs.declared.input.Input.{Input}
 use Rattle.ghg_units.specs.declared.node.Node.{Node}
+use Rattle.ghg_definitions.specs.Formulas.{Outcome}
 use Rattle.ghg_definitions.specs.Nodes.{year_in}
 use Rattle.ghg_engine.specs.declared.series.Series.{Series}
 use Rattle.ghg_engine.specs.Cells.{IsPut, in_columns, in_series, in_year_of, no_outcomes, series_of, series_order, with_outcome}
@@ -20,8 +21,14 @@ either_none true = refl
 either_none false = refl
 
 -- a run without values has none in any year
+pub no_value : (run : Run) → run.values ≡ [] → (year : ℕ) → value_in run year ≡ None
+no_value run e year = ap (λ xs. cond (nat_le run.first year) (slice_get xs (year - run.first)) None) e ∙ either_none (nat_le run.first year)
+
 pub no_values : (run : Run) → run.values ≡ [] → (n : Node) → in_year_of n run ≡ None
-no_values run e n = ap (λ xs. option_map Ok (cond (nat_le run.first (year_in n)) (slice_get xs (year_in n - run.first)) None)) e ∙ ap (option_map Ok) (either_none (nat_le run.first (year_in n)))
+no_values run e n = ap (option_map ok) (no_value run e (year_in n))
+  where
+    ok : Input → Outcome
+    ok x = Ok x
 
 -- ---- one column
 

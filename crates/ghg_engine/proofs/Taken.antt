@@ -1,5 +1,5 @@
 -- Columns that are taken over, year by year or as a whole.
-use Rattle.std.proofs.Common.{◌≡◌, ℕ, zero, suc, ◌+◌, ◌-◌, ◌<◌, ◌≤◌, ◌==◌, ◌&&◌, Bool, true, false, cond, is_some, if◌then◌else◌, leb-false, leb-true, le-leb, nat_le, List, [], ◌∷◌, ◌++◌, length, Option, Some, None, Ok, refl, sym, ap, ap₂, subst, ◌∙◌, arith}
+use Rattle.std.proofs.Common.{◌≡◌, ℕ, zero, suc, ◌+◌, ◌-◌, ◌<◌, ◌≤◌, ◌==◌, ◌&&◌, Bool, true, false, cond, is_some, if◌then◌else◌, leb-false, leb-true, le-leb, nat_le, List, [], ◌∷◌, ◌++◌, length, IfSome, Option, Some, None, Ok, refl, sym, ap, ap₂, subst, ◌∙◌, arith}
 use Rattle.std.proofs.Math.Path.{fun_ext}
 use Rattle.std.proofs.lemmas.Bool.{eqb-false}
 use Rattle.std.proofs.lemmas.Option.{slice_get_past}
@@ -15,9 +15,9 @@ use Rattle.ghg_definitions.specs.Nodes.{year_in}
 use Rattle.ghg_definitions.specs.Trials.{Outcomes}
 use Rattle.ghg_engine.specs.declared.series.Series.{Series}
 use Rattle.ghg_engine.specs.Cells.{AreApart, found_in, in_columns, in_series, in_year_of, series_of, series_order}
-use Rattle.ghg_engine.specs.Columns.{Run, value_in}
+use Rattle.ghg_engine.specs.Columns.{Covers, Run, value_in}
 use Rattle.ghg_engine.proofs.Columns.{is_within, value_within}
-use Rattle.ghg_engine.proofs.InColumns.{column_as_it_was, no_series, no_values, series_has, there, was_there}
+use Rattle.ghg_engine.proofs.InColumns.{column_as_it_was, no_series, no_value, no_values, series_has, there, was_there}
 use Rattle.ghg_engine.proofs.Places.{node_same, same_place, series_itself}
 
 -- ---- the first years of a column are gone over
@@ -82,18 +82,33 @@ module _ (s : Series) (run : Run) where
 
 -- ---- as a whole
 
+abbrev ok : Input → Outcome
+ok x = Ok x
+
 module _ (s : Series) (run : Run) (aside : Outcomes) (old new : BTreeMap Series Run) (updates : (q : Series) → get series_order new q ≡ cond (is_at (series_order s) q) (Some run) (get series_order old q))
-    (none : (k : Node) → option_and_then (in_year_of k) (get series_order old s) ≡ None) (apart : AreApart (in_series s run) aside) where
+    (covers : IfSome (get series_order old s) (Covers run)) (apart : AreApart (in_series s run) aside) where
+  -- where the column has no value, the one before had none
+  hidden : (k : Node) → in_year_of k run ≡ None → option_and_then (in_year_of k) (get series_order old s) ≡ None
+  hidden k out = by (get series_order old s) covers
+    where
+      unmapped : (o : Option Input) → option_map ok o ≡ None → o ≡ None
+      unmapped None e = refl
+      unmapped (Some x) e = absurd (cc)
+
+      by : (o : Option Run) → IfSome o (Covers run) → option_and_then (in_year_of k) o ≡ None
+      by None over = refl
+      by (Some other) over = ap (option_map ok) (over (year_in k) (unmapped (value_in run (year_in k)) out))
+
   pub column_replaced : found_in aside (in_columns new) ≡ found_in (in_series s run) (found_in aside (in_columns old))
   column_replaced = fun_ext (λ k. ap (λ o. option_or (aside k) (option_and_then (in_year_of k) o)) (updates (series_of k)) ∙ by k (is_at (series_order s) (series_of k)) refl)
     where
-      value : (k : Node) (o : Option Outcome) → in_year_of k run ≡ o → (is_some o ≡ true → aside k ≡ None) → in_columns old k ≡ None → option_or (aside k) o ≡ option_or o (option_or (aside k) (in_columns old k))
-      value k None e off out = ap (option_or (aside k)) (sym out)
+      value : (k : Node) (o : Option Outcome) → in_year_of k run ≡ o → (is_some o ≡ true → aside k ≡ None) → (o ≡ None → in_columns old k ≡ None) → option_or (aside k) o ≡ option_or o (option_or (aside k) (in_columns old k))
+      value k None e off out = ap (option_or (aside k)) (sym (out refl))
       value k (Some x) e off out = ap (λ a. option_or a (Some x)) (off refl)
 
       by : (k : Node) (b : Bool) → is_at (series_order s) (series_of k) ≡ b
           → option_or (aside k) (option_and_then (in_year_of k) (cond b (Some run) (get series_order old (series_of k)))) ≡ option_or (cond b (in_year_of k run) None) (option_or (aside k) (in_columns old k))
-      by k true same = value k (in_year_of k run) refl (λ t. apart k (ap (λ b. is_some (cond b (in_year_of k run) None)) same ∙ t)) (there old s k same ∙ none k)
+      by k true same = value k (in_year_of k run) refl (λ t. apart k (ap (λ b. is_some (cond b (in_year_of k run) None)) same ∙ t)) (λ out. there old s k same ∙ hidden k out)
       by k false other = refl
 
 -- an empty column in a place that had none changes nothing
@@ -101,8 +116,10 @@ module _ (s : Series) (run : Run) (old new : BTreeMap Series Run) (updates : (q 
   pub empty_column : in_columns new ≡ in_columns old
   empty_column = column_as_it_was old s new run run updates (λ k. ap (option_and_then (in_year_of k)) absent ∙ sym (no_values run empty k)) refl
 
-  pub empty_there : (k : Node) → option_and_then (in_year_of k) (get series_order new s) ≡ None
-  empty_there k = ap (option_and_then (in_year_of k)) (updates s ∙ ap (λ b. cond b (Some run) (get series_order old s)) (series_itself s)) ∙ no_values run empty k
+  pub empty_covered : (front : Run) → IfSome (get series_order new s) (Covers front)
+  empty_covered front = subst (λ o. IfSome o (Covers front))
+      (sym (updates s ∙ ap (λ b. cond b (Some run) (get series_order old s)) (series_itself s)))
+      (λ year _. no_value run empty year)
 
 -- ---- behind the values that a column has
 
@@ -150,9 +167,6 @@ module _ (s : Series) (run next after rest : Run) (aside : Outcomes) (old new : 
       ∙ ap (option_map Ok) (appended run.first run.values next.values (year_in k)) ∙ mapped (value_in (record { first = run.first + length run.values; values = next.values }) (year_in k)) (value_in run (year_in k))
       ∙ ap (λ (r : Run). option_or (in_year_of k r) (in_year_of k run)) (sym (same_run next (record { first = run.first + length run.values; values = next.values }) follows refl))
     where
-      ok : Input → Outcome
-      ok x = Ok x
-
       mapped : (o p : Option Input) → option_map ok (option_or o p) ≡ option_or (option_map ok o) (option_map ok p)
       mapped None p = refl
       mapped (Some x) p = refl

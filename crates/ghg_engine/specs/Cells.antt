@@ -1,5 +1,5 @@
 -- The outcomes of nodes, and where they are kept.
-use Rattle.std.specs.Prelude.{◌≡◌, Bool, true, false, IsSome, if◌then◌else◌, is_some, Option, Some, None, Result, Ok, Err}
+use Rattle.std.specs.Prelude.{◌≡◌, Bool, true, false, IfSome, IsSome, if◌then◌else◌, is_some, Option, Some, None, Result, Ok, Err}
 use Rattle.std.specs.Option.{option_and_then, option_map, option_or}
 use Rattle.std.specs.Borrow.{Bor}
 use Rattle.std.specs.BTreeMap.{BTreeMap, get, is_at}
@@ -17,7 +17,7 @@ use Rattle.ghg_engine.specs.declared.cells.Cells.{Cells}
 use Rattle.ghg_engine.specs.declared.series.Series.{Series}
 use Rattle.ghg_engine.specs.declared.series.Series.TheVariants as series
 use Rattle.ghg_engine.specs.contracts.series.SeriesOrd.TheImpl as derived_of_series
-use Rattle.ghg_engine.specs.Columns.{Run, value_in}
+use Rattle.ghg_engine.specs.Columns.{Covers, Run, value_in}
 
 -- ---- outcomes
 
@@ -92,10 +92,9 @@ without_series outcomes s n = if is_at (series_order s) (series_of n) then None 
 abbrev pub cell_at : Cells → Outcomes
 cell_at cells n = option_or (get node_order cells.aside n) (in_columns cells.columns n)
 
--- a column can be taken over without memory: as a whole, where its series has a column without values and
+-- a column can be taken over without memory: as a whole, where its series has a column that it covers, and
 -- none of its nodes has an outcome aside; else value by value, where each of its nodes has a cell
 abbrev pub IsPrepared : Cells → Series → Run → Bool → Type 0
-IsPrepared cells s run true =
-    ((k : Node) → option_and_then (in_year_of k) (get series_order cells.columns s) ≡ None)
+IsPrepared cells s run true = IfSome (get series_order cells.columns s) (Covers run)
     × IsSome (get series_order cells.columns s) × AreApart (in_series s run) (get node_order cells.aside)
 IsPrepared cells s run false = AreWithin (in_series s run) (cell_at cells)

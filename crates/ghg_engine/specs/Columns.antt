@@ -12,6 +12,10 @@ pub record Run : Type 0 where
 abbrev pub value_in : Run → ℕ → Option Input
 value_in run year = if nat_le run.first year then slice_get run.values (year - run.first) else None
 
+-- the second has no value in a year in which the first has none
+abbrev pub Covers : Run → Run → Type 0
+Covers run other = (year : ℕ) → value_in run year ≡ None → value_in other year ≡ None
+
 -- the run with that value in the year
 abbrev pub HasIn : Run → Run → ℕ → Option Input → Type 0
 HasIn old new year value = (y : ℕ) → value_in new y ≡ (if y == year then value else value_in old y)

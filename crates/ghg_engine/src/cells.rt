@@ -5,7 +5,7 @@ ghost use Rattle.std.specs.BTreeMap as tree;
 ghost use Rattle.std.specs.Option.{option_map};
 ghost use Rattle.ghg_units.specs.declared.node.Node.{Node};
 ghost use Rattle.ghg_affected.specs.Equalities.{same_node};
-ghost use Rattle.ghg_engine.specs.Columns.{Run};
+ghost use Rattle.ghg_engine.specs.Columns.{Covers, Run};
 ghost use Rattle.ghg_engine.specs.Cells.{AreApart, AreWithin, IsPrepared, IsPut, cell_at, found_in, in_columns, in_series, no_outcomes, node_order, outcome_behind, series_of, series_order, with_outcome, without_series};
 
 use crate::column::Column;
@@ -170,13 +170,38 @@ impl Cells {
             (in_series series.now column.now) (cell_at self.old) }
         ensures ready { IfOk result (IsPrepared self.new series.now column.now) }
     {
-        if self.columns.contains_key(series) {
+        if !self.is_covered(series, column) {
             self.make_places(series, column)?;
             return Ok(false);
         }
-        self.columns.insert(*series, Column::new(self.alloc))?;
+        self.make_column(series)?;
         self.clear_places(series, column);
         Ok(true)
+    }
+
+    // Whether a column in front has each year that the column of the series has, if there is one.
+    fn is_covered(&self, series: &Series, front: &Column) -> bool
+        ensures { result ≡ true → IfSome (tree.get series_order self.now.columns series.now)
+            (Covers front.now) }
+    {
+        match self.columns.get(series) {
+            Some(column) => front.covers(column),
+            None => true,
+        }
+    }
+
+    // Gives a series a column without values, if it has none.
+    fn make_column(&mut self, series: &Series) -> Result<(), AllocError>
+        ensures cells { cell_at self.new ≡ cell_at self.old }
+        ensures covered { (front : Run) → IfSome (tree.get series_order self.old.columns series.now)
+            (Covers front) → IfSome (tree.get series_order self.new.columns series.now) (Covers front) }
+        ensures column { OnOk result (IsSome (tree.get series_order self.new.columns series.now)) }
+    {
+        if self.columns.contains_key(series) {
+            return Ok(());
+        }
+        self.columns.insert(*series, Column::new(self.alloc))?;
+        Ok(())
     }
 
     fn take_column(&mut self, series: Series, column: Column, whole: bool)
@@ -190,7 +215,7 @@ impl Cells {
         }
     }
 
-    // Gives a series a column in place of one without values.
+    // Gives a series a column in place of one that it covers.
     fn replace(&mut self, series: Series, column: Column)
         requires { IsPrepared self.old series column true }
         ensures { cell_at self.new ≡ found_in (in_series series column) (cell_at self.old) }

@@ -1,7 +1,7 @@
 //! The values of a series, year by year.
 
 ghost use Rattle.std.specs.Prelude.{◌≡◌, ◌<◌, ◌≤◌, ◌+◌, ◌-◌, ℕ, [], ◌∷◌, ◌++◌, true, None, Some, is_ok, is_some, length, if◌then◌else◌, IfNone, IfOk, IfSome, IsTrue, OnSome, SomeIff, ◌↔◌, option_copied};
-ghost use Rattle.ghg_engine.specs.Columns.{HasIn, IsPutIn, value_in};
+ghost use Rattle.ghg_engine.specs.Columns.{Covers, HasIn, IsPutIn, value_in};
 
 use ghg_cell::Value;
 use std::alloc::{AllocError, Global};
@@ -110,7 +110,21 @@ impl Column {
     pub(crate) fn ends_before(&self, next: &Column) -> bool
         ensures { IsTrue result ↔ (next.now.first ≡ self.now.first + length self.now.values) }
     {
-        next.first as u64 == self.first as u64 + self.values.len() as u64
+        next.first as u64 == self.end()
+    }
+
+    /// Whether it has each year that another column has.
+    pub(crate) fn covers(&self, other: &Column) -> bool
+        ensures { result ≡ true → Covers self.now other.now }
+    {
+        self.first <= other.first && other.end() <= self.end()
+    }
+
+    // The year behind the last.
+    fn end(&self) -> u64
+        ensures { result ≡ self.now.first + length self.now.values }
+    {
+        self.first as u64 + self.values.len() as u64
     }
 
     /// Takes over the values of a column that begins with the year behind the last.

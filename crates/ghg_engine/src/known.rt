@@ -163,6 +163,13 @@ fn bounds_of<R: Records>(
     Ok(bounds)
 }
 
+// The first year of nodes, unless it is the last as well.
+fn first_of_years(nodes: &[Node]) -> Option<u32> {
+    let first = year_of(nodes.first()?);
+    let last = year_of(nodes.last()?);
+    if first == last { None } else { Some(first) }
+}
+
 /// A line that emits a gas, and the warming potential of this.
 #[derive(Clone, Copy, Drop)]
 pub(crate) struct Emitter {
@@ -180,7 +187,7 @@ pub(crate) struct Known {
 
 impl Known {
     /// The lines and the emitters of the first year of nodes, of which the lines come first, and the emitters
-    /// next.
+    /// next. Nodes of one year need none.
     pub(crate) fn of<R: Records>(
         alloc: Global,
         records: &R,
@@ -193,10 +200,9 @@ impl Known {
             lines: Vec::new(alloc),
             emitters: Vec::new(alloc),
         };
-        let Some(begin) = nodes.first() else {
+        let Some(first) = first_of_years(nodes) else {
             return Ok(known);
         };
-        let first = year_of(begin);
         for node in nodes {
             match node {
                 Node::Line(name, year) if *year == first => known.add_line(records, name, first)?,
