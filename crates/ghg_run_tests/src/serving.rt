@@ -14,7 +14,7 @@ use std::process::Abort;
 use std::sync::ledger::Blank;
 use std::test::Fail;
 
-const NOWHERE: &str = "GET /nothing HTTP/1.1\r\n\r\n";
+pub(crate) const NOWHERE: &str = "GET /nothing HTTP/1.1\r\n\r\n";
 
 const NOT_FOUND: &str = "HTTP/1.1 404 Not Found\r\ncontent-type: application/json\r\n\
     content-length: 21\r\nconnection: close\r\n\r\n{\"reply\":\"not found\"}";
@@ -29,7 +29,7 @@ const NO_MEMORY: &str = "HTTP/1.1 507 Insufficient Storage\r\ncontent-type: appl
     content-length: 18\r\nconnection: close\r\n\r\n{\"reply\":\"memory\"}";
 
 // A link with this request, and the number of the call on it that fails, or 0 where none does.
-fn link(alloc: Global, request: &str, failing: u64) -> Result<MemoryLink, AllocError>
+pub(crate) fn link(alloc: Global, request: &str, failing: u64) -> Result<MemoryLink, AllocError>
     ensures { IfOk result IsFreshLink }
 {
     let bytes = request.as_bytes().to_vec(alloc)?;

@@ -1,0 +1,59 @@
+//! How connections end, which no reply shows.
+
+ghost use Rattle.std.specs.Prelude.{◌≡◌, ◌<◌, IfOk};
+ghost use Rattle.ghg_outer.specs.Doors.{IsFreshLink};
+
+use crate::serving::{NOWHERE, link};
+use ghg_http::{LinkEnd, routes, serve_one};
+use ghg_keeper::SteadyKeeper;
+use ghg_office::Office;
+use ghg_outer::MemoryLink;
+use ghg_steps::Steps;
+use std::alloc::{AllocError, Global};
+use std::marker::Brand;
+use std::process::Abort;
+use std::sync::ledger::{Blank, Ledger};
+use std::test::Fail;
+
+fn end_with<L: Ledger>(
+    alloc: Global,
+    blank: Blank,
+    link: &mut MemoryLink,
+) -> Result<LinkEnd, AllocError>
+    requires name { blank.name ≡ L.name }
+    requires parts { blank.parts ≡ L.parts }
+    requires some { 0 < blank.parts }
+{
+    let router = routes(alloc)?;
+    let mut office = Office::new(alloc);
+    let mut keeper = SteadyKeeper::new(alloc);
+    let mut steps = Steps::<L>::new(blank);
+    Ok(serve_one(alloc, &router, link, &mut office, &mut keeper, false, &mut steps))
+}
+
+fn end_of(alloc: Global, link: &mut MemoryLink) -> Result<LinkEnd, AllocError> {
+    end_with::<Brand>(alloc, Blank::new(1), link)
+}
+
+// Serves a link with these bytes, on which the call of this number fails, or none where it is 0, and compares
+// its end.
+fn check(
+    rt: &(impl Abort + AllocGlobal),
+    bytes: &str,
+    failing: u64,
+    end: LinkEnd,
+) -> Result<(), Fail> {
+    let alloc = rt.alloc();
+    let mut link = link(alloc, bytes, failing)?;
+    let ended = end_of(alloc, &mut link)?;
+    assert_eq!(rt; ended, end);
+    Ok(())
+}
+
+#[test]
+fn a_link_that_fails_ends_in_a_fault(rt: HostRuntime) -> Result<(), Fail> {
+    check(&rt, NOWHERE, 0, LinkEnd::Served(404))?;
+    check(&rt, "GET /nothing HTTP/1.1\r\n", 0, LinkEnd::Cut)?;
+    check(&rt, NOWHERE, 1, LinkEnd::LinkFault)?;
+    check(&rt, NOWHERE, 2, LinkEnd::LinkFault)
+}
