@@ -14,6 +14,7 @@ use std::process::Abort;
 use std::sync::ledger::Blank;
 use std::test::Fail;
 
+/// A request for a path that is none.
 pub(crate) const NOWHERE: &str = "GET /nothing HTTP/1.1\r\n\r\n";
 
 const NOT_FOUND: &str = "HTTP/1.1 404 Not Found\r\ncontent-type: application/json\r\n\
@@ -28,7 +29,7 @@ const ACCEPTED: &str = "HTTP/1.1 201 Created\r\ncontent-type: application/json\r
 const NO_MEMORY: &str = "HTTP/1.1 507 Insufficient Storage\r\ncontent-type: application/json\r\n\
     content-length: 18\r\nconnection: close\r\n\r\n{\"reply\":\"memory\"}";
 
-// A link with this request, and the number of the call on it that fails, or 0 where none does.
+/// A link with this request, and the number of the call on it that fails, or 0 where none does.
 pub(crate) fn link(alloc: Global, request: &str, failing: u64) -> Result<MemoryLink, AllocError>
     ensures { IfOk result IsFreshLink }
 {
