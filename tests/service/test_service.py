@@ -4,6 +4,7 @@ tests/country.
 import contextlib
 import http.client
 import io
+import pathlib
 import re
 import resource
 import shlex
@@ -34,6 +35,7 @@ LENGTH = reply("411 Length Required", "length required")
 CODED = reply("415 Unsupported Media Type", "coded body")
 TOO_LONG = reply("413 Payload Too Large", "refused 3 BodyTooLong")
 NO_TABLE = reply("404 Not Found", "no table")
+NO_MEMORY = reply("507 Insufficient Storage", "memory")
 ACCEPTED, REPEATED = reply("201 Created", "accepted 1"), reply("200 OK", "repeated 1")
 LONGEST = 4_194_304
 # What makes `close` reset a connection.
@@ -351,6 +353,26 @@ class Stored(unittest.TestCase):
                 self.assertEqual(service.exchange(post("a", GAS)), ACCEPTED)
                 self.assertEqual(service.exchange(get("cells", 1990)), table(CELLS))
                 self.assertEqual(service.status(), 0)
+
+
+@unittest.skipUnless(sys.platform == "linux", "the room of a process that runs is not limited so elsewhere")
+class Memory(unittest.TestCase):
+    def limit(self, process, room):
+        """Lets a process take so many bytes more, or as many as it asks for."""
+        pages = int(pathlib.Path(f"/proc/{process.pid}/statm").read_text(encoding="ascii").split()[0])
+        most = resource.RLIM_INFINITY if room is None else pages * resource.getpagesize() + room
+        resource.prlimit(process.pid, resource.RLIMIT_AS, (most, resource.RLIM_INFINITY))
+
+    def test_want_of_memory_and_the_same_submission_again(self):
+        body = HEADER + b"".join(b"enter,activity,,A%05d,1990,1,,,TJ,\n" % n for n in range(50_000))
+        with Service(3) as service:
+            # There is room for the body, and none for its rows.
+            self.limit(service.process, 8 << 20)
+            self.assertEqual(service.exchange(post("many", body)), NO_MEMORY)
+            self.assertEqual(service.exchange(get("cells", 1990)), NO_TABLE)
+            self.limit(service.process, None)
+            self.assertEqual(service.exchange(post("many", body)), ACCEPTED)
+            self.assertEqual(service.status(), 0)
 
 
 class Ends(unittest.TestCase):
