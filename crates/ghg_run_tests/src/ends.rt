@@ -28,7 +28,15 @@ fn end_with<L: Ledger>(
     let mut office = Office::new(alloc);
     let mut keeper = SteadyKeeper::new(alloc);
     let mut steps = Steps::<L>::new(blank);
-    Ok(serve_one(alloc, &router, link, &mut office, &mut keeper, false, &mut steps))
+    Ok(serve_one(
+        alloc,
+        &router,
+        link,
+        &mut office,
+        &mut keeper,
+        false,
+        &mut steps,
+    ))
 }
 
 fn end_of(alloc: Global, link: &mut MemoryLink) -> Result<LinkEnd, AllocError> {
