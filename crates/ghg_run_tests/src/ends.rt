@@ -1,7 +1,6 @@
 //! How connections end, which no reply shows.
 
-ghost use Rattle.std.specs.Prelude.{◌≡◌, ◌<◌, IfOk};
-ghost use Rattle.ghg_outer.specs.Doors.{IsFreshLink};
+ghost use Rattle.std.specs.Prelude.{◌≡◌, ◌<◌};
 
 use crate::serving::{NOWHERE, link};
 use ghg_http::{LinkEnd, routes, serve_one};
