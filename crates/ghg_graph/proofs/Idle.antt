@@ -1,5 +1,5 @@
 -- A line that is not selected is reached in no year.
-use Rattle.std.proofs.Common.{◌≡◌, inl, inr, ℕ, Bool, true, false, ◌||◌, nat_le, List, [], ◌∷◌, map, filter, flat_map, is_some, option_and_then, Option, Some, None, refl, sym, ap, ◌∙◌, subst}
+use Rattle.std.proofs.Common.{◌≡◌, inl, inr, ℕ, Bool, true, false, ◌||◌, if◌then◌else◌, nat_le, List, [], ◌∷◌, map, filter, flat_map, is_some, option_and_then, Option, Some, None, refl, sym, ap, ◌∙◌, subst}
 use Rattle.std.specs.BTreeSet.{BTreeSet, contains}
 use Rattle.std.specs.FinMap.{get}
 use Rattle.std.specs.List.{Contains}
@@ -16,14 +16,14 @@ use Rattle.ghg_definitions.specs.declared.record.Record.{Record}
 use Rattle.ghg_definitions.specs.declared.record.RecordKey.{RecordKey}
 use Rattle.ghg_definitions.specs.declared.record.RecordKey.TheVariants as key
 use Rattle.ghg_definitions.specs.Compilation.{bound_to, emits, first_year, gas_lines, line_formula, previous, sheet_of}
-use Rattle.ghg_definitions.specs.Data.{Data, Name, as_binding, as_line, binding, line, name_cmp, span}
+use Rattle.ghg_definitions.specs.Data.{Data, Name, as_binding, binding, line, name_cmp, span}
 use Rattle.ghg_definitions.specs.Formulas.{Operand, inputs, nodes_in}
 use Rattle.ghg_definitions.specs.Listed.{IsListed}
 use Rattle.ghg_definitions.specs.Lookups.{Source}
 use Rattle.ghg_definitions.specs.Rules.{binds_parameter}
 use Rattle.ghg_definitions.specs.Sound.{IsWorkbook}
 use Rattle.ghg_definitions.specs.Trials.{IsInput}
-use Rattle.ghg_definitions.proofs.Alike.{first_so, not_so}
+use Rattle.ghg_definitions.proofs.Alike.{first_so}
 use Rattle.ghg_definitions.proofs.Depth.{or_else}
 use Rattle.ghg_definitions.proofs.Listed.{from_flat, from_map, listed, listed_flat}
 use Rattle.ghg_definitions.proofs.Rings.{binding_sound, found_parameter}
@@ -32,11 +32,10 @@ use Rattle.ghg_affected.specs.Dependence.{Reads, StandsBy}
 use Rattle.ghg_affected.specs.Figures.{is_figure_key}
 use Rattle.ghg_affected.proofs.Bools.{never_so, or_first, true_not_false}
 use Rattle.ghg_affected.proofs.Dependence.{untouched_are_unchanged}
-use Rattle.ghg_graph.specs.Entries.{is_entry}
 use Rattle.ghg_graph.specs.Ordering.{IsLineOrder}
 use Rattle.ghg_graph.specs.Reached.{IsGasWalk, IsWalk, is_reached}
 use Rattle.ghg_graph.specs.Years.{nodes_by_year}
-use Rattle.ghg_graph.specs.Selections.{HasEntered, HasFigures, IsSelection, has_figure, is_selected, is_weighed}
+use Rattle.ghg_graph.specs.Selections.{HasChanged, HasFigures, IsSelection, has_figure, is_selected, is_weighed, present_line}
 use Rattle.ghg_graph.specs.Takers.{figures_taken, lines_taken, named_by}
 use Rattle.ghg_graph.proofs.Marking.{equivalents_same, lines_same}
 use Rattle.ghg_graph.proofs.YearParts.{years_same}
@@ -59,26 +58,31 @@ binding_record None b e = absurd (cc)
 binding_record (Some r) b e = (r, refl)
 
 module _ (old new : Data) (keys : List RecordKey)
-    (entries : (k : RecordKey) → Contains keys k → is_entry old k ≡ true) (workbook : IsWorkbook new)
+    (no_span : Contains keys key.Span → ⊥) (workbook : IsWorkbook new)
     (kept : (k : RecordKey) → (Contains keys k → ⊥) → get old k ≡ get new k)
     (figures : BTreeSet Name) (has : HasFigures keys figures)
-    (lines : List Name) (order : IsLineOrder new lines) (from : ℕ) (entered : HasEntered new keys lines from)
-    (s : List Name) (closed : IsSelection new figures from lines s) where
+    (lines : List Name) (order : IsLineOrder new lines) (places : List ℕ) (changed : HasChanged new keys lines places)
+    (s : List Name) (closed : IsSelection new figures places lines s) where
   -- ---- the records of a line that is not selected
 
   span_kept : get old key.Span ≡ get new key.Span
-  span_kept = kept key.Span (λ c. true_not_false (sym (entries key.Span c)))
+  span_kept = kept key.Span no_span
+
+  -- no key is about it
+  untold : (k : RecordKey) (name : Name) → is_selected s name ≡ false → present_line new k ≡ Some name → Contains keys k → ⊥
+  untold k name off is c = true_not_false (sym (closed.at_places name (changed k name c is)) ∙ off)
+
+  named : (name : Name) → is_some (line new name) ≡ true → (if is_some (line new name) then Some name else None) ≡ Some name
+  named name here = ap (λ b. if b then Some name else None) here
 
   line_kept : (name : Name) → is_some (line new name) ≡ true → is_selected s name ≡ false
       → get old (key.Line name) ≡ get new (key.Line name)
-  line_kept name here off = kept (key.Line name)
-      (λ c. true_not_false (sym (closed.last name (entered name c here)) ∙ off))
+  line_kept name here off = kept (key.Line name) (untold (key.Line name) name off (named name here))
 
   binding_kept : (name parameter : Name) → is_some (line new name) ≡ true → is_selected s name ≡ false
       → get old (key.Bind name parameter) ≡ get new (key.Bind name parameter)
-  binding_kept name parameter here off = kept (key.Bind name parameter)
-      (λ c. true_not_false (sym here ∙ sym (ap (λ o. is_some (as_line o)) (line_kept name here off))
-      ∙ not_so _ (entries (key.Bind name parameter) c)))
+  binding_kept name parameter here off =
+      kept (key.Bind name parameter) (untold (key.Bind name parameter) name off (named name here))
 
   -- ---- what a line that is not selected takes
 

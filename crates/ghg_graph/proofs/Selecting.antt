@@ -136,8 +136,8 @@ one_place m names behind i j a b e = elim (less_or_not i j) [
 
 -- ---- the lines at places
 
-module _ (m : Data) (index : LineIndex) (is : IsLineIndex m index) (figures : BTreeSet Name) (from : ℕ) (places : BTreeSet ℕ)
-    (closed : AreClosed index figures from places) (names : List Name)
+module _ (m : Data) (index : LineIndex) (is : IsLineIndex m index) (figures : BTreeSet Name) (changed : List ℕ) (places : BTreeSet ℕ)
+    (closed : AreClosed index figures changed places) (names : List Name)
     (named : names ≡ map (name_at index.lines.items) places.keys) where
   abbrev lines : List Name
   lines = index.lines.items
@@ -162,7 +162,7 @@ module _ (m : Data) (index : LineIndex) (is : IsLineIndex m index) (figures : BT
   taker_selected name c on =
       ap (is_selected names) (sym (number_is lines name (listed lines name c)).1) ∙ selected_at (place_of name) on
 
-  pub selection_is : IsSelection m figures from lines names
+  pub selection_is : IsSelection m figures changed lines names
   selection_is = record {
     among = named ∙ passing_from lines (is_selected names) (length lines) 0 (omega arith) places.keys closed.ordered
         (λ k i. (omega arith, closed.within k (is_key places k i), selected_at k (is_key places k i)))
@@ -170,8 +170,8 @@ module _ (m : Data) (index : LineIndex) (is : IsLineIndex m index) (figures : BT
         let at = selected_by (name_at lines k) on in
         key_of places k (subst (IsIn places)
         (sym (one_place m lines is.lines.behind k at.0 within (closed.within at.0 at.1) at.2)) at.1));
-    last = λ name stands. subst (λ n. is_selected names n ≡ true) stands.named
-        (selected_at stands.place (closed.last stands.place stands.behind stands.within));
+    at_places = λ name stands. subst (λ n. is_selected names n ≡ true) stands.named
+        (selected_at stands.place (closed.over_first stands.place stands.among));
     by_figure = λ name figure c i on.
         let there = number_is lines name (listed lines name c) in
         taker_selected name c (closed.over_figures figure (place_of name) on

@@ -1,5 +1,6 @@
--- The place from which on entered lines stand.
-use Rattle.std.proofs.Common.{◌≡◌, ◌⊎◌, inl, inr, ℕ, ◌+◌, ◌≤◌, Bool, true, false, cond, if◌then◌else◌, is_eq, is_some, List, length, Some, None, refl, sym, ap, ◌∙◌, subst, arith}
+-- The places at which changed lines stand.
+use Rattle.std.proofs.Common.{◌≡◌, ◌⊎◌, inl, inr, ℕ, ◌+◌, ◌<◌, ◌≤◌, Bool, true, false, cond, if◌then◌else◌, is_eq, is_some, List, [], ◌∷◌, ◌++◌, length, Some, None, refl, sym, ap, ◌∙◌, subst, arith}
+use Rattle.std.proofs.lemmas.Bool.{cases_lt}
 use Rattle.std.proofs.lemmas.Map.Lookups.{exact_bytes}
 use Rattle.std.specs.BTreeSet.{BTreeSet, IsFromIterResult, Updates, contains}
 use Rattle.std.specs.Cmp.Lexicographic.{nat_list_cmp_total}
@@ -8,11 +9,13 @@ use Rattle.ghg_definitions.specs.declared.record.RecordKey.{RecordKey}
 use Rattle.ghg_definitions.specs.declared.record.RecordKey.TheVariants as key
 use Rattle.ghg_definitions.specs.Data.{Data, Name, line, name_cmp}
 use Rattle.ghg_definitions.specs.Listed.{IsListed}
-use Rattle.ghg_definitions.proofs.Listed.{from_filter_map, listed, listed_filter_map}
+use Rattle.ghg_definitions.proofs.Listed.{from_filter_map, in_either, listed, listed_filter_map, listed_left, listed_right}
+use Rattle.ghg_affected.proofs.Bools.{true_not_false}
 use Rattle.ghg_graph.specs.Numbers.{name_at}
 use Rattle.ghg_graph.specs.Ordering.{IsLineOrder}
-use Rattle.ghg_graph.specs.Selections.{HasEntered, StandsFrom, present_line}
-use Rattle.ghg_graph.proofs.Marking.{names_equal}
+use Rattle.ghg_graph.specs.Selections.{HasChanged, StandsAmong, present_line}
+use Rattle.ghg_graph.specs.Worklists.{AllBelow}
+use Rattle.ghg_graph.proofs.Marking.{equal_itself, names_equal}
 use Rattle.ghg_graph.proofs.Membership.{key_listed, listed_key}
 use Rattle.ghg_graph.proofs.Named.{number_in, number_is}
 
@@ -20,17 +23,22 @@ use Rattle.ghg_graph.proofs.Named.{number_in, number_is}
 
 module _ (m : Data) (keys : List RecordKey) (lines : List Name) (order : IsLineOrder m lines) (names : List Name)
     (all : names ≡ filter_map (present_line m) keys) (s : BTreeSet Name) (is : IsFromIterResult name_cmp names s) where
-  present : (k : RecordKey) (name : Name) → present_line m k ≡ Some name → is_some (line m name) ≡ true
-  present (key.Line other) name e = by (is_some (line m other)) refl e
+  -- the line of a key is present
+  named : (other name : Name) → (if is_some (line m other) then Some other else None) ≡ Some name
+      → is_some (line m name) ≡ true
+  named other name e = by (is_some (line m other)) refl e
     where
       by : (b : Bool) → is_some (line m other) ≡ b → (if b then Some other else None) ≡ Some name
           → is_some (line m name) ≡ true
       by true here e = let same : other ≡ name = cc in subst (λ z. is_some (line m z) ≡ true) same here
       by false off e = absurd (cc)
+
+  present : (k : RecordKey) (name : Name) → present_line m k ≡ Some name → is_some (line m name) ≡ true
+  present (key.Line other) name e = named other name e
+  present (key.Bind other parameter) name e = named other name e
   present key.Span name e = absurd (cc)
   present (key.Activity other year) name e = absurd (cc)
   present (key.Factor other start) name e = absurd (cc)
-  present (key.Bind other parameter) name e = absurd (cc)
   present (key.Uncert other) name e = absurd (cc)
 
   pub are_lines : (name : Name) → contains name_cmp s name ≡ true → Contains lines name
@@ -39,42 +47,116 @@ module _ (m : Data) (keys : List RecordKey) (lines : List Name) (order : IsLineO
       (subst (IsListed name) all (key_listed exact_bytes name names (sym (is.0 name) ∙ on))) in
       order.complete name (present from.0 name from.2)
 
-  pub entered : (from : ℕ) → ((name : Name) → contains name_cmp s name ≡ true → StandsFrom from lines name)
-      → HasEntered m keys lines from
-  entered from stand name c here = stand name (is.0 name ∙ listed_key nat_list_cmp_total name names
-      (subst (IsListed name) (sym all) (listed_filter_map (present_line m) (key.Line name) name keys
-      (listed keys (key.Line name) c) (ap (λ b. if b then Some name else None) here))))
+  pub changed : (places : List ℕ) → ((name : Name) → contains name_cmp s name ≡ true → StandsAmong places lines name)
+      → HasChanged m keys lines places
+  changed places stand k name c is_line = stand name (is.0 name ∙ listed_key nat_list_cmp_total name names
+      (subst (IsListed name) (sym all) (listed_filter_map (present_line m) k name keys (listed keys k c) is_line)))
 
 -- ---- from the last line on
 
--- one line more is gone over
-pub stands_more : (lines : List Name) (from next : ℕ) → next + 1 ≡ from → from ≤ length lines → (x : Name)
-    → x ≡ name_at lines next → (old new : BTreeSet Name) → Updates name_cmp old new x false → (name : Name)
-    → StandsFrom from lines name ⊎ (contains name_cmp old name ≡ true)
-    → StandsFrom next lines name ⊎ (contains name_cmp new name ≡ true)
-stands_more lines from next e within x at old new updates name (inl stands) =
-    let behind = stands.behind in
-    inl (record { place = stands.place; behind = omega (arith, behind, e); within = stands.within; named = stands.named })
-stands_more lines from next e within x at old new updates name (inr on) = by (is_eq (name_cmp x name)) refl
-  where
-    by : (b : Bool) → is_eq (name_cmp x name) ≡ b
-        → StandsFrom next lines name ⊎ (contains name_cmp new name ≡ true)
-    by true same = inl (record {
-      place = next;
-      behind = omega arith;
-      within = omega (arith, e, within);
-      named = sym at ∙ names_equal x name same;
-    })
-    by false apart = inr (updates.0 name ∙ ap (λ b. cond b false (contains name_cmp old name)) apart ∙ on)
+-- so many lines are not gone over yet: the names stand at the places, or are left and stand among these lines
+pub record IsFinding (lines : List Name) (names left : BTreeSet Name) (places : List ℕ) (from : ℕ) : Type 0 where
+  pub within : from ≤ length lines
+  pub below : AllBelow (length lines) places
+  pub stand : (name : Name) → contains name_cmp names name ≡ true →
+      StandsAmong places lines name ⊎ (contains name_cmp left name ≡ true)
+  -- those that are left stand before
+  pub ahead : (name : Name) → contains name_cmp left name ≡ true → (place : ℕ) → place < length lines
+      → name_at lines place ≡ name → place < from
 
--- a line stands from the first place on
-pub stands_first : (lines : List Name) (from : ℕ) (name : Name) → from ≤ 0 → Contains lines name
-    → StandsFrom from lines name
-stands_first lines from name none c =
-    let there = number_is lines name (listed lines name c) in
-    record {
-      place = number_in lines name;
-      behind = omega (arith, none);
-      within = there.0;
-      named = there.1;
-    }
+-- one line less is left, which stands at the place, or it was none of the names
+module _ (lines : List Name) (names old new : BTreeSet Name) (places : List ℕ) (from next : ℕ)
+    (was : IsFinding lines names old places from) (e : next + 1 ≡ from) (x : Name) (x_at : x ≡ name_at lines next)
+    (updates : Updates name_cmp old new x false) where
+  less_left : (name : Name) → contains name_cmp new name ≡ true → (contains name_cmp old name ≡ true) × (is_eq (name_cmp x name) ≡ false)
+  less_left name on = by (is_eq (name_cmp x name)) refl
+    where
+      by : (b : Bool) → is_eq (name_cmp x name) ≡ b → (contains name_cmp old name ≡ true) × (is_eq (name_cmp x name) ≡ false)
+      by true same = absurd (true_not_false (sym on ∙ updates.0 name ∙ ap (λ b. cond b false (contains name_cmp old name)) same))
+      by false apart = (sym (updates.0 name ∙ ap (λ b. cond b false (contains name_cmp old name)) apart) ∙ on, apart)
+
+  still_ahead : (name : Name) → contains name_cmp new name ≡ true → (place : ℕ) → place < length lines
+      → name_at lines place ≡ name → place < next
+  still_ahead name on place within named =
+      let less = less_left name on in
+      let before = was.ahead name less.0 place within named in
+      by (cases_lt place next)
+    where
+      by : (place < next) ⊎ (next ≤ place) → place < next
+      by (inl low) = low
+      by (inr high) =
+          let before = was.ahead name (less_left name on).0 place within named in
+          let here : place ≡ next = omega (arith, high, before, e) in
+          absurd (true_not_false (sym (equal_itself name) ∙ ap (λ n. is_eq (name_cmp n name)) (sym named ∙ ap (name_at lines) here ∙ sym x_at) ∙ (less_left name on).1))
+
+  left_or_here : (name : Name) → contains name_cmp old name ≡ true → (x ≡ name) ⊎ (contains name_cmp new name ≡ true)
+  left_or_here name on = by (is_eq (name_cmp x name)) refl
+    where
+      by : (b : Bool) → is_eq (name_cmp x name) ≡ b → (x ≡ name) ⊎ (contains name_cmp new name ≡ true)
+      by true same = inl (names_equal x name same)
+      by false apart = inr (updates.0 name ∙ ap (λ b. cond b false (contains name_cmp old name)) apart ∙ on)
+
+  pub found_one : IsFinding lines names new (places ++ next ∷ []) next
+  found_one = record {
+    within = let w = was.within in omega (arith, w, e);
+    below = λ place i. elim (in_either place places (next ∷ []) i) [
+      | inl j ↦ was.below place j
+      | inr j ↦ elim j [
+        | inl same ↦ let w = was.within in omega (arith, w, e, same)
+        | inr none ↦ absurd none
+      ]
+    ];
+    stand = λ name on. elim (was.stand name on) [
+      | inl stands ↦ inl (record {
+        place = stands.place;
+        among = listed_left stands.place places (next ∷ []) stands.among;
+        within = stands.within;
+        named = stands.named;
+      })
+      | inr left ↦ elim (left_or_here name left) [
+        | inl same ↦ inl (record {
+          place = next;
+          among = listed_right next places (next ∷ []) (inl refl);
+          within = let w = was.within in omega (arith, w, e);
+          named = sym x_at ∙ same;
+        })
+        | inr still ↦ inr still
+      ]
+    ];
+    ahead = still_ahead;
+  }
+
+  pub found_none : contains name_cmp old x ≡ false → IsFinding lines names new places next
+  found_none absent = record {
+    within = let w = was.within in omega (arith, w, e);
+    below = was.below;
+    stand = λ name on. elim (was.stand name on) [
+      | inl stands ↦ inl stands
+      | inr left ↦ elim (left_or_here name left) [
+        | inl same ↦ absurd (true_not_false (sym left ∙ ap (contains name_cmp old) (sym same) ∙ absent))
+        | inr still ↦ inr still
+      ]
+    ];
+    ahead = still_ahead;
+  }
+
+-- all lines are left
+pub found_nothing : (lines : List Name) (names : BTreeSet Name) → IsFinding lines names names [] (length lines)
+found_nothing lines names = record {
+  within = omega arith;
+  below = λ place i. absurd i;
+  stand = λ name on. inr on;
+  ahead = λ name on place within named. within;
+}
+
+-- no line is left
+pub found_all : (lines : List Name) (names left : BTreeSet Name) (places : List ℕ) (from : ℕ)
+    → IsFinding lines names left places from → ((name : Name) → contains name_cmp names name ≡ true → Contains lines name)
+    → from ≤ 0 → (name : Name) → contains name_cmp names name ≡ true → StandsAmong places lines name
+found_all lines names left places from was are none name on = elim (was.stand name on) [
+  | inl stands ↦ stands
+  | inr still ↦
+      let there = number_is lines name (listed lines name (are name on)) in
+      let before = was.ahead name still (number_in lines name) there.0 there.1 in
+      absurd (omega (arith, before, none))
+]

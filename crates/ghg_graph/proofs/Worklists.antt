@@ -1,12 +1,12 @@
 -- Places that are selected one after the other.
-use Rattle.std.proofs.Common.{◌≡◌, ◌⊎◌, inl, inr, ℕ, zero, suc, ◌+◌, ◌-◌, ◌<◌, ◌≤◌, Bool, true, false, cond, List, [], ◌∷◌, ◌++◌, length, get_or, flat_map, map, take, is_eq, refl, sym, ap, ◌∙◌, subst, arith, length-append}
+use Rattle.std.proofs.Common.{◌≡◌, ◌⊎◌, inl, inr, ℕ, ◌+◌, ◌<◌, ◌≤◌, Bool, true, false, cond, List, [], ◌∷◌, ◌++◌, length, get_or, flat_map, map, take, is_eq, refl, sym, ap, ◌∙◌, subst, arith, length-append}
 use Rattle.std.proofs.lemmas.List.{append-nil, append_assoc, get_or_default, map-append, take-append-le, take_all}
 use Rattle.std.proofs.lemmas.List.Concat.{flat_map-append}
 use Rattle.std.proofs.lemmas.Map.Lookups.{exact_bytes, exact_unsigned}
 use Rattle.std.proofs.lemmas.Map.Views.{All-from_any, length-le_from_below, tells_apart}
 use Rattle.std.specs.BTreeSet.{BTreeSet, IsOrdered, Updates, btree_set_len, contains}
 use Rattle.std.specs.Cmp.{eq_by_cmp_equiv}
-use Rattle.std.specs.List.{list_any, range_with_len}
+use Rattle.std.specs.List.{list_any}
 use Rattle.std.specs.Ordering.{nat_cmp}
 use Rattle.std.proofs.lemmas.Cmp.{nat_cmp_total}
 use Rattle.ghg_definitions.specs.Data.{Name}
@@ -14,7 +14,7 @@ use Rattle.ghg_definitions.specs.Listed.{IsListed}
 use Rattle.ghg_definitions.proofs.Listed.{from_flat, in_either, listed_flat, listed_left, listed_right}
 use Rattle.ghg_graph.specs.Numbers.{name_at}
 use Rattle.ghg_graph.specs.Takers.{places_of}
-use Rattle.ghg_graph.specs.Worklists.{AreAdded, AreClosed, AreWithin, IsIn, IsQueued, IsSpread}
+use Rattle.ghg_graph.specs.Worklists.{AllBelow, AreAdded, AreClosed, AreWithin, IsIn, IsQueued, IsSpread}
 use Rattle.ghg_graph.specs.declared.index.LineIndex.{LineIndex}
 use Rattle.ghg_graph.specs.declared.worklist.Worklist.{Worklist}
 use Rattle.ghg_graph.proofs.Marks.{at_listed}
@@ -224,44 +224,25 @@ module _ (index : LineIndex) (first : Worklist) where
 
 -- ---- from the figures on
 
-pub listed_range : (a n k : ℕ) → a ≤ k → k < a + n → IsListed k (range_with_len a n)
-listed_range a zero k low high = absurd (omega (arith, low, high))
-listed_range a (suc n) k low high = elim (at_or_behind a k low) [
-  | inl same ↦ inl same
-  | inr behind ↦ inr (listed_range (a + 1) n k behind (omega (arith, high)))
-]
-  where
-    at_or_behind : (a k : ℕ) → a ≤ k → (k ≡ a) ⊎ (a + 1 ≤ k)
-    at_or_behind a k h = grind (arith, h)
-
-pub from_range : (a n k : ℕ) → IsListed k (range_with_len a n) → (a ≤ k) × (k < a + n)
-from_range a zero k i = absurd i
-from_range a (suc n) k (inl same) = (omega (arith, same), omega (arith, same))
-from_range a (suc n) k (inr i) = let rest = from_range (a + 1) n k i in
-    (let low = rest.0 in omega (arith, low), let high = rest.1 in omega (arith, high))
-
-module _ (index : LineIndex) (figures : BTreeSet Name) (from : ℕ) (none first : Worklist) (empty : none.selected.keys ≡ [])
-    (added : AreAdded (flat_map (places_of index.takers.figures) figures.keys
-    ++ range_with_len from (length index.lines.items - from)) none first) where
+module _ (index : LineIndex) (figures : BTreeSet Name) (places : List ℕ) (none first : Worklist) (empty : none.selected.keys ≡ [])
+    (added : AreAdded (flat_map (places_of index.takers.figures) figures.keys ++ places) none first) where
   pub first_within : AreWithin (length index.lines.items) index.takers.figures
-      → (place : ℕ) → IsIn first.selected place → place < length index.lines.items
-  first_within within place is = elim (added.only place is) [
+      → AllBelow (length index.lines.items) places → (place : ℕ) → IsIn first.selected place → place < length index.lines.items
+  first_within within below place is = elim (added.only place is) [
     | inl j ↦ absurd (none_in none.selected place empty j)
     | inr j ↦ elim (in_either place (flat_map (places_of index.takers.figures) figures.keys) _ j) [
       | inl l ↦ let taker = from_flat (places_of index.takers.figures) place figures.keys l in
           within taker.0 place taker.2
-      | inr l ↦ let last = from_range from (length index.lines.items - from) place l in
-          let low = last.0 in let high = last.1 in omega (arith, low, high)
+      | inr l ↦ below place l
     ]
   ]
 
-  pub closed : (last : Worklist) → IsSpread index first last → AreClosed index figures from last.selected
+  pub closed : (last : Worklist) → IsSpread index first last → AreClosed index figures places last.selected
   closed last spread = record {
     ordered = spread.ordered;
     within = spread.within;
-    last = λ place low high. spread.kept place (added.added place
-        (listed_right place (flat_map (places_of index.takers.figures) figures.keys) _
-        (listed_range from (length index.lines.items - from) place low (omega (arith, low, high)))));
+    over_first = λ place i. spread.kept place (added.added place
+        (listed_right place (flat_map (places_of index.takers.figures) figures.keys) places i));
     over_figures = λ figure place on i.
         spread.kept place (added.added place (listed_left place (flat_map (places_of index.takers.figures) figures.keys) _
         (listed_flat (places_of index.takers.figures) figure place figures.keys

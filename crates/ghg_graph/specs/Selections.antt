@@ -1,5 +1,5 @@
 -- The lines that edits enter, and those to which they may lead in some year.
-use Rattle.std.specs.Prelude.{◌≡◌, ℕ, ◌<◌, ◌≤◌, Bool, true, false, ◌||◌, if◌then◌else◌, is_some, List, filter, length, Option, Some, None}
+use Rattle.std.specs.Prelude.{◌≡◌, ℕ, ◌<◌, Bool, true, false, ◌||◌, if◌then◌else◌, is_some, List, filter, length, Option, Some, None}
 use Rattle.std.specs.BTreeSet.{BTreeSet, contains}
 use Rattle.std.specs.List.{Contains}
 use Rattle.std.specs.Option.{option_map_or}
@@ -26,33 +26,34 @@ has_figure s (key.Uncert line) = true
 abbrev pub HasFigures : List RecordKey → BTreeSet Name → Type 0
 HasFigures keys s = (k : RecordKey) → Contains keys k → has_figure s k ≡ true
 
--- the line stands at a place from one on
-pub record StandsFrom (from : ℕ) (lines : List Name) (name : Name) : Type 0 where
+-- the line stands at one of the places
+pub record StandsAmong (places : List ℕ) (lines : List Name) (name : Name) : Type 0 where
   pub place : ℕ
-  pub behind : from ≤ place
+  pub among : IsListed place places
   pub within : place < length lines
   pub named : name_at lines place ≡ name
 
--- the lines of the keys that are present stand from one on
-abbrev pub HasEntered : Data → List RecordKey → List Name → ℕ → Type 0
-HasEntered m keys lines from = (name : Name) → Contains keys (key.Line name) → is_some (line m name) ≡ true →
-    StandsFrom from lines name
-
--- the line of the key, if it is present
+-- the line of the key, or of the binding, if it is present
 abbrev pub present_line : Data → RecordKey → Option Name
 present_line m (key.Line name) = if is_some (line m name) then Some name else None
+present_line m (key.Bind name parameter) = if is_some (line m name) then Some name else None
 present_line m _ = None
+
+-- the lines of the keys that are present stand at these places
+abbrev pub HasChanged : Data → List RecordKey → List Name → List ℕ → Type 0
+HasChanged m keys lines places = (k : RecordKey) (name : Name) → Contains keys k →
+    present_line m k ≡ Some name → StandsAmong places lines name
 
 -- the line is among those that are selected
 abbrev pub is_selected : List Name → Name → Bool
 is_selected names name = is_member (eq_by_cmp name_cmp) names name
 
--- some of the lines in their order, among them those from one on, and each line that takes one of the
+-- some of the lines in their order, among them those at the places, and each line that takes one of the
 -- figures, or one of them
-pub record IsSelection (m : Data) (figures : BTreeSet Name) (from : ℕ) (lines names : List Name) :
+pub record IsSelection (m : Data) (figures : BTreeSet Name) (places : List ℕ) (lines names : List Name) :
     Type 0 where
   pub among : names ≡ filter (is_selected names) lines
-  pub last : (name : Name) → StandsFrom from lines name → is_selected names name ≡ true
+  pub at_places : (name : Name) → StandsAmong places lines name → is_selected names name ≡ true
   pub by_figure : (name figure : Name) → Contains lines name →
       IsListed figure (named_by figures_taken m name) → contains name_cmp figures figure ≡ true →
       is_selected names name ≡ true

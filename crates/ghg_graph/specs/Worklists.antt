@@ -1,5 +1,5 @@
 -- Places of lines that are selected one after the other.
-use Rattle.std.specs.Prelude.{◌≡◌, ◌⊎◌, ℕ, ◌<◌, ◌≤◌, true, List, ◌++◌, length}
+use Rattle.std.specs.Prelude.{◌≡◌, ◌⊎◌, ℕ, ◌<◌, true, List, ◌++◌, length}
 use Rattle.std.specs.BTreeSet.{BTreeSet, IsOrdered, btree_set_len, contains}
 use Rattle.std.specs.Ordering.{nat_cmp}
 use Rattle.ghg_definitions.specs.Data.{Name, name_cmp}
@@ -12,6 +12,10 @@ use Rattle.ghg_graph.specs.declared.worklist.Worklist.{Worklist}
 -- the place is selected
 abbrev pub IsIn : BTreeSet ℕ → ℕ → Type 0
 IsIn places place = contains nat_cmp places place ≡ true
+
+-- each place is below the number
+abbrev pub AllBelow : ℕ → List ℕ → Type 0
+AllBelow count places = (place : ℕ) → IsListed place places → place < count
 
 -- the places under each name are below the number
 abbrev pub AreWithin : ℕ → Places → Type 0
@@ -43,13 +47,13 @@ pub record IsSpread (index : LineIndex) (old new : Worklist) : Type 0 where
   pub within : (place : ℕ) → IsIn new.selected place → place < length index.lines.items
   pub over_lines : IsSpreadOver index new.selected
 
--- what takes one of the figures, or the line at one of the places, is at one of the places, and so is each
--- line from one on
-pub record AreClosed (index : LineIndex) (figures : BTreeSet Name) (from : ℕ) (places : BTreeSet ℕ) :
+-- what takes one of the figures, or the line at one of the places, is at one of the places, and so are the
+-- first ones
+pub record AreClosed (index : LineIndex) (figures : BTreeSet Name) (first : List ℕ) (places : BTreeSet ℕ) :
     Type 0 where
   pub ordered : IsOrdered nat_cmp places
   pub within : (place : ℕ) → IsIn places place → place < length index.lines.items
-  pub last : (place : ℕ) → from ≤ place → place < length index.lines.items → IsIn places place
+  pub over_first : (place : ℕ) → IsListed place first → IsIn places place
   pub over_figures : (figure : Name) (place : ℕ) → contains name_cmp figures figure ≡ true →
       IsListed place (places_of index.takers.figures figure) → IsIn places place
   pub over_lines : IsSpreadOver index places

@@ -163,11 +163,20 @@ fn with_emitters<R: Records>(
     ensures { IfOk result (λ names. AreEmittersWith (R.content records.now) emitters.now lines.now
         names.items) }
 {
-    let mut names = Vec::from_slice(alloc, emitters)?;
+    let mut names = with_room(alloc, emitters, lines)?;
     for line in lines {
         put_emitter(records, line, &mut names)?;
     }
     Ok(names)
+}
+
+// A copy of names with room for others.
+fn with_room(alloc: Global, names: &[Name], others: &[Name]) -> Result<Vec<Name>, AllocError>
+    ensures { IfOk result (λ copy. copy.items ≡ names.now) }
+{
+    let mut copy = Vec::with_capacity(alloc, names.len() + others.len())?;
+    copy.extend_from_slice(names)?;
+    Ok(copy)
 }
 
 fn put_emitter<R: Records>(

@@ -1,4 +1,4 @@
-//! The lines that edits enter, and those to which they may lead in some year, so that only these are gone
+//! The lines that edits are about, and those to which they may lead in some year, so that only these are gone
 //! over.
 
 ghost use Rattle.std.specs.Prelude.{◌≡◌, ◌<◌, ℕ, true, filter, length, map, IfOk, OnOk};
@@ -11,8 +11,8 @@ ghost use Rattle.ghg_definitions.specs.Data.{Name, name_cmp};
 ghost use Rattle.ghg_graph.specs.Index.{IsLineIndex};
 ghost use Rattle.ghg_graph.specs.Numbers.{name_at};
 ghost use Rattle.ghg_graph.specs.Ordering.{IsLineOrder};
-ghost use Rattle.ghg_graph.specs.Selections.{HasEntered, HasFigures, IsSelection, StandsFrom, has_figure, is_selected, is_weighed, present_line};
-ghost use Rattle.ghg_graph.specs.Worklists.{IsIn};
+ghost use Rattle.ghg_graph.specs.Selections.{HasChanged, HasFigures, IsSelection, StandsAmong, has_figure, is_selected, is_weighed, present_line};
+ghost use Rattle.ghg_graph.specs.Worklists.{AllBelow, IsIn};
 
 use crate::gases::line_gas;
 use crate::index::LineIndex;
@@ -60,19 +60,20 @@ fn add(names: &mut BTreeSet<Name>, name: Name) -> Result<(), AllocError>
     Ok(())
 }
 
-/// A place from which on the lines of keys stand that are present. Only the lines from there on are gone
-/// over.
-pub(crate) fn entered_from<S: Records>(
+/// The places of the lines that keys are about, themselves or a binding of theirs, and that are present. The
+/// lines from the first of these places on are gone over, and no others.
+pub(crate) fn changed_places<S: Records>(
     alloc: Global,
     new: &S,
     keys: &[RecordKey],
     lines: &[Name],
-) -> Result<usize, AllocError>
+) -> Result<Vec<usize>, AllocError>
     requires { IsLineOrder (S.content new.now) lines.now }
-    ensures { IfOk result (HasEntered (S.content new.now) keys.now lines.now) }
+    ensures changed { IfOk result (λ places. HasChanged (S.content new.now) keys.now lines.now places.items) }
+    ensures within { IfOk result (λ places. AllBelow (length lines.now) places.items) }
 {
     let names = present_lines(alloc, new, keys)?;
-    Ok(start_of(lines, set_of(alloc, &names)?))
+    places_in(alloc, lines, set_of(alloc, &names)?)
 }
 
 fn present_lines<S: Records>(
@@ -91,41 +92,48 @@ fn present_line<S: Records>(new: &S, key: &RecordKey) -> Option<Name>
     ensures { result ≡ present_line (S.content new.now) key.now }
 {
     match key {
-        RecordKey::Line(name) if equation_of(new, name).is_some() => Some(*name),
+        RecordKey::Line(name) | RecordKey::Bind(name, _) if equation_of(new, name).is_some() =>
+            Some(*name),
         _ => None,
     }
 }
 
-// The place from which on all of the names stand: the lines are gone over from the last on.
-fn start_of(lines: &[Name], names: BTreeSet<Name>) -> usize
+// The places of the names: the lines are gone over from the last on, since entered ones stand last.
+fn places_in(alloc: Global, lines: &[Name], names: BTreeSet<Name>) -> Result<Vec<usize>, AllocError>
     requires { (name : Name) → contains name_cmp names name ≡ true → Contains lines.now name }
-    ensures { (name : Name) → contains name_cmp names name ≡ true → StandsFrom result lines.now name }
+    ensures stand { IfOk result (λ places. (name : Name) → contains name_cmp names name ≡ true →
+        StandsAmong places.items lines.now name) }
+    ensures within { IfOk result (λ places. AllBelow (length lines.now) places.items) }
 {
     let mut left = names;
+    let mut places = Vec::new(alloc);
     let mut from = lines.len();
     while from > 0 && !left.is_empty() {
         from -= 1;
-        left.remove(&lines[from]);
+        if left.remove(&lines[from]) {
+            places.push(from)?;
+        }
     }
-    from
+    Ok(places)
 }
 
-/// The lines from a place on, and those that take one of the figures, or a line that is selected; and the
+/// The lines at the places, and those that take one of the figures, or a line that is selected; and the
 /// emitters that are selected, or whose gas has a warming potential among the figures.
 pub(crate) fn select<S: Records>(
     alloc: Global,
     new: &S,
     figures: &BTreeSet<Name>,
-    from: usize,
+    changed: &[usize],
     index: &LineIndex,
 ) -> Result<Selection, AllocError>
-    requires { IsLineIndex (S.content new.now) index.now }
-    ensures lines { IfOk result (λ s. IsSelection (S.content new.now) figures.now from
+    requires index { IsLineIndex (S.content new.now) index.now }
+    requires within { AllBelow (length index.now.lines.items) changed.now }
+    ensures lines { IfOk result (λ s. IsSelection (S.content new.now) figures.now changed.now
         index.now.lines.items s.lines.items) }
     ensures emitters { IfOk result (λ s. s.emitters.items ≡ filter
         (is_weighed (S.content new.now) figures.now (is_selected s.lines.items)) index.now.emitters.items) }
 {
-    let places = reached_places(alloc, figures, from, index)?;
+    let places = reached_places(alloc, figures, changed, index)?;
     let lines = lines_at(alloc, &index.lines, &places)?;
     let emitters = weighed(alloc, new, figures, &lines, &index.emitters)?;
     Ok(Selection { lines, emitters })

@@ -1,9 +1,8 @@
-//! The places of lines to which figures and entered lines lead, each once.
+//! The places of lines to which figures and changed lines lead, each once.
 
-ghost use Rattle.std.specs.Prelude.{◌≡◌, ◌∷◌, ◌-◌, ◌<◌, ℕ, [], flat_map, length, map, IfOk, OnOk};
-ghost use Rattle.std.specs.List.{range_with_len};
+ghost use Rattle.std.specs.Prelude.{◌≡◌, ◌∷◌, ◌<◌, ℕ, [], flat_map, length, map, IfOk, OnOk};
 ghost use Rattle.ghg_graph.specs.Takers.{places_of};
-ghost use Rattle.ghg_graph.specs.Worklists.{AreAdded, AreClosed, AreWithin, IsIn, IsQueued, IsSpread};
+ghost use Rattle.ghg_graph.specs.Worklists.{AllBelow, AreAdded, AreClosed, AreWithin, IsIn, IsQueued, IsSpread};
 
 use crate::index::LineIndex;
 use crate::takers::{Places, Taken};
@@ -18,30 +17,23 @@ struct Worklist {
     queue: Vec<usize>,
 }
 
-/// The places from one on, and those of the lines that take one of the figures, or a line at one of these
-/// places.
+/// The first places, and those of the lines that take one of the figures, or a line at one of these places.
 pub(crate) fn reached_places(
     alloc: Global,
     figures: &BTreeSet<Name>,
-    from: usize,
+    first: &[usize],
     index: &LineIndex,
 ) -> Result<BTreeSet<usize>, AllocError>
+    requires first { AllBelow (length index.now.lines.items) first.now }
     requires figures { AreWithin (length index.now.lines.items) index.now.takers.figures }
     requires lines { AreWithin (length index.now.lines.items) index.now.takers.lines }
-    ensures { IfOk result (AreClosed index.now figures.now from) }
+    ensures { IfOk result (AreClosed index.now figures.now first.now) }
 {
-    let last = places_from(alloc, from, index.lines.len())?;
     let mut worklist = Worklist::new(alloc);
     worklist.add_figures(figures, &index.takers.figures)?;
-    worklist.add_all(&last)?;
+    worklist.add_all(first)?;
     worklist.spread(index)?;
     Ok(worklist.selected)
-}
-
-fn places_from(alloc: Global, from: usize, end: usize) -> Result<Vec<usize>, AllocError>
-    ensures { IfOk result (λ places. places.items ≡ range_with_len from (end - from)) }
-{
-    (from..end).collect(alloc)
 }
 
 impl Worklist {

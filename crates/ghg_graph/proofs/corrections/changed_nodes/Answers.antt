@@ -1,36 +1,30 @@
-use Rattle.std.proofs.Common.{◌≡◌, ◌∙◌, inl, inr, true, List, [], ◌∷◌, ap, ap₂, filter, map, subst, sym}
+use Rattle.std.proofs.Common.{◌≡◌, ◌∙◌, false, List, ap, ap₂, filter, length, refl, subst, sym}
 use Rattle.std.proofs.lemmas.Result.{IfOk-weaker}
 use Rattle.std.specs.FinMap.{get}
-use Rattle.std.specs.List.{Contains}
+use Rattle.std.specs.List.{Contains, list_any}
 use Rattle.ghg_definitions.specs.Compilation.{gas_lines, years_of}
 use Rattle.ghg_units.specs.declared.node.Node.{Node}
 use Rattle.ghg_definitions.specs.Data.{Data, Name, span}
 use Rattle.ghg_definitions.specs.Sound.{IsWorkbook}
 use Rattle.ghg_definitions.specs.declared.record.RecordKey.{RecordKey}
-use Rattle.ghg_definitions.specs.Listed.{IsListed}
-use Rattle.ghg_definitions.proofs.Alike.{first_so, second_so}
-use Rattle.ghg_definitions.proofs.Listed.{listed}
-use Rattle.ghg_data.specs.Changes.{Change}
-use Rattle.ghg_graph.specs.Entries.{are_entries, is_entry}
-use Rattle.ghg_graph.specs.Selections.{HasEntered}
+use Rattle.ghg_definitions.specs.declared.record.RecordKey.TheVariants as key
+use Rattle.ghg_definitions.proofs.Listed.{listed, listed_any}
+use Rattle.ghg_affected.proofs.Bools.{true_not_false}
+use Rattle.ghg_graph.specs.Selections.{HasChanged}
 use Rattle.ghg_graph.specs.declared.index.LineIndex.{LineIndex}
-use Rattle.ghg_graph.specs.Corrections.{ListsAffected}
+use Rattle.ghg_graph.specs.Corrections.{ListsAffected, is_span}
 use Rattle.ghg_graph.specs.Index.{IsLineIndex}
 use Rattle.ghg_graph.specs.Reached.{IsWalk, is_reached}
+use Rattle.ghg_graph.specs.Worklists.{AllBelow}
 use Rattle.ghg_graph.specs.Years.{nodes_by_year}
 use Rattle.ghg_graph.proofs.Corrected.{kept_record}
 use Rattle.ghg_graph.proofs.Idle.{all_gas_walk, all_walk, gas_walk_is, walk_is, whole}
 use Rattle.ghg_graph.proofs.InTurn.{lists_affected}
 use Rattle.ghg_graph.proofs.corrections.changed_nodes.Goals as goal
 
-each_entry : (m : Data) (cs : List Change) → are_entries m cs ≡ true → (ks : List RecordKey) → ks ≡ map (λ c. c.0) cs
-    → (k : RecordKey) → Contains ks k → is_entry m k ≡ true
-each_entry m cs e ks all k c = by cs e (subst (IsListed k) all (listed ks k c))
-  where
-    by : (cs : List Change) → are_entries m cs ≡ true → IsListed k (map (λ c. c.0) cs) → is_entry m k ≡ true
-    by [] e i = absurd i
-    by (c ∷ cs) e (inl same) = ap (is_entry m) same ∙ first_so (is_entry m c.0) _ e
-    by (c ∷ cs) e (inr i) = by cs (second_so (is_entry m c.0) _ e) i
+-- no key is that of the years
+none_spans : (ks : List RecordKey) → list_any is_span ks ≡ false → Contains ks key.Span → ⊥
+none_spans ks none c = true_not_false (sym (listed_any is_span key.Span ks (listed ks key.Span c) refl) ∙ none)
 
 index_still : (m new : Data) (index : LineIndex) → m ≡ new → IsLineIndex new index → IsLineIndex m index
 index_still m new index e is = subst (λ k. IsLineIndex k index) (sym e) is
@@ -62,16 +56,21 @@ reached_nodes-requires-clause-lines c =
 
 pub reached_nodes-requires-clause-emitters : goal.reached_nodes-requires-clause-emitters
 reached_nodes-requires-clause-emitters c =
-    all_gas_walk c.args.book.now.content c.after-new.result c.deref-then-not-are_entries.result.now
-    (c.deref-then-not-are_entries.ensures.value ∙ c.requires.index.emitters ∙ ap gas_lines (sym c.after-new.ensures))
+    all_gas_walk c.args.book.now.content c.after-new.result c.deref-then-has_span.result.now
+    (c.deref-then-has_span.ensures.value ∙ c.requires.index.emitters ∙ ap gas_lines (sym c.after-new.ensures))
 
-pub returns-then-not-are_entries : goal.returns-then-not-are_entries
-returns-then-not-are_entries c =
+pub returns-then-has_span : goal.returns-then-has_span
+returns-then-has_span c =
     let index = c.args.index.now in
     IfOk-weaker c.reached_nodes.result _ _ (λ nodes e.
     listed_by c.args.book.now.content c.after-new.result _ index c.after-new.ensures c.requires.index nodes.items
     (walked_by c.args.book.now.content c.after-new.result index.lines.items index.emitters.items _ _
-    c.deref.ensures.value c.deref-then-not-are_entries.ensures.value nodes.items e)) c.reached_nodes.ensures
+    c.deref.ensures.value c.deref-then-has_span.ensures.value nodes.items e)) c.reached_nodes.ensures
+
+pub select-requires-clause-within : goal.select-requires-clause-within
+select-requires-clause-within c =
+    subst (AllBelow (length c.args.index.now.lines.items)) (sym c.deref-3.ensures.value)
+    (subst (λ ls. AllBelow (length ls) c.in_ok-changed.changed.items) c.deref-2.ensures.value c.in_ok-changed.ensures.within)
 
 pub reached_nodes-requires-2-clause-kept : goal.reached_nodes-requires-2-clause-kept
 reached_nodes-requires-2-clause-kept c =
@@ -80,33 +79,37 @@ reached_nodes-requires-2-clause-kept c =
 
 pub reached_nodes-requires-2-clause-lines : goal.reached_nodes-requires-2-clause-lines
 reached_nodes-requires-2-clause-lines c =
-    subst (IsWalk c.args.book.now.content c.after-new.result) (sym c.deref-3.ensures.value)
+    subst (IsWalk c.args.book.now.content c.after-new.result) (sym c.deref-4.ensures.value)
     (walk_is c.args.book.now.content c.after-new.result c.keys-keys.result.now
-    (each_entry c.args.book.now.content c.args.edits.now (sym c.are_entries.ensures ∙ c.if-not-are_entries.false)
-    c.keys-keys.result.now c.keys-keys.ensures.keys)
+    (none_spans c.keys-keys.result.now (sym c.has_span.ensures ∙ c.if-has_span.false))
     (subst IsWorkbook (sym c.after-new.ensures) c.requires.planned.workbook)
     (λ k off. kept_record c.args.book.now.content c.args.edits.now c.keys-keys.result.now c.keys-keys.ensures.keys k off
     ∙ ap (λ m. get m k) (sym c.after-new.ensures))
     c.in_ok-figures.figures c.in_ok-figures.ensures c.args.index.now.lines.items
     (index_still c.after-new.result _ c.args.index.now c.after-new.ensures c.requires.index).lines
-    c.in_ok-from.from (subst (λ ls. HasEntered c.after-new.result c.keys-keys.result.now ls c.in_ok-from.from) c.deref-2.ensures.value c.in_ok-from.ensures)
+    c.deref-3.result.now
+    (subst (HasChanged c.after-new.result c.keys-keys.result.now c.args.index.now.lines.items) (sym c.deref-3.ensures.value)
+    (subst (λ ls. HasChanged c.after-new.result c.keys-keys.result.now ls c.in_ok-changed.changed.items) c.deref-2.ensures.value
+    c.in_ok-changed.ensures.changed))
     c.in_ok-selection.selection.lines.items c.in_ok-selection.ensures.lines)
 
 pub reached_nodes-requires-2-clause-emitters : goal.reached_nodes-requires-2-clause-emitters
 reached_nodes-requires-2-clause-emitters c =
     gas_walk_is c.args.book.now.content c.after-new.result c.keys-keys.result.now
-    (each_entry c.args.book.now.content c.args.edits.now (sym c.are_entries.ensures ∙ c.if-not-are_entries.false)
-    c.keys-keys.result.now c.keys-keys.ensures.keys)
+    (none_spans c.keys-keys.result.now (sym c.has_span.ensures ∙ c.if-has_span.false))
     (subst IsWorkbook (sym c.after-new.ensures) c.requires.planned.workbook)
     (λ k off. kept_record c.args.book.now.content c.args.edits.now c.keys-keys.result.now c.keys-keys.ensures.keys k off
     ∙ ap (λ m. get m k) (sym c.after-new.ensures))
     c.in_ok-figures.figures c.in_ok-figures.ensures c.args.index.now.lines.items
     (index_still c.after-new.result _ c.args.index.now c.after-new.ensures c.requires.index).lines
-    c.in_ok-from.from (subst (λ ls. HasEntered c.after-new.result c.keys-keys.result.now ls c.in_ok-from.from) c.deref-2.ensures.value c.in_ok-from.ensures)
+    c.deref-3.result.now
+    (subst (HasChanged c.after-new.result c.keys-keys.result.now c.args.index.now.lines.items) (sym c.deref-3.ensures.value)
+    (subst (λ ls. HasChanged c.after-new.result c.keys-keys.result.now ls c.in_ok-changed.changed.items) c.deref-2.ensures.value
+    c.in_ok-changed.ensures.changed))
     c.in_ok-selection.selection.lines.items c.in_ok-selection.ensures.lines
-    c.args.index.now.emitters.items c.deref-4.result.now
+    c.args.index.now.emitters.items c.deref-5.result.now
     (index_still c.after-new.result _ c.args.index.now c.after-new.ensures c.requires.index).emitters
-    (c.deref-4.ensures.value ∙ c.in_ok-selection.ensures.emitters)
+    (c.deref-5.ensures.value ∙ c.in_ok-selection.ensures.emitters)
 
 pub returns : goal.returns
 returns c =
@@ -115,16 +118,18 @@ returns c =
     IfOk-weaker c.reached_nodes-2.result _ _ (λ nodes e.
     listed_by c.args.book.now.content c.after-new.result _ index c.after-new.ensures c.requires.index nodes.items
     (walked_by c.args.book.now.content c.after-new.result s.lines.items s.emitters.items _ _
-    c.deref-3.ensures.value c.deref-4.ensures.value nodes.items e
+    c.deref-4.ensures.value c.deref-5.ensures.value nodes.items e
     ∙ whole c.args.book.now.content c.after-new.result c.keys-keys.result.now
-    (each_entry c.args.book.now.content c.args.edits.now (sym c.are_entries.ensures ∙ c.if-not-are_entries.false)
-    c.keys-keys.result.now c.keys-keys.ensures.keys)
+    (none_spans c.keys-keys.result.now (sym c.has_span.ensures ∙ c.if-has_span.false))
     (subst IsWorkbook (sym c.after-new.ensures) c.requires.planned.workbook)
     (λ k off. kept_record c.args.book.now.content c.args.edits.now c.keys-keys.result.now c.keys-keys.ensures.keys k off
     ∙ ap (λ m. get m k) (sym c.after-new.ensures))
     c.in_ok-figures.figures c.in_ok-figures.ensures c.args.index.now.lines.items
     (index_still c.after-new.result _ c.args.index.now c.after-new.ensures c.requires.index).lines
-    c.in_ok-from.from (subst (λ ls. HasEntered c.after-new.result c.keys-keys.result.now ls c.in_ok-from.from) c.deref-2.ensures.value c.in_ok-from.ensures)
+    c.deref-3.result.now
+    (subst (HasChanged c.after-new.result c.keys-keys.result.now c.args.index.now.lines.items) (sym c.deref-3.ensures.value)
+    (subst (λ ls. HasChanged c.after-new.result c.keys-keys.result.now ls c.in_ok-changed.changed.items) c.deref-2.ensures.value
+    c.in_ok-changed.ensures.changed))
     c.in_ok-selection.selection.lines.items c.in_ok-selection.ensures.lines
     index.emitters.items s.emitters.items
     (index_still c.after-new.result _ index c.after-new.ensures c.requires.index).emitters

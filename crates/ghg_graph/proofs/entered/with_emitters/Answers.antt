@@ -7,7 +7,7 @@ use Rattle.ghg_graph.proofs.entered.with_emitters.Goals as goal
 pub loop-line-init : goal.loop-line-init
 loop-line-init g c =
     let m = g.R.Records.content c.args.records.now in
-    subst (AreEmittersWith m c.args.emitters.now []) (sym c.in_ok-names.ensures.items) (with_no_line m c.args.emitters.now c.requires)
+    subst (AreEmittersWith m c.args.emitters.now []) (sym c.in_ok-names.ensures) (with_no_line m c.args.emitters.now c.requires)
 
 pub loop-line-preserved : goal.loop-line-preserved
 loop-line-preserved g c =
