@@ -1,18 +1,15 @@
 -- Categories at and above some.
-use Rattle.std.proofs.Common.{◌≡◌, ℕ, zero, suc, ◌<◌, ◌*◌, ◌/◌, ◌%◌, ◌^◌, ◌==◌, bit_and, bit_or, lit≤, Bool, true, false, cond, ◌||◌, List, [], ◌∷◌, ◌++◌, Some, None, refl, sym, ap, ◌∙◌}
+use Rattle.std.proofs.Common.{◌≡◌, ℕ, zero, suc, ◌<◌, ◌*◌, ◌%◌, ◌^◌, ◌==◌, bit_or, lit≤, Bool, true, false, cond, ◌||◌, List, [], ◌∷◌, ◌++◌, Some, None, refl, sym, ap, ◌∙◌}
 use Rattle.std.proofs.Math.Bool.{or-false, or_assoc, or_comm}
 use Rattle.std.proofs.lemmas.List.Folds.{list_any-append}
-use Rattle.std.proofs.lemmas.Nat.{and_mask}
 use Rattle.std.proofs.lemmas.Nat.Bits.{bit_at-zero}
 use Rattle.std.specs.List.{list_any}
 use Rattle.std.specs.Option.{option_map_or}
 use Rattle.ghg_categories.specs.declared.category.Category.{Category}
 use Rattle.ghg_categories.specs.declared.tree.TheConstants.{DEPTH}
-use Rattle.ghg_categories.specs.Laws.{IsUnder, by_parent, itself}
 use Rattle.ghg_categories.specs.declared.category.Category.TheVariants as at
 use Rattle.ghg_categories.specs.Tree.{is_same, parent_of, stands_under, stands_within}
 use Rattle.ghg_categories.proofs.Places.{places_equal}
-use Rattle.ghg_categories.proofs.Under.{by_parents}
 use Rattle.ghg_definitions.specs.Compilation.{counts_in_gross}
 use Rattle.ghg_definitions.proofs.NodeLists.{category_same}
 use Rattle.ghg_data.specs.YearSet.{has_bit}
@@ -45,9 +42,6 @@ put_in old new c top is =
     either true b = refl
     either false b = refl
 
-pub bit_read : (n k : ℕ) → (bit_and (n / 2 ^ k) 1 == 1) ≡ has_bit n k
-bit_read n k = ap (λ b. b == 1) (and_mask (n / 2 ^ k) 1)
-
 pub no_tops : AreTops [] (record { bits = 0; gross = false })
 no_tops = record { above = λ top. ap (λ b. b == 1) (bit_at-zero (place_of top)); gross = refl }
 
@@ -71,13 +65,6 @@ up_top (suc k) a top x is =
     ∙ ap (λ o. (is_same a top || option_map_or (λ q. stands_within k q top) o false) || x) (sym is)
 
 -- ---- one category more
-
-way_on : {a b c : Category} → IsUnder a b → IsUnder b c → IsUnder a c
-way_on itself on = on
-way_on (by_parent e up) on = by_parent e (way_on up on)
-
-under_under : (a b c : Category) → stands_under a b ≡ true → stands_under b c ≡ true → stands_under a c ≡ true
-under_under a b c e f = (by_parents a c).1 (way_on ((by_parents a b).0 e) ((by_parents b c).0 f))
 
 one_more : (p : Category → Bool) (cs : List Category) (c : Category)
     → list_any p (cs ++ c ∷ []) ≡ (list_any p cs || p c)
