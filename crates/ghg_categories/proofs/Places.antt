@@ -1,5 +1,4 @@
 -- The places of categories, as the type declares them, are in the order of the codes' bytes.
-use denote.Enum.Declared.{tag_of}
 use Rattle.std.proofs.Common.{◌≡◌, ◌+◌, ◌<◌, ℕ, zero, suc, true, ◌==◌, List, [], ◌∷◌, ◌++◌, Ordering, nat_cmp, map, length, get_or, lit≤, refl, sym, ap, ◌∙◌, arith}
 use Rattle.std.proofs.lemmas.Bool.{and_parts}
 use Rattle.std.proofs.lemmas.Bool.Decides.{nat_tests}
@@ -11,15 +10,12 @@ use Rattle.std.specs.List.Sorted.{IsStrictlySortedBy}
 use Rattle.std.specs.Ordering.{MatchOrdering, is_eq, is_lt, ordering_reverse}
 use Rattle.std.specs.Prelude.{nat_eq}
 use Rattle.std.specs.declared.cmp.Ordering.TheVariants.{Less, Equal, Greater}
-use Rattle.ghg_categories.specs.contracts.category.Category.{the_type}
 use Rattle.ghg_categories.specs.declared.category.Category.{Category}
 use Rattle.ghg_categories.specs.declared.category.Category.TheVariants as at
 use Rattle.ghg_categories.specs.declared.category.TheConstants.Category.{MEMO, TREE}
 use Rattle.ghg_categories.specs.Orders.{is_before, is_ascending}
+use Rattle.ghg_categories.specs.Places.{place_of}
 use Rattle.ghg_categories.specs.Tree.{code_of}
-
-abbrev place : Category → ℕ
-place c = tag_of the_type c
 
 abbrev order : List ℕ → List ℕ → Ordering
 order xs ys = slice_cmp nat_cmp xs ys
@@ -29,11 +25,11 @@ codes_in_order = map code_of (TREE ++ MEMO)
 
 -- ---- by computation
 
-code_at : (c : Category) → get_or codes_in_order (place c) [] ≡ code_of c
+code_at : (c : Category) → get_or codes_in_order (place_of c) [] ≡ code_of c
 code_at at.National = refl
 code_at _ = refl
 
-place_within : (c : Category) → place c < length codes_in_order
+place_within : (c : Category) → place_of c < length codes_in_order
 place_within at.National = lit≤ tt
 place_within _ = lit≤ tt
 
@@ -65,18 +61,18 @@ sorted = sorted_from_all_adjacent nat_list_cmp_total codes_in_order [] (each_bef
 
 -- ---- categories by their places
 
-less : (a b : Category) → place a < place b → order (code_of a) (code_of b) ≡ Less
-less a b below = rw (← code_at a, ← code_at b) (Less-from_sorted order codes_in_order (place a) (place b) [] sorted below (place_within b))
+less : (a b : Category) → place_of a < place_of b → order (code_of a) (code_of b) ≡ Less
+less a b below = rw (← code_at a, ← code_at b) (Less-from_sorted order codes_in_order (place_of a) (place_of b) [] sorted below (place_within b))
 
-pub places_order : (a b : Category) → nat_cmp (place a) (place b) ≡ order (code_of a) (code_of b)
-places_order a b = by (nat_cmp (place a) (place b)) (ranks (place a) (place b))
+pub places_order : (a b : Category) → nat_cmp (place_of a) (place_of b) ≡ order (code_of a) (code_of b)
+places_order a b = by (nat_cmp (place_of a) (place_of b)) (ranks (place_of a) (place_of b))
   where
-    by : (o : Ordering) → MatchOrdering o (place a < place b) (place a ≡ place b) (place b < place a) → o ≡ order (code_of a) (code_of b)
+    by : (o : Ordering) → MatchOrdering o (place_of a < place_of b) (place_of a ≡ place_of b) (place_of b < place_of a) → o ≡ order (code_of a) (code_of b)
     by Less below = sym (less a b below)
     by Equal same =
         let codes_are : code_of a ≡ code_of b = sym (code_at a) ∙ ap (λ (k : ℕ). get_or codes_in_order k []) same ∙ code_at b in
         sym (tied_itself nat_list_cmp_total (code_of a)) ∙ ap (order (code_of a)) codes_are
     by Greater above = sym (nat_list_cmp_total.antisymm (code_of a) (code_of b) ∙ ap ordering_reverse (less b a above))
 
-pub places_equal : (a b : Category) → (place a == place b) ≡ pointwise nat_eq (code_of a) (code_of b)
-places_equal a b = unsigned_ties (place a) (place b) ∙ ap is_eq (places_order a b) ∙ sym (texts_ties (code_of a) (code_of b))
+pub places_equal : (a b : Category) → (place_of a == place_of b) ≡ pointwise nat_eq (code_of a) (code_of b)
+places_equal a b = unsigned_ties (place_of a) (place_of b) ∙ ap is_eq (places_order a b) ∙ sym (texts_ties (code_of a) (code_of b))

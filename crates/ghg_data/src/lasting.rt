@@ -1,6 +1,6 @@
 //! What a factor gives from a year on.
 
-ghost use Rattle.std.specs.Prelude.{◌≡◌, ◌<◌, ◌≤◌, IfSome};
+ghost use Rattle.std.specs.Prelude.{◌≡◌, ◌⊎◌, ◌<◌, ◌≤◌, MatchOption};
 ghost use Rattle.ghg_cell.specs.declared.input.Input.TheVariants.{Blank};
 ghost use Rattle.ghg_units.specs.Year.{latest_year};
 
@@ -39,8 +39,8 @@ impl Lasting {
 
     /// What the factor gives in a year, if that is one of these.
     pub fn in_year(&self, year: u32) -> Option<Input>
-        ensures { IfSome result (λ input. (input ≡ self.now.input) × (self.now.first ≤ year) ×
-            (year ≤ latest_year)) }
+        ensures { MatchOption result ((year < self.now.first) ⊎ (latest_year < year))
+            (λ input. (input ≡ self.now.input) × (self.now.first ≤ year) × (year ≤ latest_year)) }
     {
         if self.first <= year && year <= LATEST_YEAR {
             Some(self.input)

@@ -9,13 +9,14 @@ use Rattle.ghg_categories.specs.declared.category.Category.{Category}
 use Rattle.ghg_categories.specs.declared.tree.TheConstants.{DEPTH}
 use Rattle.ghg_categories.specs.declared.category.Category.TheVariants as at
 use Rattle.ghg_categories.specs.Tree.{is_same, parent_of, stands_under, stands_within}
+use Rattle.ghg_categories.specs.Places.{place_of}
 use Rattle.ghg_categories.proofs.Places.{places_equal}
 use Rattle.ghg_definitions.specs.Compilation.{counts_in_gross}
 use Rattle.ghg_definitions.proofs.NodeLists.{category_same}
 use Rattle.ghg_data.specs.YearSet.{has_bit}
 use Rattle.ghg_data.proofs.YearBits.{set_bit}
 use Rattle.ghg_graph.specs.declared.tops.Tops.{Tops}
-use Rattle.ghg_graph.specs.Tops.{AreTops, has_top, place_of}
+use Rattle.ghg_graph.specs.Tops.{AreTops, has_top}
 use Rattle.ghg_graph.proofs.Reaching.{same_truth}
 
 -- ---- up by levels

@@ -1,17 +1,12 @@
 -- The totals to which lines at categories lead.
-use denote.Enum.Declared.{tag_of}
-use Rattle.std.specs.Prelude.{◌≡◌, ℕ, Bool, List}
+use Rattle.std.specs.Prelude.{◌≡◌, Bool, List}
 use Rattle.std.specs.List.{list_any}
 use Rattle.ghg_categories.specs.declared.category.Category.{Category}
+use Rattle.ghg_categories.specs.Places.{place_of}
 use Rattle.ghg_categories.specs.Tree.{stands_under}
-use Rattle.ghg_categories.specs.contracts.category.Category.{the_type}
 use Rattle.ghg_definitions.specs.Compilation.{counts_in_gross}
 use Rattle.ghg_data.specs.YearSet.{has_bit}
 use Rattle.ghg_graph.specs.declared.tops.Tops.{Tops}
-
--- how many categories are declared before it
-abbrev pub place_of : Category → ℕ
-place_of c = tag_of the_type c
 
 abbrev pub has_top : Tops → Category → Bool
 has_top t top = has_bit t.bits (place_of top)

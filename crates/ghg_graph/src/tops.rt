@@ -1,10 +1,11 @@
 //! The totals to which lines at categories lead.
 
 ghost use Rattle.std.specs.Prelude.{◌≡◌, ◌<◌, ◌||◌, ◌++◌, ◌∷◌, [], List};
+ghost use Rattle.ghg_categories.specs.Places.{place_of};
 ghost use Rattle.ghg_categories.specs.Tree.{stands_within};
 ghost use Rattle.ghg_categories.specs.declared.category.Category.{Category};
 ghost use Rattle.ghg_definitions.specs.Compilation.{counts_in_gross};
-ghost use Rattle.ghg_graph.specs.Tops.{AreTops, has_top, place_of};
+ghost use Rattle.ghg_graph.specs.Tops.{AreTops, has_top};
 
 use crate::slots::counts_in_gross;
 use ghg_categories::{Category, DEPTH, parent};

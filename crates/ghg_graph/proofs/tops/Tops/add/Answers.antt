@@ -2,7 +2,7 @@ use Rattle.std.proofs.Common.{◌∙◌, ◌||◌, ap}
 use Rattle.ghg_categories.specs.Tree.{stands_within}
 use Rattle.ghg_categories.specs.declared.tree.TheConstants.{DEPTH}
 use Rattle.ghg_data.specs.YearSet.{has_bit}
-use Rattle.ghg_graph.specs.Tops.{place_of}
+use Rattle.ghg_categories.specs.Places.{place_of}
 use Rattle.ghg_graph.proofs.Above.{with_top}
 use Rattle.ghg_graph.proofs.tops.Tops.add.Goals as goal
 
