@@ -1,4 +1,4 @@
--- The lines that edits enter, and those to which they may lead in some year.
+-- The lines that edits are about, and those to which they may lead in some year.
 use Rattle.std.specs.Prelude.{◌≡◌, ℕ, ◌<◌, Bool, true, false, ◌||◌, if◌then◌else◌, is_some, List, filter, length, Option, Some, None}
 use Rattle.std.specs.BTreeSet.{BTreeSet, contains}
 use Rattle.std.specs.List.{Contains}

@@ -44,7 +44,7 @@ fn is_figure_key(key: &RecordKey) -> bool
 /// The nodes that edits affect, each once and behind its inputs: those that are new, those whose formula is
 /// another or takes other figures, and all that these lead to. `index` is that of the lines once the edits
 /// are made. Where there were no years, these are all nodes. Where edits leave the years, the lines that they
-/// are about and those to which these lead are gone over; else all are.
+/// are about, those that take a figure of theirs, and those to which these lead are gone over; else all are.
 pub fn affected(
     alloc: Global,
     book: &Book,
