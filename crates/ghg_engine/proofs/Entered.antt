@@ -5,14 +5,14 @@ use Rattle.std.specs.FinMap.{get}
 use Rattle.std.specs.Option.{option_map_or}
 use Rattle.std.proofs.lemmas.List.Kept.{IsStrictlySortedBy-filter}
 use Rattle.ghg_categories.specs.declared.category.Category.{Category}
-use Rattle.ghg_categories.specs.Tree.{is_same, stands_under}
+use Rattle.ghg_categories.specs.Tree.{is_same}
 use Rattle.ghg_equations.specs.declared.quantity.Gas.{Gas}
 use Rattle.ghg_equations.specs.Quantity.{gas_of}
 use Rattle.ghg_equations.specs.Table.{output}
 use Rattle.ghg_definitions.specs.declared.record.Record.{Record}
 use Rattle.ghg_definitions.specs.declared.record.RecordKey.{RecordKey}
 use Rattle.ghg_definitions.specs.declared.record.RecordKey.TheVariants as key
-use Rattle.ghg_definitions.specs.Compilation.{counts_in_gross, emits, gas_lines, gas_lines_at, line_gas}
+use Rattle.ghg_definitions.specs.Compilation.{emits, gas_lines, gas_lines_at, line_gas}
 use Rattle.ghg_definitions.specs.Data.{Data, Name, as_category, as_line, category, line, line_names, name_cmp}
 use Rattle.ghg_definitions.specs.Listed.{IsListed}
 use Rattle.ghg_definitions.proofs.Alike.{first_so, second_so}
@@ -101,16 +101,12 @@ module _ (old new : Data) (lines : List Name) (adds : AddsLines old new lines) (
 -- ---- the groups with the lines so far
 
 pub record IsGroupedWith (m : Data) (before : Groups) (names : List Name) (groups : Groups) : Type 0 where
-  pub under_with : (c : Category) → HasMore (emits_at (λ k. stands_under k c) m) (group_at before.under c) names (group_at groups.under c)
   pub at_with : (c : Category) → HasMore (emits_at (λ k. is_same k c) m) (group_at before.at c) names (group_at groups.at c)
-  pub gross_with : HasMore (emits_at counts_in_gross m) before.gross.items names groups.gross.items
   pub above_with : HasMore (emits_at is_above_parts m) before.above.items names groups.above.items
 
 pub in_order : (m : Data) (before : Groups) (names : List Name) (groups : Groups) → IsGroupedWith m before names groups → AreInOrder groups
 in_order m before names groups held = record {
-  under = λ c. (held.under_with c).order;
   at = λ c. (held.at_with c).order;
-  gross = held.gross_with.order;
   above = held.above_with.order;
 }
 
@@ -118,13 +114,11 @@ copied : (test : Category → Bool) (old new : Data) (names xs : List Name) → 
 copied test old new names xs is same =
     subst (HasMore (emits_at test new) names []) (sym same) (none_more (emits_at test new) names (subst (IsStrictlySortedBy name_cmp) (sym is) (sorted_at test old)))
 
-pub grouped_none : (old new : Data) (before groups : Groups) → IsGrouping old before → ((c : Category) → group_at groups.under c ≡ group_at before.under c)
-    → ((c : Category) → group_at groups.at c ≡ group_at before.at c) → groups.gross.items ≡ before.gross.items → groups.above.items ≡ before.above.items
+pub grouped_none : (old new : Data) (before groups : Groups) → IsGrouping old before
+    → ((c : Category) → group_at groups.at c ≡ group_at before.at c) → groups.above.items ≡ before.above.items
     → IsGroupedWith new before [] groups
-grouped_none old new before groups are under at gross above = record {
-  under_with = λ c. copied (λ k. stands_under k c) old new _ _ (are.under c) (under c);
+grouped_none old new before groups are at above = record {
   at_with = λ c. copied (λ k. is_same k c) old new _ _ (are.at c) (at c);
-  gross_with = copied counts_in_gross old new _ _ are.gross gross;
   above_with = copied is_above_parts old new _ _ are.above above;
 }
 
@@ -135,31 +129,24 @@ one_at m test before names xs ys name at is more put =
     subst (HasMore (emits_at test m) before (names ++ name ∷ [])) (ap (λ o. placed_if name (option_map_or test o false) xs) is ∙ sym put) (one_more (emits_at test m) before names xs name more)
 
 pub grouped_next : (m : Data) (before : Groups) (names : List Name) (name : Name) (c : Category) (old new : Groups) → IsGroupedWith m before names old → emitted_at m name ≡ Some c
-    → ((d : Category) → group_at new.under d ≡ placed_if name (stands_under c d) (group_at old.under d)) → ((d : Category) → group_at new.at d ≡ placed_if name (is_same c d) (group_at old.at d))
-    → new.gross.items ≡ placed_if name (counts_in_gross c) old.gross.items → new.above.items ≡ placed_if name (is_above_parts c) old.above.items
+    → ((d : Category) → group_at new.at d ≡ placed_if name (is_same c d) (group_at old.at d)) → new.above.items ≡ placed_if name (is_above_parts c) old.above.items
     → IsGroupedWith m before (names ++ name ∷ []) new
-grouped_next m before names name c old new held is under at gross above = record {
-  under_with = λ d. one_at m (λ k. stands_under k d) _ names _ _ name (Some c) is (held.under_with d) (under d);
+grouped_next m before names name c old new held is at above = record {
   at_with = λ d. one_at m (λ k. is_same k d) _ names _ _ name (Some c) is (held.at_with d) (at d);
-  gross_with = one_at m counts_in_gross _ names _ _ name (Some c) is held.gross_with gross;
   above_with = one_at m is_above_parts _ names _ _ name (Some c) is held.above_with above;
 }
 
 pub grouped_still : (m : Data) (before : Groups) (names : List Name) (name : Name) (groups : Groups) → IsGroupedWith m before names groups → emitted_at m name ≡ None
     → IsGroupedWith m before (names ++ name ∷ []) groups
 grouped_still m before names name groups held is = record {
-  under_with = λ d. one_at m (λ k. stands_under k d) _ names _ _ name None is (held.under_with d) refl;
   at_with = λ d. one_at m (λ k. is_same k d) _ names _ _ name None is (held.at_with d) refl;
-  gross_with = one_at m counts_in_gross _ names _ _ name None is held.gross_with refl;
   above_with = one_at m is_above_parts _ names _ _ name None is held.above_with refl;
 }
 
 -- all lines
 pub grouped_with : (old new : Data) (before groups : Groups) (lines : List Name) → IsGrouping old before → AddsLines old new lines → IsGroupedWith new before lines groups → IsGrouping new groups
 grouped_with old new before groups lines are adds held = record {
-  under = λ c. all_at old new lines adds (λ k. stands_under k c) _ (subst (λ xs. HasMore (emits_at (λ k. stands_under k c) new) xs lines (group_at groups.under c)) (are.under c) (held.under_with c));
   at = λ c. all_at old new lines adds (λ k. is_same k c) _ (subst (λ xs. HasMore (emits_at (λ k. is_same k c) new) xs lines (group_at groups.at c)) (are.at c) (held.at_with c));
-  gross = all_at old new lines adds counts_in_gross _ (subst (λ xs. HasMore (emits_at counts_in_gross new) xs lines groups.gross.items) are.gross held.gross_with);
   above = all_at old new lines adds is_above_parts _ (subst (λ xs. HasMore (emits_at is_above_parts new) xs lines groups.above.items) are.above held.above_with);
 }
 

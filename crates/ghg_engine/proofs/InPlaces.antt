@@ -22,13 +22,6 @@ use Rattle.ghg_engine.proofs.Grouped.{names_in, same_is, tied}
 abbrev pub placed_if : Name → Bool → List Name → List Name
 placed_if name b xs = if b then with_name name xs else xs
 
-pub placed_none : (name : Name) (xs : List Name) → placed_if name false xs ≡ xs
-placed_none name xs = refl
-
-pub sorted_if : (name : Name) (b : Bool) (xs : List Name) → IsStrictlySortedBy name_cmp xs → IsStrictlySortedBy name_cmp (placed_if name b xs)
-sorted_if name true xs up = sorted_with name xs up
-sorted_if name false xs up = up
-
 -- ---- in the group of a category
 
 -- the names of a group, which are none where there is no group

@@ -3,9 +3,9 @@ use Rattle.std.proofs.Common.{◌≡◌, Bool, false, [], filter, sym, ap, ◌�
 use Rattle.std.specs.FinMap.{empty}
 use Rattle.std.specs.Option.{option_map_or}
 use Rattle.ghg_categories.specs.declared.category.Category.{Category}
-use Rattle.ghg_categories.specs.Tree.{is_same, stands_under}
+use Rattle.ghg_categories.specs.Tree.{is_same}
 use Rattle.ghg_definitions.specs.declared.record.Record.{Record}
-use Rattle.ghg_definitions.specs.Compilation.{counts_in_gross, gas_lines_at}
+use Rattle.ghg_definitions.specs.Compilation.{gas_lines_at}
 use Rattle.ghg_definitions.specs.Data.{Data, category, key_cmp}
 use Rattle.ghg_affected.specs.Figures.{DifferInFigures}
 use Rattle.ghg_affected.specs.Subtotals.{is_above_parts}
@@ -22,13 +22,11 @@ use Rattle.ghg_graph.proofs.Indexing.{no_emitters, same_line_index}
 none_at : (test : Category → Bool) → gas_lines_at test (empty {X = Record} {R = key_cmp}) ≡ []
 none_at test = ap (filter (λ name. option_map_or test (category (empty {X = Record} {R = key_cmp}) name) false)) no_emitters
 
-pub nothing_laid : (layout : Layout) → IsLineIndex (empty {X = Record} {R = key_cmp}) layout.index → ((c : Category) → group_at layout.groups.under c ≡ []) → ((c : Category) → group_at layout.groups.at c ≡ []) → layout.groups.gross.items ≡ [] → layout.groups.above.items ≡ [] → IsLayout (empty {X = Record} {R = key_cmp}) layout
-nothing_laid layout index under at gross above = record {
+pub nothing_laid : (layout : Layout) → IsLineIndex (empty {X = Record} {R = key_cmp}) layout.index → ((c : Category) → group_at layout.groups.at c ≡ []) → layout.groups.above.items ≡ [] → IsLayout (empty {X = Record} {R = key_cmp}) layout
+nothing_laid layout index at above = record {
   index = index;
   groups = record {
-    under = λ c. under c ∙ sym (none_at (λ k. stands_under k c));
     at = λ c. at c ∙ sym (none_at (λ k. is_same k c));
-    gross = gross ∙ sym (none_at counts_in_gross);
     above = above ∙ sym (none_at is_above_parts);
   };
 }
@@ -37,9 +35,7 @@ nothing_laid layout index under at gross above = record {
 
 pub same_groups : (old new : Data) → DifferInFigures old new → (groups : Groups) → IsGrouping old groups → IsGrouping new groups
 same_groups old new differ groups is = record {
-  under = λ c. is.under c ∙ same_gas_lines_at old new differ (λ k. stands_under k c);
   at = λ c. is.at c ∙ same_gas_lines_at old new differ (λ k. is_same k c);
-  gross = is.gross ∙ same_gas_lines_at old new differ counts_in_gross;
   above = is.above ∙ same_gas_lines_at old new differ is_above_parts;
 }
 

@@ -13,6 +13,7 @@ pub mod Nothing
 pub mod Compiled
 pub mod Arranged
 pub mod Gathered
+pub mod Passing
 pub mod Limits
 pub mod Held
 pub mod Ready

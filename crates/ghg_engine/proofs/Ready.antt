@@ -73,6 +73,6 @@ module _ (m : Data) (acyclic : IsAcyclic m) (outcomes : Outcomes) (n : Node) (re
             (map_agree (λ k. or_blank (compilation m k)) (outcome_in outcomes) (subtotals m n)
             (λ k i. ap or_blank (sym (ready.subtotals_are k (contained _ k i))))) ∙ sym fitting.sum.outcome)
 
-    pub of_total : (a : Addends) (year : ℕ) → addends_for a year ≡ subtotals m n → (sheet_of m).formula n ≡ Summed (all_for a year) → (e : Evaluated) → IsTotalOf outcomes a year e → IsOutcomeOf m n e
+    pub of_total : (a : Addends) (year : ℕ) → addends_for a year ≡ subtotals m n → (sheet_of m).formula n ≡ Summed (all_for m a year) → (e : Evaluated) → IsTotalOf m outcomes a year e → IsOutcomeOf m n e
     of_total a year adds formula e (inl fitting) = of_subtotals e (subst (λ ns. IsFittingSum outcomes ns e) adds fitting)
-    of_total a year adds formula e (inr sum) = of_formula e (sum_evaluated outcomes (sheet_of m) n (all_for a year) formula e sum)
+    of_total a year adds formula e (inr sum) = of_formula e (sum_evaluated outcomes (sheet_of m) n (all_for m a year) formula e sum)

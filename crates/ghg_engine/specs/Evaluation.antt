@@ -37,10 +37,10 @@ pub record IsFittingSum (outcomes : Outcomes) (ns : List Node) (e : Evaluated) :
   pub none_over : list_any (λ k. is_over (outcomes k)) ns ≡ false
   pub sum : IsEvaluatedSum outcomes ns e
 
--- the sum of what is added where none of that is over, or that of all lines
-abbrev pub IsTotalOf : Outcomes → Addends → ℕ → Evaluated → Type 0
-IsTotalOf outcomes a year e =
-    IsFittingSum outcomes (addends_for a year) e ⊎ IsEvaluatedSum outcomes (all_for a year) e
+-- the sum of what is added where none of that is over, or that of all lines that count
+abbrev pub IsTotalOf : Data → Outcomes → Addends → ℕ → Evaluated → Type 0
+IsTotalOf m outcomes a year e =
+    IsFittingSum outcomes (addends_for a year) e ⊎ IsEvaluatedSum outcomes (all_for m a year) e
 
 -- ---- in the compilation
 

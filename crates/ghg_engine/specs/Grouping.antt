@@ -1,4 +1,4 @@
--- Lines by the categories at and under which they stand.
+-- Lines by the categories at which they stand.
 use Rattle.std.specs.Prelude.{◌≡◌, ◌↔◌, Bool, true, false, is_some, List, [], filter, Option, option_and_then}
 use Rattle.std.specs.Option.{option_map_or}
 use Rattle.std.specs.BTreeMap.{get}
@@ -6,10 +6,10 @@ use Rattle.std.specs.FinMap.{get as record_under}
 use Rattle.std.specs.List.Sorted.{IsStrictlySortedBy}
 use Rattle.std.specs.declared.cmp.Ordering.{Ordering}
 use Rattle.ghg_categories.specs.declared.category.Category.{Category}
-use Rattle.ghg_categories.specs.Tree.{is_same, stands_under}
+use Rattle.ghg_categories.specs.Tree.{is_same}
 use Rattle.ghg_categories.specs.contracts.category.CategoryOrd.TheImpl as derived
 use Rattle.ghg_definitions.specs.declared.record.RecordKey.TheVariants as key
-use Rattle.ghg_definitions.specs.Compilation.{counts_in_gross, gas_lines_at, line_gas}
+use Rattle.ghg_definitions.specs.Compilation.{gas_lines_at, line_gas}
 use Rattle.ghg_definitions.specs.Data.{Data, Name, category, line, name_cmp}
 use Rattle.ghg_definitions.specs.Listed.{IsListed}
 use Rattle.ghg_affected.specs.Subtotals.{is_above_parts}
@@ -24,12 +24,9 @@ code_order = (derived.ghosts).cmp
 abbrev pub group_at : ByCategory → Category → List Name
 group_at lines c = option_map_or (λ names. names.items) (get code_order lines.groups c) []
 
--- for each category the lines at and under it, and those at it; the lines that count in the gross total, and
--- those of them above its parts
+-- for each category the lines at it, and those above the parts of the gross total
 pub record IsGrouping (m : Data) (groups : Groups) : Type 0 where
-  pub under : (c : Category) → group_at groups.under c ≡ gas_lines_at (λ k. stands_under k c) m
   pub at : (c : Category) → group_at groups.at c ≡ gas_lines_at (λ k. is_same k c) m
-  pub gross : groups.gross.items ≡ gas_lines_at counts_in_gross m
   pub above : groups.above.items ≡ gas_lines_at is_above_parts m
 
 -- the same of those of the names that stand at categories that pass
@@ -37,18 +34,14 @@ abbrev pub names_at : (Category → Bool) → Data → List Name → List Name
 names_at test m names = filter (λ name. option_map_or test (category m name) false) names
 
 pub record AreGroupsOf (m : Data) (names : List Name) (groups : Groups) : Type 0 where
-  pub under : (c : Category) → group_at groups.under c ≡ names_at (λ k. stands_under k c) m names
   pub at : (c : Category) → group_at groups.at c ≡ names_at (λ k. is_same k c) m names
-  pub gross : groups.gross.items ≡ names_at counts_in_gross m names
   pub above : groups.above.items ≡ names_at is_above_parts m names
 
 -- ---- lines more
 
 -- the names of each group are in order
 pub record AreInOrder (groups : Groups) : Type 0 where
-  pub under : (c : Category) → IsStrictlySortedBy name_cmp (group_at groups.under c)
   pub at : (c : Category) → IsStrictlySortedBy name_cmp (group_at groups.at c)
-  pub gross : IsStrictlySortedBy name_cmp groups.gross.items
   pub above : IsStrictlySortedBy name_cmp groups.above.items
 
 -- the new data have these lines more, and each line of the old data with the same record

@@ -1,9 +1,12 @@
 -- The parts of sums.
-use Rattle.std.specs.Prelude.{◌≡◌, ℕ, Bool, true, if◌then◌else◌, List, ◌++◌, map, length, Ok, Err}
+use Rattle.std.specs.Prelude.{◌≡◌, ℕ, Bool, true, if◌then◌else◌, List, ◌++◌, map, length, Option, Some, None, Ok, Err}
+use Rattle.ghg_categories.specs.declared.category.Category.{Category}
+use Rattle.ghg_categories.specs.Tree.{stands_under}
 use Rattle.ghg_cell.specs.declared.input.Input.{Input}
 use Rattle.ghg_units.specs.declared.node.Node.{Node}
 use Rattle.ghg_units.specs.declared.node.Node.TheVariants as node
-use Rattle.ghg_definitions.specs.Data.{Name}
+use Rattle.ghg_definitions.specs.Compilation.{counts_in_gross, gas_lines_at}
+use Rattle.ghg_definitions.specs.Data.{Data, Name}
 use Rattle.ghg_definitions.specs.Formulas.{gather}
 use Rattle.ghg_engine.specs.declared.parts.Addends.{Addends}
 use Rattle.ghg_engine.specs.declared.parts.Part.{Part}
@@ -23,9 +26,15 @@ nodes_for p names year = map (λ name. node_for p name year) names
 abbrev pub addends_for : Addends → ℕ → List Node
 addends_for a year = map (λ c. node.Total c year) a.categories.now ++ nodes_for part.Equivalent a.own.now year
 
--- the equivalents of all lines under it
-abbrev pub all_for : Addends → ℕ → List Node
-all_for a year = nodes_for part.Equivalent a.all.now year
+-- whether lines at the second category count in the total of the first, or in the gross total where none is
+-- given
+abbrev pub counts_in : Option Category → Category → Bool
+counts_in (Some top) c = stands_under c top
+counts_in None c = counts_in_gross c
+
+-- the equivalents of all lines that count in it
+abbrev pub all_for : Data → Addends → ℕ → List Node
+all_for m a year = nodes_for part.Equivalent (gas_lines_at (counts_in a.top) m) year
 
 -- the parts are what the nodes give, where none of these is over
 pub record AreParts (outcomes : Outcomes) (ns : List Node) (parts : List Input) (whole : Bool) : Type 0 where

@@ -244,8 +244,7 @@ impl Engine {
         ensures fresh { MatchResult result (IsFresh self.now.content (applied self.now.content edits.now))
             (IfOverflow (λ n. overflow (applied self.now.content edits.now) ≡ Some n)) }
     {
-        let Layout { index, groups } = layout;
-        let nodes = affected(alloc, &self.book, edits, index)?;
+        let nodes = affected(alloc, &self.book, edits, &layout.index)?;
         let count = nodes.len() as u64;
         let permits = take(count, steps);
         let records = after(&self.book, edits);
@@ -253,7 +252,7 @@ impl Engine {
         match evaluate_all(
             alloc,
             &records,
-            groups,
+            layout,
             before,
             &self.cells,
             &nodes,

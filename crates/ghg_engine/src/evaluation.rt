@@ -1,21 +1,20 @@
 //! The evaluation of nodes, each once and behind its inputs.
 
-ghost use Rattle.std.specs.Prelude.{◌≡◌, ◌≤◌, IfOk, IfSome, MatchResult, Some, filter_map, length};
+ghost use Rattle.std.specs.Prelude.{◌≡◌, IfOk, IfSome, MatchResult, Some, filter_map, length};
 ghost use Rattle.std.specs.BTreeSet.{IsFromIterResult};
-ghost use Rattle.ghg_definitions.specs.Compilation.{compilation, first_year, sheet_of};
+ghost use Rattle.ghg_definitions.specs.Compilation.{compilation, first_year, gas_lines, sheet_of};
 ghost use Rattle.ghg_definitions.specs.Data.{name_cmp, span};
 ghost use Rattle.ghg_definitions.specs.Nodes.{lesser_node};
 ghost use Rattle.ghg_definitions.specs.Rings.{IsAcyclic};
 ghost use Rattle.ghg_definitions.specs.Sound.{IsWorkbook};
-ghost use Rattle.ghg_definitions.specs.Rules.{most_lines};
 ghost use Rattle.ghg_affected.specs.Patches.{least_break};
 ghost use Rattle.ghg_graph.specs.NodeOrders.{AreInOrder};
 ghost use Rattle.ghg_engine.specs.Breaking.{least_with};
 ghost use Rattle.ghg_engine.specs.Cells.{cell_at};
 ghost use Rattle.ghg_engine.specs.Changes.{AreChangedLines, AreNamesOf, IsBefore, IsReadyFrom, IsResummed, equivalent_line};
 ghost use Rattle.ghg_engine.specs.Evaluation.{AreEvaluated, AreKept, IsEvaluatedAt, IsOutcomeOf, IsReady, IsTotalOf};
-ghost use Rattle.ghg_engine.specs.Grouping.{IsGrouping};
 ghost use Rattle.ghg_engine.specs.Known.{IsKnown, IsKnownLine};
+ghost use Rattle.ghg_engine.specs.Layouts.{IsLayout};
 ghost use Rattle.ghg_engine.specs.Overlays.{outcomes_of};
 ghost use Rattle.ghg_engine.specs.Parts.{addends_for};
 ghost use Rattle.ghg_engine.specs.Proposals.{IfOverflow};
@@ -26,8 +25,9 @@ use crate::changes::Changes;
 use crate::evaluated::Evaluated;
 use crate::groups::Groups;
 use crate::known::{Known, KnownLine, Turn};
+use crate::layout::Layout;
 use crate::overlay::Overlay;
-use crate::parts::{Addends, Part, gather_addends, gather_parts};
+use crate::parts::{Addends, gather_addends, gather_counted};
 use crate::refusal::EngineRefusal;
 use ghg_cell::{Input, MOST_PARTS, Permits, Ticket, equiv, total, total_from};
 use ghg_data::Records;
@@ -45,7 +45,7 @@ use std::collections::BTreeSet;
 pub(crate) fn evaluate_all<R: Records, C: ghg_graph::Cells>(
     alloc: Global,
     records: &R,
-    groups: &Groups,
+    layout: &Layout,
     before: Option<&C>,
     kept: &Cells,
     nodes: &[Node],
@@ -53,7 +53,7 @@ pub(crate) fn evaluate_all<R: Records, C: ghg_graph::Cells>(
 ) -> Result<Cells, EngineRefusal>
     requires workbook { IsWorkbook (R.content records.now) }
     requires acyclic { IsAcyclic (R.content records.now) }
-    requires groups { IsGrouping (R.content records.now) groups.now }
+    requires layout { IsLayout (R.content records.now) layout.now }
     requires order { AreInOrder (R.content records.now) nodes.now }
     requires before { IfSome before (λ b. IsBefore (C.content b.now) (R.content records.now) nodes.now) }
     requires kept { AreKept (R.content records.now) nodes.now (cell_at kept.now) }
@@ -74,7 +74,7 @@ pub(crate) fn evaluate_all<R: Records, C: ghg_graph::Cells>(
         let evaluated = evaluate(
             records,
             &known,
-            groups,
+            layout,
             &from,
             &cells,
             first,
@@ -189,7 +189,7 @@ fn lesser(node: &Node, least: &Option<Node>) -> Node
 fn evaluate<R: Records, C: ghg_graph::Cells>(
     records: &R,
     known: &Known,
-    groups: &Groups,
+    layout: &Layout,
     before: &Option<Before<'_, C>>,
     cells: &Overlay<'_>,
     first: u32,
@@ -200,13 +200,17 @@ fn evaluate<R: Records, C: ghg_graph::Cells>(
     requires workbook { IsWorkbook (R.content records.now) }
     requires acyclic { IsAcyclic (R.content records.now) }
     requires known { IsKnown (R.content records.now) known.now }
-    requires groups { IsGrouping (R.content records.now) groups.now }
+    requires layout { IsLayout (R.content records.now) layout.now }
     requires first { first ≡ first_year (span (R.content records.now)) }
     requires ready { IsReady (R.content records.now) (outcomes_of cells.now) node.now }
     requires before { IfSome before.now (λ b. IsReadyFrom (C.content b.cells.now) (R.content records.now)
         b.changed (cell_at cells.now.fresh) node.now) }
     ensures { IfOk result (IsOutcomeOf (R.content records.now) node.now) }
 {
+    let emitters = Emitters {
+        records,
+        names: &layout.index.emitters,
+    };
     match node {
         Node::Line(name, year) => {
             let Buffers {
@@ -224,36 +228,58 @@ fn evaluate<R: Records, C: ghg_graph::Cells>(
             Ok(equivalent(records, known, place, cells, name, *year, ticket))
         }
         Node::Total(category, year) => {
-            let addends = groups.total(*category);
+            let addends = layout.groups.total(*category);
             match before {
                 Some(from) => {
                     let changed = from.changed.total(*category);
                     sum_from(
-                        from, cells, node, &addends, &changed, *year, ticket, buffers,
+                        &emitters, from, cells, node, &addends, &changed, *year, ticket, buffers,
                     )
                 }
-                None => sum(cells, &addends, *year, ticket, &mut buffers.parts),
+                None => sum(
+                    &emitters,
+                    cells,
+                    &addends,
+                    *year,
+                    ticket,
+                    &mut buffers.parts,
+                ),
             }
         }
         Node::Gross(year) => {
-            let addends = groups.gross();
+            let addends = layout.groups.gross();
             match before {
                 Some(from) => {
                     let changed = from.changed.gross();
                     sum_from(
-                        from, cells, node, &addends, &changed, *year, ticket, buffers,
+                        &emitters, from, cells, node, &addends, &changed, *year, ticket, buffers,
                     )
                 }
-                None => sum(cells, &addends, *year, ticket, &mut buffers.parts),
+                None => sum(
+                    &emitters,
+                    cells,
+                    &addends,
+                    *year,
+                    ticket,
+                    &mut buffers.parts,
+                ),
             }
         }
     }
 }
 
+// The lines that emit a gas, by name, and the records that tell where they stand.
+#[derive(Drop)]
+struct Emitters<'a, R> {
+    records: &'a R,
+    names: &'a [Name],
+}
+
 // Evaluates a total in a year: what it was, and what has changed since, where that is a part of its own
 // lines, none of it is over and it is no more than a total may add; else the sum of what it adds. `changed`
 // are all addends that are evaluated anew, maybe among others.
-fn sum_from<C: ghg_graph::Cells>(
+fn sum_from<R: Records, C: ghg_graph::Cells>(
+    emitters: &Emitters<'_, R>,
     before: &Before<'_, C>,
     cells: &Overlay<'_>,
     node: &Node,
@@ -263,24 +289,26 @@ fn sum_from<C: ghg_graph::Cells>(
     ticket: Ticket,
     buffers: &mut Buffers,
 ) -> Result<Evaluated, AllocError>
-    requires few { length addends.now.all.now ≤ most_lines }
+    requires workbook { IsWorkbook (R.content emitters.now.records.now) }
+    requires emitters { emitters.now.names.now ≡ gas_lines (R.content emitters.now.records.now) }
     requires before { IsResummed (outcomes_of cells.now) (cell_at cells.now.fresh)
         (compilation (C.content before.now.cells.now)) node.now
         (addends_for addends.now year) (addends_for changed.now year) }
-    ensures { IfOk result (IsTotalOf (outcomes_of cells.now) addends.now year) }
+    ensures { IfOk result (IsTotalOf (R.content emitters.now.records.now) (outcomes_of cells.now)
+        addends.now year) }
 {
     let Buffers { parts, changes, .. } = buffers;
     if changed.own.len() >= addends.own.len() {
-        return sum(cells, addends, year, ticket, parts);
+        return sum(emitters, cells, addends, year, ticket, parts);
     }
     let Some(value) = before.cells.value(node) else {
-        return sum(cells, addends, year, ticket, parts);
+        return sum(emitters, cells, addends, year, ticket, parts);
     };
     if changes.gather(cells, before.cells, changed, year)? && changes.gone.len() <= MOST_PARTS {
         let value = total_from(ticket, value.input(), &changes.gone, &changes.come);
         return Ok(Evaluated::of(value));
     }
-    sum(cells, addends, year, ticket, parts)
+    sum(emitters, cells, addends, year, ticket, parts)
 }
 
 // Evaluates a line's equation over what its parameters take. A line that is known at the place is not looked
@@ -358,21 +386,31 @@ fn equivalent<R: Records>(
 }
 
 // Evaluates a total in a year: the sum of what it adds, where none of that is over and it is no more than a
-// total may add; else of the equivalents of all lines under it.
-fn sum(
+// total may add; else of the equivalents of all lines that count in it.
+fn sum<R: Records>(
+    emitters: &Emitters<'_, R>,
     cells: &Overlay<'_>,
     addends: &Addends<'_>,
     year: u32,
     ticket: Ticket,
     parts: &mut Vec<Input>,
 ) -> Result<Evaluated, AllocError>
-    requires { length addends.now.all.now ≤ most_lines }
-    ensures { IfOk result (IsTotalOf (outcomes_of cells.now) addends.now year) }
+    requires workbook { IsWorkbook (R.content emitters.now.records.now) }
+    requires emitters { emitters.now.names.now ≡ gas_lines (R.content emitters.now.records.now) }
+    ensures { IfOk result (IsTotalOf (R.content emitters.now.records.now) (outcomes_of cells.now)
+        addends.now year) }
 {
     if gather_addends(cells, addends, year, parts)? && parts.len() <= MOST_PARTS {
         return Ok(Evaluated::of(total(ticket, parts)));
     }
-    if gather_parts(cells, Part::Equivalent, addends.all, year, parts)? {
+    if gather_counted(
+        emitters.records,
+        cells,
+        emitters.names,
+        addends.top,
+        year,
+        parts,
+    )? {
         Ok(Evaluated::of(total(ticket, parts)))
     } else {
         Ok(Evaluated::passed_on())

@@ -1,10 +1,9 @@
-//! The lines that emit a gas, by the categories at and under which they stand.
+//! The lines that emit a gas, by the categories at which they stand.
 
-ghost use Rattle.std.specs.Prelude.{◌≡◌, IfOk, OnOk, [], ◌∷◌, ◌++◌, if◌then◌else◌};
+ghost use Rattle.std.specs.Prelude.{◌≡◌, IfOk, OnOk, None, Some, [], ◌∷◌, ◌++◌, if◌then◌else◌};
 ghost use Rattle.std.specs.List.Sorted.{IsStrictlySortedBy};
-ghost use Rattle.ghg_categories.specs.Tree.{is_same, stands_under, stands_within};
+ghost use Rattle.ghg_categories.specs.Tree.{is_same};
 ghost use Rattle.ghg_categories.specs.declared.category.Category.{Category};
-ghost use Rattle.ghg_definitions.specs.Compilation.{counts_in_gross};
 ghost use Rattle.ghg_definitions.specs.Data.{Data, name_cmp};
 ghost use Rattle.ghg_affected.specs.Subtotals.{children, gross_parts, is_above_parts};
 ghost use Rattle.ghg_data.specs.Names.{with_name};
@@ -12,10 +11,9 @@ ghost use Rattle.ghg_engine.specs.Grouping.{AddsLines, AreGroupsOf, AreInOrder, 
 
 use crate::children::{GROSS_PARTS, children};
 use crate::parts::Addends;
-use ghg_categories::{Category, DEPTH, parent};
+use ghg_categories::Category;
 use ghg_data::Records;
 use ghg_equations::equation;
-use ghg_graph::counts_in_gross;
 use ghg_units::Name;
 use std::alloc::{AllocError, Global};
 use std::collections::BTreeMap;
@@ -71,57 +69,24 @@ impl ByCategory {
     {
         insert_name(self.groups.entry(category)?.or_default(), name)
     }
-
-    // Puts a name into its place in the group of a category, and of those above it by so many levels.
-    fn insert_up(&mut self, levels: u8, category: Category, name: &Name) -> Result<(), AllocError>
-        requires { (c : Category) → IsStrictlySortedBy name_cmp (group_at self.old c) }
-        ensures { OnOk result ((c : Category) → group_at self.new c ≡
-            (if stands_within levels category c then with_name name.now (group_at self.old c)
-            else group_at self.old c)) }
-    {
-        self.insert(category, name)?;
-        match parent(category) {
-            Some(above) if levels > 0 => self.insert_up(levels - 1, above, name),
-            _ => Ok(()),
-        }
-    }
-
-    // Puts a name into the group of a category, and of those above it by so many levels.
-    fn put_up(&mut self, levels: u8, category: Category, name: &Name) -> Result<(), AllocError>
-        ensures { OnOk result ((c : Category) → group_at self.new c ≡ group_at self.old c ++
-            (if stands_within levels category c then name.now ∷ [] else [])) }
-    {
-        self.put(category, name)?;
-        match parent(category) {
-            Some(above) if levels > 0 => self.put_up(levels - 1, above, name),
-            _ => Ok(()),
-        }
-    }
 }
 
-/// The lines that emit a gas, by name, in groups for each category: those at it, and those at it and under
-/// it. Each line stands in at most five of the latter.
+/// The lines that emit a gas, by name, in the groups that totals add: those at each category, and those that
+/// count in the gross total and stand above its parts.
 #[derive(Drop)]
 pub(crate) struct Groups {
-    under: ByCategory,
     at: ByCategory,
-    // Those that count in the gross total, and those of them that stand above its parts.
-    gross: Vec<Name>,
     above: Vec<Name>,
 }
 
 impl Groups {
     /// No groups. It takes no memory.
     pub(crate) fn new(alloc: Global) -> Groups
-        ensures under { (c : Category) → group_at result.under c ≡ [] }
         ensures at { (c : Category) → group_at result.at c ≡ [] }
-        ensures gross { result.gross.items ≡ [] }
         ensures above { result.above.items ≡ [] }
     {
         Groups {
-            under: ByCategory::new(alloc),
             at: ByCategory::new(alloc),
-            gross: Vec::new(alloc),
             above: Vec::new(alloc),
         }
     }
@@ -167,12 +132,12 @@ impl Groups {
     pub(crate) fn total(&self, category: Category) -> Addends<'_>
         ensures categories { result.categories.now ≡ children category }
         ensures own { result.own.now ≡ group_at self.now.at category }
-        ensures all { result.all.now ≡ group_at self.now.under category }
+        ensures top { result.top ≡ Some category }
     {
         Addends {
             categories: children(category),
             own: self.at.at(category),
-            all: self.under.at(category),
+            top: Some(category),
         }
     }
 
@@ -180,77 +145,52 @@ impl Groups {
     pub(crate) fn gross(&self) -> Addends<'_>
         ensures categories { result.categories.now ≡ gross_parts }
         ensures own { result.own.now ≡ self.now.above.items }
-        ensures all { result.all.now ≡ self.now.gross.items }
+        ensures top { result.top ≡ None }
     {
         Addends {
             categories: &GROSS_PARTS,
             own: self.above.as_slice(),
-            all: self.gross.as_slice(),
+            top: None,
         }
     }
 
     fn copy(&self, alloc: Global) -> Result<Groups, AllocError>
-        ensures under { IfOk result (λ copy. (c : Category) →
-            group_at copy.under c ≡ group_at self.now.under c) }
         ensures at { IfOk result (λ copy. (c : Category) → group_at copy.at c ≡ group_at self.now.at c) }
-        ensures gross { IfOk result (λ copy. copy.gross.items ≡ self.now.gross.items) }
         ensures above { IfOk result (λ copy. copy.above.items ≡ self.now.above.items) }
     {
         Ok(Groups {
-            under: self.under.copy()?,
             at: self.at.copy()?,
-            gross: Vec::from_slice(alloc, &self.gross)?,
             above: Vec::from_slice(alloc, &self.above)?,
         })
     }
 
     // Puts a line that stands at a category into its places in its groups.
-    #[tactic(auto, unfolding(ghg_categories::specs::Tree::stands_under))]
     fn insert(&mut self, category: Category, name: &Name) -> Result<(), AllocError>
         requires { AreInOrder self.old }
-        ensures under { OnOk result ((c : Category) → group_at self.new.under c ≡
-            (if stands_under category c then with_name name.now (group_at self.old.under c)
-            else group_at self.old.under c)) }
         ensures at { OnOk result ((c : Category) → group_at self.new.at c ≡
             (if is_same category c then with_name name.now (group_at self.old.at c)
             else group_at self.old.at c)) }
-        ensures gross { OnOk result (self.new.gross.items ≡
-            (if counts_in_gross category then with_name name.now self.old.gross.items
-            else self.old.gross.items)) }
         ensures above { OnOk result (self.new.above.items ≡
             (if is_above_parts category then with_name name.now self.old.above.items
             else self.old.above.items)) }
     {
-        if counts_in_gross(category) {
-            insert_name(&mut self.gross, name)?;
-        }
         if is_above_parts(category) {
             insert_name(&mut self.above, name)?;
         }
-        self.at.insert(category, name)?;
-        self.under.insert_up(DEPTH, category, name)
+        self.at.insert(category, name)
     }
 
     // Puts a line that stands at a category into its groups.
-    #[tactic(auto, unfolding(ghg_categories::specs::Tree::stands_under))]
     fn put(&mut self, category: Category, name: &Name) -> Result<(), AllocError>
-        ensures under { OnOk result ((c : Category) → group_at self.new.under c ≡ group_at self.old.under c ++
-            (if stands_under category c then name.now ∷ [] else [])) }
         ensures at { OnOk result ((c : Category) → group_at self.new.at c ≡ group_at self.old.at c ++
             (if is_same category c then name.now ∷ [] else [])) }
-        ensures gross { OnOk result (self.new.gross.items ≡ self.old.gross.items ++
-            (if counts_in_gross category then name.now ∷ [] else [])) }
         ensures above { OnOk result (self.new.above.items ≡ self.old.above.items ++
             (if is_above_parts category then name.now ∷ [] else [])) }
     {
-        if counts_in_gross(category) {
-            self.gross.push(*name)?;
-        }
         if is_above_parts(category) {
             self.above.push(*name)?;
         }
-        self.at.put(category, name)?;
-        self.under.put_up(DEPTH, category, name)
+        self.at.put(category, name)
     }
 }
 

@@ -1,12 +1,18 @@
 //! The parts of sums.
 
-ghost use Rattle.std.specs.Prelude.{◌≡◌, ◌∷◌, [], IfOk, map};
+ghost use Rattle.std.specs.Prelude.{◌≡◌, ◌∷◌, [], IfOk, false, map};
+ghost use Rattle.std.specs.Option.{option_map_or};
+ghost use Rattle.ghg_definitions.specs.Data.{category};
+ghost use Rattle.ghg_engine.specs.declared.parts.Part.TheVariants as part;
+ghost use Rattle.ghg_engine.specs.Grouping.{names_at};
 ghost use Rattle.ghg_engine.specs.Overlays.{outcomes_of};
-ghost use Rattle.ghg_engine.specs.Parts.{AreAdded, AreParts, addends_for, node_for, nodes_for};
+ghost use Rattle.ghg_engine.specs.Parts.{AreAdded, AreParts, addends_for, counts_in, node_for, nodes_for};
 
 use crate::overlay::Overlay;
-use ghg_categories::Category;
+use ghg_categories::{Category, is_under};
 use ghg_cell::Input;
+use ghg_data::Records;
+use ghg_graph::counts_in_gross;
 use ghg_interval::Over;
 use ghg_units::{Name, Node};
 use std::alloc::AllocError;
@@ -36,8 +42,8 @@ impl Part {
 pub(crate) struct Addends<'a> {
     pub(crate) categories: &'a [Category],
     pub(crate) own: &'a [Name],
-    /// All lines under it, of which those of the categories are a part.
-    pub(crate) all: &'a [Name],
+    /// The category whose total it is; none for the gross total.
+    pub(crate) top: Option<Category>,
 }
 
 /// Gathers what is added of lines in a year, in a buffer that all sums share. Answers whether none of it is
@@ -70,6 +76,47 @@ pub(crate) fn gather_addends(
         return Ok(false);
     }
     add_lines(cells, Part::Equivalent, addends.own, year, parts)
+}
+
+/// Gathers the equivalents of those lines that count in the total of a category, or in the gross total where
+/// none is given, in the same buffer. Each line is looked up. Answers whether none of them is over.
+pub(crate) fn gather_counted<R: Records>(
+    records: &R,
+    cells: &Overlay<'_>,
+    names: &[Name],
+    top: Option<Category>,
+    year: u32,
+    parts: &mut Vec<Input>,
+) -> Result<bool, AllocError>
+    ensures { IfOk result (AreParts (outcomes_of cells.now) (nodes_for part.Equivalent
+        (names_at (counts_in top) (R.content records.now) names.now) year) parts.new.items) }
+{
+    parts.clear();
+    for name in names {
+        if counts(records, top, name) && !add_part(cells, &Node::Equiv(*name, year), parts)? {
+            return Ok(false);
+        }
+    }
+    Ok(true)
+}
+
+// Whether a line stands at a category that counts.
+fn counts<R: Records>(records: &R, top: Option<Category>, name: &Name) -> bool
+    ensures { result ≡ option_map_or (counts_in top) (category (R.content records.now) name.now) false }
+{
+    match records.line(name) {
+        Some((category, _)) => counts_in(top, category),
+        None => false,
+    }
+}
+
+fn counts_in(top: Option<Category>, category: Category) -> bool
+    ensures { result ≡ counts_in top category }
+{
+    match top {
+        Some(top) => is_under(category, top),
+        None => counts_in_gross(category),
+    }
 }
 
 fn add_totals(

@@ -1,17 +1,16 @@
 use Rattle.std.proofs.Common.{◌∙◌, ◌++◌, List, IfOk, map, refl, sym, ap, ap₂, subst}
 use Rattle.ghg_categories.specs.declared.category.Category.{Category}
 use Rattle.ghg_units.specs.declared.node.Node.TheVariants as node
-use Rattle.ghg_definitions.specs.Compilation.{compilation, sum_formula}
+use Rattle.ghg_definitions.specs.Compilation.{compilation, gas_lines_at, sum_formula}
 use Rattle.ghg_definitions.specs.Data.{Name}
 use Rattle.ghg_engine.specs.Evaluation.{IsOutcomeOf, IsReady}
 use Rattle.ghg_engine.specs.Overlays.{outcomes_of}
 use Rattle.ghg_engine.proofs.Answered.{if_ok}
-use Rattle.ghg_engine.proofs.Facts.{few_at}
 use Rattle.ghg_categories.specs.Tree.{is_same}
 use Rattle.ghg_affected.specs.Subtotals.{children, gross_parts, is_above_parts}
 use Rattle.ghg_engine.specs.Cells.{cell_at}
 use Rattle.ghg_engine.specs.Changes.{IsReadyFrom, IsResummed}
-use Rattle.ghg_engine.specs.Parts.{addends_for}
+use Rattle.ghg_engine.specs.Parts.{addends_for, counts_in}
 use Rattle.ghg_engine.proofs.Before.{from_ready, grouped_candidates, of_some}
 use Rattle.ghg_engine.proofs.Ready.{of_formula, of_total}
 use Rattle.ghg_engine.proofs.evaluation.evaluate.Goals as goal
@@ -32,12 +31,6 @@ returns-in-Equiv g c =
     subst (λ k. IsOutcomeOf m k c.equivalent.result) (sym c.in-Equiv.is)
     (of_formula m c.requires.acyclic cells n (subst (IsReady m cells) c.in-Equiv.is c.requires.ready) c.equivalent.result c.equivalent.ensures)
 
-pub sum_from-requires-clause-few : goal.sum_from-requires-clause-few
-sum_from-requires-clause-few g c = rw (c.total-addends.ensures.all, c.requires.groups.under) (few_at (g.R.Records.content c.args.records.now) _ c.requires.workbook)
-
-pub sum-requires : goal.sum-requires
-sum-requires g c = rw (c.total-addends.ensures.all, c.requires.groups.under) (few_at (g.R.Records.content c.args.records.now) _ c.requires.workbook)
-
 pub sum_from-requires-clause-before : goal.sum_from-requires-clause-before
 sum_from-requires-clause-before g c =
     let m = g.R.Records.content c.args.records.now in
@@ -52,7 +45,7 @@ sum_from-requires-clause-before g c =
     subst (λ k. IsResummed found fresh (compilation old) k (addends_for c.total-addends.result year) (addends_for c.total-changed.result year)) (sym c.in-Total.is)
     (from_ready old m c.requires.workbook c.requires.acyclic c.in-Some.from.changed fresh found n ready ready_from refl _ _
     (ap₂ (λ (cs : List Category) (names : List Name). map (λ d. node.Total d year) cs ++ map (λ name. node.Equiv name year) names)
-    c.total-addends.ensures.categories (c.total-addends.ensures.own ∙ c.requires.groups.at c.in-Total.category))
+    c.total-addends.ensures.categories (c.total-addends.ensures.own ∙ c.requires.layout.groups.at c.in-Total.category))
     (grouped_candidates old m c.requires.workbook c.requires.acyclic c.in-Some.from.changed fresh found n ready ready_from (children c.in-Total.category) _ (λ k. is_same k c.in-Total.category) _ year
     c.total-changed.ensures.categories (c.total-changed.ensures.own ∙ ready_from.lines.grouped.at c.in-Total.category)))
 
@@ -65,8 +58,8 @@ returns-in-Some g c =
     subst (λ k. IfOk c.sum_from.result (IsOutcomeOf m k)) (sym c.in-Total.is)
     (if_ok c.sum_from.result (of_total m c.requires.acyclic cells n (subst (IsReady m cells) c.in-Total.is c.requires.ready) refl c.total-addends.result year
     (ap₂ (λ (cs : List Category) (names : List Name). map (λ d. node.Total d year) cs ++ map (λ name. node.Equiv name year) names)
-    c.total-addends.ensures.categories (c.total-addends.ensures.own ∙ c.requires.groups.at c.in-Total.category))
-    (ap (λ names. sum_formula names year) (sym (c.total-addends.ensures.all ∙ c.requires.groups.under c.in-Total.category)))) c.sum_from.ensures)
+    c.total-addends.ensures.categories (c.total-addends.ensures.own ∙ c.requires.layout.groups.at c.in-Total.category))
+    (ap (λ top. sum_formula (gas_lines_at (counts_in top) m) year) (sym c.total-addends.ensures.top))) c.sum_from.ensures)
 
 pub returns-in-None : goal.returns-in-None
 returns-in-None g c =
@@ -77,14 +70,8 @@ returns-in-None g c =
     subst (λ k. IfOk c.sum.result (IsOutcomeOf m k)) (sym c.in-Total.is)
     (if_ok c.sum.result (of_total m c.requires.acyclic cells n (subst (IsReady m cells) c.in-Total.is c.requires.ready) refl c.total-addends.result year
     (ap₂ (λ (cs : List Category) (names : List Name). map (λ d. node.Total d year) cs ++ map (λ name. node.Equiv name year) names)
-    c.total-addends.ensures.categories (c.total-addends.ensures.own ∙ c.requires.groups.at c.in-Total.category))
-    (ap (λ names. sum_formula names year) (sym (c.total-addends.ensures.all ∙ c.requires.groups.under c.in-Total.category)))) c.sum.ensures)
-
-pub sum_from-requires-in-Some-before-clause-few : goal.sum_from-requires-in-Some-before-clause-few
-sum_from-requires-in-Some-before-clause-few g c = rw (c.gross-addends.ensures.all, c.requires.groups.gross) (few_at (g.R.Records.content c.args.records.now) _ c.requires.workbook)
-
-pub sum-requires-in-None-before : goal.sum-requires-in-None-before
-sum-requires-in-None-before g c = rw (c.gross-addends.ensures.all, c.requires.groups.gross) (few_at (g.R.Records.content c.args.records.now) _ c.requires.workbook)
+    c.total-addends.ensures.categories (c.total-addends.ensures.own ∙ c.requires.layout.groups.at c.in-Total.category))
+    (ap (λ top. sum_formula (gas_lines_at (counts_in top) m) year) (sym c.total-addends.ensures.top))) c.sum.ensures)
 
 pub sum_from-requires-in-Some-before-clause-before : goal.sum_from-requires-in-Some-before-clause-before
 sum_from-requires-in-Some-before-clause-before g c =
@@ -100,7 +87,7 @@ sum_from-requires-in-Some-before-clause-before g c =
     subst (λ k. IsResummed found fresh (compilation old) k (addends_for c.gross-addends.result year) (addends_for c.gross-changed.result year)) (sym c.in-Gross.is)
     (from_ready old m c.requires.workbook c.requires.acyclic c.in-Some-before.from.changed fresh found n ready ready_from refl _ _
     (ap₂ (λ (cs : List Category) (names : List Name). map (λ d. node.Total d year) cs ++ map (λ name. node.Equiv name year) names)
-    c.gross-addends.ensures.categories (c.gross-addends.ensures.own ∙ c.requires.groups.above))
+    c.gross-addends.ensures.categories (c.gross-addends.ensures.own ∙ c.requires.layout.groups.above))
     (grouped_candidates old m c.requires.workbook c.requires.acyclic c.in-Some-before.from.changed fresh found n ready ready_from gross_parts _ is_above_parts _ year
     c.gross-changed.ensures.categories (c.gross-changed.ensures.own ∙ ready_from.lines.grouped.above)))
 
@@ -113,8 +100,8 @@ returns-in-Some-before g c =
     subst (λ k. IfOk c.sum_from-in-Some-before.result (IsOutcomeOf m k)) (sym c.in-Gross.is)
     (if_ok c.sum_from-in-Some-before.result (of_total m c.requires.acyclic cells n (subst (IsReady m cells) c.in-Gross.is c.requires.ready) refl c.gross-addends.result year
     (ap₂ (λ (cs : List Category) (names : List Name). map (λ d. node.Total d year) cs ++ map (λ name. node.Equiv name year) names)
-    c.gross-addends.ensures.categories (c.gross-addends.ensures.own ∙ c.requires.groups.above))
-    (ap (λ names. sum_formula names year) (sym (c.gross-addends.ensures.all ∙ c.requires.groups.gross)))) c.sum_from-in-Some-before.ensures)
+    c.gross-addends.ensures.categories (c.gross-addends.ensures.own ∙ c.requires.layout.groups.above))
+    (ap (λ top. sum_formula (gas_lines_at (counts_in top) m) year) (sym c.gross-addends.ensures.top))) c.sum_from-in-Some-before.ensures)
 
 pub returns-in-None-before : goal.returns-in-None-before
 returns-in-None-before g c =
@@ -125,5 +112,5 @@ returns-in-None-before g c =
     subst (λ k. IfOk c.sum-in-None-before.result (IsOutcomeOf m k)) (sym c.in-Gross.is)
     (if_ok c.sum-in-None-before.result (of_total m c.requires.acyclic cells n (subst (IsReady m cells) c.in-Gross.is c.requires.ready) refl c.gross-addends.result year
     (ap₂ (λ (cs : List Category) (names : List Name). map (λ d. node.Total d year) cs ++ map (λ name. node.Equiv name year) names)
-    c.gross-addends.ensures.categories (c.gross-addends.ensures.own ∙ c.requires.groups.above))
-    (ap (λ names. sum_formula names year) (sym (c.gross-addends.ensures.all ∙ c.requires.groups.gross)))) c.sum-in-None-before.ensures)
+    c.gross-addends.ensures.categories (c.gross-addends.ensures.own ∙ c.requires.layout.groups.above))
+    (ap (λ top. sum_formula (gas_lines_at (counts_in top) m) year) (sym c.gross-addends.ensures.top))) c.sum-in-None-before.ensures)

@@ -8,7 +8,7 @@ use Rattle.ghg_engine.proofs.groups.Groups.with_lines.Goals.{in-Some+in_ok-inser
 pub loop-name-init : goal.loop-name-init
 loop-name-init g c =
     let made = c.in_ok-groups.ensures in
-    grouped_none c.requires.0 (g.R.Records.content c.args.records.now) c.args.self.now c.in_ok-groups.groups c.requires.1 made.under made.at made.gross made.above
+    grouped_none c.requires.0 (g.R.Records.content c.args.records.now) c.args.self.now c.in_ok-groups.groups c.requires.1 made.at made.above
 
 pub insert-requires : goal.insert-requires
 insert-requires g c =
@@ -24,7 +24,7 @@ loop-name-preserved g c =
       | in-Some+in_ok-insert w ↦
           let put = w.in_ok-insert.ensures in
           subst (IsGroupedWith m c.args.self.now (so_far ++ name ∷ [])) (sym w.groups-is)
-          (grouped_next m c.args.self.now so_far name w.in-Some.category c.loop-name.groups w.insert.new.self c.loop-name.invariant (sym c.emitted_at.ensures ∙ w.in-Some.is) put.under put.at put.gross put.above)
+          (grouped_next m c.args.self.now so_far name w.in-Some.category c.loop-name.groups w.insert.new.self c.loop-name.invariant (sym c.emitted_at.ensures ∙ w.in-Some.is) put.at put.above)
       | in_default w ↦
           subst (IsGroupedWith m c.args.self.now (so_far ++ name ∷ [])) (sym w.groups-is)
           (grouped_still m c.args.self.now so_far name c.loop-name.groups c.loop-name.invariant (sym c.emitted_at.ensures ∙ w.in_default.is))
