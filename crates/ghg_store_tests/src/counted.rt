@@ -1,6 +1,7 @@
-//! How many nodes a submission affects, which its reply counts and no text of a reply shows.
+//! How many nodes a submission affects, which its reply counts and no text of a reply shows; and that a
+//! repeat spends no step.
 
-ghost use Rattle.std.specs.Prelude.{◌≡◌, ◌<◌};
+ghost use Rattle.std.specs.Prelude.{◌≡◌, ◌≤◌, ◌<◌, IfSome};
 
 use ghg_keeper::{Keeper, SteadyKeeper};
 use ghg_office::{Office, Reply};
@@ -285,4 +286,44 @@ fn affected_nodes_are_counted(rt: HostRuntime) {
     for case in CASES {
         check(&rt, &mut keeper, case);
     }
+}
+
+// The place of the submission that this one repeats, in the order of their acceptance; nothing where it
+// repeats none.
+fn repeat<K: Keeper, L: Ledger>(
+    alloc: Global,
+    office: &mut Office,
+    keeper: &mut K,
+    steps: &mut Steps<L>,
+    id: &[u8],
+    body: &[u8],
+) -> Option<u64>
+    ensures { IfSome result (λ seq. steps.new ≤ steps.old) }
+{
+    match office.submit(alloc, id, body, keeper, false, steps) {
+        Reply::Repeated { seq } => Some(seq),
+        _ => None,
+    }
+}
+
+// Whether a submission is accepted, and then repeated. The contract of `repeat` says that no step is spent.
+fn is_repeated<K: Keeper, L: Ledger>(alloc: Global, blank: Blank, keeper: &mut K) -> bool
+    requires name { blank.name ≡ L.name }
+    requires parts { blank.parts ≡ L.parts }
+    requires some { 0 < blank.parts }
+{
+    let mut office = Office::new(alloc);
+    let mut steps = Steps::<L>::new(blank);
+    let Ok(body) = body_of(alloc, SHARED, 1) else {
+        return false;
+    };
+    submit(alloc, &mut office, keeper, &mut steps, 4, &body).is_some()
+        && repeat(alloc, &mut office, keeper, &mut steps, b"4", &body) == Some(1)
+}
+
+#[test]
+fn a_repeat_spends_no_step(rt: HostRuntime) {
+    let mut keeper = SteadyKeeper::new(rt.alloc());
+    let holds = is_repeated::<SteadyKeeper, Brand>(rt.alloc(), Blank::new(1), &mut keeper);
+    assert!(rt; holds);
 }
