@@ -1,7 +1,7 @@
 //! How many nodes a submission affects, which its reply counts and no text of a reply shows; and that a
 //! repeat spends no step.
 
-ghost use Rattle.std.specs.Prelude.{◌≡◌, ◌≤◌, ◌<◌, IfSome};
+ghost use Rattle.std.specs.Prelude.{◌≡◌, ℕ, ◌≤◌, ◌<◌};
 
 use ghg_keeper::{Keeper, SteadyKeeper};
 use ghg_office::{Office, Reply};
@@ -288,8 +288,7 @@ fn affected_nodes_are_counted(rt: HostRuntime) {
     }
 }
 
-// The place of the submission that this one repeats, in the order of their acceptance; nothing where it
-// repeats none.
+// The reply to a submission. Where it repeats another, no step is spent.
 fn repeat<K: Keeper, L: Ledger>(
     alloc: Global,
     office: &mut Office,
@@ -297,13 +296,10 @@ fn repeat<K: Keeper, L: Ledger>(
     steps: &mut Steps<L>,
     id: &[u8],
     body: &[u8],
-) -> Option<u64>
-    ensures { IfSome result (λ seq. steps.new ≤ steps.old) }
+) -> Reply
+    ensures { (seq : ℕ) → result ≡ Reply.Repeated seq → steps.new ≤ steps.old }
 {
-    match office.submit(alloc, id, body, keeper, false, steps) {
-        Reply::Repeated { seq } => Some(seq),
-        _ => None,
-    }
+    office.submit(alloc, id, body, keeper, false, steps)
 }
 
 // Whether a submission is accepted, and then repeated. The contract of `repeat` says that no step is spent.
@@ -317,8 +313,11 @@ fn is_repeated<K: Keeper, L: Ledger>(alloc: Global, blank: Blank, keeper: &mut K
     let Ok(body) = body_of(alloc, SHARED, 1) else {
         return false;
     };
-    submit(alloc, &mut office, keeper, &mut steps, 4, &body).is_some()
-        && repeat(alloc, &mut office, keeper, &mut steps, b"4", &body) == Some(1)
+    if submit(alloc, &mut office, keeper, &mut steps, 4, &body).is_none() {
+        return false;
+    }
+    let reply = repeat(alloc, &mut office, keeper, &mut steps, b"4", &body);
+    matches!(reply, Reply::Repeated { seq: 1 })
 }
 
 #[test]

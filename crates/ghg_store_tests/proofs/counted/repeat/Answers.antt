@@ -36,12 +36,12 @@ module _ (s : State) (id body : List ℕ) (seq : ℕ) where
       by true e = none_once (kept_from 1 id s.accepted) e
       by false e = refl
 
-pub returns-in-Repeated : goal.returns-in-Repeated
-returns-in-Repeated g c =
+pub returns : goal.returns
+returns g c = λ seq same.
     let s = c.args.office.now in
     let id = c.args.id.now in
     let body = c.args.body.now in
-    let answer = subst (λ r. Answers (submitted s id body) r s c.submit.new.self) c.in-Repeated.is c.submit.ensures.answer in
-    let none = none_asked s id body c.in-Repeated.seq (sym answer.0) in
+    let answer = subst (λ r. Answers (submitted s id body) r s c.submit.new.self) same c.submit.ensures.answer in
+    let none = none_asked s id body seq (sym answer.0) in
     let spent = c.submit.ensures.steps in
     omega (arith, none, spent)
