@@ -18,10 +18,10 @@ use Rattle.ghg_units.specs.declared.node.Node.{Node}
 use Rattle.ghg_units.specs.declared.node.Node.TheVariants as node
 use Rattle.ghg_definitions.specs.Compilation.{compilation, emits, gas_lines, gas_lines_at, is_node, is_year_of, sheet_of}
 use Rattle.ghg_definitions.specs.Data.{Data, Name, category, line, line_names, name_cmp, span}
-use Rattle.ghg_definitions.specs.Formulas.{Outcome}
+use Rattle.ghg_definitions.specs.Formulas.{Outcome, Summed, inputs, map_formula, outcome_of}
 use Rattle.ghg_definitions.specs.Rings.{IsAcyclic}
 use Rattle.ghg_definitions.specs.Sound.{IsWorkbook}
-use Rattle.ghg_definitions.specs.Trials.{IsCompilation, Outcomes, is_over, value_of}
+use Rattle.ghg_definitions.specs.Trials.{IsCompilation, IsInput, Outcomes, is_over, or_blank, value_of}
 use Rattle.ghg_definitions.proofs.Alike.{first_so}
 use Rattle.ghg_definitions.proofs.Chosen.{sources_nested}
 use Rattle.ghg_definitions.proofs.Consequences.{points_within}
@@ -33,11 +33,12 @@ use Rattle.ghg_definitions.proofs.NodeLists.{emitting}
 use Rattle.ghg_definitions.proofs.OneTrial.{compilation_trial}
 use Rattle.ghg_affected.specs.Subtotals.{addends, children, gross_parts, is_above_parts, is_total, subtotals}
 use Rattle.ghg_affected.proofs.Children.{plus}
+use Rattle.ghg_affected.proofs.Closed.{inputs_are_nodes}
 use Rattle.ghg_affected.proofs.Subtotals.{totals_are_of_subtotals}
 use Rattle.ghg_graph.proofs.Emitting.{same_names}
 use Rattle.ghg_engine.specs.Changes.{AreNamesOf, IsReadyFrom, IsResummed, Stays, StaysWithLines, has_outcome, input_at, or_nothing}
 use Rattle.ghg_engine.specs.Evaluation.{IsReady}
-use Rattle.ghg_engine.specs.declared.groups.Groups.{Groups}
+use Rattle.ghg_engine.specs.declared.changes.ChangedLines.{ChangedLines}
 use Rattle.ghg_engine.specs.Grouping.{names_at}
 use Rattle.ghg_engine.proofs.Entered.{emits_at, emits_named, of_emits_at, sorted_at, to_emits_at}
 use Rattle.ghg_engine.proofs.Resummed.{blanks_left_out, gathered_inputs, known_append, sum_at}
@@ -78,6 +79,17 @@ module _ (m : Data) (acyclic : IsAcyclic m) (whole : IsCompilation (sheet_of m) 
         let law = totals_are_of_subtotals m acyclic n total there (λ k c. never_over k) in
         let sum = law.sum ∙ ap (λ r. Some (then r summed)) (gathered_inputs (compilation m) (subtotals m n) (λ k i. never_over k)) in
         known_is (summed (map (input_at (compilation m)) (subtotals m n))) b (sym (ap value_of sum) ∙ is)
+    | inr none ↦ absurd (nothing_known (compilation m n) b ((compilation_trial m acyclic).nowhere_else n none) is)
+  ]
+
+  -- the same of the equivalents of its lines
+  line_sum_was : (n : Node) (ns : List Node) → (sheet_of m).formula n ≡ Summed ns → (b : Input) → value_of (compilation m n) ≡ Some b → summed (map (input_at (compilation m)) ns) ≡ Ok b
+  line_sum_was n ns formula b is = elim (or_else (is_node m n)) [
+    | inl there ↦
+        let sum = (compilation_trial m acyclic).by_formula n there
+        ∙ ap (λ φ. Some (outcome_of (λ k. or_blank (compilation m k)) (map_formula (sheet_of m).given φ))) formula
+        ∙ ap (λ r. Some (then r summed)) (gathered_inputs (compilation m) ns (λ k i. never_over k)) in
+        known_is (summed (map (input_at (compilation m)) ns)) b (sym (ap value_of sum) ∙ is)
     | inr none ↦ absurd (nothing_known (compilation m n) b ((compilation_trial m acyclic).nowhere_else n none) is)
   ]
 
@@ -129,6 +141,12 @@ module _ (old new : Data) (stays : StaysWithLines old new) where
     subtotals_alike (node.Equiv name year) = refl
     subtotals_alike (node.Total top year) = ap reported (addends_alike (children top) (λ c. is_same c top) year)
     subtotals_alike (node.Gross year) = ap reported (addends_alike gross_parts is_above_parts year)
+
+    lines_alike : (test : Category → Bool) (year : ℕ)
+        → summed (map (input_at (compilation old)) (map (λ name. node.Equiv name year) (gas_lines_at test old)))
+        ≡ summed (map (input_at (compilation old)) (map (λ name. node.Equiv name year) (gas_lines_at test new)))
+    unfolding summed
+    lines_alike test year = ap reported (addends_alike [] test year)
 
 -- ---- candidates
 
@@ -193,7 +211,7 @@ module _ (m : Data) (fresh : Outcomes) (nodes : List Node) (among : (k : Node) �
 
 -- ---- totals that are ready
 
-module _ (old new : Data) (workbook : IsWorkbook new) (acyclic : IsAcyclic new) (changed : Groups) (fresh found : Outcomes) (n : Node)
+module _ (old new : Data) (workbook : IsWorkbook new) (acyclic : IsAcyclic new) (changed : ChangedLines) (fresh found : Outcomes) (n : Node)
     (ready : IsReady new found n) (from : IsReadyFrom old new changed fresh n) where
   stays_at : (k : Node) → Contains (subtotals new n) k → fresh k ≡ None → Stays (compilation old k) (found k)
   stays_at k c none =
@@ -217,8 +235,32 @@ module _ (old new : Data) (workbook : IsWorkbook new) (acyclic : IsAcyclic new) 
   }
 
   -- the candidates by the groups
-  pub grouped_candidates : (parts cs : List Category) (own : Category → Bool) (names : List Name) (year : ℕ) → cs ≡ parts → names ≡ names_at own new from.lines.names
+  pub grouped_candidates : (parts cs : List Category) (own : Category → Bool) (names : List Name) (year : ℕ) → cs ≡ parts → names ≡ names_at own new changed.names.items
       → filter (has_outcome fresh) (map (λ c. node.Total c year) cs ++ map (λ name. node.Equiv name year) names) ≡ filter (has_outcome fresh) (addends new parts own year)
   grouped_candidates parts cs own names year same_parts same_names =
       ap₂ (λ (ds : List Category) (ks : List Name). filter (has_outcome fresh) (map (λ c. node.Total c year) ds ++ map (λ name. node.Equiv name year) ks)) same_parts same_names
-      ∙ candidates_are new fresh from.nodes from.among from.lines.names from.lines.named parts own year
+      ∙ candidates_are new fresh from.nodes from.among changed.names.items from.lines.named parts own year
+
+  -- ---- by the lines that count
+
+  stays_input : (k : Node) → IsInput (sheet_of new) k n → fresh k ≡ None → Stays (compilation old k) (found k)
+  stays_input k input none =
+      let kept = from.before.kept k (inputs_are_nodes new workbook k n input) (from.other_inputs k input none) in
+      record {
+        same = kept ∙ sym (ready.inputs_are k input);
+        fits = never_over old from.before.acyclic from.before.fits k;
+        within = subst (λ o. PointLiesWithin (or_nothing (value_of o))) (sym kept) (within_of (compilation new k)
+            (points_within (sheet_of new) (acyclic_grounded new acyclic) (compilation new) (compilation_trial new acyclic) (sources_nested new workbook) k));
+      }
+
+  pub lines_ready : (test : Category → Bool) (year : ℕ)
+      → (sheet_of old).formula n ≡ Summed (map (λ name. node.Equiv name year) (gas_lines_at test old))
+      → (sheet_of new).formula n ≡ Summed (map (λ name. node.Equiv name year) (gas_lines_at test new))
+      → IsResummed found fresh (compilation old) n (map (λ name. node.Equiv name year) (gas_lines_at test new))
+      (map (λ name. node.Equiv name year) (names_at test new changed.names.items))
+  lines_ready test year was is = record {
+    sum = λ b value. sym (lines_alike old new from.before.stays from.before.acyclic test year)
+        ∙ line_sum_was old from.before.acyclic from.before.fits n (map (λ name. node.Equiv name year) (gas_lines_at test old)) was b value;
+    changed = candidates_are new fresh from.nodes from.among changed.names.items from.lines.named [] test year;
+    others = λ k c none. stays_input k (record { node = ready.node; among = subst (λ φ. Contains (inputs φ) k) (sym is) c }) none;
+  }

@@ -4,19 +4,20 @@ use Rattle.std.specs.Prelude.{IfSome}
 use Rattle.std.proofs.lemmas.List.{append_assoc, take-append-drop}
 use Rattle.ghg_units.specs.declared.node.Node.{Node}
 use Rattle.ghg_definitions.specs.declared.record.RecordKey.TheVariants as key
-use Rattle.ghg_definitions.specs.Compilation.{compilation, is_node}
+use Rattle.ghg_definitions.specs.Compilation.{compilation, is_node, sheet_of}
 use Rattle.ghg_definitions.specs.Data.{Data, as_span}
 use Rattle.ghg_definitions.specs.Formulas.{Outcome}
 use Rattle.ghg_definitions.specs.Listed.{IsListed}
 use Rattle.ghg_definitions.specs.Rings.{IsAcyclic}
 use Rattle.ghg_definitions.specs.Sound.{IsWorkbook}
-use Rattle.ghg_definitions.specs.Trials.{Outcomes}
+use Rattle.ghg_definitions.specs.Trials.{IsInput, Outcomes}
 use Rattle.ghg_definitions.proofs.Depth.{or_else}
 use Rattle.ghg_definitions.proofs.Listed.{contained, in_either, listed, listed_left}
 use Rattle.ghg_definitions.proofs.OneTrial.{compilation_trial}
 use Rattle.ghg_affected.specs.Equalities.{same_node}
 use Rattle.ghg_affected.specs.Subtotals.{subtotals}
 use Rattle.ghg_affected.proofs.Bools.{true_not_false}
+use Rattle.ghg_affected.proofs.Closed.{inputs_are_nodes}
 use Rattle.ghg_data.specs.Changes.{Change, applied}
 use Rattle.ghg_data.proofs.Covered.{changed_or_kept}
 use Rattle.ghg_graph.specs.Corrections.{ListsAffected}
@@ -24,7 +25,7 @@ use Rattle.ghg_graph.specs.Entries.{are_entries, is_entry}
 use Rattle.ghg_graph.proofs.Corrected.{all_pass, among}
 use Rattle.ghg_graph.proofs.Entering.{keeps_lines}
 use Rattle.ghg_graph.proofs.Numbering.{take_next}
-use Rattle.ghg_engine.specs.declared.groups.Groups.{Groups}
+use Rattle.ghg_engine.specs.declared.changes.ChangedLines.{ChangedLines}
 use Rattle.ghg_engine.specs.Changes.{AreChangedLines, IsBefore, IsReadyFrom, StaysWithLines}
 use Rattle.ghg_engine.specs.Compiled.{IsCompiled}
 use Rattle.ghg_engine.proofs.Compiled.{compiled_alike}
@@ -57,7 +58,7 @@ some_not_none o some none = true_not_false (sym some ∙ ap is_some none)
 pub around : (ns : List Node) (i : ℕ) (n : Node) → i < length ns → n ≡ get_or ns i n → ns ≡ take i ns ++ n ∷ drop (i + 1) ns
 around ns i n within is = sym (take-append-drop (i + 1) ns) ∙ ap (λ t. t ++ drop (i + 1) ns) (take_next ns i n within is) ∙ append_assoc (take i ns) (n ∷ []) (drop (i + 1) ns)
 
-module _ (old m : Data) (acyclic : IsAcyclic m) (changed : Groups) (done : List Node) (n : Node) (rest nodes : List Node) (all : nodes ≡ done ++ n ∷ rest)
+module _ (old m : Data) (workbook : IsWorkbook m) (acyclic : IsAcyclic m) (changed : ChangedLines) (done : List Node) (n : Node) (rest nodes : List Node) (all : nodes ≡ done ++ n ∷ rest)
     (found fresh : Outcomes) (least : Option Node) (so_far : IsSoFar m done (n ∷ rest) found fresh least) where
   has_at : (k : Node) → is_node m k ≡ true → compilation m k ≡ None → ⊥
   has_at k node none = some_not_none (compilation m k) (ap is_some ((compilation_trial m acyclic).by_formula k node)) none
@@ -81,8 +82,14 @@ module _ (old m : Data) (acyclic : IsAcyclic m) (changed : Groups) (done : List 
     | inr i ↦ so_far.behind.0 k c (contained (n ∷ rest) k i)
   ]
 
+  no_input_among : (k : Node) → IsInput (sheet_of m) k n → fresh k ≡ None → Contains nodes k → ⊥
+  no_input_among k input none there = elim (in_either k done (n ∷ rest) (listed (done ++ n ∷ rest) k (subst (λ ns. Contains ns k) all there))) [
+    | inl i ↦ has_at k (inputs_are_nodes m workbook k n input) (sym (so_far.fresh_are k (contained done k i)) ∙ none)
+    | inr i ↦ so_far.in_turn.1 k input (contained (n ∷ rest) k i)
+  ]
+
   pub next_from : IsBefore old m nodes → AreChangedLines m nodes changed → IsReadyFrom old m changed fresh n
-  next_from before lines = record { nodes = nodes; before = before; lines = lines; among = fresh_among; others = none_among }
+  next_from before lines = record { nodes = nodes; before = before; lines = lines; among = fresh_among; others = none_among; other_inputs = no_input_among }
 
 -- ---- edits that enter lines
 

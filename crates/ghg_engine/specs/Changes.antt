@@ -15,12 +15,15 @@ use Rattle.ghg_definitions.specs.Data.{Data, Name, line, name_cmp, span}
 use Rattle.ghg_definitions.specs.Formulas.{Outcome}
 use Rattle.ghg_definitions.specs.Listed.{IsListed}
 use Rattle.ghg_definitions.specs.Rings.{IsAcyclic}
-use Rattle.ghg_definitions.specs.Trials.{IsCompilation, Outcomes, is_over, value_of}
+use Rattle.ghg_definitions.specs.Trials.{IsCompilation, IsInput, Outcomes, is_over, value_of}
 use Rattle.ghg_affected.specs.Subtotals.{subtotals}
+use Rattle.ghg_engine.specs.declared.changes.ChangedLines.{ChangedLines}
 use Rattle.ghg_engine.specs.declared.changes.Changes.{Changes}
-use Rattle.ghg_engine.specs.declared.groups.Groups.{Groups}
+use Rattle.ghg_engine.specs.declared.parts.Addends.{Addends}
+use Rattle.ghg_engine.specs.declared.parts.Part.TheVariants as part
 use Rattle.ghg_engine.specs.Evaluation.{AreKept}
-use Rattle.ghg_engine.specs.Grouping.{AreGroupsOf}
+use Rattle.ghg_engine.specs.Grouping.{AreGroupsOf, names_at}
+use Rattle.ghg_engine.specs.Parts.{counts_in, nodes_for}
 
 -- ---- what is gathered
 
@@ -92,17 +95,22 @@ pub record AreNamesOf (ns : List Node) (names : List Name) : Type 0 where
   pub order : IsStrictlySortedBy name_cmp names
   pub named : (name : Name) (year : ℕ) → Contains ns (node.Equiv name year) → IsListed name names
 
--- the groups are of such names
-pub record AreChangedLines (m : Data) (ns : List Node) (groups : Groups) : Type 0 where
-  pub names : List Name
-  pub named : AreNamesOf ns names
-  pub grouped : AreGroupsOf m names groups
+-- the names are such ones, and the groups are theirs
+pub record AreChangedLines (m : Data) (ns : List Node) (changed : ChangedLines) : Type 0 where
+  pub named : AreNamesOf ns changed.names.items
+  pub grouped : AreGroupsOf m changed.names.items changed.groups
+
+-- the equivalents of those of the changed lines that count in a total
+abbrev pub changed_for : Data → ChangedLines → Addends → ℕ → List Node
+changed_for m changed a year =
+    nodes_for part.Equivalent (names_at (counts_in a.top) m changed.names.items) year
 
 -- the fresh outcomes are of nodes in a list, at whose other nodes the old data have the outcomes; the list
--- has none of the subtotals without a fresh outcome
-pub record IsReadyFrom (old new : Data) (changed : Groups) (fresh : Outcomes) (n : Node) : Type 0 where
+-- has none of the inputs and of the subtotals without a fresh outcome
+pub record IsReadyFrom (old new : Data) (changed : ChangedLines) (fresh : Outcomes) (n : Node) : Type 0 where
   pub nodes : List Node
   pub before : IsBefore old new nodes
   pub lines : AreChangedLines new nodes changed
   pub among : (k : Node) → is_some (fresh k) ≡ true → (is_node new k ≡ true) × Contains nodes k
   pub others : (k : Node) → Contains (subtotals new n) k → fresh k ≡ None → Contains nodes k → ⊥
+  pub other_inputs : (k : Node) → IsInput (sheet_of new) k n → fresh k ≡ None → Contains nodes k → ⊥

@@ -5,16 +5,27 @@ ghost use Rattle.ghg_units.specs.declared.node.Node.TheVariants as node;
 ghost use Rattle.ghg_definitions.specs.Compilation.{compilation};
 ghost use Rattle.ghg_engine.specs.Cells.{cell_at};
 ghost use Rattle.ghg_engine.specs.Changes.{AreChanges, HasMoreChanges, input_at};
-ghost use Rattle.ghg_engine.specs.Parts.{addends_for};
+ghost use Rattle.ghg_engine.specs.declared.parts.Part.TheVariants as part;
+ghost use Rattle.ghg_engine.specs.Grouping.{names_at};
+ghost use Rattle.ghg_engine.specs.Parts.{addends_for, counts_in, nodes_for};
 
+use crate::groups::Groups;
 use crate::overlay::Overlay;
-use crate::parts::Addends;
+use crate::parts::{Addends, counts};
 use ghg_categories::Category;
 use ghg_cell::Input;
+use ghg_data::Records;
 use ghg_graph::Cells;
 use ghg_interval::Over;
 use ghg_units::{Name, Node};
 use std::alloc::{AllocError, Global};
+
+/// The lines of which an equivalent is evaluated anew, by name, and their groups.
+#[derive(Drop)]
+pub(crate) struct ChangedLines {
+    pub(crate) names: Vec<Name>,
+    pub(crate) groups: Groups,
+}
 
 /// What some parts of a total gave before, and what they give now. The lists are shared by all totals.
 #[derive(Drop)]
@@ -53,6 +64,47 @@ impl Changes {
             return Ok(false);
         }
         self.add_equivalents(cells, before, addends.own, year)
+    }
+
+    /// Gathers the same of the equivalents of those lines that count in the total of a category, or in the
+    /// gross total where none is given. Each line is looked up.
+    pub(crate) fn gather_counted<R: Records, C: Cells>(
+        &mut self,
+        records: &R,
+        cells: &Overlay<'_>,
+        before: &C,
+        names: &[Name],
+        top: Option<Category>,
+        year: u32,
+    ) -> Result<bool, AllocError>
+        ensures { IfOk result (λ whole. whole ≡ true → AreChanges (cell_at cells.now.fresh)
+            (compilation (C.content before.now)) (nodes_for part.Equivalent
+            (names_at (counts_in top) (R.content records.now) names.now) year) self.new) }
+    {
+        self.gone.clear();
+        self.come.clear();
+        self.add_counted(records, cells, before, names, top, year)
+    }
+
+    fn add_counted<R: Records, C: Cells>(
+        &mut self,
+        records: &R,
+        cells: &Overlay<'_>,
+        before: &C,
+        names: &[Name],
+        top: Option<Category>,
+        year: u32,
+    ) -> Result<bool, AllocError>
+        ensures { IfOk result (λ whole. whole ≡ true → HasMoreChanges (cell_at cells.now.fresh)
+            (compilation (C.content before.now)) (nodes_for part.Equivalent
+            (names_at (counts_in top) (R.content records.now) names.now) year) self.old self.new) }
+    {
+        for name in names {
+            if counts(records, top, name) && !self.add(cells, before, &Node::Equiv(*name, year))? {
+                return Ok(false);
+            }
+        }
+        Ok(true)
     }
 
     fn add_totals<C: Cells>(

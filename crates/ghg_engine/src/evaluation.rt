@@ -11,17 +11,18 @@ ghost use Rattle.ghg_affected.specs.Patches.{least_break};
 ghost use Rattle.ghg_graph.specs.NodeOrders.{AreInOrder};
 ghost use Rattle.ghg_engine.specs.Breaking.{least_with};
 ghost use Rattle.ghg_engine.specs.Cells.{cell_at};
-ghost use Rattle.ghg_engine.specs.Changes.{AreChangedLines, AreNamesOf, IsBefore, IsReadyFrom, IsResummed, equivalent_line};
-ghost use Rattle.ghg_engine.specs.Evaluation.{AreEvaluated, AreKept, IsEvaluatedAt, IsOutcomeOf, IsReady, IsTotalOf};
+ghost use Rattle.ghg_engine.specs.Changes.{AreChangedLines, AreNamesOf, IsBefore, IsReadyFrom, IsResummed, changed_for, equivalent_line};
+ghost use Rattle.ghg_definitions.specs.Trials.{value_of};
+ghost use Rattle.ghg_engine.specs.Evaluation.{AreEvaluated, AreKept, IsEvaluatedAt, IsEvaluatedSum, IsOutcomeOf, IsReady, IsTotalOf};
 ghost use Rattle.ghg_engine.specs.Known.{IsKnown, IsKnownLine};
 ghost use Rattle.ghg_engine.specs.Layouts.{IsLayout};
 ghost use Rattle.ghg_engine.specs.Overlays.{outcomes_of};
-ghost use Rattle.ghg_engine.specs.Parts.{addends_for};
+ghost use Rattle.ghg_engine.specs.Parts.{addends_for, all_for};
 ghost use Rattle.ghg_engine.specs.Proposals.{IfOverflow};
 
 use crate::arguments::Arguments;
 use crate::cells::Cells;
-use crate::changes::Changes;
+use crate::changes::{ChangedLines, Changes};
 use crate::evaluated::Evaluated;
 use crate::groups::Groups;
 use crate::known::{Known, KnownLine, Turn};
@@ -91,11 +92,11 @@ pub(crate) fn evaluate_all<R: Records, C: ghg_graph::Cells>(
     }
 }
 
-// The cells of the workbook before, and the lines of which an equivalent is evaluated anew, in groups.
+// The cells of the workbook before, and the lines of which an equivalent is evaluated anew.
 #[derive(Drop)]
 struct Before<'a, C> {
     cells: &'a C,
-    changed: Groups,
+    changed: ChangedLines,
 }
 
 fn with_lines<'a, R: Records, C: ghg_graph::Cells>(
@@ -113,7 +114,8 @@ fn with_lines<'a, R: Records, C: ghg_graph::Cells>(
         return Ok(None);
     };
     let names = equivalent_lines(alloc, nodes)?;
-    let changed = Groups::of(alloc, records, &names)?;
+    let groups = Groups::of(alloc, records, &names)?;
+    let changed = ChangedLines { names, groups };
     Ok(Some(Before { cells, changed }))
 }
 
@@ -231,7 +233,7 @@ fn evaluate<R: Records, C: ghg_graph::Cells>(
             let addends = layout.groups.total(*category);
             match before {
                 Some(from) => {
-                    let changed = from.changed.total(*category);
+                    let changed = from.changed.groups.total(*category);
                     sum_from(
                         &emitters, from, cells, node, &addends, &changed, *year, ticket, buffers,
                     )
@@ -250,7 +252,7 @@ fn evaluate<R: Records, C: ghg_graph::Cells>(
             let addends = layout.groups.gross();
             match before {
                 Some(from) => {
-                    let changed = from.changed.gross();
+                    let changed = from.changed.groups.gross();
                     sum_from(
                         &emitters, from, cells, node, &addends, &changed, *year, ticket, buffers,
                     )
@@ -294,21 +296,70 @@ fn sum_from<R: Records, C: ghg_graph::Cells>(
     requires before { IsResummed (outcomes_of cells.now) (cell_at cells.now.fresh)
         (compilation (C.content before.now.cells.now)) node.now
         (addends_for addends.now year) (addends_for changed.now year) }
+    requires lines { IsResummed (outcomes_of cells.now) (cell_at cells.now.fresh)
+        (compilation (C.content before.now.cells.now)) node.now
+        (all_for (R.content emitters.now.records.now) addends.now year)
+        (changed_for (R.content emitters.now.records.now) before.now.changed addends.now year) }
+    ensures { IfOk result (IsTotalOf (R.content emitters.now.records.now) (outcomes_of cells.now)
+        addends.now year) }
+{
+    let Some(value) = before.cells.value(node) else {
+        return sum(emitters, cells, addends, year, ticket, &mut buffers.parts);
+    };
+    let was = value.input();
+    let changes = &mut buffers.changes;
+    if changed.own.len() < addends.own.len()
+        && changes.gather(cells, before.cells, changed, year)?
+        && changes.gone.len() <= MOST_PARTS
+    {
+        let value = total_from(ticket, was, &changes.gone, &changes.come);
+        return Ok(Evaluated::of(value));
+    }
+    sum_changed(emitters, before, cells, was, addends, year, ticket, buffers)
+}
+
+// Evaluates a total in a year: the sum of what it adds, where none of that is over and it is no more than a
+// total may add; else what it was, and what has changed since in the equivalents of the lines that count in
+// it, where none of these is over; else the sum of the equivalents of all lines that count in it. `was` is what
+// it was.
+fn sum_changed<R: Records, C: ghg_graph::Cells>(
+    emitters: &Emitters<'_, R>,
+    before: &Before<'_, C>,
+    cells: &Overlay<'_>,
+    was: &Input,
+    addends: &Addends<'_>,
+    year: u32,
+    ticket: Ticket,
+    buffers: &mut Buffers,
+) -> Result<Evaluated, AllocError>
+    requires workbook { IsWorkbook (R.content emitters.now.records.now) }
+    requires emitters { emitters.now.names.now ≡ gas_lines (R.content emitters.now.records.now) }
+    requires lines { (n : Node) × (value_of (compilation (C.content before.now.cells.now) n) ≡ Some was.now)
+        × IsResummed (outcomes_of cells.now) (cell_at cells.now.fresh)
+        (compilation (C.content before.now.cells.now)) n
+        (all_for (R.content emitters.now.records.now) addends.now year)
+        (changed_for (R.content emitters.now.records.now) before.now.changed addends.now year) }
     ensures { IfOk result (IsTotalOf (R.content emitters.now.records.now) (outcomes_of cells.now)
         addends.now year) }
 {
     let Buffers { parts, changes, .. } = buffers;
-    if changed.own.len() >= addends.own.len() {
-        return sum(emitters, cells, addends, year, ticket, parts);
+    if gather_addends(cells, addends, year, parts)? && parts.len() <= MOST_PARTS {
+        return Ok(Evaluated::of(total(ticket, parts)));
     }
-    let Some(value) = before.cells.value(node) else {
-        return sum(emitters, cells, addends, year, ticket, parts);
-    };
-    if changes.gather(cells, before.cells, changed, year)? && changes.gone.len() <= MOST_PARTS {
-        let value = total_from(ticket, value.input(), &changes.gone, &changes.come);
+    let names = before.changed.names.as_slice();
+    if changes.gather_counted(
+        emitters.records,
+        cells,
+        before.cells,
+        names,
+        addends.top,
+        year,
+    )? && changes.gone.len() <= MOST_PARTS
+    {
+        let value = total_from(ticket, was, &changes.gone, &changes.come);
         return Ok(Evaluated::of(value));
     }
-    sum(emitters, cells, addends, year, ticket, parts)
+    sum_lines(emitters, cells, addends, year, ticket, parts)
 }
 
 // Evaluates a line's equation over what its parameters take. A line that is known at the place is not looked
@@ -403,6 +454,23 @@ fn sum<R: Records>(
     if gather_addends(cells, addends, year, parts)? && parts.len() <= MOST_PARTS {
         return Ok(Evaluated::of(total(ticket, parts)));
     }
+    sum_lines(emitters, cells, addends, year, ticket, parts)
+}
+
+// Evaluates a total in a year: the sum of the equivalents of all lines that count in it.
+fn sum_lines<R: Records>(
+    emitters: &Emitters<'_, R>,
+    cells: &Overlay<'_>,
+    addends: &Addends<'_>,
+    year: u32,
+    ticket: Ticket,
+    parts: &mut Vec<Input>,
+) -> Result<Evaluated, AllocError>
+    requires workbook { IsWorkbook (R.content emitters.now.records.now) }
+    requires emitters { emitters.now.names.now ≡ gas_lines (R.content emitters.now.records.now) }
+    ensures { IfOk result (IsEvaluatedSum (outcomes_of cells.now)
+        (all_for (R.content emitters.now.records.now) addends.now year)) }
+{
     if gather_counted(
         emitters.records,
         cells,

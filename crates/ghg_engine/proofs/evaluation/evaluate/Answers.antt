@@ -1,17 +1,19 @@
 use Rattle.std.proofs.Common.{◌∙◌, ◌++◌, List, IfOk, map, refl, sym, ap, ap₂, subst}
 use Rattle.ghg_categories.specs.declared.category.Category.{Category}
 use Rattle.ghg_units.specs.declared.node.Node.TheVariants as node
-use Rattle.ghg_definitions.specs.Compilation.{compilation, gas_lines_at, sum_formula}
+use Rattle.ghg_definitions.specs.Compilation.{compilation, counts_in_gross, gas_lines_at, sum_formula}
 use Rattle.ghg_definitions.specs.Data.{Name}
 use Rattle.ghg_engine.specs.Evaluation.{IsOutcomeOf, IsReady}
 use Rattle.ghg_engine.specs.Overlays.{outcomes_of}
 use Rattle.ghg_engine.proofs.Answered.{if_ok}
-use Rattle.ghg_categories.specs.Tree.{is_same}
+use Rattle.ghg_categories.specs.Tree.{is_same, stands_under}
 use Rattle.ghg_affected.specs.Subtotals.{children, gross_parts, is_above_parts}
 use Rattle.ghg_engine.specs.Cells.{cell_at}
-use Rattle.ghg_engine.specs.Changes.{IsReadyFrom, IsResummed}
-use Rattle.ghg_engine.specs.Parts.{addends_for, counts_in}
-use Rattle.ghg_engine.proofs.Before.{from_ready, grouped_candidates, of_some}
+use Rattle.ghg_engine.specs.Grouping.{names_at}
+use Rattle.ghg_engine.specs.declared.parts.Part.TheVariants.{Equivalent}
+use Rattle.ghg_engine.specs.Changes.{IsReadyFrom, IsResummed, changed_for}
+use Rattle.ghg_engine.specs.Parts.{addends_for, all_for, counts_in, nodes_for}
+use Rattle.ghg_engine.proofs.Before.{from_ready, grouped_candidates, lines_ready, of_some}
 use Rattle.ghg_engine.proofs.Ready.{of_formula, of_total}
 use Rattle.ghg_engine.proofs.evaluation.evaluate.Goals as goal
 
@@ -48,6 +50,23 @@ sum_from-requires-clause-before g c =
     c.total-addends.ensures.categories (c.total-addends.ensures.own ∙ c.requires.layout.groups.at c.in-Total.category))
     (grouped_candidates old m c.requires.workbook c.requires.acyclic c.in-Some.from.changed fresh found n ready ready_from (children c.in-Total.category) _ (λ k. is_same k c.in-Total.category) _ year
     c.total-changed.ensures.categories (c.total-changed.ensures.own ∙ ready_from.lines.grouped.at c.in-Total.category)))
+
+pub sum_from-requires-clause-lines : goal.sum_from-requires-clause-lines
+sum_from-requires-clause-lines g c =
+    let m = g.R.Records.content c.args.records.now in
+    let fresh = cell_at c.args.cells.now.fresh in
+    let found = outcomes_of c.args.cells.now in
+    let year = c.in-Total.year in
+    let n = node.Total c.in-Total.category year in
+    let from = of_some _ c.args.before.now c.in-Some.from c.in-Some.is c.requires.before in
+    let old = g.C.Cells.content c.in-Some.from.cells.now in
+    let changed = c.in-Some.from.changed in
+    let ready = subst (IsReady m found) c.in-Total.is c.requires.ready in
+    let ready_from = subst (IsReadyFrom old m changed fresh) c.in-Total.is from in
+    subst (λ k. IsResummed found fresh (compilation old) k (all_for m c.total-addends.result year) (changed_for m changed c.total-addends.result year)) (sym c.in-Total.is)
+    (subst (λ top. IsResummed found fresh (compilation old) n (nodes_for Equivalent (gas_lines_at (counts_in top) m) year)
+    (nodes_for Equivalent (names_at (counts_in top) m changed.names.items) year)) (sym c.total-addends.ensures.top)
+    (lines_ready old m c.requires.workbook c.requires.acyclic changed fresh found n ready ready_from (λ k. stands_under k c.in-Total.category) year refl refl))
 
 pub returns-in-Some : goal.returns-in-Some
 returns-in-Some g c =
@@ -90,6 +109,23 @@ sum_from-requires-in-Some-before-clause-before g c =
     c.gross-addends.ensures.categories (c.gross-addends.ensures.own ∙ c.requires.layout.groups.above))
     (grouped_candidates old m c.requires.workbook c.requires.acyclic c.in-Some-before.from.changed fresh found n ready ready_from gross_parts _ is_above_parts _ year
     c.gross-changed.ensures.categories (c.gross-changed.ensures.own ∙ ready_from.lines.grouped.above)))
+
+pub sum_from-requires-in-Some-before-clause-lines : goal.sum_from-requires-in-Some-before-clause-lines
+sum_from-requires-in-Some-before-clause-lines g c =
+    let m = g.R.Records.content c.args.records.now in
+    let fresh = cell_at c.args.cells.now.fresh in
+    let found = outcomes_of c.args.cells.now in
+    let year = c.in-Gross.year in
+    let n = node.Gross year in
+    let from = of_some _ c.args.before.now c.in-Some-before.from c.in-Some-before.is c.requires.before in
+    let old = g.C.Cells.content c.in-Some-before.from.cells.now in
+    let changed = c.in-Some-before.from.changed in
+    let ready = subst (IsReady m found) c.in-Gross.is c.requires.ready in
+    let ready_from = subst (IsReadyFrom old m changed fresh) c.in-Gross.is from in
+    subst (λ k. IsResummed found fresh (compilation old) k (all_for m c.gross-addends.result year) (changed_for m changed c.gross-addends.result year)) (sym c.in-Gross.is)
+    (subst (λ top. IsResummed found fresh (compilation old) n (nodes_for Equivalent (gas_lines_at (counts_in top) m) year)
+    (nodes_for Equivalent (names_at (counts_in top) m changed.names.items) year)) (sym c.gross-addends.ensures.top)
+    (lines_ready old m c.requires.workbook c.requires.acyclic changed fresh found n ready ready_from counts_in_gross year refl refl))
 
 pub returns-in-Some-before : goal.returns-in-Some-before
 returns-in-Some-before g c =

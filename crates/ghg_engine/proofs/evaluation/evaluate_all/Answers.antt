@@ -48,7 +48,7 @@ evaluate-requires-clause-before g c =
     let n = c.node-item.result in
     let found = outcomes_of c.loop-node.cells in
     let fresh = cell_at c.loop-node.cells.fresh in
-    if_some _ c.loop-node.invariant.3 (λ (b : Before _) h. next_from (g.C.Cells.content b.cells.now) m c.requires.acyclic b.changed (take i nodes) n (drop (i + 1) nodes) nodes
+    if_some _ c.loop-node.invariant.3 (λ (b : Before _) h. next_from (g.C.Cells.content b.cells.now) m c.requires.workbook c.requires.acyclic b.changed (take i nodes) n (drop (i + 1) nodes) nodes
     (around nodes i n c.loop-node-test.true c.node-item.is) found fresh c.loop-node.least
     (at_next m nodes i n c.loop-node-test.true c.node-item.is found fresh c.loop-node.least c.loop-node.invariant.0) h.0 h.1)
 

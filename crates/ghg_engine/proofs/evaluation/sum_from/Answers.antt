@@ -12,8 +12,15 @@ returns-then-len-le-MOST_PARTS g c =
     let year = c.args.year in
     inl (resummed (cell_at c.args.cells.now.fresh) (cell_at c.args.cells.now.kept.now) (compilation (g.C.Cells.content c.args.before.now.cells.now)) c.args.node.now
     (addends_for c.args.addends.now year) (addends_for c.args.changed.now year) c.requires.before c.gather.new.self (c.in_ok-gather.ensures c.if-branch.true)
-    c.input.result.now (sym c.value.ensures.value ∙ ap option_copied c.in-Some.is ∙ ap Some (sym c.input.ensures))
+    c.input-was.result.now (sym c.value.ensures.value ∙ ap option_copied c.in-Some.is ∙ ap Some (sym c.input-was.ensures))
     c.of.result c.total_from-value.result
     (λ rest within is. c.total_from-value.ensures rest within (ap (λ ls. summed (ls ++ rest)) c.deref.ensures.value ∙ is)
     ∙ ap (λ ls. summed (ls ++ rest)) c.deref-then-len-le-MOST_PARTS.ensures.value)
     c.of.ensures.outcome c.of.ensures.breaks)
+
+pub sum_changed-requires-clause-lines : goal.sum_changed-requires-clause-lines
+sum_changed-requires-clause-lines g c = (
+  c.args.node.now,
+  sym c.value.ensures.value ∙ ap option_copied c.in-Some.is ∙ ap Some (sym c.input-was.ensures),
+  c.requires.lines,
+)
