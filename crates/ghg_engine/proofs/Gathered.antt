@@ -212,6 +212,15 @@ module _ (cells : Outcomes) where
       and_true true e = e
       and_true false e = refl
 
+  -- one is over, and so is the sum, which does not break
+  pub sum_with_over : (ns : List Node) (e : Evaluated) → list_any (λ k. is_over (cells k)) ns ≡ true → e.outcome ≡ Err (record {}) → e.breaks ≡ false → IsEvaluatedSum cells ns e
+  sum_with_over ns e over outcome breaks =
+      sum_passed_on ns [] e (record { gathered = err_of (gather (map (outcome_in cells) ns)) (gather_over ns ∙ over); count = λ t. absurd (false_not_true t) }) outcome breaks
+    where
+      err_of : (r : Result (List Input) Over) → is_err r ≡ true → r ≡ Err (record {})
+      err_of (Ok xs) t = absurd (false_not_true t)
+      err_of (Err o) t = refl
+
   -- so the sum of what fits
   pub fitting_sum : (ns : List Node) (parts : List Input) (e : Evaluated) → AreParts cells ns parts true → e.outcome ≡ summed parts → e.breaks ≡ is_over (Some (summed parts)) → IsFittingSum cells ns e
   fitting_sum ns parts e held outcome breaks = record {

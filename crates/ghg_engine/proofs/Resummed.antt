@@ -1,6 +1,6 @@
 -- A total from what it was, and what changed.
 use Rattle.std.proofs.Common.{◌≡◌, inl, inr, Bool, true, false, not, cond, is_some, List, [], ◌∷◌, ◌++◌, map, filter, Option, Some, None, Ok, Err, refl, sym, ap, ap₂, ◌∙◌, subst}
-use Rattle.std.specs.List.{AllByRecursion, filter_map}
+use Rattle.std.specs.List.{AllByRecursion, filter_map, list_any}
 use Rattle.std.specs.Option.{option_or}
 use Rattle.std.proofs.lemmas.List.{length-map}
 use Rattle.std.proofs.lemmas.List.Elements.{filter_map-append}
@@ -15,15 +15,15 @@ use Rattle.ghg_units.specs.declared.node.Node.{Node}
 use Rattle.ghg_definitions.specs.Formulas.{Outcome, gather}
 use Rattle.ghg_definitions.specs.Listed.{IsListed}
 use Rattle.ghg_definitions.specs.Trials.{Outcomes, is_over, or_blank, value_of}
-use Rattle.ghg_definitions.proofs.Listed.{contained, from_filter, listed_any, listed_filter, map_agree}
+use Rattle.ghg_definitions.proofs.Listed.{contained, from_any, from_filter, listed_any, listed_filter, map_agree}
 use Rattle.ghg_affected.proofs.Bools.{never_so, true_not_false}
 use Rattle.ghg_affected.proofs.Children.{changed_places, plus, plus_zero, sum_append, zero_plus}
 use Rattle.ghg_engine.specs.declared.changes.Changes.{Changes}
 use Rattle.ghg_engine.specs.declared.evaluated.Evaluated.{Evaluated}
 use Rattle.ghg_engine.specs.Cells.{found_in, outcome_in}
 use Rattle.ghg_engine.specs.Changes.{AreChanges, IsResummed, Stays, has_outcome, input_at, or_nothing}
-use Rattle.ghg_engine.specs.Evaluation.{IsFittingSum}
-use Rattle.ghg_engine.proofs.Gathered.{fitting_sum}
+use Rattle.ghg_engine.specs.Evaluation.{IsEvaluatedSum, IsFittingSum}
+use Rattle.ghg_engine.proofs.Gathered.{fitting_sum, sum_with_over}
 
 -- ---- sums of what is known
 
@@ -152,3 +152,20 @@ module _ (fresh kept before : Outcomes) (n : Node) (ns candidates : List Node) (
       fitting_sum (found_in fresh kept) ns (map (input_at (found_in fresh kept)) ns) e
       (record { gathered = gathered_inputs (found_in fresh kept) ns fits; count = λ t. length-map ns (input_at (found_in fresh kept)) })
       (same ∙ now) (breaks ∙ ap (λ x. is_over (Some x)) now)
+
+-- one of the candidates is over in the fresh outcomes, so the sum is
+pub resummed_over : (fresh kept before : Outcomes) (n : Node) (ns candidates : List Node) → IsResummed (found_in fresh kept) fresh before n ns candidates
+    → list_any (λ k. is_over (fresh k)) candidates ≡ true → (e : Evaluated) → e.outcome ≡ Err (record {}) → e.breaks ≡ false → IsEvaluatedSum (found_in fresh kept) ns e
+resummed_over fresh kept before n ns candidates from over e outcome breaks =
+    sum_with_over (found_in fresh kept) ns e (by (from_any (λ k. is_over (fresh k)) candidates over)) outcome breaks
+  where
+    some_over : (o : Option Outcome) → is_over o ≡ true → is_some o ≡ true
+    some_over None t = absurd (true_not_false (sym t))
+    some_over (Some x) t = refl
+
+    by : (k : Node) × IsListed k candidates × (is_over (fresh k) ≡ true) → list_any (λ k. is_over (found_in fresh kept k)) ns ≡ true
+    by h =
+        let k = h.0 in
+        let some = some_over (fresh k) h.2 in
+        let among = (from_filter (has_outcome fresh) k ns (subst (IsListed k) from.changed (listed_filter (has_outcome fresh) k candidates h.1 some))).0 in
+        listed_any (λ j. is_over (found_in fresh kept j)) k ns among (sym (ap is_over (has_first (fresh k) (kept k) some)) ∙ h.2)

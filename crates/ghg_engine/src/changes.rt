@@ -1,8 +1,10 @@
 //! What changes in a total.
 
-ghost use Rattle.std.specs.Prelude.{◌≡◌, ◌∷◌, [], true, IfOk, map};
+ghost use Rattle.std.specs.Prelude.{◌≡◌, ◌∷◌, [], true, false, IfOk, map};
+ghost use Rattle.std.specs.List.{list_any};
 ghost use Rattle.ghg_units.specs.declared.node.Node.TheVariants as node;
 ghost use Rattle.ghg_definitions.specs.Compilation.{compilation};
+ghost use Rattle.ghg_definitions.specs.Trials.{is_over};
 ghost use Rattle.ghg_engine.specs.Cells.{cell_at};
 ghost use Rattle.ghg_engine.specs.Changes.{AreChanges, HasMoreChanges, input_at};
 ghost use Rattle.ghg_engine.specs.declared.parts.Part.TheVariants as part;
@@ -67,7 +69,7 @@ impl Changes {
     }
 
     /// Gathers the same of the equivalents of those lines that count in the total of a category, or in the
-    /// gross total where none is given. Each line is looked up.
+    /// gross total where none is given. Each line is looked up. Answers whether none of them is over.
     pub(crate) fn gather_counted<R: Records, C: Cells>(
         &mut self,
         records: &R,
@@ -77,9 +79,12 @@ impl Changes {
         top: Option<Category>,
         year: u32,
     ) -> Result<bool, AllocError>
-        ensures { IfOk result (λ whole. whole ≡ true → AreChanges (cell_at cells.now.fresh)
+        ensures changes { IfOk result (λ whole. whole ≡ true → AreChanges (cell_at cells.now.fresh)
             (compilation (C.content before.now)) (nodes_for part.Equivalent
             (names_at (counts_in top) (R.content records.now) names.now) year) self.new) }
+        ensures over { IfOk result (λ whole. whole ≡ false → list_any
+            (λ n. is_over (cell_at cells.now.fresh n)) (nodes_for part.Equivalent
+            (names_at (counts_in top) (R.content records.now) names.now) year) ≡ true) }
     {
         self.gone.clear();
         self.come.clear();
@@ -95,9 +100,12 @@ impl Changes {
         top: Option<Category>,
         year: u32,
     ) -> Result<bool, AllocError>
-        ensures { IfOk result (λ whole. whole ≡ true → HasMoreChanges (cell_at cells.now.fresh)
+        ensures changes { IfOk result (λ whole. whole ≡ true → HasMoreChanges (cell_at cells.now.fresh)
             (compilation (C.content before.now)) (nodes_for part.Equivalent
             (names_at (counts_in top) (R.content records.now) names.now) year) self.old self.new) }
+        ensures over { IfOk result (λ whole. whole ≡ false → list_any
+            (λ n. is_over (cell_at cells.now.fresh n)) (nodes_for part.Equivalent
+            (names_at (counts_in top) (R.content records.now) names.now) year) ≡ true) }
     {
         for name in names {
             if counts(records, top, name) && !self.add(cells, before, &Node::Equiv(*name, year))? {
@@ -153,8 +161,9 @@ impl Changes {
         before: &C,
         node: &Node,
     ) -> Result<bool, AllocError>
-        ensures { IfOk result (λ whole. whole ≡ true → HasMoreChanges (cell_at cells.now.fresh)
+        ensures changes { IfOk result (λ whole. whole ≡ true → HasMoreChanges (cell_at cells.now.fresh)
             (compilation (C.content before.now)) (node.now ∷ []) self.old self.new) }
+        ensures over { IfOk result (λ whole. whole ≡ false → is_over (cell_at cells.now.fresh node.now) ≡ true) }
     {
         match cells.fresh_outcome(node) {
             None => Ok(true),

@@ -320,8 +320,7 @@ fn sum_from<R: Records, C: ghg_graph::Cells>(
 
 // Evaluates a total in a year: the sum of what it adds, where none of that is over and it is no more than a
 // total may add; else what it was, and what has changed since in the equivalents of the lines that count in
-// it, where none of these is over; else the sum of the equivalents of all lines that count in it. `was` is what
-// it was.
+// it, or over where one of these is, or where they are more, the sum of all such lines. `was` is what it was.
 fn sum_changed<R: Records, C: ghg_graph::Cells>(
     emitters: &Emitters<'_, R>,
     before: &Before<'_, C>,
@@ -347,15 +346,17 @@ fn sum_changed<R: Records, C: ghg_graph::Cells>(
         return Ok(Evaluated::of(total(ticket, parts)));
     }
     let names = before.changed.names.as_slice();
-    if changes.gather_counted(
+    if !changes.gather_counted(
         emitters.records,
         cells,
         before.cells,
         names,
         addends.top,
         year,
-    )? && changes.gone.len() <= MOST_PARTS
-    {
+    )? {
+        return Ok(Evaluated::passed_on());
+    }
+    if changes.gone.len() <= MOST_PARTS {
         let value = total_from(ticket, was, &changes.gone, &changes.come);
         return Ok(Evaluated::of(value));
     }

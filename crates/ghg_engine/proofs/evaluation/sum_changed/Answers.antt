@@ -1,4 +1,5 @@
-use Rattle.std.proofs.Common.{◌∙◌, ◌++◌, inl, inr, Some, ap, subst}
+use Rattle.std.proofs.Common.{◌≡◌, ◌∙◌, ◌++◌, true, inl, inr, Some, ap, subst}
+use Rattle.std.specs.List.{list_any}
 use Rattle.ghg_cell.specs.Totals.{summed}
 use Rattle.ghg_definitions.specs.Compilation.{compilation}
 use Rattle.ghg_definitions.specs.Trials.{is_over}
@@ -9,7 +10,7 @@ use Rattle.ghg_engine.specs.Overlays.{outcomes_of}
 use Rattle.ghg_engine.specs.Parts.{AreParts, addends_for, all_for, counts_in, nodes_for}
 use Rattle.ghg_engine.specs.declared.parts.Part.TheVariants.{Equivalent}
 use Rattle.ghg_engine.proofs.Gathered.{fitting_sum}
-use Rattle.ghg_engine.proofs.Resummed.{resummed}
+use Rattle.ghg_engine.proofs.Resummed.{resummed, resummed_over}
 use Rattle.ghg_engine.proofs.evaluation.sum_changed.Goals as goal
 
 pub returns-then-len-le-MOST_PARTS : goal.returns-then-len-le-MOST_PARTS
@@ -30,7 +31,7 @@ returns-then-len-le-MOST_PARTS-2 g c =
     let year = c.args.year in
     let changes = c.gather_counted.new.self in
     let are = subst (λ names. AreChanges fresh before (nodes_for Equivalent (names_at (counts_in a.top) m names) year) changes)
-    c.as_slice-names.ensures.value (c.in_ok-gather_counted.ensures c.if-branch-2.true) in
+    c.as_slice-names.ensures.value (c.in_ok-gather_counted.ensures.changes c.if-not-branch.false) in
     let lines = c.requires.lines in
     let fitting = resummed fresh (cell_at c.args.cells.now.kept.now) before lines.0 (all_for m a year) (changed_for m c.args.before.now.changed a year) lines.2
     changes are c.args.was.now lines.1 c.of-then-len-le-MOST_PARTS-2.result c.total_from-value.result
@@ -38,3 +39,15 @@ returns-then-len-le-MOST_PARTS-2 g c =
     ∙ ap (λ ls. summed (ls ++ rest)) c.deref-then-len-le-MOST_PARTS-2-2.ensures.value)
     c.of-then-len-le-MOST_PARTS-2.ensures.outcome c.of-then-len-le-MOST_PARTS-2.ensures.breaks in
     inr fitting.sum
+
+pub returns-then-not-branch : goal.returns-then-not-branch
+returns-then-not-branch g c =
+    let m = g.R.Records.content c.args.emitters.now.records.now in
+    let fresh = cell_at c.args.cells.now.fresh in
+    let a = c.args.addends.now in
+    let year = c.args.year in
+    let over = subst (λ names. list_any (λ n. is_over (fresh n)) (nodes_for Equivalent (names_at (counts_in a.top) m names) year) ≡ true)
+    c.as_slice-names.ensures.value (c.in_ok-gather_counted.ensures.over c.if-not-branch.true) in
+    let lines = c.requires.lines in
+    inr (resummed_over fresh (cell_at c.args.cells.now.kept.now) (compilation (g.C.Cells.content c.args.before.now.cells.now)) lines.0 (all_for m a year) (changed_for m c.args.before.now.changed a year) lines.2
+    over c.passed_on.result c.passed_on.ensures.outcome c.passed_on.ensures.breaks)

@@ -13,7 +13,7 @@ loop-name-init g c = nothing_more (cell_at c.args.cells.now.fresh) (compilation 
 pub loop-name-preserved : goal.loop-name-preserved
 loop-name-preserved g c = next_change (cell_at c.args.cells.now.fresh) (compilation (g.C.Cells.content c.args.before.now)) (λ name. Equiv name c.args.year)
     c.args.names.now c.loop-name.name-index _ c.loop-name-test.true c.name-item.is c.args.self.now c.loop-name.self c.add.new.self
-    c.loop-name.invariant (c.in_ok-add.ensures c.if-not-branch.false)
+    c.loop-name.invariant (c.in_ok-add.ensures.changes c.if-not-branch.false)
 
 pub returns : goal.returns
 returns g c = λ e. subst (λ ns. HasMoreChanges (cell_at c.args.cells.now.fresh) (compilation (g.C.Cells.content c.args.before.now)) (map (λ name. Equiv name c.args.year) ns) c.args.self.now c.loop-name.self)

@@ -13,7 +13,7 @@ loop-category-init g c = nothing_more (cell_at c.args.cells.now.fresh) (compilat
 pub loop-category-preserved : goal.loop-category-preserved
 loop-category-preserved g c = next_found (cell_at c.args.cells.now.fresh) (compilation (g.C.Cells.content c.args.before.now)) (λ d. Total d c.args.year)
     c.args.categories.now c.loop-category.category-index _ c.loop-category-test.true c.args.self.now c.loop-category.self c.add.new.self
-    c.loop-category.invariant (c.in_ok-add.ensures c.if-not-branch.false)
+    c.loop-category.invariant (c.in_ok-add.ensures.changes c.if-not-branch.false)
 
 pub returns : goal.returns
 returns g c = λ e. subst (λ ns. HasMoreChanges (cell_at c.args.cells.now.fresh) (compilation (g.C.Cells.content c.args.before.now)) (map (λ d. Total d c.args.year) ns) c.args.self.now c.loop-category.self)
