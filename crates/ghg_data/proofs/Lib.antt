@@ -16,5 +16,6 @@ pub mod NamedLines
 pub mod Settled
 pub mod YearBits
 pub mod Dates
+pub mod Places
 pub mod Calendars
 pub mod Changed

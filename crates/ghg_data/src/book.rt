@@ -10,7 +10,7 @@ ghost use Rattle.ghg_data.specs.Refusal.{IsPlanOf};
 ghost use Rattle.ghg_data.specs.Changes.{AreOfRows, applied};
 ghost use Rattle.ghg_data.specs.Shelf.{IsPlanned};
 
-use crate::draft::span_in;
+use crate::draft::{Draft, span_in};
 use crate::edits::Edits;
 use crate::holdings::Holdings;
 use crate::plan::planned_edits;
@@ -121,7 +121,8 @@ impl Book {
         ensures ready { IfOk result (IsPlanned self.new) }
     {
         let edits = planned_edits(alloc, &self.holdings, rows, rest, kept_bytes)?;
-        self.holdings.reserve(edits.len())?;
+        let span = Draft::of(&self.holdings, &edits).span();
+        self.holdings.reserve(&edits, span)?;
         Ok(edits)
     }
 

@@ -128,8 +128,9 @@ impl Edits {
         self.changes.reserve(1)?;
         self.put.reserve(1)?;
         self.taken.reserve(1)?;
-        self.put.note(&key, change.is_some());
-        self.taken.note(&key, change.is_none());
+        // These calendars have no slots, so any place serves.
+        self.put.note(&key, change.is_some().then_some(0));
+        self.taken.note(&key, change.is_none().then_some(0));
         drop(self.changes.insert(key, change).unwrap());
         Ok(())
     }
@@ -140,6 +141,11 @@ impl Edits {
             (find key_cmp (dated series.now y) self.now) }
     {
         self.put.years(series)
+    }
+
+    /// The series of which a record is set, each once.
+    pub(crate) fn series_put(&self) -> &[Series] {
+        self.put.series()
     }
 
     /// The years of a series for which the record is removed.

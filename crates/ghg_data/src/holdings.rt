@@ -1,12 +1,12 @@
 //! Records by their keys.
 
-ghost use Rattle.std.specs.Prelude.{◌≡◌, ℕ, ◌+◌, ◌^◌, ◌≤◌, ◌<◌, ◌&&◌, OnOk, is_some, option_copied, length};
+ghost use Rattle.std.specs.Prelude.{◌≡◌, ℕ, ◌+◌, ◌^◌, ◌≤◌, ◌<◌, ◌&&◌, true, false, OnOk, Some, None, is_some, option_copied, length};
 ghost use Rattle.std.specs.FinMap as finite;
 ghost use Rattle.std.specs.FinMap.{from_entries};
 ghost use Rattle.indexmap.specs.IndexMap.{spare};
 ghost use Rattle.ghg_definitions.specs.Data.{key_cmp, line_names};
 ghost use Rattle.ghg_definitions.specs.Rows.{with_record};
-ghost use Rattle.ghg_data.specs.Calendar.{IsCalendarOf};
+ghost use Rattle.ghg_data.specs.Calendar.{ArePlacesOf, HasSameDates, IsCalendarOf, IsNoted};
 ghost use Rattle.ghg_data.specs.Series.{dated};
 ghost use Rattle.ghg_data.specs.Changes.{applied};
 ghost use Rattle.ghg_roots.specs.Decay.{decay_bounds};
@@ -16,19 +16,21 @@ ghost use Rattle.ghg_data.specs.YearSet.{has_year};
 
 use crate::brackets::Brackets;
 use crate::calendar::Calendar;
+use crate::column::Window;
+use crate::draft::span_in;
 use crate::edits::Edits;
 use crate::names::change_names;
 use crate::series::Series;
 use crate::year_set::YearSet;
 use ghg_definitions::{Record, RecordKey};
 use ghg_interval::Interval;
-use ghg_units::Name;
+use ghg_units::{Name, Span};
 use indexmap::IndexMap;
 use std::alloc::{AllocError, Global};
 use std::marker::Model;
 
-/// Records by their keys with the names of the lines in order, the years of each activity and factor and the
-/// brackets of half-lives, and room for more.
+/// Records by their keys with the names of the lines in order, the years and places of the records of each
+/// activity and factor and the brackets of half-lives, and room for more.
 #[derive(Drop)]
 pub(crate) struct Holdings {
     records: IndexMap<RecordKey, Record>,
@@ -43,7 +45,7 @@ impl Model for Holdings {
     ghost use Rattle.std.specs.Coded.{codes};
     ghost use Rattle.indexmap.specs.IndexMap.{spare};
     ghost use Rattle.ghg_definitions.specs.Data.{key_cmp, line_names};
-    ghost use Rattle.ghg_data.specs.Calendar.{IsCalendarOf};
+    ghost use Rattle.ghg_data.specs.Calendar.{ArePlacesOf, IsCalendarOf};
     ghost use Rattle.ghg_data.specs.Shelf.{Shelf, shelf_code};
 
     ghost Value = { Shelf };
@@ -53,11 +55,12 @@ impl Model for Holdings {
     ghost view = { λ h. record {
       content = from_entries h.records.entries;
       spare = min (spare h.records)
-          (min (vec_capacity h.lines - vec_len h.lines) (spare h.calendar.years));
+          (min (vec_capacity h.lines - vec_len h.lines) (spare h.calendar.columns));
     } };
 
     ghost invariant = { λ h. (h.lines.items ≡ line_names (from_entries h.records.entries)) × IsCalendarOf
-        (λ k. is_some (get {R = key_cmp} (from_entries h.records.entries) k)) h.calendar };
+        (λ k. is_some (get {R = key_cmp} (from_entries h.records.entries) k)) h.calendar ×
+        ArePlacesOf h.records.entries h.calendar };
 }
 
 impl Holdings {
@@ -81,7 +84,10 @@ impl Holdings {
         if self.records.is_empty() {
             return None;
         }
-        self.records.get(key)
+        match self.calendar.place(key) {
+            Some(place) => Some(self.records.get_index(place)?.1),
+            None => self.records.get(key),
+        }
     }
 
     /// How many records there are.
@@ -115,15 +121,19 @@ impl Holdings {
         self.brackets.get(half_life)
     }
 
-    /// Makes room for so many more changes.
-    pub(crate) fn reserve(&mut self, additional: usize) -> Result<(), AllocError>
+    /// Makes room for changes, after which the inventory has the years of a span. If there are no slots for
+    /// these, all slots are made anew.
+    pub(crate) fn reserve(&mut self, edits: &Edits, span: Option<Span>) -> Result<(), AllocError>
         ensures content { self.new.content ≡ self.old.content }
-        ensures room { OnOk result (additional ≤ self.new.spare) }
+        ensures room { OnOk result (length edits.now ≤ self.new.spare) }
     {
+        let before = Window::of(span_in(self.get(&RecordKey::Span)));
+        let additional = edits.len();
         self.records.reserve(additional)?;
         self.lines.reserve(additional)?;
         self.calendar.reserve(additional)?;
-        Ok(())
+        let after = Window::of(span);
+        reserve_slots(&self.records, &mut self.calendar, edits, before, after)
     }
 
     /// Makes the changes. It takes no memory.
@@ -136,40 +146,122 @@ impl Holdings {
     }
 }
 
-// Makes the changes of records, and notes their years. It takes no memory.
+// Makes room for the slots of new columns. If there are no slots for the years of the inventory after the
+// edits, all slots are made anew, for its years before and after.
+fn reserve_slots(
+    records: &IndexMap<RecordKey, Record>,
+    calendar: &mut Calendar,
+    edits: &Edits,
+    before: Window,
+    after: Window,
+) -> Result<(), AllocError>
+    requires { ArePlacesOf records.now.entries calendar.old }
+    ensures dates { HasSameDates calendar.old calendar.new }
+    ensures places { ArePlacesOf records.now.entries calendar.new }
+    ensures room { spare calendar.old.columns ≤ spare calendar.new.columns }
+{
+    if !calendar.window().covers(&after) {
+        make_slots(records, calendar, before.joined(&after))?;
+    }
+    calendar.reserve_slots(count_new(calendar, edits))
+}
+
+// How many activities and factors are given records while they have none, or may have none left on the way.
+fn count_new(calendar: &Calendar, edits: &Edits) -> usize {
+    edits
+        .series_put()
+        .iter()
+        .filter(|series| {
+            let taken = edits.years_taken(series);
+            let left = calendar.years(series).changed(&YearSet::empty(), &taken);
+            left.is_empty()
+        })
+        .count()
+}
+
+// Gives columns slots for the years of a window, with the places of the records.
+fn make_slots(
+    records: &IndexMap<RecordKey, Record>,
+    calendar: &mut Calendar,
+    window: Window,
+) -> Result<(), AllocError>
+    requires { ArePlacesOf records.now.entries calendar.old }
+    ensures dates { HasSameDates calendar.old calendar.new }
+    ensures places { ArePlacesOf records.now.entries calendar.new }
+    ensures room { spare calendar.old.columns ≤ spare calendar.new.columns }
+{
+    calendar.set_window(window)?;
+    for place in 0..records.len() {
+        if let Some((key, _)) = records.get_index(place) {
+            calendar.set_place(key, place);
+        }
+    }
+    Ok(())
+}
+
+// Makes the changes of records, and notes their years and places. It takes no memory.
 fn change_records(
     records: &mut IndexMap<RecordKey, Record>,
     calendar: &mut Calendar,
     mut changes: IndexMap<RecordKey, Option<Record>>,
 )
     requires room { length changes.entries ≤ spare records.old }
-    requires years_room { length changes.entries ≤ spare calendar.old.years }
+    requires years_room { length changes.entries ≤ spare calendar.old.columns }
     requires years { IsCalendarOf (λ k. is_some
         (finite.get {R = key_cmp} (from_entries records.old.entries) k)) calendar.old }
+    requires places { ArePlacesOf records.old.entries calendar.old }
     ensures content { from_entries records.new.entries ≡ applied
         (from_entries records.old.entries) changes.entries }
     ensures years { IsCalendarOf (λ k. is_some
         (finite.get {R = key_cmp} (from_entries records.new.entries) k)) calendar.new }
+    ensures places { ArePlacesOf records.new.entries calendar.new }
 {
     while let Some((key, change)) = changes.pop() {
-        calendar.note(&key, change.is_some());
-        drop(change_record(records, key, change));
+        match change {
+            Some(entry) => put_record(records, calendar, key, entry),
+            None => take_record(records, calendar, &key),
+        }
     }
 }
 
-// Gives the key this record or none, and gives back what it had.
-fn change_record(
+// Gives a key a record.
+fn put_record(
     records: &mut IndexMap<RecordKey, Record>,
+    calendar: &mut Calendar,
     key: RecordKey,
-    change: Option<Record>,
-) -> Option<Record>
-    requires { 0 < spare records.old }
+    entry: Record,
+)
+    requires room { 0 < spare records.old }
+    requires years_room { 0 < spare calendar.old.columns }
+    requires places { ArePlacesOf records.old.entries calendar.old }
     ensures content { from_entries records.new.entries ≡ with_record
-        (from_entries records.old.entries) key change }
+        (from_entries records.old.entries) key (Some entry) }
+    ensures dates { IsNoted calendar.old calendar.new key true }
+    ensures places { ArePlacesOf records.new.entries calendar.new }
     ensures room { spare records.old ≤ spare records.new + 1 }
+    ensures years_room { spare calendar.old.columns ≤ spare calendar.new.columns + 1 }
 {
-    match change {
-        Some(entry) => records.insert(key, entry).unwrap(),
-        None => records.swap_remove(&key),
+    let (place, before) = records.insert_full(key, entry).unwrap();
+    drop(before);
+    calendar.note(&key, Some(place));
+}
+
+// Takes the record of a key. The last one comes to stand in its place.
+fn take_record(records: &mut IndexMap<RecordKey, Record>, calendar: &mut Calendar, key: &RecordKey)
+    requires years_room { 0 < spare calendar.old.columns }
+    requires places { ArePlacesOf records.old.entries calendar.old }
+    ensures content { from_entries records.new.entries ≡ with_record
+        (from_entries records.old.entries) key.now None }
+    ensures dates { IsNoted calendar.old calendar.new key.now false }
+    ensures places { ArePlacesOf records.new.entries calendar.new }
+    ensures room { spare records.old ≤ spare records.new + 1 }
+    ensures years_room { spare calendar.old.columns ≤ spare calendar.new.columns + 1 }
+{
+    calendar.note(key, None);
+    let Some((place, _, _)) = records.swap_remove_full(key) else {
+        return;
+    };
+    if let Some((moved, _)) = records.get_index(place) {
+        calendar.set_place(moved, place);
     }
 }

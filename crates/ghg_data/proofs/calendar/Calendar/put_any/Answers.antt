@@ -1,53 +1,99 @@
-use Rattle.std.proofs.Common.{◌≡◌, ℕ, true, true≢false, cond, ◌&&◌, ◌==◌, Some, Result, Ok, Err, IfOk, unwrap_or, refl, sym, ap, ◌∙◌, subst, arith}
+use Rattle.std.proofs.Common.{◌<◌, Result, Ok, Err, OnOk, true, true≢false, cond, ◌&&◌, ◌==◌, Some, None, is_some, option_and_then, refl, sym, ap, ◌∙◌, subst}
 use Rattle.std.specs.Map.{lookup}
-use Rattle.indexmap.specs.Entry.{map_with_value}
-use Rattle.ghg_data.specs.Calendar.{has_date, holds_year}
+use Rattle.std.specs.Option.{option_copied_mut}
+use Rattle.std.specs.Result.{IsOk}
+use Rattle.indexmap.specs.IndexMap.{spare}
+use Rattle.ghg_data.specs.Calendar.{has_date, holds_year, place_in}
 use Rattle.ghg_data.specs.Series.{EachHasAYear, same_series}
 use Rattle.ghg_units.specs.Year.{is_year}
-use Rattle.ghg_data.proofs.Dates.{alone, begun, each_has_a_year, given, one_more, put_no_year, put_years, still_some}
+use Rattle.ghg_data.proofs.Applied.{on_ok}
+use Rattle.ghg_data.proofs.Dates.{column_given, column_places, column_years, each_has_a_year, given_places, given_years, had_column, no_place, no_year, place_among, series_eq, still_some, write_has_a_year}
 use Rattle.ghg_data.proofs.calendar.Calendar.put_any.Goals as goal
 
-if_ok : {T E : Type 0} (r : Result T E) (x : T) (P : T → Type 0) → r ≡ Ok x → IfOk r P → P x
-if_ok (Ok y) x P e h = let same : y ≡ x = cc in subst P same h
-if_ok (Err y) x P e h = absurd (cc)
-
-pub returns-then-is_empty-clause-dates : goal.returns-then-is_empty-clause-dates
-returns-then-is_empty-clause-dates c =
-    let old = c.args.self.now in
-    let k = c.args.series in
-    let z = c.args.year in
-    put_no_year old k (λ y. cond (is_year z && (y == z)) true (has_date old k y))
-    (λ y. ap (λ b. cond b true (has_date old k y))
-    (sym (c.if-is_empty.ensures.0 refl y) ∙ c.with-first.ensures y ∙ ap (cond (is_year z && (y == z)) true) (c.empty.ensures y) ∙ alone (is_year z && (y == z))))
-
-pub returns-clause-dates : goal.returns-clause-dates
-returns-clause-dates c = λ s y.
-    let old = c.args.self.now in
-    let k = c.args.series in
-    let z = c.args.year in
-    let first = c.with-first.result in
-    let after = c.with.result in
-    let new = map_with_value c.unwrap.result after in
-    let only = λ (x : ℕ). c.with-first.ensures x ∙ ap (cond (is_year z && (x == z)) true) (c.empty.ensures x) ∙ alone (is_year z && (x == z)) in
-    let before = c.or_insert-years.ensures.value ∙ ap (λ o. unwrap_or o first) (if_ok c.entry.result c.unwrap.result _ c.unwrap.ensures c.entry.ensures.value) in
-    let more = one_more old.years.entries k first c.or_insert-years.result.now after (λ x. is_year z && (x == z)) before only c.with.ensures in
-    let put : holds_year (lookup (same_series s) new.entries) y ≡ cond (same_series k s) (cond (is_year z && (y == z)) true (has_date old k y)) (has_date old s y) =
-    put_years old.years.entries new.entries k after ((if_ok c.entry.result c.unwrap.result _ c.unwrap.ensures c.entry.ensures.update).0 after).0 s y ∙ ap (λ b. cond (same_series k s) b (has_date old s y)) (more y) in
-    grind (arith, put)
+where_ok : {T E : Type 0} (r : Result T E) (P : Type 0) → IsOk r → OnOk r P → P
+where_ok (Ok x) P ok h = h
+where_ok (Err x) P ok h = absurd (cc)
 
 pub invariant_of-self : goal.invariant_of-self
 invariant_of-self c =
     let old = c.args.self.now in
     let k = c.args.series in
     let z = c.args.year in
-    let first = c.with-first.result in
-    let begins = c.or_insert-years.result.now in
-    let after = c.with.result in
-    let new = map_with_value c.unwrap.result after in
-    let before = c.or_insert-years.ensures.value ∙ ap (λ o. unwrap_or o first) (if_ok c.entry.result c.unwrap.result _ c.unwrap.ensures c.entry.ensures.value) in
-    let some = begun old.years.entries k first begins before (λ h. absurd (true≢false (sym (c.if-is_empty.ensures.1 h)))) old.none_empty in
-    let more = still_some begins after (λ y. is_year z && (y == z)) c.with.ensures some in
-    let each : EachHasAYear new.entries = each_has_a_year old.years.entries new.entries k (Some after) (given after more) ((if_ok c.entry.result c.unwrap.result _ c.unwrap.ensures c.entry.ensures.update).0 after).0 old.none_empty in
+    let before = c.in-Some.column.now in
+    let after = c.note.new.self in
+    let there = sym c.get_mut.ensures.value ∙ ap option_copied_mut c.in-Some.is in
+    let given = ((c.get_mut.follows.holds after).3 (ap is_some there)).0 in
     record {
-      none_empty = λ s set at. each s set (grind (arith, at));
+      none_empty = write_has_a_year old.columns.entries (c.get_mut.follows.lender after).entries k before after given there
+          (still_some before.years after.years (λ y. is_year z && (y == z)) c.note.ensures.years (old.none_empty k before (had_column old.columns.entries k (Some before) there))) old.none_empty;
     }
+
+pub returns-in-Some-clause-dates : goal.returns-in-Some-clause-dates
+returns-in-Some-clause-dates c =
+    let old = c.args.self.now in
+    let after = c.note.new.self in
+    let there = sym c.get_mut.ensures.value ∙ ap option_copied_mut c.in-Some.is in
+    column_years old.columns.entries (c.get_mut.follows.lender after).entries c.args.series c.in-Some.column.now after ((c.get_mut.follows.holds after).3 (ap is_some there)).0 there c.args.year true c.note.ensures.years
+
+pub returns-in-Some-clause-places : goal.returns-in-Some-clause-places
+returns-in-Some-clause-places c =
+    let old = c.args.self.now in
+    let after = c.note.new.self in
+    let there = sym c.get_mut.ensures.value ∙ ap option_copied_mut c.in-Some.is in
+    column_places old.columns.entries (c.get_mut.follows.lender after).entries c.args.series c.in-Some.column.now after ((c.get_mut.follows.holds after).3 (ap is_some there)).0 there
+    c.args.year (Some c.args.place) c.note.ensures.places
+
+pub invariant_of-self-then-not-is_empty : goal.invariant_of-self-then-not-is_empty
+invariant_of-self-then-not-is_empty c =
+    let old = c.args.self.now in
+    let k = c.args.series in
+    let after = c.note-2.new.self in
+    let kept = c.get_mut.follows.holds-at-none in
+    let updates = where_ok c.insert.result _ (c.insert.ensures.succeeds (subst (λ m. 0 < spare m) (sym kept) c.requires)) c.insert.ensures.updates in
+    record {
+      none_empty = each_has_a_year c.get_mut.follows.lender-at-none.entries c.insert.new.self.entries k (Some after) updates.0
+          (column_given after (λ h. absurd (true≢false (sym (c.if-not-is_empty.ensures.1 h))))) (subst EachHasAYear (sym (ap (λ m. m.entries) kept)) old.none_empty);
+    }
+
+pub returns-then-not-is_empty-clause-dates : goal.returns-then-not-is_empty-clause-dates
+returns-then-not-is_empty-clause-dates c =
+    let old = c.args.self.now in
+    let k = c.args.series in
+    let z = c.args.year in
+    let after = c.note-2.new.self in
+    let none = sym c.get_mut.ensures.value ∙ ap option_copied_mut c.in_default.is in
+    let updates = on_ok c.insert.result c.unwrap.result _ c.unwrap.ensures c.insert.ensures.updates in
+    given_years old.columns.entries c.insert.new.self.entries k (Some after)
+    (λ q. updates.0 q ∙ ap (λ m. cond (series_eq k q) (Some after) (lookup (series_eq q) m.entries)) c.get_mut.follows.holds-at-none)
+    (λ y. cond (is_year z && (y == z)) true (has_date old k y))
+    (λ y. c.note-2.ensures.years y ∙ ap (cond (is_year z && (y == z)) true) (c.take-column.ensures.years y ∙ sym (ap (λ o. holds_year o y) (had_column old.columns.entries k None none))))
+
+pub returns-then-not-is_empty-clause-places : goal.returns-then-not-is_empty-clause-places
+returns-then-not-is_empty-clause-places c =
+    let old = c.args.self.now in
+    let k = c.args.series in
+    let z = c.args.year in
+    let after = c.note-2.new.self in
+    let none = sym c.get_mut.ensures.value ∙ ap option_copied_mut c.in_default.is in
+    let updates = on_ok c.insert.result c.unwrap.result _ c.unwrap.ensures c.insert.ensures.updates in
+    given_places old.columns.entries c.insert.new.self.entries k (Some after)
+    (λ q. updates.0 q ∙ ap (λ m. cond (series_eq k q) (Some after) (lookup (series_eq q) m.entries)) c.get_mut.follows.holds-at-none)
+    z (Some c.args.place)
+    (λ y p e. ap (cond (y == z) (Some c.args.place)) (ap (option_and_then (λ column. place_in column y)) (had_column old.columns.entries k None none) ∙ sym (c.take-column.ensures.places y)) ∙ c.note-2.ensures.places y p e)
+
+pub returns-else-not-is_empty-clause-dates : goal.returns-else-not-is_empty-clause-dates
+returns-else-not-is_empty-clause-dates c = λ s y.
+    let old = c.args.self.now in
+    let k = c.args.series in
+    let z = c.args.year in
+    let none = sym c.get_mut.ensures.value ∙ ap option_copied_mut c.in_default.is in
+    ap (λ m. holds_year (lookup (same_series s) m.entries) y) c.get_mut.follows.holds-at-none
+    ∙ no_year old.columns.entries k none (λ y. cond (is_year z && (y == z)) true (has_date old k y))
+    (λ y. ap (cond (is_year z && (y == z)) true) (ap (λ o. holds_year o y) (had_column old.columns.entries k None none) ∙ sym (c.take-column.ensures.years y))
+    ∙ sym (c.note-2.ensures.years y) ∙ c.if-not-is_empty.ensures.0 refl y) s y
+
+pub returns-else-not-is_empty-clause-places : goal.returns-else-not-is_empty-clause-places
+returns-else-not-is_empty-clause-places c = λ s y p e.
+    let old = c.args.self.now in
+    let none = sym c.get_mut.ensures.value ∙ ap option_copied_mut c.in_default.is in
+    no_place old.columns.entries c.args.series none c.args.year (Some c.args.place) s y p (sym (ap (λ m. place_among m.entries s y) c.get_mut.follows.holds-at-none) ∙ e)

@@ -10,4 +10,5 @@ invariant_of-self c =
       c.change_names.ensures.items m c.self.invariant.0
           ∙ sym (ap line_names (c.change_records.ensures.content ∙ ap (applied m) c.into_changes.ensures)),
       c.change_records.ensures.years,
+      c.change_records.ensures.places,
     )

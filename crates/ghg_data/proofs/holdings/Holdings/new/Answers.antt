@@ -1,4 +1,4 @@
-use Rattle.std.proofs.Common.{is_some, ◌&&◌, ◌∙◌, sym, ap}
+use Rattle.std.proofs.Common.{◌≡◌, ℕ, Option, None, Some, is_some, ◌&&◌, ◌∙◌, sym, ap}
 use Rattle.std.specs.FinMap.{from_entries, get}
 use Rattle.ghg_definitions.specs.Data.{key_cmp, line_names}
 use Rattle.ghg_data.specs.Series.{dated}
@@ -6,8 +6,12 @@ use Rattle.ghg_units.specs.Year.{is_year}
 use Rattle.ghg_data.proofs.Empty.{no_dates, no_lines}
 use Rattle.ghg_data.proofs.holdings.Holdings.new.Goals as goal
 
+never : {A : Type 0} {o : Option ℕ} {p : ℕ} → o ≡ None → o ≡ Some p → A
+never none some = absurd (cc)
+
 pub invariant_of-result : goal.invariant_of-result
 invariant_of-result c = (
   c.new-2.ensures.items ∙ sym (ap (λ es. line_names (from_entries {R = key_cmp} es)) c.new.ensures.empty ∙ no_lines),
-  λ s y. c.new-3.ensures s y ∙ sym (ap (λ es. is_year y && is_some (get (from_entries {R = key_cmp} es) (dated s y))) c.new.ensures.empty ∙ no_dates s y),
+  λ s y. c.new-3.ensures.dates s y ∙ sym (ap (λ es. is_year y && is_some (get (from_entries {R = key_cmp} es) (dated s y))) c.new.ensures.empty ∙ no_dates s y),
+  λ s y p e. never (c.new-3.ensures.places s y) e,
 )
