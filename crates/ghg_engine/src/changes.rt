@@ -163,7 +163,8 @@ impl Changes {
     ) -> Result<bool, AllocError>
         ensures changes { IfOk result (λ whole. whole ≡ true → HasMoreChanges (cell_at cells.now.fresh)
             (compilation (C.content before.now)) (node.now ∷ []) self.old self.new) }
-        ensures over { IfOk result (λ whole. whole ≡ false → is_over (cell_at cells.now.fresh node.now) ≡ true) }
+        ensures over { IfOk result (λ whole. whole ≡ false →
+            is_over (cell_at cells.now.fresh node.now) ≡ true) }
     {
         match cells.fresh_outcome(node) {
             None => Ok(true),

@@ -303,29 +303,32 @@ fn sum_from<R: Records, C: ghg_graph::Cells>(
     ensures { IfOk result (IsTotalOf (R.content emitters.now.records.now) (outcomes_of cells.now)
         addends.now year) }
 {
-    let Some(value) = before.cells.value(node) else {
-        return sum(emitters, cells, addends, year, ticket, &mut buffers.parts);
-    };
-    let was = value.input();
-    let changes = &mut buffers.changes;
-    if changed.own.len() < addends.own.len()
-        && changes.gather(cells, before.cells, changed, year)?
-        && changes.gone.len() <= MOST_PARTS
-    {
-        let value = total_from(ticket, was, &changes.gone, &changes.come);
-        return Ok(Evaluated::of(value));
+    if changed.own.len() < addends.own.len() {
+        if let Some(value) = before.cells.value(node) {
+            let was = value.input();
+            let changes = &mut buffers.changes;
+            if changes.gather(cells, before.cells, changed, year)?
+                && changes.gone.len() <= MOST_PARTS
+            {
+                let value = total_from(ticket, was, &changes.gone, &changes.come);
+                return Ok(Evaluated::of(value));
+            }
+        }
     }
-    sum_changed(emitters, before, cells, was, addends, year, ticket, buffers)
+    sum_changed(
+        emitters, before, cells, node, addends, year, ticket, buffers,
+    )
 }
 
 // Evaluates a total in a year: the sum of what it adds, where none of that is over and it is no more than a
 // total may add; else what it was, and what has changed since in the equivalents of the lines that count in
-// it, or over where one of these is, or where they are more, the sum of all such lines. `was` is what it was.
+// it, or over where one of these is. Where these are too many, or there is no value before, it is the sum of
+// all such lines.
 fn sum_changed<R: Records, C: ghg_graph::Cells>(
     emitters: &Emitters<'_, R>,
     before: &Before<'_, C>,
     cells: &Overlay<'_>,
-    was: &Input,
+    node: &Node,
     addends: &Addends<'_>,
     year: u32,
     ticket: Ticket,
@@ -333,9 +336,8 @@ fn sum_changed<R: Records, C: ghg_graph::Cells>(
 ) -> Result<Evaluated, AllocError>
     requires workbook { IsWorkbook (R.content emitters.now.records.now) }
     requires emitters { emitters.now.names.now ≡ gas_lines (R.content emitters.now.records.now) }
-    requires lines { (n : Node) × (value_of (compilation (C.content before.now.cells.now) n) ≡ Some was.now)
-        × IsResummed (outcomes_of cells.now) (cell_at cells.now.fresh)
-        (compilation (C.content before.now.cells.now)) n
+    requires lines { IsResummed (outcomes_of cells.now) (cell_at cells.now.fresh)
+        (compilation (C.content before.now.cells.now)) node.now
         (all_for (R.content emitters.now.records.now) addends.now year)
         (changed_for (R.content emitters.now.records.now) before.now.changed addends.now year) }
     ensures { IfOk result (IsTotalOf (R.content emitters.now.records.now) (outcomes_of cells.now)
@@ -345,6 +347,9 @@ fn sum_changed<R: Records, C: ghg_graph::Cells>(
     if gather_addends(cells, addends, year, parts)? && parts.len() <= MOST_PARTS {
         return Ok(Evaluated::of(total(ticket, parts)));
     }
+    let Some(value) = before.cells.value(node) else {
+        return sum_lines(emitters, cells, addends, year, ticket, parts);
+    };
     let names = before.changed.names.as_slice();
     if !changes.gather_counted(
         emitters.records,
@@ -357,7 +362,7 @@ fn sum_changed<R: Records, C: ghg_graph::Cells>(
         return Ok(Evaluated::passed_on());
     }
     if changes.gone.len() <= MOST_PARTS {
-        let value = total_from(ticket, was, &changes.gone, &changes.come);
+        let value = total_from(ticket, value.input(), &changes.gone, &changes.come);
         return Ok(Evaluated::of(value));
     }
     sum_lines(emitters, cells, addends, year, ticket, parts)

@@ -1,4 +1,5 @@
-use Rattle.std.proofs.Common.{◌≡◌, ◌∙◌, ◌++◌, true, inl, inr, Some, ap, subst}
+use Rattle.std.proofs.Common.{◌≡◌, ◌∙◌, ◌++◌, true, inl, inr, Some, sym, ap, subst}
+use Rattle.std.specs.Prelude.{option_copied}
 use Rattle.std.specs.List.{list_any}
 use Rattle.ghg_cell.specs.Totals.{summed}
 use Rattle.ghg_definitions.specs.Compilation.{compilation}
@@ -32,9 +33,8 @@ returns-then-len-le-MOST_PARTS-2 g c =
     let changes = c.gather_counted.new.self in
     let are = subst (λ names. AreChanges fresh before (nodes_for Equivalent (names_at (counts_in a.top) m names) year) changes)
     c.as_slice-names.ensures.value (c.in_ok-gather_counted.ensures.changes c.if-not-branch.false) in
-    let lines = c.requires.lines in
-    let fitting = resummed fresh (cell_at c.args.cells.now.kept.now) before lines.0 (all_for m a year) (changed_for m c.args.before.now.changed a year) lines.2
-    changes are c.args.was.now lines.1 c.of-then-len-le-MOST_PARTS-2.result c.total_from-value.result
+    let fitting = resummed fresh (cell_at c.args.cells.now.kept.now) before c.args.node.now (all_for m a year) (changed_for m c.args.before.now.changed a year) c.requires.lines
+    changes are c.input.result.now (sym c.value.ensures.value ∙ ap option_copied c.in-Some.is ∙ ap Some (sym c.input.ensures)) c.of-then-len-le-MOST_PARTS-2.result c.total_from-value.result
     (λ rest within is. c.total_from-value.ensures rest within (ap (λ ls. summed (ls ++ rest)) c.deref-then-len-le-MOST_PARTS-2.ensures.value ∙ is)
     ∙ ap (λ ls. summed (ls ++ rest)) c.deref-then-len-le-MOST_PARTS-2-2.ensures.value)
     c.of-then-len-le-MOST_PARTS-2.ensures.outcome c.of-then-len-le-MOST_PARTS-2.ensures.breaks in
@@ -48,6 +48,5 @@ returns-then-not-branch g c =
     let year = c.args.year in
     let over = subst (λ names. list_any (λ n. is_over (fresh n)) (nodes_for Equivalent (names_at (counts_in a.top) m names) year) ≡ true)
     c.as_slice-names.ensures.value (c.in_ok-gather_counted.ensures.over c.if-not-branch.true) in
-    let lines = c.requires.lines in
-    inr (resummed_over fresh (cell_at c.args.cells.now.kept.now) (compilation (g.C.Cells.content c.args.before.now.cells.now)) lines.0 (all_for m a year) (changed_for m c.args.before.now.changed a year) lines.2
+    inr (resummed_over fresh (cell_at c.args.cells.now.kept.now) (compilation (g.C.Cells.content c.args.before.now.cells.now)) c.args.node.now (all_for m a year) (changed_for m c.args.before.now.changed a year) c.requires.lines
     over c.passed_on.result c.passed_on.ensures.outcome c.passed_on.ensures.breaks)

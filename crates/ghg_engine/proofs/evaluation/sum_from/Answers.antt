@@ -17,10 +17,3 @@ returns-then-len-le-MOST_PARTS g c =
     (λ rest within is. c.total_from-value.ensures rest within (ap (λ ls. summed (ls ++ rest)) c.deref.ensures.value ∙ is)
     ∙ ap (λ ls. summed (ls ++ rest)) c.deref-then-len-le-MOST_PARTS.ensures.value)
     c.of.ensures.outcome c.of.ensures.breaks)
-
-pub sum_changed-requires-clause-lines : goal.sum_changed-requires-clause-lines
-sum_changed-requires-clause-lines g c = (
-  c.args.node.now,
-  sym c.value.ensures.value ∙ ap option_copied c.in-Some.is ∙ ap Some (sym c.input-was.ensures),
-  c.requires.lines,
-)
