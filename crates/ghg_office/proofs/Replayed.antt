@@ -224,3 +224,10 @@ pub counted_on : (before now after : ℕ) (error : KeepError) → before ≤ now
 counted_on before now after keep_error.Failed h counted =
     record { later = omega (arith, h, counted.later); rose = λ _. let rose : raised now ≤ after = counted.rose refl in omega (arith, h, rose) }
 counted_on before now after keep_error.Memory h counted = record { later = omega (arith, h, counted.later); rose = λ e. absurd (cc) }
+
+-- where a row that was kept is refused, or memory ran out, no call of the keeper failed
+pub counted_after : (before now after : ℕ) (wanted : Result State OpenFault) (s : State) (fault : OpenFault) → before ≤ now → now ≤ after → Takes wanted s (Err fault)
+    → IsCounted before after (IsErrOf {T = State} (Err fault) KeeperFault)
+counted_after before now after wanted s (Kept seq reply) h k takes = record { later = omega (arith, h, k); rose = λ e. absurd (cc) }
+counted_after before now after wanted s Memory h k takes = record { later = omega (arith, h, k); rose = λ e. absurd (cc) }
+counted_after before now after wanted s KeeperFault h k takes = absurd takes

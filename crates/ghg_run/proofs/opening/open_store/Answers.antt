@@ -37,6 +37,12 @@ returns-in-Ok-reopen-clause-outside g c = λ input door.
     (record { later = omega (arith, c.attach.ensures.faults.later, c.reopen.ensures.faults.later); rose = λ six. absurd cc }) (omega arith)
     (inl refl)
 
+pub returns-in-Ok-reopen-clause-kept : goal.returns-in-Ok-reopen-clause-kept
+returns-in-Ok-reopen-clause-kept g c = record {
+  used = stays_in_use c.args.name.now (g.K.Keeper.shelf c.attach.new.self) (g.K.Keeper.shelf c.reopen.new.keeper) c.reopen.ensures.keeps.name c.in-Ok.ensures.ok;
+  rows = c.in-Ok-reopen.ensures.accepted;
+}
+
 pub returns-in-Err-Kept-clause-opened : goal.returns-in-Err-Kept-clause-opened
 returns-in-Err-Kept-clause-opened g c = λ input door.
     let before = world input (g.W.Told.tape c.args.out.now) (g.K.Keeper.shelf c.args.keeper.now) door c.args.steps.now in

@@ -1,5 +1,5 @@
 use Rattle.std.proofs.lemmas.Result.{err_from_is_err_and}
-use Rattle.ghg_office.proofs.Replayed.{counted_on, one_more, replayed_in_force, spent_more, stops_at_count, stops_at_row, stops_between, taken_accepts}
+use Rattle.ghg_office.proofs.Replayed.{counted_after, counted_on, one_more, replayed_in_force, spent_more, stops_at_count, stops_at_row, stops_between, taken_accepts}
 use Rattle.ghg_office.proofs.office.Office.reopen.Goals as goal
 
 pub returns-in_err-count-clause-replays : goal.returns-in_err-count-clause-replays
@@ -18,6 +18,12 @@ returns-in_err-row-clause-faults g c =
     let p = err_from_is_err_and c.from_residual-in_err-row.result c.from_residual-in_err-row.ensures.1 in
     rw (p.1, p.2) (counted_on (g.K.Keeper.shelf c.args.keeper.now).faults (g.K.Keeper.shelf c.loop-done.keeper).faults (g.K.Keeper.shelf c.row.new.self).faults
     c.in_err-row.field-0.0 c.loop-done.invariant.progress.faults c.in_err-row.ensures.faults)
+
+pub returns-in_err-replay-clause-faults : goal.returns-in_err-replay-clause-faults
+returns-in_err-replay-clause-faults g c =
+    let p = err_from_is_err_and c.from_residual-in_err-replay.result c.from_residual-in_err-replay.ensures.1 in
+    rw (p.1, p.2) (counted_after (g.K.Keeper.shelf c.args.keeper.now).faults (g.K.Keeper.shelf c.loop-done.keeper).faults (g.K.Keeper.shelf c.row.new.self).faults _ c.replay.new.self
+    c.in_err-replay.field-0.0 c.loop-done.invariant.progress.faults c.row.ensures.faults.later c.in_err-replay.ensures.takes)
 
 pub returns-in_err-replay-clause-replays : goal.returns-in_err-replay-clause-replays
 returns-in_err-replay-clause-replays g c =
