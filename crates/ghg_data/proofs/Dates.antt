@@ -12,6 +12,7 @@ use Rattle.std.proofs.Math.Bool.{and-false}
 use Rattle.ghg_definitions.specs.declared.record.RecordKey.{RecordKey}
 use Rattle.ghg_definitions.specs.declared.record.RecordKey.TheVariants as key
 use Rattle.ghg_definitions.specs.Data.{Name, key_cmp}
+use Rattle.ghg_definitions.specs.Listed.{IsListed}
 use Rattle.ghg_definitions.proofs.Keys.{equal_by, key_eq, key_ties, keys_total, names_same}
 use Rattle.ghg_data.specs.contracts.series.SeriesPartialEq.TheImpl as derived
 use Rattle.ghg_data.specs.declared.calendar.Calendar.{Calendar}
@@ -28,7 +29,7 @@ use Rattle.ghg_data.specs.YearSet.{HasNoYear, has_year}
 abbrev pub series_eq : Series → Series → Bool
 series_eq = (derived.ghosts).eq
 
-series_ties : (s t : Series) → series_eq s t ≡ same_series s t
+pub series_ties : (s t : Series) → series_eq s t ≡ same_series s t
 series_ties (series.Activity a) (series.Activity b) = refl
 series_ties (series.Activity a) (series.Factor b) = refl
 series_ties (series.Factor a) (series.Activity b) = refl
@@ -66,6 +67,15 @@ found s (e ∷ es) = ap₂ (λ (b : Bool) (r : Option Column). cond b (Some e.1)
 -- the column that a series has
 pub had_column : (es : List (Series × Column)) (k : Series) (o : Option Column) → lookup (series_eq k) es ≡ o → lookup (same_series k) es ≡ o
 had_column es k o there = sym (found k es) ∙ there
+
+-- a series that has a year is among the keys
+pub date_listed : (es : List (Series × Column)) (s : Series) (y : ℕ) → holds_year (lookup (same_series s) es) y ≡ true → IsListed s (map (λ e. e.0) es)
+date_listed [] s y e = absurd (cc)
+date_listed (x ∷ es) s y e = by (same_series s x.0) refl e (date_listed es s y)
+  where
+    by : (b : Bool) → same_series s x.0 ≡ b → holds_year (cond b (Some x.1) (lookup (same_series s) es)) y ≡ true → (holds_year (lookup (same_series s) es) y ≡ true → IsListed s (map (λ e. e.0) es)) → (s ≡ x.0) ⊎ IsListed s (map (λ e. e.0) es)
+    by true is f rest = inl (series_same s x.0 is)
+    by false is f rest = inr (rest f)
 
 -- the place that entries have for a year of a series
 abbrev pub place_among : List (Series × Column) → Series → ℕ → Option ℕ

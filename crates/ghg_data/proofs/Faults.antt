@@ -18,6 +18,7 @@ use Rattle.ghg_definitions.specs.declared.record.Record.TheVariants as entry
 use Rattle.ghg_definitions.specs.declared.record.RecordKey.{RecordKey}
 use Rattle.ghg_definitions.specs.declared.record.RecordKey.TheVariants as key
 use Rattle.ghg_definitions.specs.Data.{Data, Name, as_binding, as_line, as_uncertainty, binding, first_name, line, uncertainty}
+use Rattle.ghg_definitions.specs.Listed.{IsListed}
 use Rattle.ghg_definitions.specs.Rules.{is_sound, is_uncertainty, least_place, lesser_place, place_cmp, places, places_in, unsound_place}
 use Rattle.ghg_definitions.specs.Sound.{IsConsistent, IsRecord}
 use Rattle.ghg_definitions.proofs.Alike.{both, first_so, second_so}
@@ -30,8 +31,7 @@ use Rattle.ghg_data.proofs.EquationParameters.{parameter_apart, takes_apart}
 -- ---- lists
 
 abbrev pub IsAmong : {A : Type 0} → A → List A → Type 0
-IsAmong x [] = ⊥
-IsAmong x (y ∷ ys) = (x ≡ y) ⊎ IsAmong x ys
+IsAmong = IsListed
 
 pub among_left : {A : Type 0} (x : A) (xs ys : List A) → IsAmong x xs → IsAmong x (xs ++ ys)
 among_left x [] ys h = absurd h

@@ -1,5 +1,5 @@
 -- Whether all figures of a name are of a dimension, told by one of them.
-use Rattle.std.proofs.Common.{◌≡◌, ◌⊎◌, inl, inr, Bool, true, false, not, ◌&&◌, ◌||◌, ◌==◌, List, [], ◌∷◌, Option, Some, None, is_some, if◌then◌else◌, refl, sym, ap, ◌∙◌, arith, eqb-true}
+use Rattle.std.proofs.Common.{◌≡◌, Bool, true, false, not, ◌&&◌, ◌||◌, ◌==◌, List, [], ◌∷◌, Option, Some, None, is_some, if◌then◌else◌, refl, sym, ap, ◌∙◌, arith, eqb-true}
 use Rattle.std.specs.FinMap.{entries, get}
 use Rattle.std.specs.List.{cons_option, filter_map, list_all, list_any}
 use Rattle.std.specs.Option.{option_map_or}
@@ -11,15 +11,18 @@ use Rattle.ghg_units.specs.Units.{dim_of}
 use Rattle.ghg_definitions.specs.declared.record.Record.{Record}
 use Rattle.ghg_definitions.specs.declared.record.RecordKey.{RecordKey}
 use Rattle.ghg_definitions.specs.declared.record.RecordKey.TheVariants as key
-use Rattle.ghg_definitions.specs.Data.{Data, Name, as_figure, figure, first_name, kind, year_of}
+use Rattle.ghg_definitions.specs.Data.{Data, Name, as_figure, figure, year_of}
 use Rattle.ghg_definitions.specs.Rules.{activities, activity_figure, are_of, factor_figure, factors, has_dimension, is_alike, is_other_year}
 use Rattle.ghg_definitions.specs.Sound.{IsConsistent}
-use Rattle.ghg_definitions.proofs.Alike.{alike_back, alike_joined, alike_parts, both, first_so, held, not_so, one_dimension, other_alike, second_so, so_not}
+use Rattle.ghg_definitions.proofs.Alike.{alike_back, alike_joined, both, first_so, held, not_so, one_dimension, other_alike, second_so, so_not}
 use Rattle.ghg_definitions.proofs.Consistent.{figure_dated}
 use Rattle.ghg_definitions.proofs.Dims.{dim_same, same_dim-itself}
 use Rattle.ghg_definitions.proofs.Keys.{keys_same, keys_total}
 use Rattle.ghg_definitions.proofs.Members.{any_entry, entry_any}
-use Rattle.ghg_data.specs.Settling.{name_keeps}
+use Rattle.ghg_data.specs.declared.series.Series.{Series}
+use Rattle.ghg_data.specs.declared.series.Series.TheVariants as series
+use Rattle.ghg_data.specs.Series.{dated}
+use Rattle.ghg_data.specs.Settling.{figures_of, loses_dimension}
 
 abbrev Entry : Type 0
 Entry = RecordKey × Record
@@ -135,16 +138,19 @@ module _ {m : Data} (is : IsConsistent m) (k : RecordKey) (unyeared : year_of k 
       let year = (figure_dated is q g e).0 in
       both _ _ a (so_not _ (false_from_ne_true (year_of k == year_of q) (λ h. let y : year_of k ≡ year_of q = eqb-true _ _ h in absurd (omega arith))))
 
-  pub figures_none : (d : Dim) → ((q : RecordKey) → is_other_year k q ≡ true → figure m q ≡ None) → are_of d (figures m k) ≡ false
-  figures_none d none = ap (are_of d) (none_left (of_name k) (entries m) (false_from_ne_true _ (λ h.
+  pub figures_empty : ((q : RecordKey) → is_other_year k q ≡ true → figure m q ≡ None) → figures m k ≡ []
+  figures_empty none = none_left (of_name k) (entries m) (false_from_ne_true _ (λ h.
       let found = any_entry keys_total keys_same (λ (e : Entry). is_some (of_name k e)) m h in
       let g = some_figure (of_name k (found.0, found.1)) found.3 in
       let parts = alike_figure (is_alike k found.0) (as_figure (Some found.1)) g.0 g.1 in
       let at : figure m found.0 ≡ Some g.0 = ap as_figure found.2 ∙ parts.1 in
-      apart _ g.0 at (none found.0 (of_other_year found.0 g.0 at parts.0)))))
+      apart _ g.0 at (none found.0 (of_other_year found.0 g.0 at parts.0))))
     where
       apart : (o : Option Figure) (f : Figure) → o ≡ Some f → o ≡ None → ⊥
       apart o f e n = cc
+
+  pub figures_none : (d : Dim) → ((q : RecordKey) → is_other_year k q ≡ true → figure m q ≡ None) → are_of d (figures m k) ≡ false
+  figures_none d none = ap (are_of d) (figures_empty none)
 
   pub figures_some : (d : Dim) (q : RecordKey) (f : Figure) → figure m q ≡ Some f → is_other_year k q ≡ true → are_of d (figures m k) ≡ same_dim d (dim_of f.unit)
   figures_some d q f e o = one_answers (dim_of f.unit) d (figures m k)
@@ -182,39 +188,51 @@ factors_none {m} is name d none = ap (are_of d) (factors_are m name) ∙ figures
 pub factors_some : {m : Data} → IsConsistent m → (name : Name) (d : Dim) (q : RecordKey) (f : Figure) → figure m q ≡ Some f → is_other_year (key.Factor name 0) q ≡ true → are_of d (factors m name) ≡ same_dim d (dim_of f.unit)
 factors_some {m} is name d q f e o = ap (are_of d) (factors_are m name) ∙ figures_some is (key.Factor name 0) refl d q f e o
 
--- ---- figures in data after others
+-- ---- names that lose their dimension
 
--- one of another year of the name tells as well
-same_name : (n : Data) (k q : RecordKey) (f : Figure) → is_alike k q ≡ true → name_keeps n q f ≡ name_keeps n k f
-same_name n k q f a = by k q (alike_parts k q a)
-  where
-    by : (k q : RecordKey) → (kind k ≡ kind q) × (first_name k ≡ first_name q) → name_keeps n q f ≡ name_keeps n k f
-    by (key.Activity a y) (key.Activity b z) parts = ap (λ name. are_of (dim_of f.unit) (activities n name)) (sym parts.1)
-    by (key.Factor a y) (key.Factor b z) parts = ap (λ name. are_of (dim_of f.unit) (factors n name)) (sym parts.1)
-    by key.Span key.Span parts = refl
-    by (key.Line a) (key.Line b) parts = refl
-    by (key.Bind a p) (key.Bind b q) parts = refl
-    by (key.Uncert a) (key.Uncert b) parts = refl
-    by _ _ parts = absurd (omega (arith, parts.0))
+or_none : (a c : Bool) → a ≡ c → a || false ≡ c
+or_none true c e = e
+or_none false c e = e
 
--- each figure of the one has its like in the other, of the same dimension, or its name has such figures there
-abbrev pub AreKept : Data → Data → Type 0
-AreKept m n = (q : RecordKey) (g : Figure) → figure m q ≡ Some g → ((h : Figure) × (figure n q ≡ Some h) × (dim_of g.unit ≡ dim_of h.unit)) ⊎ (name_keeps n q g ≡ true)
+or_both : (a b c : Bool) → a ≡ c → b ≡ c → a || b ≡ c
+or_both true b c e f = e
+or_both false b c e f = f
 
-module _ {m n : Data} (before : IsConsistent m) (now : IsConsistent n) (kept : AreKept m n) (d : Dim) (name : Name) where
-  figures_kept : (k : RecordKey) → year_of k ≡ 0 → ((g : Figure) → name_keeps n k g ≡ true → are_of (dim_of g.unit) (figures n k) ≡ true) → are_of d (figures m k) ≡ true → are_of d (figures n k) ≡ true
-  figures_kept k unyeared seen all =
-      let found = figures_found before k unyeared d all in
-      elim (kept found.0 found.1 found.2) [
-        | inl here ↦ figures_some now k unyeared d found.0 here.0 here.1 found.3 ∙ ap (same_dim d) (sym here.2) ∙ found.4
-        | inr there ↦ ap (λ e. are_of e (figures n k)) (dim_same d (dim_of found.1.unit) found.4)
-            ∙ seen found.1 (sym (same_name n k found.0 found.1 (other_alike k found.0 found.3)) ∙ there)
-      ]
+-- what is so of the dimension of one figure is so of any, where all are of one dimension
+any_alike : (test : Dim → Bool) (d : Dim) (f : Figure) (fs : List Figure) → list_all (has_dimension d) (f ∷ fs) ≡ true → list_any (λ f. test (dim_of f.unit)) (f ∷ fs) ≡ test d
+any_alike test d f [] all = or_none _ _ (ap test (sym (dim_same d (dim_of f.unit) (first_so _ _ all))))
+any_alike test d f (g ∷ fs) all = or_both _ _ _ (ap test (sym (dim_same d (dim_of f.unit) (first_so _ _ all)))) (any_alike test d g fs (second_so (has_dimension d f) _ all))
 
-  pub activities_kept : are_of d (activities m name) ≡ true → are_of d (activities n name) ≡ true
-  activities_kept all = ap (are_of d) (activities_are n name)
-      ∙ figures_kept (key.Activity name 0) refl (λ g h. sym (ap (are_of (dim_of g.unit)) (activities_are n name)) ∙ h) (sym (ap (are_of d) (activities_are m name)) ∙ all)
+any_of : (test : Dim → Bool) (d : Dim) (fs : List Figure) → are_of d fs ≡ true → list_any (λ f. test (dim_of f.unit)) fs ≡ test d
+any_of test d [] all = absurd (cc)
+any_of test d (f ∷ fs) all = any_alike test d f fs all
 
-  pub factors_kept : are_of d (factors m name) ≡ true → are_of d (factors n name) ≡ true
-  factors_kept all = ap (are_of d) (factors_are n name)
-      ∙ figures_kept (key.Factor name 0) refl (λ g h. sym (ap (are_of (dim_of g.unit)) (factors_are n name)) ∙ h) (sym (ap (are_of d) (factors_are m name)) ∙ all)
+figures_at : (m : Data) (s : Series) → figures_of m s ≡ figures m (dated s 0)
+figures_at m (series.Activity name) = activities_are m name
+figures_at m (series.Factor name) = factors_are m name
+
+undated : (s : Series) → year_of (dated s 0) ≡ 0
+undated (series.Activity name) = refl
+undated (series.Factor name) = refl
+
+pub loses_some : {m : Data} → IsConsistent m → (n : Data) (s : Series) (q : RecordKey) (f : Figure) → figure m q ≡ Some f → is_other_year (dated s 0) q ≡ true → loses_dimension m n s ≡ not (are_of (dim_of f.unit) (figures_of n s))
+loses_some {m} is n s q f at other = any_of (λ d. not (are_of d (figures_of n s))) (dim_of f.unit) (figures_of m s)
+    (ap (are_of (dim_of f.unit)) (figures_at m s) ∙ figures_some is (dated s 0) (undated s) (dim_of f.unit) q f at other ∙ same_dim-itself _ _ refl)
+
+pub loses_none : {m : Data} → IsConsistent m → (n : Data) (s : Series) → ((q : RecordKey) → is_other_year (dated s 0) q ≡ true → figure m q ≡ None) → loses_dimension m n s ≡ false
+loses_none {m} is n s none = ap (list_any (λ f. not (are_of (dim_of f.unit) (figures_of n s)))) (figures_at m s ∙ figures_empty is (dated s 0) (undated s) none)
+
+pub loses_so : (m n : Data) (s : Series) (d : Dim) → are_of d (figures_of m s) ≡ true → are_of d (figures_of n s) ≡ false → loses_dimension m n s ≡ true
+loses_so m n s d before after = any_of (λ e. not (are_of e (figures_of n s))) d (figures_of m s) before ∙ ap not after
+
+-- a figure of a name that loses its dimension is changed
+pub lost_figure : {m n : Data} → IsConsistent m → IsConsistent n → (s : Series) (d : Dim) → are_of d (figures_of m s) ≡ true → are_of d (figures_of n s) ≡ false
+    → (q : RecordKey) × (f : Figure) × (figure m q ≡ Some f) × (is_other_year (dated s 0) q ≡ true) × (figure n q ≡ figure m q → ⊥)
+lost_figure {m} {n} before now s d all none =
+    let found = figures_found before (dated s 0) (undated s) d (sym (ap (are_of d) (figures_at m s)) ∙ all) in (
+      found.0,
+      found.1,
+      found.2,
+      found.3,
+      λ kept. both_ways _ none (ap (are_of d) (figures_at n s) ∙ figures_some now (dated s 0) (undated s) d found.0 found.1 (kept ∙ found.2) found.3 ∙ found.4),
+    )

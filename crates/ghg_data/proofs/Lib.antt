@@ -19,3 +19,5 @@ pub mod Dates
 pub mod Places
 pub mod Calendars
 pub mod Changed
+pub mod Considered
+pub mod TakerNumbers

@@ -50,7 +50,7 @@ of_series {m} is k q f e o = by k q (figure_dated is q f e).0 (alike_parts k q (
     by (key.Factor a y) (key.Factor b z) h parts = (series.Factor a, refl, ap (λ n. key.Factor n z) (sym parts.1), h)
     by _ _ h parts = absurd (omega arith)
 
-in_time : (y : ℕ) → IsYear y → is_year y ≡ true
+pub in_time : (y : ℕ) → IsYear y → is_year y ≡ true
 in_time y h = and_from _ _ (le-leb 1900 y h.0) (le-leb y 2100 h.1)
 
 -- a figure's key has a record

@@ -1,12 +1,11 @@
--- Where no change unsettles the data, what no change is about stays sound.
-use Rattle.std.proofs.Common.{◌≡◌, ◌⊎◌, inl, inr, ℕ, suc, ◌+◌, drop, slice_get, arith, Bool, true, false, cond, not, ◌&&◌, ◌||◌, List, [], ◌∷◌, ◌++◌, map, flat_map, fold, Option, Some, None, is_some, refl, sym, ap, ◌∙◌, subst, if◌then◌else◌}
-use Rattle.std.specs.Ordering.{eq_by_cmp}
+-- What no change is about stays sound, unless it is bound to a name that loses its dimension, or a line is changed.
+use Rattle.std.proofs.Common.{◌≡◌, ◌⊎◌, inl, inr, ℕ, Bool, true, false, not, ◌&&◌, ◌||◌, List, [], ◌∷◌, ◌++◌, map, flat_map, Option, Some, None, is_some, refl, sym, ap, ◌∙◌, subst, if◌then◌else◌}
 use Rattle.std.specs.FinMap.{find as find_key, get}
-use Rattle.std.specs.List.{find, list_all}
+use Rattle.std.specs.List.{find, list_all, list_any}
 use Rattle.std.specs.Option.{option_map_or}
 use Rattle.std.specs.Str.{bytes_eq}
-use Rattle.std.proofs.lemmas.Grind.{fold-append}
 use Rattle.std.proofs.lemmas.Bool.{or_cases, or_left, or_parts, both_ways}
+use Rattle.std.proofs.lemmas.Grind.{flat_map-append}
 use Rattle.std.proofs.lemmas.Option.{same_Some}
 use Rattle.ghg_equations.specs.declared.eq_id.EqId.{EqId}
 use Rattle.ghg_equations.specs.declared.quantity.Dim.{Dim}
@@ -15,176 +14,180 @@ use Rattle.ghg_equations.specs.Quantity.{same_dim}
 use Rattle.ghg_equations.specs.Table.{Quantity, output, parameters}
 use Rattle.ghg_units.specs.declared.row.Binding.{Binding}
 use Rattle.ghg_units.specs.declared.row.Binding.TheVariants as bound
-use Rattle.ghg_units.specs.declared.row.Figure.{Figure}
-use Rattle.ghg_units.specs.Units.{dim_of}
+use Rattle.ghg_units.specs.Year.{is_year}
 use Rattle.ghg_definitions.specs.declared.place.Place.{Place}
 use Rattle.ghg_definitions.specs.declared.record.Record.{Record}
 use Rattle.ghg_definitions.specs.declared.record.Record.TheVariants as entry
 use Rattle.ghg_definitions.specs.declared.record.RecordKey.{RecordKey}
 use Rattle.ghg_definitions.specs.declared.record.RecordKey.TheVariants as key
-use Rattle.ghg_definitions.specs.Data.{Data, Name, as_binding, as_figure, as_line, as_uncertainty, binding, key_cmp, line, line_names}
-use Rattle.ghg_definitions.specs.Rules.{binds_parameter, dim_of_output, gives_decay, gives_dimension, has_dimension, is_bound, is_line_of, is_sound, is_uncertainty, unsound_place}
+use Rattle.ghg_definitions.specs.Data.{Data, Name, as_binding, as_figure, as_line, as_uncertainty, binding, figure, key_cmp, line, year_of}
+use Rattle.ghg_definitions.specs.Rules.{are_of, binds_parameter, dim_of_output, gives_decay, gives_dimension, is_bound, is_line_of, is_sound, is_uncertainty}
 use Rattle.ghg_definitions.specs.Sound.{IsConsistent, IsWorkbook}
 use Rattle.ghg_definitions.proofs.Alike.{both, first_so, second_so}
 use Rattle.ghg_definitions.proofs.Consistent.{workbook_consistent}
-use Rattle.ghg_definitions.proofs.Dims.{dim_same}
-use Rattle.ghg_definitions.proofs.Keys.{equal_by, keys_same}
+use Rattle.ghg_data.specs.declared.series.Series.{Series}
+use Rattle.ghg_data.specs.declared.series.Series.TheVariants as series
+use Rattle.ghg_data.specs.declared.takers.Takers.{Takers}
+use Rattle.ghg_data.specs.Calendar.{is_put, is_taken}
 use Rattle.ghg_data.specs.Changes.{Change, applied}
-use Rattle.ghg_data.specs.Faults.{considered, is_fault, is_parameter_place, is_place, key_places, line_places, places_about, takes}
-use Rattle.ghg_data.specs.Settling.{keeps_dimension, name_keeps, unsettled_places, unsettles, unsettles_record}
+use Rattle.ghg_data.specs.Faults.{is_fault, is_parameter_place, is_place, key_places, places_about, takes}
+use Rattle.ghg_data.specs.Series.{date_of, dated}
+use Rattle.ghg_data.specs.Settling.{figures_of, has_line, lost_places}
+use Rattle.ghg_data.specs.Taken.{taken, taken_by}
+use Rattle.ghg_data.specs.Takers.{AreTakersOf, takers_of}
 use Rattle.ghg_data.proofs.Applied.{get-applied, over}
-use Rattle.ghg_data.proofs.Covered.{changed_or_kept, covered, left_behind, never_both, sound_before, sound_line, sound_takes}
-use Rattle.ghg_data.proofs.Faults.{IsAmong, among_flat, place_parameter, place_uncertain, takes_among, uncertain_place, unsound_found, with_equation}
-use Rattle.ghg_data.proofs.Figures.{AreKept, activities_kept, factors_kept}
-use Rattle.ghg_data.proofs.Lines.{drop_at}
+use Rattle.ghg_data.proofs.Considered.{taker_listed}
+use Rattle.ghg_data.proofs.Covered.{changed_or_kept, left_behind, never_both, sound_before, sound_line, sound_takes}
+use Rattle.ghg_data.proofs.Faults.{IsAmong, among_flat, among_left, among_right, place_parameter, place_uncertain, takes_among, uncertain_place, with_equation}
+use Rattle.ghg_data.proofs.Figures.{loses_so, lost_figure}
+use Rattle.ghg_data.proofs.OtherYears.{in_time, of_series}
 
--- ---- what each key has
+-- ---- lists and options
 
-same_change : (a b : Option Record) → Some a ≡ Some b → a ≡ b
-same_change a b e = cc
+any_among : {A : Type 0} (test : A → Bool) (x : A) (xs : List A) → list_any test xs ≡ false → IsAmong x xs → test x ≡ false
+any_among test x [] none h = absurd h
+any_among test x (y ∷ ys) none (inl e) = ap test e ∙ (or_parts (test y) _ none).0
+any_among test x (y ∷ ys) none (inr h) = any_among test x ys (or_parts (test y) _ none).1 h
 
--- a change that counts does not unsettle what its key had
-found_settled : (n m : Data) (cs : List Change) (k : RecordKey) (c : Option Record) → unsettles n m cs ≡ false → find_key key_cmp k cs ≡ Some c → unsettles_record n k (get m k) c ≡ false
-found_settled n m [] k c s e = absurd (cc)
-found_settled n m (d ∷ cs) k c s e = by (eq_by_cmp key_cmp k d.0) refl e (or_parts (unsettles_record n d.0 (get m d.0) d.1) _ s) (found_settled n m cs k c)
-  where
-    by : (b : Bool) → eq_by_cmp key_cmp k d.0 ≡ b → cond b (Some d.1) (find_key key_cmp k cs) ≡ Some c → (unsettles_record n d.0 (get m d.0) d.1 ≡ false) × (unsettles n m cs ≡ false)
-        → (unsettles n m cs ≡ false → find_key key_cmp k cs ≡ Some c → unsettles_record n k (get m k) c ≡ false) → unsettles_record n k (get m k) c ≡ false
-    by true is f parts rest = (λ i. unsettles_record n (keys_same k d.0 (equal_by _ is) i) (get m (keys_same k d.0 (equal_by _ is) i)) (sym (same_change d.1 c f) i)) ∙ parts.0
-    by false is f parts rest = rest parts.1 f
+so_or : {A L : Type 0} (f g : A → Bool) → ((x : A) → f x ≡ true → (g x ≡ true) ⊎ L) → (o : Option A) → option_map_or f o false ≡ true → (option_map_or g o false ≡ true) ⊎ L
+so_or f g h None e = inl e
+so_or f g h (Some x) e = h x e
 
-module _ (m : Data) (cs : List Change) (settled : unsettles (applied m cs) m cs ≡ false) where
-  -- a key has what it had, or what does not unsettle that
-  kept_or_settled : (k : RecordKey) → (get (applied m cs) k ≡ get m k) ⊎ (unsettles_record (applied m cs) k (get m k) (get (applied m cs) k) ≡ false)
-  kept_or_settled k = by (find_key key_cmp k cs) refl
-    where
-      by : (o : Option (Option Record)) → find_key key_cmp k cs ≡ o → (get (applied m cs) k ≡ get m k) ⊎ (unsettles_record (applied m cs) k (get m k) (get (applied m cs) k) ≡ false)
-      by None e = inl (get-applied m cs k ∙ ap (λ o. over o (get m k)) e)
-      by (Some c) e = inr (ap (unsettles_record (applied m cs) k (get m k)) (get-applied m cs k ∙ ap (λ o. over o (get m k)) e) ∙ found_settled (applied m cs) m cs k c settled e)
-
-  line_settled : (k : RecordKey) (o r : Option Record) (e : EqId) → as_line o ≡ Some e → unsettles_record (applied m cs) k o r ≡ false → ⊥
-  line_settled k None r e h u = absurd (cc)
-  line_settled k (Some (entry.Span s)) r e h u = absurd (cc)
-  line_settled k (Some (entry.Activity f)) r e h u = absurd (cc)
-  line_settled k (Some (entry.Factor f)) r e h u = absurd (cc)
-  line_settled k (Some (entry.Line c q)) r e h u = absurd (cc)
-  line_settled k (Some (entry.Bind b)) r e h u = absurd (cc)
-  line_settled k (Some (entry.Uncert a f)) r e h u = absurd (cc)
-
-  -- a line that was there has its equation
-  pub line_kept : (l : Name) (e : EqId) → line m l ≡ Some e → get (applied m cs) (key.Line l) ≡ get m (key.Line l)
-  line_kept l e h = elim (kept_or_settled (key.Line l)) [ inl kept ↦ kept | inr u ↦ absurd (line_settled (key.Line l) (get m (key.Line l)) _ e h u) ]
-
-  -- a figure that goes or changes its dimension leaves others of it under its name
-  like : (k : RecordKey) (f : Figure) (o : Option Figure) → not (option_map_or (has_dimension (dim_of f.unit)) o false) && not (name_keeps (applied m cs) k f) ≡ false
-      → ((h : Figure) × (o ≡ Some h) × (dim_of f.unit ≡ dim_of h.unit)) ⊎ (name_keeps (applied m cs) k f ≡ true)
-  like k f o u = by o (name_keeps (applied m cs) k f) refl u
-    where
-      by : (o : Option Figure) (b : Bool) → name_keeps (applied m cs) k f ≡ b → not (option_map_or (has_dimension (dim_of f.unit)) o false) && not b ≡ false
-          → ((h : Figure) × (o ≡ Some h) × (dim_of f.unit ≡ dim_of h.unit)) ⊎ (name_keeps (applied m cs) k f ≡ true)
-      by o true e u = inr e
-      by None false e u = absurd (cc)
-      by (Some h) false e u = inl (h, refl, dim_same _ _ (stands (has_dimension (dim_of f.unit) h) u))
-        where
-          stands : (b : Bool) → not b && true ≡ false → b ≡ true
-          stands true e = refl
-          stands false e = absurd (cc)
-
-  figure_settled : (k : RecordKey) (o r : Option Record) (g : Figure) → as_figure o ≡ Some g → unsettles_record (applied m cs) k o r ≡ false
-      → ((h : Figure) × (as_figure r ≡ Some h) × (dim_of g.unit ≡ dim_of h.unit)) ⊎ (name_keeps (applied m cs) k g ≡ true)
-  figure_settled k None r g e u = absurd (cc)
-  figure_settled k (Some (entry.Span s)) r g e u = absurd (cc)
-  figure_settled k (Some (entry.Activity f)) r g e u = like k g (as_figure r) (ap (λ (x : Figure). not (keeps_dimension x r) && not (name_keeps (applied m cs) k x)) (sym (same_Some f g e)) ∙ u)
-  figure_settled k (Some (entry.Factor f)) r g e u = like k g (as_figure r) (ap (λ (x : Figure). not (keeps_dimension x r) && not (name_keeps (applied m cs) k x)) (sym (same_Some f g e)) ∙ u)
-  figure_settled k (Some (entry.Line c q)) r g e u = absurd (cc)
-  figure_settled k (Some (entry.Bind b)) r g e u = absurd (cc)
-  figure_settled k (Some (entry.Uncert a f)) r g e u = absurd (cc)
-
-  figures_stand : AreKept m (applied m cs)
-  figures_stand q g e = elim (kept_or_settled q) [
-    | inl kept ↦ inl (g, ap as_figure kept ∙ e, refl)
-    | inr u ↦ figure_settled q (get m q) (get (applied m cs) q) g e u
-  ]
-
--- ---- change by change
-
-next : (i : ℕ) → suc i ≡ i + 1
-next i = omega arith
-
-pub unsettled_at : (n m : Data) (cs : List Change) (i : ℕ) (c : Change) → slice_get cs i ≡ Some c → unsettles n m (drop i cs) ≡ unsettles_record n c.0 (get m c.0) c.1 || unsettles n m (drop (i + 1) cs)
-unsettled_at n m cs i c at = ap (unsettles n m) (drop_at cs i c at) ∙ ap (λ j. unsettles_record n c.0 (get m c.0) c.1 || unsettles n m (drop j cs)) (next i)
-
--- ---- what stays sound
-
-so_too : {A : Type 0} (f g : A → Bool) → ((x : A) → f x ≡ true → g x ≡ true) → (o : Option A) → option_map_or f o false ≡ true → option_map_or g o false ≡ true
-so_too f g h None e = e
-so_too f g h (Some x) e = h x e
-
-or_too : (a b c : Bool) → (b ≡ true → c ≡ true) → a || b ≡ true → a || c ≡ true
-or_too true b c h e = refl
-or_too false b c h e = h e
+or_or : {L : Type 0} (a b c : Bool) → (b ≡ true → (c ≡ true) ⊎ L) → a || b ≡ true → (a || c ≡ true) ⊎ L
+or_or true b c h e = inl refl
+or_or false b c h e = h e
 
 all_too : {A : Type 0} (f g : A → Bool) → ((x : A) → f x ≡ true → g x ≡ true) → (xs : List A) → list_all f xs ≡ true → list_all g xs ≡ true
 all_too f g h [] e = refl
 all_too f g h (x ∷ xs) e = both _ _ (h x (first_so (f x) _ e)) (all_too f g h xs (second_so (f x) _ e))
 
-module _ (m : Data) (w : IsWorkbook m) (cs : List Change) (settled : unsettles (applied m cs) m cs ≡ false) (is : IsConsistent (applied m cs)) where
+-- what the record of a binding takes
+taken_binding : (o : Option Record) (b : Binding) → as_binding o ≡ Some b → taken o ≡ taken_by b
+taken_binding None b e = absurd (cc)
+taken_binding (Some (entry.Span s)) b e = absurd (cc)
+taken_binding (Some (entry.Activity f)) b e = absurd (cc)
+taken_binding (Some (entry.Factor f)) b e = absurd (cc)
+taken_binding (Some (entry.Line c q)) b e = absurd (cc)
+taken_binding (Some (entry.Bind c)) b e = ap taken_by (same_Some c b e)
+taken_binding (Some (entry.Uncert a f)) b e = absurd (cc)
+
+date_dated : (s : Series) (y : ℕ) → date_of (dated s y) ≡ Some (s, y)
+date_dated (series.Activity name) y = refl
+date_dated (series.Factor name) y = refl
+
+-- ---- what stays sound
+
+module _ (m : Data) (cs : List Change) (same : list_any (has_line m) (map (λ d. d.0) cs) ≡ false) where
+  -- a line that was there has its equation
+  line_kept : (l : Name) (e : EqId) → line m l ≡ Some e → get (applied m cs) (key.Line l) ≡ get m (key.Line l)
+  line_kept l e h = elim (changed_or_kept m cs (key.Line l)) [
+    | inl changed ↦ absurd (both_ways _ (any_among (has_line m) (key.Line l) _ same changed) (ap is_some h))
+    | inr kept ↦ kept
+  ]
+
+  -- the binding takes a name whose figures were of a dimension and are not now
+  abbrev pub Lost : Binding → Type 0
+  Lost b = (s : Series) × (taken_by b ≡ Some s) × (d : Dim) × (are_of d (figures_of m s) ≡ true) × (are_of d (figures_of (applied m cs) s) ≡ false)
+
+  either_way : (b : Bool) → (b ≡ true) ⊎ (b ≡ false)
+  either_way true = inl refl
+  either_way false = inr refl
+
+  figures_or_lost : (s : Series) (b : Binding) (d : Dim) → taken_by b ≡ Some s → are_of d (figures_of m s) ≡ true → (are_of d (figures_of (applied m cs) s) ≡ true) ⊎ Lost b
+  figures_or_lost s b d takes_it h = elim (either_way (are_of d (figures_of (applied m cs) s))) [ inl still ↦ inl still | inr lost ↦ inr (s, takes_it, d, h, lost) ]
+
   line_too : (d : Dim) (l : Name) → is_line_of m d l ≡ true → is_line_of (applied m cs) d l ≡ true
   line_too d l h = by (line m l) refl h
     where
       by : (o : Option EqId) → line m l ≡ o → option_map_or (λ e. same_dim d (dim_of_output (output e))) o false ≡ true → is_line_of (applied m cs) d l ≡ true
       by None e h = absurd (cc)
-      by (Some q) e h = ap (λ o. option_map_or (λ e. same_dim d (dim_of_output (output e))) (as_line o) false) (line_kept m cs settled l q e) ∙ ap (λ o. option_map_or (λ e. same_dim d (dim_of_output (output e))) o false) e ∙ h
+      by (Some q) e h = ap (λ o. option_map_or (λ e. same_dim d (dim_of_output (output e))) (as_line o) false) (line_kept l q e) ∙ ap (λ o. option_map_or (λ e. same_dim d (dim_of_output (output e))) o false) e ∙ h
 
-  dimension_too : (d : Dim) (b : Binding) → gives_dimension m d b ≡ true → gives_dimension (applied m cs) d b ≡ true
-  dimension_too d (bound.Activity name) h = activities_kept (workbook_consistent w) is (figures_stand m cs settled) d name h
-  dimension_too d (bound.Factor name) h = factors_kept (workbook_consistent w) is (figures_stand m cs settled) d name h
-  dimension_too d (bound.Line name) h = line_too d name h
-  dimension_too d (bound.Prev name) h = line_too d name h
-  dimension_too d (bound.Sum names) h = all_too (is_line_of m d) (is_line_of (applied m cs) d) (line_too d) names h
-  dimension_too d (bound.Decay name) h = h
-  dimension_too d (bound.Key notation) h = h
+  dimension_or_lost : (d : Dim) (b : Binding) → gives_dimension m d b ≡ true → (gives_dimension (applied m cs) d b ≡ true) ⊎ Lost b
+  dimension_or_lost d (bound.Activity name) h = figures_or_lost (series.Activity name) (bound.Activity name) d refl h
+  dimension_or_lost d (bound.Factor name) h = figures_or_lost (series.Factor name) (bound.Factor name) d refl h
+  dimension_or_lost d (bound.Line name) h = inl (line_too d name h)
+  dimension_or_lost d (bound.Prev name) h = inl (line_too d name h)
+  dimension_or_lost d (bound.Sum names) h = inl (all_too (is_line_of m d) (is_line_of (applied m cs) d) (line_too d) names h)
+  dimension_or_lost d (bound.Decay name) h = inl h
+  dimension_or_lost d (bound.Key notation) h = inl h
 
-  decay_too : (b : Binding) → gives_decay m b ≡ true → gives_decay (applied m cs) b ≡ true
-  decay_too (bound.Decay name) h = factors_kept (workbook_consistent w) is (figures_stand m cs settled) dims.HalfLife name h
-  decay_too (bound.Activity name) h = h
-  decay_too (bound.Factor name) h = h
-  decay_too (bound.Line name) h = h
-  decay_too (bound.Prev name) h = h
-  decay_too (bound.Sum names) h = h
-  decay_too (bound.Key notation) h = h
+  decay_or_lost : (b : Binding) → gives_decay m b ≡ true → (gives_decay (applied m cs) b ≡ true) ⊎ Lost b
+  decay_or_lost (bound.Decay name) h = figures_or_lost (series.Factor name) (bound.Decay name) dims.HalfLife refl h
+  decay_or_lost (bound.Activity name) h = inl h
+  decay_or_lost (bound.Factor name) h = inl h
+  decay_or_lost (bound.Line name) h = inl h
+  decay_or_lost (bound.Prev name) h = inl h
+  decay_or_lost (bound.Sum names) h = inl h
+  decay_or_lost (bound.Key notation) h = inl h
 
-  bound_too : (d : Dim) (o : Option Binding) → is_bound m d o ≡ true → is_bound (applied m cs) d o ≡ true
-  bound_too d None h = h
-  bound_too d (Some b) h = by (same_dim d dims.Decay) h
+  bound_or_lost : (d : Dim) (o : Option Binding) → is_bound m d o ≡ true → (is_bound (applied m cs) d o ≡ true) ⊎ ((b : Binding) × (o ≡ Some b) × Lost b)
+  bound_or_lost d None h = inl h
+  bound_or_lost d (Some b) h = by (same_dim d dims.Decay) h
     where
-      by : (t : Bool) → (if t then gives_decay m b else gives_dimension m d b) ≡ true → (if t then gives_decay (applied m cs) b else gives_dimension (applied m cs) d b) ≡ true
-      by true h = decay_too b h
-      by false h = dimension_too d b h
+      named : {P : Type 0} → P ⊎ Lost b → P ⊎ ((c : Binding) × (Some b ≡ Some c) × Lost c)
+      named (inl so) = inl so
+      named (inr lost) = inr (b, refl, lost)
+
+      by : (t : Bool) → (if t then gives_decay m b else gives_dimension m d b) ≡ true
+          → ((if t then gives_decay (applied m cs) b else gives_dimension (applied m cs) d b) ≡ true) ⊎ ((c : Binding) × (Some b ≡ Some c) × Lost c)
+      by true h = named (decay_or_lost b h)
+      by false h = named (dimension_or_lost d b h)
 
   -- where its line and its binding stand as they were
-  sound_too : (p : Place) → get (applied m cs) (key.Line p.line) ≡ get m (key.Line p.line) → get (applied m cs) (key.Bind p.line p.parameter) ≡ get m (key.Bind p.line p.parameter) → is_sound m p ≡ true → is_sound (applied m cs) p ≡ true
+  sound_or_lost : (p : Place) → get (applied m cs) (key.Line p.line) ≡ get m (key.Line p.line) → get (applied m cs) (key.Bind p.line p.parameter) ≡ get m (key.Bind p.line p.parameter) → is_sound m p ≡ true
+      → (is_sound (applied m cs) p ≡ true) ⊎ ((b : Binding) × (binding m p.line p.parameter ≡ Some b) × Lost b)
   unfolding is_sound
-  sound_too p l b h =
-      (λ i. option_map_or (λ e. is_uncertainty p || binds_parameter (applied m cs) e p.parameter (as_binding (b i))) (as_line (l i)) false)
-      ∙ so_too (λ e. is_uncertainty p || binds_parameter m e p.parameter (binding m p.line p.parameter)) _
-      (λ e. or_too (is_uncertainty p) _ _ (so_too (λ (q : Quantity). is_bound m q.dim (binding m p.line p.parameter)) _ (λ q. bound_too q.dim (binding m p.line p.parameter)) (find (λ q. bytes_eq q.name p.parameter) (parameters e)))) (line m p.line) h
+  sound_or_lost p l b h = elim found [ inl so ↦ inl ((λ i. option_map_or (λ e. is_uncertainty p || binds_parameter (applied m cs) e p.parameter (as_binding (b i))) (as_line (l i)) false) ∙ so) | inr lost ↦ inr lost ]
+    where
+      found : (option_map_or (λ e. is_uncertainty p || binds_parameter (applied m cs) e p.parameter (binding m p.line p.parameter)) (line m p.line) false ≡ true) ⊎ ((b : Binding) × (binding m p.line p.parameter ≡ Some b) × Lost b)
+      found = so_or (λ e. is_uncertainty p || binds_parameter m e p.parameter (binding m p.line p.parameter)) _
+          (λ e. or_or (is_uncertainty p) _ _ (so_or (λ (q : Quantity). is_bound m q.dim (binding m p.line p.parameter)) _ (λ q. bound_or_lost q.dim (binding m p.line p.parameter)) (find (λ q. bytes_eq q.name p.parameter) (parameters e)))) (line m p.line) h
 
-  among_key : (p : Place) (k : RecordKey) → IsAmong k (map (λ d. d.0) cs) → IsAmong p (key_places (applied m cs) k) → IsAmong p (flat_map (key_places (applied m cs)) (map (λ d. d.0) cs))
-  among_key p k i h = among_flat (key_places (applied m cs)) k p (map (λ d. d.0) cs) i h
+-- ---- what is looked at
 
-  -- each fault stands under a changed key
-  by_uncertainty : (p : Place) → is_uncertainty p ≡ true → is_fault (applied m cs) p ≡ true → IsAmong p (flat_map (key_places (applied m cs)) (map (λ d. d.0) cs))
+module _ (m : Data) (w : IsWorkbook m) (cs : List Change) (now : IsConsistent (applied m cs)) (same : list_any (has_line m) (map (λ d. d.0) cs) ≡ false)
+    (t : Takers) (are : AreTakersOf m t) (names : List Series)
+    (named : (s : Series) (y : ℕ) → is_year y ≡ true → (c : Option Record) → find_key key_cmp (dated s y) cs ≡ Some c → IsAmong s names) where
+  abbrev pub looked_at : List Place
+  looked_at = flat_map (lost_places m (applied m cs) t) names ++ flat_map (key_places (applied m cs)) (map (λ d. d.0) cs)
+
+  -- a name that loses its dimension has a figure changed
+  lost_named : (s : Series) (d : Dim) → are_of d (figures_of m s) ≡ true → are_of d (figures_of (applied m cs) s) ≡ false → IsAmong s names
+  lost_named s d all none =
+      let found = lost_figure (workbook_consistent w) now s d all none in
+      let q = found.0 in
+      let at = of_series (workbook_consistent w) (dated s 0) q found.1 found.2 found.3 in
+      by q (at.2 ∙ ap (λ x. dated x.0 (year_of q)) (same_Some _ _ (sym at.1 ∙ date_dated s 0))) (in_time (year_of q) at.3) found.4 (find_key key_cmp q cs) refl
+    where
+      by : (q : RecordKey) → q ≡ dated s (year_of q) → is_year (year_of q) ≡ true → (figure (applied m cs) q ≡ figure m q → ⊥) → (o : Option (Option Record)) → find_key key_cmp q cs ≡ o → IsAmong s names
+      by q is timely changed None e = absurd (changed (ap as_figure (get-applied m cs q ∙ ap (λ o. over o (get m q)) e)))
+      by q is timely changed (Some c) e = named s (year_of q) timely c (ap (λ k. find_key key_cmp k cs) (sym is) ∙ e)
+
+  lost_looked_at : (p : Place) (b : Binding) → binding m p.line p.parameter ≡ Some b → Lost m cs same b → IsAmong p looked_at
+  lost_looked_at p b bound lost =
+      let s = lost.0 in
+      let k = key.Bind p.line p.parameter in
+      let taker = are s k (taken_binding (get m k) b bound ∙ lost.1) in
+      let place : IsAmong p (key_places (applied m cs) k) = inl refl in
+      among_left p _ _ (among_flat (lost_places m (applied m cs) t) s p names (lost_named s lost.2 lost.3 lost.4)
+      (subst (λ x. IsAmong p (if x then flat_map (key_places (applied m cs)) (takers_of t s) else [])) (sym (loses_so m (applied m cs) s lost.2 lost.3 lost.4))
+      (among_flat (key_places (applied m cs)) k p (takers_of t s) (taker_listed t s k taker.0 _ taker.3 taker.2) place)))
+
+  among_key : (p : Place) (k : RecordKey) → IsAmong k (map (λ d. d.0) cs) → IsAmong p (key_places (applied m cs) k) → IsAmong p looked_at
+  among_key p k i h = among_right p (flat_map (lost_places m (applied m cs) t) names) _ (among_flat (key_places (applied m cs)) k p (map (λ d. d.0) cs) i h)
+
+  by_uncertainty : (p : Place) → is_uncertainty p ≡ true → is_fault (applied m cs) p ≡ true → IsAmong p looked_at
   by_uncertainty p u h =
       let parts = left_behind (applied m cs) p u h in
       elim (changed_or_kept m cs (key.Uncert p.line)) [
         | inl changed ↦ among_key p (key.Uncert p.line) changed (inl (uncertain_place p u))
         | inr kept ↦
             let e = sound_line m p (sound_before w p (place_uncertain m p u ∙ ap (λ o. is_some (as_uncertainty o)) (sym kept) ∙ parts.0)) in
-            absurd (never_both _ e.0 (ap as_line (line_kept m cs settled p.line e.0 e.1) ∙ e.1) parts.1)
+            absurd (never_both _ e.0 (ap as_line (line_kept m cs same p.line e.0 e.1) ∙ e.1) parts.1)
       ]
 
-  by_parameter : (p : Place) → is_uncertainty p ≡ false → is_fault (applied m cs) p ≡ true → IsAmong p (flat_map (key_places (applied m cs)) (map (λ d. d.0) cs))
+  by_parameter : (p : Place) → is_uncertainty p ≡ false → is_fault (applied m cs) p ≡ true → IsAmong p looked_at
   by_parameter p u h = elim (changed_or_kept m cs (key.Bind p.line p.parameter)) [
     | inl changed ↦ among_key p (key.Bind p.line p.parameter) changed (inl refl)
     | inr kept ↦ unbound kept (changed_or_kept m cs (key.Line p.line)) (or_cases (is_some (binding (applied m cs) p.line p.parameter)) _ now_placed)
@@ -193,42 +196,49 @@ module _ (m : Data) (w : IsWorkbook m) (cs : List Change) (settled : unsettles (
       now_placed : is_parameter_place (applied m cs) p ≡ true
       now_placed = sym (place_parameter (applied m cs) p u) ∙ first_so (is_place (applied m cs) p) _ h
 
-      still : get (applied m cs) (key.Bind p.line p.parameter) ≡ get m (key.Bind p.line p.parameter) → get (applied m cs) (key.Line p.line) ≡ get m (key.Line p.line) → ⊥
+      -- neither its line nor its binding is changed
+      still : get (applied m cs) (key.Bind p.line p.parameter) ≡ get m (key.Bind p.line p.parameter) → get (applied m cs) (key.Line p.line) ≡ get m (key.Line p.line) → IsAmong p looked_at
       still b l =
           let placed : is_place m p ≡ true = place_parameter m p u ∙ (λ i. is_some (as_binding (sym b i)) || option_map_or (λ e. takes e p.parameter) (as_line (sym l i)) false) ∙ now_placed in
-          both_ways _ (not_so _ (second_so (is_place (applied m cs) p) _ h)) (sound_too p l b (sound_before w p placed))
+          elim (sound_or_lost m cs same p l b (sound_before w p placed)) [
+            | inl sound ↦ absurd (both_ways _ (not_so _ (second_so (is_place (applied m cs) p) _ h)) sound)
+            | inr lost ↦ lost_looked_at p lost.0 lost.1 lost.2
+          ]
         where
           not_so : (b : Bool) → not b ≡ true → b ≡ false
           not_so true e = sym e
           not_so false e = refl
 
       unbound : get (applied m cs) (key.Bind p.line p.parameter) ≡ get m (key.Bind p.line p.parameter) → IsAmong (key.Line p.line) (map (λ d. d.0) cs) ⊎ (get (applied m cs) (key.Line p.line) ≡ get m (key.Line p.line))
-          → (is_some (binding (applied m cs) p.line p.parameter) ≡ true) ⊎ (option_map_or (λ e. takes e p.parameter) (line (applied m cs) p.line) false ≡ true) → IsAmong p (flat_map (key_places (applied m cs)) (map (λ d. d.0) cs))
-      unbound b (inr l) r = absurd (still b l)
+          → (is_some (binding (applied m cs) p.line p.parameter) ≡ true) ⊎ (option_map_or (λ e. takes e p.parameter) (line (applied m cs) p.line) false ≡ true) → IsAmong p looked_at
+      unbound b (inr l) r = still b l
       unbound b (inl changed) (inl named) =
           let taken = sound_takes m p u (sound_before w p (place_parameter m p u ∙ or_left _ _ (ap (λ o. is_some (as_binding o)) (sym b) ∙ named))) in
-          absurd (still b (line_kept m cs settled p.line taken.0 taken.1))
+          still b (line_kept m cs same p.line taken.0 taken.1)
       unbound b (inl changed) (inr taken) =
           let e = with_equation (line (applied m cs) p.line) p.parameter taken in
           among_key p (key.Line p.line) changed (subst (λ o. IsAmong p (places_about (key.Line p.line) o)) (sym e.1) (takes_among p.line p.parameter (parameters e.0) e.2))
 
-  by_keys : (p : Place) → is_fault (applied m cs) p ≡ true → IsAmong p (flat_map (key_places (applied m cs)) (map (λ d. d.0) cs))
-  by_keys p h = by (is_uncertainty p) refl
+  -- where no line is changed, each fault is of a binding that takes what loses its dimension, or under a changed key
+  pub settled : (p : Place) → is_fault (applied m cs) p ≡ true → IsAmong p looked_at
+  settled p h = by (is_uncertainty p) refl
     where
-      by : (b : Bool) → is_uncertainty p ≡ b → IsAmong p (flat_map (key_places (applied m cs)) (map (λ d. d.0) cs))
+      by : (b : Bool) → is_uncertainty p ≡ b → IsAmong p looked_at
       by true u = by_uncertainty p u h
       by false u = by_parameter p u h
 
--- ---- what is looked at
+-- so it is of the keys that are set and those that are removed, one after the other
+module _ (m : Data) (w : IsWorkbook m) (cs : List Change) (now : IsConsistent (applied m cs)) (same : list_any (has_line m) (map (λ d. d.0) cs) ≡ false)
+    (t : Takers) (are : AreTakersOf m t) (puts gone : List Series)
+    (put : (s : Series) (y : ℕ) → is_year y && is_put (find_key key_cmp (dated s y) cs) ≡ true → IsAmong s puts)
+    (took : (s : Series) (y : ℕ) → is_year y && is_taken (find_key key_cmp (dated s y) cs) ≡ true → IsAmong s gone) where
+  named_either : (s : Series) (y : ℕ) → is_year y ≡ true → (c : Option Record) → find_key key_cmp (dated s y) cs ≡ Some c → IsAmong s (puts ++ gone)
+  named_either s y timely None at = among_right s puts gone (took s y (both _ _ timely (ap is_taken at)))
+  named_either s y timely (Some r) at = among_left s puts gone (put s y (both _ _ timely (ap is_put at)))
 
-module _ (m : Data) (w : IsWorkbook m) (cs : List Change) (is : IsConsistent (applied m cs)) where
-  all_looked_at : (p : Place) → is_fault (applied m cs) p ≡ true → IsAmong p (unsettled_places m cs ++ flat_map (key_places (applied m cs)) (map (λ d. d.0) cs))
-  all_looked_at p h = by (unsettles (applied m cs) m cs) refl
-    where
-      by : (b : Bool) → unsettles (applied m cs) m cs ≡ b → IsAmong p ((if b then flat_map (line_places m) (line_names m) else []) ++ flat_map (key_places (applied m cs)) (map (λ d. d.0) cs))
-      by true e = covered m w cs p h
-      by false e = by_keys m w cs e is p h
-
-  -- the least fault of the new data, from the old lines where they are unsettled, and then the changed keys
-  pub least_of_both : fold (considered (applied m cs)) (fold (considered (applied m cs)) None (unsettled_places m cs)) (flat_map (key_places (applied m cs)) (map (λ d. d.0) cs)) ≡ unsound_place (applied m cs)
-  least_of_both = sym (fold-append (considered (applied m cs)) None (unsettled_places m cs) _) ∙ unsound_found is _ all_looked_at
+  pub settled_after : (before after : Data) → before ≡ m → after ≡ applied m cs → (p : Place) → is_fault after p ≡ true
+      → IsAmong p ((flat_map (lost_places before after t) puts ++ flat_map (lost_places before after t) gone) ++ flat_map (key_places after) (map (λ d. d.0) cs))
+  settled_after before after is after_is = subst (λ (x : Data). (p : Place) → is_fault after p ≡ true → IsAmong p ((flat_map (lost_places x after t) puts ++ flat_map (lost_places x after t) gone) ++ flat_map (key_places after) (map (λ d. d.0) cs))) (sym is)
+      (subst (λ (n : Data). (p : Place) → is_fault n p ≡ true → IsAmong p ((flat_map (lost_places m n t) puts ++ flat_map (lost_places m n t) gone) ++ flat_map (key_places n) (map (λ d. d.0) cs))) (sym after_is)
+      (λ p h. subst (λ ps. IsAmong p (ps ++ flat_map (key_places (applied m cs)) (map (λ d. d.0) cs))) (flat_map-append (lost_places m (applied m cs) t) puts gone)
+      (settled m w cs now same t are (puts ++ gone) named_either p h)))

@@ -11,3 +11,6 @@ pub mod Series
 pub mod Calendar
 pub mod Brackets
 pub mod Lasting
+pub mod Numbered
+pub mod Takers
+pub mod Taken

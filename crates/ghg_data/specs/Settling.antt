@@ -1,48 +1,40 @@
--- Changes that may leave a binding unsound though none is about it or its line.
-use Rattle.std.specs.Prelude.{Bool, true, false, not, ◌&&◌, List, [], Option, Some, None, if◌then◌else◌}
+-- What may leave a binding unsound that no change is about: a line that is changed, and an activity or a factor
+-- that loses its dimension.
+use Rattle.std.specs.Prelude.{◌≡◌, Bool, true, false, not, List, [], ◌++◌, Option, is_some, fold, if◌then◌else◌}
 use Rattle.std.specs.List.{flat_map, list_any}
-use Rattle.std.specs.Option.{option_map_or}
-use Rattle.std.specs.FinMap.{get}
 use Rattle.ghg_units.specs.declared.row.Figure.{Figure}
 use Rattle.ghg_units.specs.Units.{dim_of}
 use Rattle.ghg_definitions.specs.declared.place.Place.{Place}
-use Rattle.ghg_definitions.specs.declared.record.Record.{Record}
-use Rattle.ghg_definitions.specs.declared.record.Record.TheVariants as entry
 use Rattle.ghg_definitions.specs.declared.record.RecordKey.{RecordKey}
 use Rattle.ghg_definitions.specs.declared.record.RecordKey.TheVariants as key
-use Rattle.ghg_definitions.specs.Data.{Data, as_figure, line_names}
-use Rattle.ghg_definitions.specs.Rules.{activities, are_of, factors, has_dimension}
-use Rattle.ghg_data.specs.Changes.{Change, applied}
-use Rattle.ghg_data.specs.Faults.{line_places}
+use Rattle.ghg_definitions.specs.Data.{Data, line}
+use Rattle.ghg_definitions.specs.Listed.{IsListed}
+use Rattle.ghg_definitions.specs.Rules.{activities, are_of, factors}
+use Rattle.ghg_data.specs.declared.series.Series.{Series}
+use Rattle.ghg_data.specs.declared.series.Series.TheVariants as series
+use Rattle.ghg_data.specs.declared.takers.Takers.{Takers}
+use Rattle.ghg_data.specs.Faults.{considered, is_fault, key_places}
+use Rattle.ghg_data.specs.Takers.{takers_of}
 
--- a figure of the same dimension stands in its place
-abbrev pub keeps_dimension : Figure → Option Record → Bool
-keeps_dimension f c = option_map_or (has_dimension (dim_of f.unit)) (as_figure c) false
+-- the figures of all records of an activity or a factor
+abbrev pub figures_of : Data → Series → List Figure
+figures_of m (series.Activity name) = activities m name
+figures_of m (series.Factor name) = factors m name
 
--- the activity or factor of the key has figures, all of the dimension of this one
-abbrev pub name_keeps : Data → RecordKey → Figure → Bool
-name_keeps n key.Span f = false
-name_keeps n (key.Activity name year) f = are_of (dim_of f.unit) (activities n name)
-name_keeps n (key.Factor name start) f = are_of (dim_of f.unit) (factors n name)
-name_keeps n (key.Line name) f = false
-name_keeps n (key.Bind line parameter) f = false
-name_keeps n (key.Uncert line) f = false
+-- some figure that it has in m is of a dimension of which its figures in n are not
+abbrev pub loses_dimension : Data → Data → Series → Bool
+loses_dimension m n s = list_any (λ f. not (are_of (dim_of f.unit) (figures_of n s))) (figures_of m s)
 
--- a figure goes or changes its dimension, and n, which are the data then, have none of the dimension under
--- its name; or a line that was there is changed
-abbrev pub unsettles_record : Data → RecordKey → Option Record → Option Record → Bool
-unsettles_record n k None c = false
-unsettles_record n k (Some (entry.Span s)) c = false
-unsettles_record n k (Some (entry.Activity f)) c = not (keeps_dimension f c) && not (name_keeps n k f)
-unsettles_record n k (Some (entry.Factor f)) c = not (keeps_dimension f c) && not (name_keeps n k f)
-unsettles_record n k (Some (entry.Line category e)) c = true
-unsettles_record n k (Some (entry.Bind b)) c = false
-unsettles_record n k (Some (entry.Uncert activity factor)) c = false
+-- the places of the bindings that take it, where it does so
+abbrev pub lost_places : Data → Data → Takers → Series → List Place
+lost_places m n t s = if loses_dimension m n s then flat_map (key_places n) (takers_of t s) else []
 
--- some change does so to what its key had in m, where n are the data once all changes are made
-abbrev pub unsettles : Data → Data → List Change → Bool
-unsettles n m cs = list_any (λ c. unsettles_record n c.0 (get m c.0) c.1) cs
+-- the key is that of a line that is present
+abbrev pub has_line : Data → RecordKey → Bool
+has_line m (key.Line name) = is_some (line m name)
+has_line m _ = false
 
--- the places to look at beside those that changed keys are about: none where all is settled
-abbrev pub unsettled_places : Data → List Change → List Place
-unsettled_places m cs = if unsettles (applied m cs) m cs then flat_map (line_places m) (line_names m) else []
+-- the least fault once some places were looked at, which with those that these keys are about have each fault
+abbrev pub HasLooked : Data → List RecordKey → Option Place → Option Place → Type 0
+HasLooked n ks old new = (ps : List Place) × (new ≡ fold (considered n) old ps) ×
+    ((p : Place) → is_fault n p ≡ true → IsListed p (ps ++ flat_map (key_places n) ks))

@@ -11,17 +11,21 @@ ghost use Rattle.ghg_definitions.specs.Rules.{dim_of_output, gives_decay, gives_
 ghost use Rattle.ghg_definitions.specs.Sound.{IsConsistent, IsWorkbook};
 ghost use Rattle.ghg_data.specs.Changes.{applied};
 ghost use Rattle.ghg_data.specs.Faults.{considered, dim_of_place, is_fault, key_places, line_places, uncertainty_place};
-ghost use Rattle.ghg_data.specs.Settling.{unsettled_places};
+ghost use Rattle.ghg_data.specs.Settling.{HasLooked, lost_places};
+ghost use Rattle.ghg_data.specs.Takers.{takers_of};
 
 use crate::draft::{Draft, equation_in};
 use crate::edits::Edits;
 use crate::holdings::Holdings;
 use crate::measures::{is_activity_of, is_factor_of};
 use crate::parameters::{name_of, params_of};
-use crate::unsettled::unsettles;
+use crate::series::Series;
+use crate::takers::Takers;
+use crate::unsettled::{has_any_line, loses_dimension};
 use ghg_definitions::{Place, RecordKey};
 use ghg_equations::{Dim, EqId, Output, Param, equation};
 use ghg_units::{Binding, Name, ParamName};
+use std::alloc::Global;
 use std::cmp::Ordering;
 
 fn dim_of_output(output: Output) -> Dim
@@ -219,20 +223,59 @@ fn consider_lines(draft: &Draft<'_>, least: &mut Option<Place>, holdings: &Holdi
     }
 }
 
-// Looks at each parameter of the lines before the edits, unless what no edit is about stays sound.
+// Looks at the bindings that take an activity or a factor.
+fn consider_takers(draft: &Draft<'_>, least: &mut Option<Place>, takers: &Takers, series: &Series)
+    ensures { least.new ≡ fold (considered draft.now) least.old
+        (flat_map (key_places draft.now) (takers_of takers.now series.now)) }
+{
+    for number in 0..takers.count(series) {
+        if let Some(key) = takers.key(series, number) {
+            consider_key(draft, least, key);
+        }
+    }
+}
+
+// Looks at the bindings that take an activity or a factor which loses its dimension.
+fn consider_lost(
+    before: &Draft<'_>,
+    draft: &Draft<'_>,
+    least: &mut Option<Place>,
+    takers: &Takers,
+    names: &[Series],
+)
+    ensures { least.new ≡ fold (considered draft.now) least.old
+        (flat_map (lost_places before.now draft.now takers.now) names.now) }
+{
+    for series in names {
+        if loses_dimension(before, draft, series) {
+            consider_takers(draft, least, takers, series);
+        }
+    }
+}
+
+// Looks at what no edit is about and the edits may leave unsound: each parameter of the lines before them where
+// one of these is edited, and else the bindings that take what loses its dimension.
 fn consider_unsettled(
+    alloc: Global,
     draft: &Draft<'_>,
     least: &mut Option<Place>,
     holdings: &Holdings,
     edits: &Edits,
 )
-    requires { draft.now ≡ applied holdings.now.content edits.now }
-    ensures { least.new ≡ fold (considered draft.now) least.old
-        (unsettled_places holdings.now.content edits.now) }
+    requires workbook { IsWorkbook holdings.now.content }
+    requires consistent { IsConsistent draft.now }
+    requires draft { draft.now ≡ applied holdings.now.content edits.now }
+    ensures { HasLooked draft.now (map (λ c. c.0) edits.now) least.old least.new }
 {
-    if unsettles(draft, holdings, edits) {
+    if has_any_line(holdings, edits.keys()) {
         consider_lines(draft, least, holdings);
+        return;
     }
+    let none = Edits::new(alloc);
+    let before = Draft::of(holdings, &none);
+    let takers = holdings.takers();
+    consider_lost(&before, draft, least, takers, edits.series_put());
+    consider_lost(&before, draft, least, takers, edits.series_taken());
 }
 
 // Looks at the places that changed keys are about.
@@ -245,14 +288,14 @@ fn consider_keys(draft: &Draft<'_>, least: &mut Option<Place>, keys: &[RecordKey
 }
 
 /// The least place that is unsound once the edits are made.
-pub(crate) fn unsound_place(holdings: &Holdings, edits: &Edits) -> Option<Place>
+pub(crate) fn unsound_place(alloc: Global, holdings: &Holdings, edits: &Edits) -> Option<Place>
     requires workbook { IsWorkbook holdings.now.content }
     requires consistent { IsConsistent (applied holdings.now.content edits.now) }
     ensures { result ≡ unsound_place (applied holdings.now.content edits.now) }
 {
     let draft = Draft::of(holdings, edits);
     let mut least = None;
-    consider_unsettled(&draft, &mut least, holdings, edits);
+    consider_unsettled(alloc, &draft, &mut least, holdings, edits);
     consider_keys(&draft, &mut least, edits.keys());
     least
 }

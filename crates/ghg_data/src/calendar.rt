@@ -1,6 +1,6 @@
 //! The years of the records of each activity and factor, and the places of these records.
 
-ghost use Rattle.std.specs.Prelude.{◌≡◌, ℕ, ◌+◌, ◌≤◌, ◌<◌, true, false, is_some, option_and_then, option_copied, OnOk, Some};
+ghost use Rattle.std.specs.Prelude.{◌≡◌, ℕ, ◌+◌, ◌≤◌, ◌<◌, true, false, is_some, map, option_and_then, option_copied, OnOk, Some};
 ghost use Rattle.std.specs.Map.{lookup};
 ghost use Rattle.indexmap.specs.IndexMap.{spare};
 ghost use Rattle.ghg_data.specs.declared.series.Series.{Series};
@@ -77,7 +77,9 @@ impl Calendar {
     }
 
     /// The series that have years, each once.
-    pub(crate) fn series(&self) -> &[Series] {
+    pub(crate) fn series(&self) -> &[Series]
+        ensures { result.now ≡ map (λ e. e.0) self.now.columns.entries }
+    {
         self.columns.keys().as_slice()
     }
 

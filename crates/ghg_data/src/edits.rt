@@ -1,13 +1,15 @@
 //! Edits of a book.
 
-ghost use Rattle.std.specs.Prelude.{◌≡◌, ℕ, ◌^◌, ◌<◌, ◌&&◌, [], Some, length, map, slice_get, option_copied, OnOk, OnErr};
+ghost use Rattle.std.specs.Prelude.{◌≡◌, ℕ, ◌^◌, ◌<◌, ◌&&◌, true, [], Some, length, map, slice_get, option_copied, OnOk, OnErr};
 ghost use Rattle.std.specs.FinMap.{find};
 ghost use Rattle.std.specs.List.{IsDistinct};
 ghost use Rattle.std.specs.Ordering.{eq_by_cmp};
 ghost use Rattle.ghg_definitions.specs.declared.record.RecordKey.TheVariants as key;
 ghost use Rattle.ghg_definitions.specs.Data.{Data, key_cmp};
+ghost use Rattle.ghg_definitions.specs.Listed.{IsListed};
 ghost use Rattle.ghg_definitions.specs.Rows.{with_record};
 ghost use Rattle.ghg_data.specs.Calendar.{is_put, is_taken};
+ghost use Rattle.ghg_data.specs.declared.series.Series.{Series};
 ghost use Rattle.ghg_data.specs.Series.{dated};
 ghost use Rattle.ghg_data.specs.Changes.{ChangesAlso, applied};
 ghost use Rattle.ghg_units.specs.Year.{is_year};
@@ -144,7 +146,10 @@ impl Edits {
     }
 
     /// The series of which a record is set, each once.
-    pub(crate) fn series_put(&self) -> &[Series] {
+    pub(crate) fn series_put(&self) -> &[Series]
+        ensures { (s : Series) (y : ℕ) → is_year y && is_put
+            (find key_cmp (dated s y) self.now) ≡ true → IsListed s result.now }
+    {
         self.put.series()
     }
 
@@ -154,6 +159,14 @@ impl Edits {
             (find key_cmp (dated series.now y) self.now) }
     {
         self.taken.years(series)
+    }
+
+    /// The series of which a record is removed, each once.
+    pub(crate) fn series_taken(&self) -> &[Series]
+        ensures { (s : Series) (y : ℕ) → is_year y && is_taken
+            (find key_cmp (dated s y) self.now) ≡ true → IsListed s result.now }
+    {
+        self.taken.series()
     }
 
     /// The changes themselves.

@@ -8,6 +8,8 @@ ghost use Rattle.ghg_definitions.specs.Data.{key_cmp, line_names};
 ghost use Rattle.ghg_definitions.specs.Rows.{with_record};
 ghost use Rattle.ghg_data.specs.Calendar.{ArePlacesOf, HasSameDates, IsCalendarOf, IsNoted};
 ghost use Rattle.ghg_data.specs.Series.{dated};
+ghost use Rattle.ghg_data.specs.Taken.{taken};
+ghost use Rattle.ghg_data.specs.Takers.{AreTakersOf, room};
 ghost use Rattle.ghg_data.specs.Changes.{applied};
 ghost use Rattle.ghg_roots.specs.Decay.{decay_bounds};
 ghost use Rattle.ghg_units.specs.WellFormed.{IsHalfLife};
@@ -21,6 +23,7 @@ use crate::draft::span_in;
 use crate::edits::Edits;
 use crate::names::change_names;
 use crate::series::Series;
+use crate::takers::{Takers, taken};
 use crate::year_set::YearSet;
 use ghg_definitions::{Record, RecordKey};
 use ghg_interval::Interval;
@@ -30,12 +33,13 @@ use std::alloc::{AllocError, Global};
 use std::marker::Model;
 
 /// Records by their keys with the names of the lines in order, the years and places of the records of each
-/// activity and factor and the brackets of half-lives, and room for more.
+/// activity and factor, the bindings that take it and the brackets of half-lives, and room for more.
 #[derive(Drop)]
 pub(crate) struct Holdings {
     records: IndexMap<RecordKey, Record>,
     lines: Vec<Name>,
     calendar: Calendar,
+    takers: Takers,
     brackets: Brackets,
 }
 
@@ -47,6 +51,7 @@ impl Model for Holdings {
     ghost use Rattle.ghg_definitions.specs.Data.{key_cmp, line_names};
     ghost use Rattle.ghg_data.specs.Calendar.{ArePlacesOf, IsCalendarOf};
     ghost use Rattle.ghg_data.specs.Shelf.{Shelf, shelf_code};
+    ghost use Rattle.ghg_data.specs.Takers.{AreTakersOf, room};
 
     ghost Value = { Shelf };
 
@@ -55,12 +60,12 @@ impl Model for Holdings {
     ghost view = { λ h. record {
       content = from_entries h.records.entries;
       spare = min (spare h.records)
-          (min (vec_capacity h.lines - vec_len h.lines) (spare h.calendar.columns));
+          (min (vec_capacity h.lines - vec_len h.lines) (min (spare h.calendar.columns) (room h.takers)));
     } };
 
     ghost invariant = { λ h. (h.lines.items ≡ line_names (from_entries h.records.entries)) × IsCalendarOf
         (λ k. is_some (get {R = key_cmp} (from_entries h.records.entries) k)) h.calendar ×
-        ArePlacesOf h.records.entries h.calendar };
+        ArePlacesOf h.records.entries h.calendar × AreTakersOf (from_entries h.records.entries) h.takers };
 }
 
 impl Holdings {
@@ -72,6 +77,7 @@ impl Holdings {
             records: IndexMap::new(alloc),
             lines: Vec::new(alloc),
             calendar: Calendar::new(alloc),
+            takers: Takers::new(alloc),
             brackets: Brackets::new(),
         }
     }
@@ -113,6 +119,13 @@ impl Holdings {
         self.calendar.years(series)
     }
 
+    /// The bindings that take each activity and factor.
+    pub(crate) fn takers(&self) -> &Takers
+        ensures { AreTakersOf self.now.content result.now }
+    {
+        &self.takers
+    }
+
     /// The bracket of the yearly decay factor of a half-life.
     pub(crate) fn decay_bracket(&self, half_life: u32) -> Interval
         requires { IsHalfLife half_life }
@@ -132,6 +145,7 @@ impl Holdings {
         self.records.reserve(additional)?;
         self.lines.reserve(additional)?;
         self.calendar.reserve(additional)?;
+        self.takers.reserve(additional)?;
         let after = Window::of(span);
         reserve_slots(&self.records, &mut self.calendar, edits, before, after)
     }
@@ -142,7 +156,12 @@ impl Holdings {
         ensures { self.new.content ≡ applied self.old.content edits }
     {
         change_names(&mut self.lines, &edits);
-        change_records(&mut self.records, &mut self.calendar, edits.into_changes());
+        change_records(
+            &mut self.records,
+            &mut self.calendar,
+            &mut self.takers,
+            edits.into_changes(),
+        );
     }
 }
 
@@ -199,41 +218,53 @@ fn make_slots(
     Ok(())
 }
 
-// Makes the changes of records, and notes their years and places. It takes no memory.
+// Makes the changes of records, and notes their years and places and what they take. It takes no memory.
 fn change_records(
     records: &mut IndexMap<RecordKey, Record>,
     calendar: &mut Calendar,
+    takers: &mut Takers,
     mut changes: IndexMap<RecordKey, Option<Record>>,
 )
     requires room { length changes.entries ≤ spare records.old }
     requires years_room { length changes.entries ≤ spare calendar.old.columns }
+    requires takers_room { length changes.entries ≤ room takers.old }
     requires years { IsCalendarOf (λ k. is_some
         (finite.get {R = key_cmp} (from_entries records.old.entries) k)) calendar.old }
     requires places { ArePlacesOf records.old.entries calendar.old }
+    requires takers { AreTakersOf (from_entries records.old.entries) takers.old }
     ensures content { from_entries records.new.entries ≡ applied
         (from_entries records.old.entries) changes.entries }
     ensures years { IsCalendarOf (λ k. is_some
         (finite.get {R = key_cmp} (from_entries records.new.entries) k)) calendar.new }
     ensures places { ArePlacesOf records.new.entries calendar.new }
+    ensures takers { AreTakersOf (from_entries records.new.entries) takers.new }
 {
     while let Some((key, change)) = changes.pop() {
+        let now = taken(&change);
         match change {
-            Some(entry) => put_record(records, calendar, key, entry),
-            None => take_record(records, calendar, &key),
+            Some(entry) => {
+                let before = put_record(records, calendar, key, entry);
+                takers.note(&key, before, now);
+            }
+            None => {
+                let before = take_record(records, calendar, &key);
+                takers.note(&key, before, now);
+            }
         }
     }
 }
 
-// Gives a key a record.
+// Gives a key a record. Answers what the one that it had took.
 fn put_record(
     records: &mut IndexMap<RecordKey, Record>,
     calendar: &mut Calendar,
     key: RecordKey,
     entry: Record,
-)
+) -> Option<Series>
     requires room { 0 < spare records.old }
     requires years_room { 0 < spare calendar.old.columns }
     requires places { ArePlacesOf records.old.entries calendar.old }
+    ensures taken { result ≡ taken (finite.get {R = key_cmp} (from_entries records.old.entries) key) }
     ensures content { from_entries records.new.entries ≡ with_record
         (from_entries records.old.entries) key (Some entry) }
     ensures dates { IsNoted calendar.old calendar.new key true }
@@ -242,14 +273,19 @@ fn put_record(
     ensures years_room { spare calendar.old.columns ≤ spare calendar.new.columns + 1 }
 {
     let (place, before) = records.insert_full(key, entry).unwrap();
-    drop(before);
     calendar.note(&key, Some(place));
+    taken(&before)
 }
 
-// Takes the record of a key. The last one comes to stand in its place.
-fn take_record(records: &mut IndexMap<RecordKey, Record>, calendar: &mut Calendar, key: &RecordKey)
+// Takes the record of a key. Answers what it took. The last one comes to stand in its place.
+fn take_record(
+    records: &mut IndexMap<RecordKey, Record>,
+    calendar: &mut Calendar,
+    key: &RecordKey,
+) -> Option<Series>
     requires years_room { 0 < spare calendar.old.columns }
     requires places { ArePlacesOf records.old.entries calendar.old }
+    ensures taken { result ≡ taken (finite.get {R = key_cmp} (from_entries records.old.entries) key.now) }
     ensures content { from_entries records.new.entries ≡ with_record
         (from_entries records.old.entries) key.now None }
     ensures dates { IsNoted calendar.old calendar.new key.now false }
@@ -258,10 +294,11 @@ fn take_record(records: &mut IndexMap<RecordKey, Record>, calendar: &mut Calenda
     ensures years_room { spare calendar.old.columns ≤ spare calendar.new.columns + 1 }
 {
     calendar.note(key, None);
-    let Some((place, _, _)) = records.swap_remove_full(key) else {
-        return;
+    let Some((place, _, before)) = records.swap_remove_full(key) else {
+        return None;
     };
     if let Some((moved, _)) = records.get_index(place) {
         calendar.set_place(moved, place);
     }
+    taken(&Some(before))
 }

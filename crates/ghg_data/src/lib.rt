@@ -21,6 +21,7 @@ mod refusal;
 mod rows;
 mod series;
 mod slot_room;
+mod takers;
 mod unsettled;
 mod view;
 mod year_set;

@@ -49,7 +49,7 @@ pub(crate) fn planned_edits(
     ensures workbook { IfOk result (λ edits. IsWorkbook (applied holdings.now.content edits)) }
 {
     let progress = progress_of(alloc, holdings, rows)?;
-    judge(holdings, &progress, rest, kept_bytes)?;
+    judge(alloc, holdings, &progress, rest, kept_bytes)?;
     let Progress { edits, .. } = progress;
     Ok(edits)
 }
@@ -141,6 +141,7 @@ fn line_count_after(row: &Row, lines: usize) -> usize
 
 // Whether the records with all edits made keep the rules that see them whole.
 fn judge(
+    alloc: Global,
     holdings: &Holdings,
     progress: &Progress,
     rest: Option<Rule>,
@@ -162,7 +163,7 @@ fn judge(
         return Err(PlanRefusal::Rule(rule));
     }
     let edits = &progress.edits;
-    if let Some(place) = unsound_place(holdings, edits) {
+    if let Some(place) = unsound_place(alloc, holdings, edits) {
         return Err(PlanRefusal::Rule(Rule::BadBinding(place.line, place.parameter)));
     }
     let draft = Draft::of(holdings, edits);

@@ -1,67 +1,38 @@
-//! Whether edits may leave a binding unsound that none of them is about.
+//! What edits may leave unsound though none is about it.
 
 ghost use Rattle.std.specs.Prelude.{◌≡◌, option_copied};
-ghost use Rattle.ghg_data.specs.Settling.{keeps_dimension, name_keeps, unsettles, unsettles_record};
+ghost use Rattle.std.specs.List.{list_any};
+ghost use Rattle.ghg_data.specs.Settling.{has_line, loses_dimension};
 
-use crate::draft::Draft;
-use crate::edits::Edits;
+use crate::draft::{Draft, equation_in};
 use crate::holdings::Holdings;
-use crate::measures::{is_activity_of, is_factor_of};
-use ghg_definitions::{Record, RecordKey};
-use ghg_units::Figure;
+use crate::measures::{NO_YEAR, is_series_of};
+use crate::series::Series;
+use ghg_definitions::RecordKey;
 
-// A figure of the same dimension stands in its place.
-fn keeps_dimension(figure: &Figure, change: &Option<Record>) -> bool
-    ensures { result ≡ keeps_dimension figure.now change.now }
+// The key is that of a line that is present.
+fn has_line(holdings: &Holdings, key: &RecordKey) -> bool
+    ensures { result ≡ has_line holdings.now.content key.now }
 {
-    match change {
-        Some(Record::Activity(other) | Record::Factor(other)) => {
-            ghg_units::dim(figure.unit) == ghg_units::dim(other.unit)
-        }
-        _ => false,
-    }
-}
-
-// The activity or factor of the key has figures, all of the dimension of this one.
-fn name_keeps(draft: &Draft<'_>, key: &RecordKey, figure: &Figure) -> bool
-    ensures { result ≡ name_keeps draft.now key.now figure.now }
-{
-    let dim = ghg_units::dim(figure.unit);
     match key {
-        RecordKey::Activity(name, _) => is_activity_of(draft, dim, name),
-        RecordKey::Factor(name, _) => is_factor_of(draft, dim, name),
+        RecordKey::Line(_) => equation_in(holdings.get(key)).is_some(),
         _ => false,
     }
 }
 
-// A figure goes or changes its dimension, and none of the dimension is left under its name; or a line that
-// was there is changed.
-fn unsettles_record(
-    draft: &Draft<'_>,
-    key: &RecordKey,
-    entry: Option<&Record>,
-    change: &Option<Record>,
-) -> bool
-    ensures { result ≡ unsettles_record draft.now key.now (option_copied entry.entry) change.now }
+/// Some of the keys is that of a line that is present.
+pub(crate) fn has_any_line(holdings: &Holdings, keys: &[RecordKey]) -> bool
+    ensures { result ≡ list_any (λ k. has_line holdings.now.content k) keys.now }
 {
-    match entry {
-        Some(Record::Activity(figure) | Record::Factor(figure)) => {
-            !keeps_dimension(figure, change) && !name_keeps(draft, key, figure)
-        }
-        Some(Record::Line(_, _)) => true,
-        _ => false,
-    }
+    keys.iter().any(|key| has_line(holdings, key))
 }
 
-/// Some edit does so to what its key has. It takes a few look-ups for each edit.
-pub(crate) fn unsettles(draft: &Draft<'_>, holdings: &Holdings, edits: &Edits) -> bool
-    ensures { result ≡ unsettles draft.now holdings.now.content edits.now }
+/// The activity or factor has figures before, and has none or others than of their dimension after.
+pub(crate) fn loses_dimension(before: &Draft<'_>, after: &Draft<'_>, series: &Series) -> bool
+    ensures { result ≡ loses_dimension before.now after.now series.now }
 {
-    for i in 0..edits.len() {
-        let (key, change) = edits.at(i);
-        if unsettles_record(draft, key, holdings.get(key), change) {
-            return true;
-        }
+    match before.other_year(&series.dated(NO_YEAR)) {
+        Some(figure) => !is_series_of(after, ghg_units::dim(figure.unit), series),
+        None => false,
     }
-    false
 }

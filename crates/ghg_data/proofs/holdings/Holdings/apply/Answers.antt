@@ -11,4 +11,5 @@ invariant_of-self c =
           ∙ sym (ap line_names (c.change_records.ensures.content ∙ ap (applied m) c.into_changes.ensures)),
       c.change_records.ensures.years,
       c.change_records.ensures.places,
+      c.change_records.ensures.takers,
     )

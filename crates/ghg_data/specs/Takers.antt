@@ -1,0 +1,58 @@
+-- Which bindings take each activity and factor.
+use Rattle.std.specs.Prelude.{◌≡◌, ℕ, zero, suc, ◌<◌, Bool, false, ◌&&◌, List, [], ◌++◌, Option, Some, min}
+use Rattle.std.specs.FinMap.{get}
+use Rattle.std.specs.List.{cons_option}
+use Rattle.std.specs.Map.{lookup}
+use Rattle.std.specs.Ordering.{eq_by_cmp}
+use Rattle.indexmap.specs.IndexMap.{spare}
+use Rattle.ghg_definitions.specs.declared.record.RecordKey.{RecordKey}
+use Rattle.ghg_definitions.specs.Data.{Data, key_cmp}
+use Rattle.ghg_data.specs.declared.series.Series.{Series}
+use Rattle.ghg_data.specs.declared.takers.Taker.{Taker}
+use Rattle.ghg_data.specs.declared.takers.Takers.{Takers}
+use Rattle.ghg_data.specs.Numbered.{counted, numbered}
+use Rattle.ghg_data.specs.Series.{same_series}
+use Rattle.ghg_data.specs.Taken.{taken}
+
+abbrev pub same_taker : Taker → Taker → Bool
+same_taker a b = same_series a.series b.series && eq_by_cmp key_cmp a.key b.key
+
+-- the number that a key has under a series
+abbrev pub number_of : Takers → Series → RecordKey → Option ℕ
+number_of t s k = lookup (same_taker (record { series = s; key = k })) t.numbers.entries
+
+abbrev pub count_of : Takers → Series → ℕ
+count_of t s = counted t.counts.entries s
+
+abbrev pub key_at : Takers → Series → ℕ → Option RecordKey
+key_at t s i = numbered t.keys.entries s i
+
+-- the key has a number below the count, and stands under it
+abbrev pub IsTaker : Takers → Series → RecordKey → Type 0
+IsTaker t s k = (i : ℕ) × (number_of t s k ≡ Some i) × (i < count_of t s) × (key_at t s i ≡ Some k)
+
+-- each key of the one is one of the other
+abbrev pub KeepsTakers : Takers → Takers → Type 0
+KeepsTakers old new = (s : Series) (k : RecordKey) → IsTaker old s k → IsTaker new s k
+
+-- but for this key under this series
+abbrev pub KeepsOtherTakers : Takers → Takers → Series → RecordKey → Type 0
+KeepsOtherTakers old new series key = (s : Series) (k : RecordKey) →
+    same_series series s && eq_by_cmp key_cmp key k ≡ false → IsTaker old s k → IsTaker new s k
+
+-- the keys under the numbers below this one
+abbrev pub first_takers : Takers → Series → ℕ → List RecordKey
+first_takers t s zero = []
+first_takers t s (suc i) = first_takers t s i ++ cons_option (key_at t s i) []
+
+-- all keys of a series
+abbrev pub takers_of : Takers → Series → List RecordKey
+takers_of t s = first_takers t s (count_of t s)
+
+-- each record that takes an activity or a factor has its key there
+abbrev pub AreTakersOf : Data → Takers → Type 0
+AreTakersOf m t = (s : Series) (k : RecordKey) → taken (get m k) ≡ Some s → IsTaker t s k
+
+-- how many more takers fit without memory
+abbrev pub room : Takers → ℕ
+room t = min (spare t.keys) (min (spare t.numbers) (spare t.counts))
