@@ -1,8 +1,8 @@
 -- Which record of a factor is in force, by a search in the years of its records.
-use Rattle.std.proofs.Common.{◌≡◌, ◌≤◌, ◌<◌, ◌∙◌, ℕ, Bool, true, false, ◌&&◌, Option, Some, None, MatchOption, is_some, refl, sym, subst, arith}
+use Rattle.std.proofs.Common.{◌≡◌, inl, inr, ◌≤◌, ◌<◌, ◌+◌, ◌∙◌, ℕ, Bool, true, false, ◌&&◌, Option, Some, None, MatchOption, is_some, refl, sym, subst, arith}
 use Rattle.std.specs.FinMap.{get}
 use Rattle.std.specs.Option.{option_map}
-use Rattle.std.proofs.lemmas.Bool.{and_from as both, le-leb}
+use Rattle.std.proofs.lemmas.Bool.{and_from as both, cases_lt, le-leb}
 use Rattle.std.proofs.Math.Bool.{and-false}
 use Rattle.ghg_units.specs.Year.{is_year}
 use Rattle.ghg_units.specs.declared.row.Figure.{Figure}
@@ -14,6 +14,7 @@ use Rattle.ghg_definitions.specs.Lookups.{factor_key}
 use Rattle.ghg_definitions.specs.Sound.{IsRecord, IsWorkbook}
 use Rattle.ghg_definitions.specs.declared.record.RecordKey.{RecordKey}
 use Rattle.ghg_definitions.specs.Laws.{IsFactorInForce, IsLatest}
+use Rattle.ghg_data.specs.Lasting.{IsNextStart, NoneStartsBetween}
 use Rattle.ghg_definitions.proofs.InForce.{factors_in_force_are_latest, latest_in_force, none_in_force}
 
 record_starts : (name : Name) (start : ℕ) (r : Record) → IsRecord (key.Factor name start) r → is_some (as_figure (Some r)) ≡ is_year start && true
@@ -44,20 +45,43 @@ module _ (m : Data) (w : IsWorkbook m) (name : Name) where
     latest = λ y a b. none_so _ (begins_dated y ∙ sym (has y) ∙ found.2 y a b);
   }))
 
--- the record that is in force last is so from its start on
-pub stays_in_force : (m : Data) (name : Name) (last : ℕ) (o : Option RecordKey) → factor_key m name last ≡ o → (start : ℕ) → o ≡ Some (key.Factor name start) → (year : ℕ) → start ≤ year → year ≤ last → factor_key m name year ≡ Some (key.Factor name start)
-stays_in_force m name last o at start is year after until = by (subst (IsFactorInForce m name last) (at ∙ is) (factors_in_force_are_latest m name last))
+  -- and what a search for the next one finds
+  pub next_start : (years : ℕ → Bool) → ((y : ℕ) → years y ≡ is_year y && is_some (get m (key.Factor name y))) → (year : ℕ) (found : Option ℕ)
+      → MatchOption found ((y : ℕ) → year < y → years y ≡ false) (λ s. (year < s) × (years s ≡ true) × ((y : ℕ) → year < y → y < s → years y ≡ false))
+      → IsNextStart m name year found
+  next_start years has year None none = λ y l. none_so _ (begins_dated y ∙ sym (has y) ∙ none y l)
+  next_start years has year (Some s) found = (found.0, begins_dated s ∙ sym (has s) ∙ found.1, λ y a b. none_so _ (begins_dated y ∙ sym (has y) ∙ found.2 y a b))
+
+-- the record that is in force in a year begins no later
+pub begun : (m : Data) (name : Name) (now : ℕ) (o : Option RecordKey) → factor_key m name now ≡ o → (start : ℕ) → o ≡ Some (key.Factor name start) → start ≤ now
+begun m name now o at start is = by (subst (IsFactorInForce m name now) (at ∙ is) (factors_in_force_are_latest m name now))
   where
-    by : IsFactorInForce m name last (Some (key.Factor name start)) → factor_key m name year ≡ Some (key.Factor name start)
+    by : IsFactorInForce m name now (Some (key.Factor name start)) → start ≤ now
     by h =
         let same : h.0 ≡ start = cc (h.1) in
-        let was = subst (IsLatest m name last) same h.2 in
+        (subst (IsLatest m name now) same h.2).begun
+
+-- and it is so from its start on, until another starts
+pub stays_in_force : (m : Data) (name : Name) (now : ℕ) (o : Option RecordKey) → factor_key m name now ≡ o → (start : ℕ) → o ≡ Some (key.Factor name start)
+    → (last : ℕ) → NoneStartsBetween m name now (last + 1) → (year : ℕ) → start ≤ year → year ≤ last → factor_key m name year ≡ Some (key.Factor name start)
+stays_in_force m name now o at start is last none year after until = by (subst (IsFactorInForce m name now) (at ∙ is) (factors_in_force_are_latest m name now))
+  where
+    by : IsFactorInForce m name now (Some (key.Factor name start)) → factor_key m name year ≡ Some (key.Factor name start)
+    by h =
+        let same : h.0 ≡ start = cc (h.1) in
+        let was = subst (IsLatest m name now) same h.2 in
         latest_in_force m name year start (record {
           begun = after;
           present = was.present;
-          latest = λ y a b. was.latest y a (omega (arith, b, until));
+          latest = λ y a b. elim (cases_lt now y) [
+            | inl later ↦ none y later (omega (arith, b, until))
+            | inr not_later ↦ was.latest y a not_later
+          ];
         })
 
--- and where none is in force at last, none was before
-pub stays_out : (m : Data) (name : Name) (last : ℕ) → factor_key m name last ≡ None → (year : ℕ) → year ≤ last → factor_key m name year ≡ None
-stays_out m name last none year until = none_in_force m name year (λ start begun. subst (IsFactorInForce m name last) none (factors_in_force_are_latest m name last) start (omega (arith, begun, until)))
+-- where none is in force, none was before, and none is until one starts
+pub stays_out : (m : Data) (name : Name) (now : ℕ) → factor_key m name now ≡ None → (last : ℕ) → NoneStartsBetween m name now (last + 1) → (year : ℕ) → year ≤ last → factor_key m name year ≡ None
+stays_out m name now out last none year until = none_in_force m name year (λ start begun. elim (cases_lt now start) [
+  | inl later ↦ none start later (omega (arith, begun, until))
+  | inr not_later ↦ subst (IsFactorInForce m name now) out (factors_in_force_are_latest m name now) start not_later
+])

@@ -1,10 +1,13 @@
 -- Bits of words of 128 bits, after a change and in a search.
-use Rattle.std.proofs.Common.{◌≡◌, ◌⊎◌, inl, inr, ℕ, zero, suc, ◌+◌, ◌-◌, ◌*◌, ◌/◌, ◌%◌, ◌^◌, ◌≤◌, ◌<◌, min, max, Bool, true, false, cond, not, ◌&&◌, ◌||◌, ◌==◌, refl, sym, ap, ◌∙◌, bit_and, bit_or, arith, eqb-true}
-use Rattle.std.specs.Int.{bit_at, bit_not, trailing_zeros, w128}
-use Rattle.std.proofs.Math.Nat.{div-div-eq-div-mul, div-le_self}
-use Rattle.std.proofs.lemmas.Bool.{cases_lt, eqb-false}
-use Rattle.std.proofs.lemmas.Nat.{pow-add}
-use Rattle.std.proofs.lemmas.Nat.Bits.{bit_at-lt, bit_at-zero, bit_at_above, bit_at_and, bit_at_or, bit_at_not, bit_at_set_same, bit_at_set_other, bit_at_clear_same, bit_at_clear_other, bit_at-trailing_zeros}
+use Rattle.std.proofs.Common.{◌≡◌, ◌⊎◌, inl, inr, ℕ, zero, suc, ◌+◌, ◌-◌, ◌*◌, ◌/◌, ◌%◌, ◌^◌, ◌≤◌, ◌<◌, min, max, nat_lt, Bool, true, false, cond, not, ◌&&◌, ◌||◌, ◌==◌, refl, sym, ap, ◌∙◌, bit_and, bit_or, arith, eqb-true}
+use Rattle.std.specs.Int.{bit_at, bit_not, leading_zeros, trailing_zeros, w128}
+use Rattle.std.specs.Int.Count.{count_leading_zeros}
+use Rattle.std.proofs.Math.Bool.{and-true}
+use Rattle.std.proofs.Math.Nat.{div-div-eq-div-mul, div-eq_of_lt-le, div-le_self, mod-eq_of_lt, one-mul}
+use Rattle.std.proofs.Math.Pow.{pow-lt}
+use Rattle.std.proofs.lemmas.Bool.{and_parts, cases_lt, eqb-false, le-ltb, lt-ltb, ltb-true}
+use Rattle.std.proofs.lemmas.Nat.{leading_top, pow-add}
+use Rattle.std.proofs.lemmas.Nat.Bits.{bit_at-lt, bit_at-zero, bit_at_above, bit_at_and, bit_at_or, bit_at_not, bit_at_ones, bit_at_ones_above, bit_at_set_same, bit_at_set_other, bit_at_clear_same, bit_at_clear_other, bit_at-trailing_zeros}
 use Rattle.ghg_data.specs.YearSet.{has_bit}
 
 larger_bit : (a b : ℕ) → a < 2 → b < 2 → (max a b == 1) ≡ (a == 1) || (b == 1)
@@ -112,3 +115,53 @@ first_from n from p some = (omega arith, within (cases_lt (from + zeros) 128), a
     within : (from + zeros < 128) ⊎ (128 ≤ from + zeros) → from + zeros < 128
     within (inl low) = low
     within (inr high) = absurd (apart _ here (bit_at_above n 128 (from + zeros) p high))
+
+-- ---- a search from a place down
+
+-- what of a word stands below a place
+pub whole_below : (n below i : ℕ) → n < 2 ^ 128 → 128 ≤ below → has_bit n i ≡ has_bit n i && nat_lt i below
+whole_below n below i p h = by (cases_lt i below)
+  where
+    by : (i < below) ⊎ (below ≤ i) → has_bit n i ≡ has_bit n i && nat_lt i below
+    by (inl low) = sym (and-true (has_bit n i)) ∙ ap (λ b. has_bit n i && b) (sym (lt-ltb i below low))
+    by (inr high) =
+        let none : has_bit n i ≡ false = no_bit n i (bit_at_above n 128 i p (omega (arith, h, high))) in
+        none ∙ sym (ap (λ b. b && nat_lt i below) none)
+
+mask_bit : (below i : ℕ) → has_bit (2 ^ below - 1) i ≡ nat_lt i below
+mask_bit below i = by (cases_lt i below)
+  where
+    by : (i < below) ⊎ (below ≤ i) → has_bit (2 ^ below - 1) i ≡ nat_lt i below
+    by (inl low) = ap (λ n. n == 1) (bit_at_ones below i low) ∙ sym (lt-ltb i below low)
+    by (inr high) = ap (λ n. n == 1) (bit_at_ones_above below i high) ∙ sym (le-ltb i below high)
+
+pub masked_below : (n below i : ℕ) → below < 128 → has_bit (bit_and n (1 * 2 ^ below % 2 ^ 128 - 1)) i ≡ has_bit n i && nat_lt i below
+masked_below n below i within =
+    let e : 1 * 2 ^ below % 2 ^ 128 ≡ 2 ^ below = ap (λ a. a % 2 ^ 128) (one-mul (2 ^ below)) ∙ mod-eq_of_lt (pow-lt within) in
+    ap (λ a. has_bit (bit_and n (a - 1)) i) e ∙ bit_and_bit n (2 ^ below - 1) i ∙ ap (λ b. has_bit n i && b) (mask_bit below i)
+
+-- the highest bit of what stands below a place
+pub last_below : (n rest below : ℕ) → rest < 2 ^ 128 → ((i : ℕ) → has_bit rest i ≡ has_bit n i && nat_lt i below) → (rest ≡ 0 → ⊥)
+    → (127 - leading_zeros w128 rest < below) × (127 - leading_zeros w128 rest < 128) × (has_bit n (127 - leading_zeros w128 rest) ≡ true)
+    × ((i : ℕ) → 127 - leading_zeros w128 rest < i → i < below → has_bit n i ≡ false)
+last_below n rest below p is some = (ltb-true _ _ here.1, omega arith, here.0, above)
+  where
+    top : (j : ℕ) × (count_leading_zeros 128 rest + suc j ≡ 128) × (2 ^ j ≤ rest) × (rest < 2 ^ suc j)
+    top = leading_top 128 rest (omega (arith, some)) p
+
+    place : ℕ
+    place = 127 - leading_zeros w128 rest
+
+    at_top : top.0 ≡ place
+    at_top = omega (arith, top.1)
+
+    set_at_top : has_bit rest top.0 ≡ true
+    set_at_top =
+        let one : rest / 2 ^ top.0 ≡ 1 = div-eq_of_lt-le (2 ^ top.0) (omega (arith, top.2)) (omega (arith, top.3)) in
+        ap (λ q. q % 2 == 1) one
+
+    here : (has_bit n place ≡ true) × (nat_lt place below ≡ true)
+    here = and_parts _ _ (sym (is place) ∙ ap (has_bit rest) (sym at_top) ∙ set_at_top)
+
+    above : (i : ℕ) → place < i → i < below → has_bit n i ≡ false
+    above i high low = sym (and-true (has_bit n i)) ∙ ap (λ b. has_bit n i && b) (sym (lt-ltb i below low)) ∙ sym (is i) ∙ no_bit rest i (bit_at_above rest (suc top.0) i top.3 (omega (arith, at_top, high)))

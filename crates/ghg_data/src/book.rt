@@ -77,6 +77,11 @@ impl Records for Book {
         years.last_until(year)
     }
 
+    fn next_start(&self, name: &Name, year: u32) -> Option<u32> {
+        let years = self.holdings.years(&Series::Factor(*name));
+        years.first_after(year)
+    }
+
     fn decay_bracket(&self, half_life: u32) -> Interval {
         self.holdings.decay_bracket(half_life)
     }

@@ -1,11 +1,11 @@
 //! What activities, factors and half-lives give in a year.
 
-ghost use Rattle.std.specs.Prelude.{◌≡◌, IfSome, option_copied, pos};
+ghost use Rattle.std.specs.Prelude.{◌≡◌, ◌≤◌, ◌+◌, IfSome, option_copied, pos};
 ghost use Rattle.ghg_definitions.specs.Data.{figure};
 ghost use Rattle.ghg_definitions.specs.Lookups.{activity_input, decay_input, decay_of_figure, factor_input, input_of_amount, input_of_figure, input_of_key, zero_input};
 ghost use Rattle.ghg_definitions.specs.Sound.{IsWorkbook};
 ghost use Rattle.ghg_interval.specs.Bounds.{AreBounded, point};
-ghost use Rattle.ghg_data.specs.Lasting.{IsLasting};
+ghost use Rattle.ghg_data.specs.Lasting.{HasYear, IsLasting, NoneStartsBetween};
 ghost use Rattle.ghg_units.specs.Units.{converted};
 ghost use Rattle.ghg_units.specs.WellFormed.{IsAmountOf, IsFigure};
 
@@ -14,7 +14,7 @@ use crate::records::Records;
 use ghg_cell::Input;
 use ghg_definitions::{Record, RecordKey};
 use ghg_interval::Interval;
-use ghg_units::{Amount, Decimal, Figure, LATEST_YEAR, Name, NotationKey, Unit, to_interval};
+use ghg_units::{Amount, Decimal, Figure, Name, NotationKey, Unit, to_interval};
 
 /// What an activity's record of the year gives.
 pub(crate) fn activity<R: Records>(records: &R, name: &Name, year: u32) -> Input
@@ -42,16 +42,34 @@ pub(crate) fn factor<R: Records>(records: &R, name: &Name, year: u32) -> Input
     }
 }
 
-/// What a factor's record with the greatest start year gives.
-pub(crate) fn lasting_factor<R: Records>(records: &R, name: &Name) -> Lasting
-    ensures { IsLasting (R.content records.now) name.now result }
+/// What a factor gives in a year, with the years in which it gives it by the same record.
+pub(crate) fn lasting_factor<R: Records>(records: &R, name: &Name, year: u32) -> Lasting
+    ensures lasting { IsLasting (R.content records.now) name.now result }
+    ensures year { HasYear result year }
 {
-    match records.start_year(name, LATEST_YEAR) {
+    let last = year_before_next(records, name, year);
+    match records.start_year(name, year) {
         Some(first) => Lasting {
             first,
+            last,
             input: input(figure(records, &RecordKey::Factor(*name, first))),
         },
-        None => Lasting::blank(),
+        None => Lasting {
+            first: 0,
+            last,
+            input: Input::Blank,
+        },
+    }
+}
+
+// The year before that in which a factor's next record starts.
+fn year_before_next<R: Records>(records: &R, name: &Name, year: u32) -> u32
+    ensures after { year ≤ result }
+    ensures none { NoneStartsBetween (R.content records.now) name.now year (result + 1) }
+{
+    match records.next_start(name, year) {
+        Some(next) => next - 1,
+        None => u32::MAX,
     }
 }
 

@@ -12,7 +12,7 @@ ghost use Rattle.ghg_definitions.specs.Lookups.{activity, activity_input, decay,
 ghost use Rattle.ghg_definitions.specs.Sound.{IsWorkbook};
 ghost use Rattle.ghg_roots.specs.Decay.{decay_bounds};
 ghost use Rattle.ghg_units.specs.WellFormed.{IsHalfLife};
-ghost use Rattle.ghg_data.specs.Lasting.{IsLasting};
+ghost use Rattle.ghg_data.specs.Lasting.{HasYear, IsLasting, IsNextStart};
 
 use crate::lasting::Lasting;
 use crate::lookups;
@@ -60,6 +60,10 @@ pub trait Records {
         ensures start { option_map (λ start. key.Factor name.now start) result ≡ factor_key
             (content self.now) name.now year }
         ensures workbook { IsWorkbook (content self.now) };
+
+    /// The start year of a factor's first record that starts after a year; `None` exactly where none does.
+    fn next_start(&self, name: &Name, year: u32) -> Option<u32>
+        ensures { IsNextStart (content self.now) name.now year result };
 
     /// The bracket of the yearly decay factor of a half-life in whole years. It costs a look-up: the brackets
     /// were computed when the book was made.
@@ -123,11 +127,13 @@ pub trait Records {
         lookups::factor(self, name, year)
     }
 
-    /// What a factor gives from the start year of its last record on; a blank in all years where it has none.
-    final fn lasting_factor(&self, name: &Name) -> Lasting
-        ensures { IsLasting (content self.now) name.now result }
+    /// What a factor gives in a year, and in which years around it: from the start of the record that is in
+    /// force up to the next one's. Where none is in force, it is a blank up to the first one's start.
+    final fn lasting_factor(&self, name: &Name, year: u32) -> Lasting
+        ensures lasting { IsLasting (content self.now) name.now result }
+        ensures year { HasYear result year }
     {
-        lookups::lasting_factor(self, name)
+        lookups::lasting_factor(self, name, year)
     }
 
     /// The share of decaying waste that a year leaves, by the half-life that a factor has in the year: the

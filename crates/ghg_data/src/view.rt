@@ -72,6 +72,11 @@ impl<'a> Records for After<'a> {
         years.last_until(year)
     }
 
+    fn next_start(&self, name: &Name, year: u32) -> Option<u32> {
+        let years = self.draft.years(&Series::Factor(*name));
+        years.first_after(year)
+    }
+
     fn decay_bracket(&self, half_life: u32) -> Interval {
         self.draft.decay_bracket(half_life)
     }

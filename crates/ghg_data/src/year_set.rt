@@ -1,6 +1,6 @@
 //! Sets of years.
 
-ghost use Rattle.std.specs.Prelude.{◌≡◌, ℕ, ◌≤◌, ◌<◌, Bool, true, false, cond, not, ◌&&◌, ◌||◌, ◌==◌, ◌↔◌, IsTrue, MatchOption};
+ghost use Rattle.std.specs.Prelude.{◌≡◌, ℕ, ◌≤◌, ◌<◌, Bool, true, false, cond, not, ◌&&◌, ◌||◌, ◌==◌, ◌↔◌, IsTrue, MatchOption, nat_lt};
 ghost use Rattle.ghg_units.specs.Year.{is_year};
 ghost use Rattle.ghg_data.specs.YearSet.{HasNoYear, has_bit, has_place, has_year};
 
@@ -76,6 +76,18 @@ impl YearSet {
         }
     }
 
+    /// The least year that is after this one.
+    pub(crate) fn first_after(&self, year: u32) -> Option<u32>
+        ensures { MatchOption result ((y : ℕ) → year < y → has_year self.now y ≡ false)
+            (λ s. (year < s) × (has_year self.now s ≡ true) ×
+            ((y : ℕ) → year < y → y < s → has_year self.now y ≡ false)) }
+    {
+        match self.last_place(LATEST_YEAR.saturating_sub(year)) {
+            Some(place) => Some(LATEST_YEAR - place),
+            None => None,
+        }
+    }
+
     /// Whether it holds a year.
     pub(crate) fn has(&self, year: u32) -> bool
         ensures { result ≡ has_year self.now year }
@@ -99,6 +111,18 @@ impl YearSet {
             Some(place) => Some(WORD + place),
             None => None,
         }
+    }
+
+    // The last place below this one that is taken.
+    fn last_place(&self, below: u32) -> Option<u32>
+        ensures { MatchOption result ((i : ℕ) → i < below → has_place self.now i ≡ false)
+            (λ p. (p < below) × (has_place self.now p ≡ true) ×
+            ((i : ℕ) → p < i → i < below → has_place self.now i ≡ false)) }
+    {
+        if let Some(place) = last_bit(self.early, below.saturating_sub(WORD)) {
+            return Some(WORD + place);
+        }
+        last_bit(self.late, below.min(WORD))
     }
 }
 
@@ -135,4 +159,28 @@ fn next_bit(word: u128, from: u32) -> Option<u32>
         return None;
     }
     Some(from + rest.trailing_zeros())
+}
+
+// The place of the last bit below this one that is set.
+fn last_bit(word: u128, below: u32) -> Option<u32>
+    ensures { MatchOption result ((i : ℕ) → i < below → has_bit word i ≡ false)
+        (λ p. (p < below) × (p < 128) × (has_bit word p ≡ true) ×
+        ((i : ℕ) → p < i → i < below → has_bit word i ≡ false)) }
+{
+    let rest = bits_below(word, below);
+    if rest == 0 {
+        return None;
+    }
+    Some(WORD - 1 - rest.leading_zeros())
+}
+
+// The bits below this one alone.
+fn bits_below(word: u128, below: u32) -> u128
+    ensures { (i : ℕ) → has_bit result i ≡ has_bit word i && nat_lt i below }
+{
+    if below >= WORD {
+        word
+    } else {
+        word & ((1 << below) - 1)
+    }
 }

@@ -6,6 +6,7 @@ pub mod Breaking
 pub mod Grouping
 pub mod Layouts
 pub mod Parts
+pub mod Factors
 pub mod Known
 pub mod Arguments
 pub mod Evaluation

@@ -14,11 +14,13 @@ ghost use Rattle.ghg_definitions.specs.Rules.{most_lines};
 ghost use Rattle.ghg_graph.specs.Operands.{operand_of};
 ghost use Rattle.ghg_engine.specs.Arguments.{AreGathered, IsArgument, IsHeld, IsTaken, bound_outcomes, parameter_outcomes, sum_outcome};
 ghost use Rattle.ghg_engine.specs.Cells.{outcome_in};
+ghost use Rattle.ghg_engine.specs.Factors.{AreKeptFactors};
 ghost use Rattle.ghg_engine.specs.Known.{IsBound, IsKnownLine};
 ghost use Rattle.ghg_engine.specs.Overlays.{outcomes_of};
 ghost use Rattle.ghg_engine.specs.Parts.{nodes_for};
 
 use crate::equations::evaluate;
+use crate::factors::Factors;
 use crate::known::{Bound, KnownLine};
 use crate::overlay::Overlay;
 use crate::parts::{Part, gather_parts};
@@ -98,6 +100,7 @@ impl Arguments {
     pub(crate) fn gather<R: Records>(
         &mut self,
         records: &R,
+        factors: &mut Factors,
         cells: &Overlay<'_>,
         first: u32,
         name: &Name,
@@ -106,21 +109,24 @@ impl Arguments {
     ) -> Result<bool, AllocError>
         requires workbook { IsWorkbook (R.content records.now) }
         requires line { IsKnownLine (R.content records.now) name.now line.now }
+        requires kept { AreKeptFactors (R.content records.now) factors.old }
         requires first { first ≡ first_year (span (R.content records.now)) }
-        ensures { IfOk result (AreGathered
+        ensures kept { AreKeptFactors (R.content records.now) factors.new }
+        ensures gathered { IfOk result (AreGathered
             (parameter_outcomes (R.content records.now) (outcomes_of cells.now) name.now year
             (parameters line.now.id)) self.new) }
     {
         self.inputs.clear();
         self.fit = true;
         self.blank = false;
-        self.gather_bounds(records, cells, first, name, &line.bounds, year)
+        self.gather_bounds(records, factors, cells, first, name, &line.bounds, year)
     }
 
     // Gathers what these parameters of a line take.
     fn gather_bounds<R: Records>(
         &mut self,
         records: &R,
+        factors: &mut Factors,
         cells: &Overlay<'_>,
         first: u32,
         line: &Name,
@@ -129,16 +135,18 @@ impl Arguments {
     ) -> Result<bool, AllocError>
         requires workbook { IsWorkbook (R.content records.now) }
         requires bounds { AllByRecursion (IsBound (R.content records.now) line.now) bounds.now }
+        requires kept { AreKeptFactors (R.content records.now) factors.old }
         requires first { first ≡ first_year (span (R.content records.now)) }
         requires empty { self.old.inputs.items ≡ [] }
         requires fit { self.old.fit ≡ true }
         requires blank { self.old.blank ≡ false }
-        ensures { IfOk result (AreGathered
+        ensures kept { AreKeptFactors (R.content records.now) factors.new }
+        ensures gathered { IfOk result (AreGathered
             (bound_outcomes (R.content records.now) (outcomes_of cells.now) line.now year bounds.now)
             self.new) }
     {
         for bound in bounds {
-            let operand = bound.operand(records, first, line, year);
+            let operand = bound.operand(records, factors, first, line, year);
             let Some(taken) = argument(cells, &operand, &mut self.parts)? else {
                 return Ok(false);
             };

@@ -14,6 +14,7 @@ ghost use Rattle.ghg_engine.specs.Cells.{cell_at};
 ghost use Rattle.ghg_engine.specs.Changes.{AreChangedLines, AreNamesOf, IsBefore, IsReadyFrom, IsResummed, changed_for, equivalent_line};
 ghost use Rattle.ghg_definitions.specs.Trials.{value_of};
 ghost use Rattle.ghg_engine.specs.Evaluation.{AreEvaluated, AreKept, IsEvaluatedAt, IsEvaluatedSum, IsOutcomeOf, IsReady, IsTotalOf};
+ghost use Rattle.ghg_engine.specs.Factors.{AreKeptFactors};
 ghost use Rattle.ghg_engine.specs.Known.{IsKnown, IsKnownLine};
 ghost use Rattle.ghg_engine.specs.Layouts.{IsLayout};
 ghost use Rattle.ghg_engine.specs.Overlays.{outcomes_of};
@@ -24,8 +25,9 @@ use crate::arguments::Arguments;
 use crate::cells::Cells;
 use crate::changes::{ChangedLines, Changes};
 use crate::evaluated::Evaluated;
+use crate::factors::Factors;
 use crate::groups::Groups;
-use crate::known::{Known, KnownLine, Turn};
+use crate::known::{Known, KnownLine, Turn, line_at};
 use crate::layout::Layout;
 use crate::overlay::Overlay;
 use crate::parts::{Addends, gather_addends, gather_counted};
@@ -64,7 +66,7 @@ pub(crate) fn evaluate_all<R: Records, C: ghg_graph::Cells>(
         (IfOverflow (λ n. least_break (R.content records.now) nodes.now ≡ Some n)) }
 {
     let first = first_year(records);
-    let known = Known::of(alloc, records, nodes)?;
+    let mut known = Known::of(alloc, records, nodes)?;
     let from = with_lines(alloc, records, before, nodes)?;
     let mut permits = permits;
     let mut buffers = Buffers::new(alloc);
@@ -74,7 +76,7 @@ pub(crate) fn evaluate_all<R: Records, C: ghg_graph::Cells>(
         let ticket = permits.ticket().unwrap();
         let evaluated = evaluate(
             records,
-            &known,
+            &mut known,
             layout,
             &from,
             &cells,
@@ -190,7 +192,7 @@ fn lesser(node: &Node, least: &Option<Node>) -> Node
 // inventory.
 fn evaluate<R: Records, C: ghg_graph::Cells>(
     records: &R,
-    known: &Known,
+    known: &mut Known,
     layout: &Layout,
     before: &Option<Before<'_, C>>,
     cells: &Overlay<'_>,
@@ -201,13 +203,14 @@ fn evaluate<R: Records, C: ghg_graph::Cells>(
 ) -> Result<Evaluated, AllocError>
     requires workbook { IsWorkbook (R.content records.now) }
     requires acyclic { IsAcyclic (R.content records.now) }
-    requires known { IsKnown (R.content records.now) known.now }
+    requires known { IsKnown (R.content records.now) known.old }
     requires layout { IsLayout (R.content records.now) layout.now }
     requires first { first ≡ first_year (span (R.content records.now)) }
     requires ready { IsReady (R.content records.now) (outcomes_of cells.now) node.now }
     requires before { IfSome before.now (λ b. IsReadyFrom (C.content b.cells.now) (R.content records.now)
         b.changed (cell_at cells.now.fresh) node.now) }
-    ensures { IfOk result (IsOutcomeOf (R.content records.now) node.now) }
+    ensures known { IsKnown (R.content records.now) known.new }
+    ensures outcome { IfOk result (IsOutcomeOf (R.content records.now) node.now) }
 {
     let emitters = Emitters {
         records,
@@ -372,7 +375,7 @@ fn sum_changed<R: Records, C: ghg_graph::Cells>(
 // up again.
 fn line<R: Records>(
     records: &R,
-    known: &Known,
+    known: &mut Known,
     place: usize,
     cells: &Overlay<'_>,
     first: u32,
@@ -382,22 +385,34 @@ fn line<R: Records>(
     arguments: &mut Arguments,
 ) -> Result<Evaluated, AllocError>
     requires workbook { IsWorkbook (R.content records.now) }
-    requires known { IsKnown (R.content records.now) known.now }
+    requires known { IsKnown (R.content records.now) known.old }
     requires first { first ≡ first_year (span (R.content records.now)) }
-    ensures { IfOk result (IsEvaluatedAt (sheet_of (R.content records.now)) (outcomes_of cells.now)
+    ensures known { IsKnown (R.content records.now) known.new }
+    ensures evaluated { IfOk result (IsEvaluatedAt (sheet_of (R.content records.now)) (outcomes_of cells.now)
         (Node.Line name.now year)) }
 {
-    if let Some(line) = known.line(place, name) {
-        return known_line(records, cells, first, name, line, year, ticket, arguments);
+    let Known {
+        alloc,
+        lines,
+        factors,
+        ..
+    } = known;
+    if let Some(line) = line_at(lines, place, name) {
+        return known_line(
+            records, factors, cells, first, name, line, year, ticket, arguments,
+        );
     }
-    match KnownLine::of(known.alloc, records, name, year)? {
-        Some(line) => known_line(records, cells, first, name, &line, year, ticket, arguments),
+    match KnownLine::of(*alloc, records, name, year)? {
+        Some(line) => known_line(
+            records, factors, cells, first, name, &line, year, ticket, arguments,
+        ),
         None => Ok(Evaluated::of(total(ticket, &[]))),
     }
 }
 
 fn known_line<R: Records>(
     records: &R,
+    factors: &mut Factors,
     cells: &Overlay<'_>,
     first: u32,
     name: &Name,
@@ -408,11 +423,13 @@ fn known_line<R: Records>(
 ) -> Result<Evaluated, AllocError>
     requires workbook { IsWorkbook (R.content records.now) }
     requires line { IsKnownLine (R.content records.now) name.now line.now }
+    requires kept { AreKeptFactors (R.content records.now) factors.old }
     requires first { first ≡ first_year (span (R.content records.now)) }
-    ensures { IfOk result (IsEvaluatedAt (sheet_of (R.content records.now)) (outcomes_of cells.now)
+    ensures kept { AreKeptFactors (R.content records.now) factors.new }
+    ensures evaluated { IfOk result (IsEvaluatedAt (sheet_of (R.content records.now)) (outcomes_of cells.now)
         (Node.Line name.now year)) }
 {
-    if arguments.gather(records, cells, first, name, line, year)? {
+    if arguments.gather(records, factors, cells, first, name, line, year)? {
         Ok(Evaluated::of(arguments.value(line.id, ticket)))
     } else {
         Ok(Evaluated::passed_on())
@@ -422,15 +439,16 @@ fn known_line<R: Records>(
 // Evaluates the equivalent of a line. The line is a known emitter if it stands at the place.
 fn equivalent<R: Records>(
     records: &R,
-    known: &Known,
+    known: &mut Known,
     place: usize,
     cells: &Overlay<'_>,
     name: &Name,
     year: u32,
     ticket: Ticket,
 ) -> Evaluated
-    requires { IsKnown (R.content records.now) known.now }
-    ensures { IsEvaluatedAt (sheet_of (R.content records.now)) (outcomes_of cells.now)
+    requires { IsKnown (R.content records.now) known.old }
+    ensures known { IsKnown (R.content records.now) known.new }
+    ensures evaluated { IsEvaluatedAt (sheet_of (R.content records.now)) (outcomes_of cells.now)
         (Node.Equiv name.now year) result }
 {
     match cells.outcome(&Node::Line(*name, year)) {

@@ -1,4 +1,4 @@
-//! What is looked up of lines once for all years.
+//! What is looked up of lines once for several years.
 
 ghost use Rattle.std.specs.Prelude.{◌≡◌, true, map, option_copied, IfOk, IfSome, OnOk, None};
 ghost use Rattle.std.specs.List.{AllByRecursion};
@@ -6,12 +6,13 @@ ghost use Rattle.ghg_units.specs.Parameter.{is_parameter};
 ghost use Rattle.ghg_definitions.specs.Compilation.{bound_to, line_gas, potential};
 ghost use Rattle.ghg_definitions.specs.Data.{Data, binding, line};
 ghost use Rattle.ghg_definitions.specs.Formulas.{map_operand};
-ghost use Rattle.ghg_definitions.specs.Lookups.{factor_input, given};
-ghost use Rattle.ghg_data.specs.Lasting.{IsLasting};
+ghost use Rattle.ghg_definitions.specs.Lookups.{given};
 ghost use Rattle.ghg_graph.specs.Gases.{IsLastingPotential};
 ghost use Rattle.ghg_graph.specs.Operands.{operand_of};
-ghost use Rattle.ghg_engine.specs.Known.{IsBound, IsKnown, IsKnownLine, IsSource};
+ghost use Rattle.ghg_engine.specs.Factors.{AreKeptFactors};
+ghost use Rattle.ghg_engine.specs.Known.{AreKnownLines, IsBound, IsEmitter, IsKnown, IsKnownLine, IsSource};
 
+use crate::factors::Factors;
 use crate::series::year_of;
 use ghg_cell::Input;
 use ghg_data::{Lasting, Records, params_of};
@@ -33,8 +34,8 @@ pub(crate) struct Bound {
 enum Source {
     // An activity, and where its record of a year may stand.
     Activity(Name, usize, u32),
-    // A factor, and what it gives from a year on.
-    Factor(Name, Lasting),
+    // A factor, and the number under which what it gives may be kept.
+    Factor(Name, usize),
     // A line.
     Line(Name),
     // What is looked up for each year.
@@ -42,15 +43,23 @@ enum Source {
 }
 
 impl Bound {
-    // A parameter of a line. The year is the first in which it is evaluated.
-    fn of<R: Records>(records: &R, line: &Name, param: &Param, year: u32) -> Bound
+    // A parameter of a line. The year is the first in which it is evaluated. A factor takes the number.
+    fn of<R: Records>(records: &R, line: &Name, param: &Param, year: u32, number: usize) -> Bound
         requires { is_parameter param.now.name.now ≡ true }
         ensures parameter { result.parameter ≡ param.now.name.now }
         ensures bound { IsBound (R.content records.now) line.now result }
     {
         Bound {
             parameter: ParamName::new(param.name.as_bytes()).unwrap(),
-            source: source_of(records, records.bound(line, param), year),
+            source: source_of(records, records.bound(line, param), year, number),
+        }
+    }
+
+    /// The factor that it is bound to, if it is bound to one.
+    pub(crate) fn factor(&self) -> Option<&Name> {
+        match &self.source {
+            Source::Factor(name, _) => Some(name),
+            _ => None,
         }
     }
 
@@ -58,12 +67,15 @@ impl Bound {
     pub(crate) fn operand<'a, R: Records>(
         &self,
         records: &'a R,
+        factors: &mut Factors,
         first: u32,
         line: &Name,
         year: u32,
     ) -> Operand<'a>
-        requires { IsBound (R.content records.now) line.now self.now }
-        ensures { operand_of result ≡ map_operand (given (R.content records.now))
+        requires bound { IsBound (R.content records.now) line.now self.now }
+        requires kept { AreKeptFactors (R.content records.now) factors.old }
+        ensures kept { AreKeptFactors (R.content records.now) factors.new }
+        ensures operand { operand_of result ≡ map_operand (given (R.content records.now))
             (bound_to (R.content records.now) first year
             (binding (R.content records.now) line.now self.now.parameter)) }
     {
@@ -71,7 +83,9 @@ impl Bound {
             Source::Activity(name, place, from) => {
                 Operand::Given(records.activity_at(name, year, place_in(*place, *from, year)))
             }
-            Source::Factor(name, lasting) => Operand::Given(factor(records, name, year, lasting)),
+            Source::Factor(name, number) => {
+                Operand::Given(factors.input(records, *number, name, year))
+            }
             Source::Line(name) => Operand::Value(Node::Line(*name, year)),
             Source::Other => {
                 let binding = records.binding(line, &self.parameter);
@@ -81,7 +95,7 @@ impl Bound {
     }
 }
 
-fn source_of<R: Records>(records: &R, binding: Option<&Binding>, year: u32) -> Source
+fn source_of<R: Records>(records: &R, binding: Option<&Binding>, year: u32, number: usize) -> Source
     ensures { IsSource (R.content records.now) (option_copied binding.entry) result }
 {
     match binding {
@@ -89,7 +103,7 @@ fn source_of<R: Records>(records: &R, binding: Option<&Binding>, year: u32) -> S
             let place = records.place(&RecordKey::Activity(*name, year));
             Source::Activity(*name, place, year)
         }
-        Some(Binding::Factor(name)) => Source::Factor(*name, records.lasting_factor(name)),
+        Some(Binding::Factor(name)) => Source::Factor(*name, number),
         Some(Binding::Line(name)) => Source::Line(*name),
         _ => Source::Other,
     }
@@ -101,17 +115,6 @@ fn place_in(place: usize, from: u32, year: u32) -> usize {
     place.saturating_add(year.saturating_sub(from) as usize)
 }
 
-// What a factor gives in a year.
-fn factor<R: Records>(records: &R, name: &Name, year: u32, lasting: &Lasting) -> Input
-    requires { IsLasting (R.content records.now) name.now lasting.now }
-    ensures { result ≡ factor_input (R.content records.now) name.now year }
-{
-    match lasting.in_year(year) {
-        Some(input) => input,
-        None => records.factor(name, year),
-    }
-}
-
 /// A line with its equation, and the parameters of this, in their order.
 #[derive(Drop)]
 pub(crate) struct KnownLine {
@@ -121,7 +124,7 @@ pub(crate) struct KnownLine {
 }
 
 impl KnownLine {
-    /// A line that is present. The year is the first in which it is evaluated.
+    /// A line that is present, of which nothing is kept. The year is that in which it is evaluated.
     pub(crate) fn of<R: Records>(
         alloc: Global,
         records: &R,
@@ -132,10 +135,26 @@ impl KnownLine {
         ensures some { IfOk result (λ o. IfSome o (λ l. (l.name ≡ name.now) ×
             IsKnownLine (R.content records.now) name.now l)) }
     {
+        KnownLine::numbered(alloc, records, name, year, usize::MAX)
+    }
+
+    // A line that is present. The year is the first in which it is evaluated. The number is that of its first
+    // factor.
+    fn numbered<R: Records>(
+        alloc: Global,
+        records: &R,
+        name: &Name,
+        year: u32,
+        number: usize,
+    ) -> Result<Option<KnownLine>, AllocError>
+        ensures none { IfOk result (λ o. o ≡ None → line (R.content records.now) name.now ≡ None) }
+        ensures some { IfOk result (λ o. IfSome o (λ l. (l.name ≡ name.now) ×
+            IsKnownLine (R.content records.now) name.now l)) }
+    {
         let Some((_, id)) = records.line(name) else {
             return Ok(None);
         };
-        let bounds = bounds_of(alloc, records, name, params_of(id), year)?;
+        let bounds = bounds_of(alloc, records, name, params_of(id), year, number)?;
         Ok(Some(KnownLine {
             name: *name,
             id,
@@ -150,6 +169,7 @@ fn bounds_of<R: Records>(
     name: &Name,
     params: &[Param],
     year: u32,
+    number: usize,
 ) -> Result<Vec<Bound>, AllocError>
     requires { AllByRecursion (λ p. is_parameter p.name.now ≡ true) params.now }
     ensures parameters { IfOk result (λ bs. map (λ b. b.parameter) bs.items ≡
@@ -157,8 +177,13 @@ fn bounds_of<R: Records>(
     ensures bounds { IfOk result (λ bs. AllByRecursion (IsBound (R.content records.now) name.now) bs.items) }
 {
     let mut bounds = Vec::with_capacity(alloc, params.len())?;
+    let mut number = number;
     for param in params {
-        bounds.push(Bound::of(records, name, param, year))?;
+        let bound = Bound::of(records, name, param, year, number);
+        if bound.factor().is_some() {
+            number = number.saturating_add(1);
+        }
+        bounds.push(bound)?;
     }
     Ok(bounds)
 }
@@ -170,18 +195,51 @@ fn first_of_years(nodes: &[Node]) -> Option<u32> {
     if first == last { None } else { Some(first) }
 }
 
-/// A line that emits a gas, and the warming potential of this.
+/// A line that emits a gas, and the warming potential of this in some years that follow each other.
 #[derive(Clone, Copy, Drop)]
 pub(crate) struct Emitter {
     name: Name,
     potential: Lasting,
 }
 
-/// The lines and the emitters with which nodes begin, in their order.
+impl Emitter {
+    // The warming potential of a line's gas in a year, and in which years around it.
+    fn of<R: Records>(records: &R, name: &Name, year: u32) -> Emitter
+        ensures emitter { IsEmitter (R.content records.now) result }
+        ensures input { result.potential.input ≡ given (R.content records.now)
+            (potential (R.content records.now) year (line_gas (R.content records.now) name.now)) }
+    {
+        Emitter {
+            name: *name,
+            potential: lasting_potential(records, name, year),
+        }
+    }
+
+    // The warming potential of the gas of a line in a year. Where what is kept is of another line or of other
+    // years, it is looked up, and kept in place of that.
+    fn potential<R: Records>(&mut self, records: &R, name: &Name, year: u32) -> Input
+        requires { IsEmitter (R.content records.now) self.old }
+        ensures emitter { IsEmitter (R.content records.now) self.new }
+        ensures input { result ≡ given (R.content records.now)
+            (potential (R.content records.now) year (line_gas (R.content records.now) name.now)) }
+    {
+        match self.potential.in_year(year) {
+            Some(input) if self.name == *name => input,
+            _ => {
+                *self = Emitter::of(records, name, year);
+                self.potential.input
+            }
+        }
+    }
+}
+
+/// The lines and the emitters with which nodes begin, in their order, and what the factors of these lines
+/// give.
 #[derive(Drop)]
 pub(crate) struct Known {
     pub(crate) alloc: Global,
-    lines: Vec<KnownLine>,
+    pub(crate) lines: Vec<KnownLine>,
+    pub(crate) factors: Factors,
     emitters: Vec<Emitter>,
 }
 
@@ -198,6 +256,7 @@ impl Known {
         let mut known = Known {
             alloc,
             lines: Vec::new(alloc),
+            factors: Factors::new(alloc),
             emitters: Vec::new(alloc),
         };
         let Some(first) = first_of_years(nodes) else {
@@ -206,7 +265,9 @@ impl Known {
         for node in nodes {
             match node {
                 Node::Line(name, year) if *year == first => known.add_line(records, name, first)?,
-                Node::Equiv(name, year) if *year == first => known.add_emitter(records, name)?,
+                Node::Equiv(name, year) if *year == first => known.add_emitter(
+                    records, name, first,
+                )?,
                 _ => return Ok(known),
             }
         }
@@ -222,8 +283,10 @@ impl Known {
         requires { IsKnown (R.content records.now) self.old }
         ensures { OnOk result (IsKnown (R.content records.now) self.new) }
     {
-        match KnownLine::of(self.alloc, records, name, year)? {
+        let number = self.factors.next();
+        match KnownLine::numbered(self.alloc, records, name, year, number)? {
             Some(line) => {
+                self.factors.keep(records, &line.bounds, year)?;
                 self.lines.push(line)?;
                 Ok(())
             }
@@ -231,53 +294,51 @@ impl Known {
         }
     }
 
-    fn add_emitter<R: Records>(&mut self, records: &R, name: &Name) -> Result<(), AllocError>
+    fn add_emitter<R: Records>(
+        &mut self,
+        records: &R,
+        name: &Name,
+        year: u32,
+    ) -> Result<(), AllocError>
         requires { IsKnown (R.content records.now) self.old }
         ensures { OnOk result (IsKnown (R.content records.now) self.new) }
     {
-        self.emitters.push(Emitter {
-            name: *name,
-            potential: lasting_potential(records, name),
-        })?;
+        self.emitters.push(Emitter::of(records, name, year))?;
         Ok(())
     }
 
-    /// A line, if it stands at the place.
-    pub(crate) fn line(&self, place: usize, name: &Name) -> Option<&KnownLine>
-        ensures { IfSome result (λ l. (m : Data) → IsKnown m self.now → IsKnownLine m name.now l.now) }
-    {
-        match self.lines.get(place) {
-            Some(line) if line.name == *name => Some(line),
-            _ => None,
-        }
-    }
-
-    /// The warming potential of the gas of a line in a year. It is known if the line stands at the place.
+    /// The warming potential of the gas of a line in a year. What is kept at the place serves if it is of
+    /// this line and year. Else it is looked up, and kept there in place of that.
     pub(crate) fn potential<R: Records>(
-        &self,
+        &mut self,
         records: &R,
         place: usize,
         name: &Name,
         year: u32,
     ) -> Input
-        requires { IsKnown (R.content records.now) self.now }
-        ensures { result ≡ given (R.content records.now)
+        requires { IsKnown (R.content records.now) self.old }
+        ensures known { IsKnown (R.content records.now) self.new }
+        ensures potential { result ≡ given (R.content records.now)
             (potential (R.content records.now) year (line_gas (R.content records.now) name.now)) }
     {
-        match self.lasting(place, name).in_year(year) {
-            Some(input) => input,
+        match self.emitters.get_mut(place) {
+            Some(emitter) => emitter.potential(records, name, year),
             None => potential(records, name, year),
         }
     }
+}
 
-    // The warming potential of the gas of a line, if the line stands at the place.
-    fn lasting(&self, place: usize, name: &Name) -> Lasting
-        ensures { (m : Data) → IsKnown m self.now → IsLastingPotential m name.now result }
-    {
-        match self.emitters.get(place) {
-            Some(emitter) if emitter.name == *name => emitter.potential,
-            _ => Lasting::nothing(),
-        }
+/// A line, if it stands at the place.
+pub(crate) fn line_at<'a>(
+    lines: &'a [KnownLine],
+    place: usize,
+    name: &Name,
+) -> Option<&'a KnownLine>
+    ensures { IfSome result (λ l. (m : Data) → AreKnownLines m lines.now → IsKnownLine m name.now l.now) }
+{
+    match lines.get(place) {
+        Some(line) if line.name == *name => Some(line),
+        _ => None,
     }
 }
 

@@ -10,6 +10,7 @@ mod engine;
 mod equations;
 mod evaluated;
 mod evaluation;
+mod factors;
 mod groups;
 mod known;
 mod layout;

@@ -4,6 +4,7 @@ ghost use Rattle.std.specs.Prelude.{◌≡◌, IfOk};
 ghost use Rattle.ghg_definitions.specs.Compilation.{gas_lines, line_gas, potential};
 ghost use Rattle.ghg_definitions.specs.Data.{line_names};
 ghost use Rattle.ghg_definitions.specs.Lookups.{given};
+ghost use Rattle.ghg_data.specs.Lasting.{HasYear};
 ghost use Rattle.ghg_graph.specs.Gases.{IsLastingPotential};
 
 use crate::numbers::equation_of;
@@ -41,13 +42,14 @@ pub fn potential<R: Records>(records: &R, line: &Name, year: u32) -> Input
     }
 }
 
-/// The global warming potential of a line's gas from the start year of its last record on; a blank in all
-/// years where the line emits none, or there is no record.
-pub fn lasting_potential<R: Records>(records: &R, line: &Name) -> Lasting
-    ensures { IsLastingPotential (R.content records.now) line.now result }
+/// The global warming potential of a line's gas in a year, and in which years around it; a blank in all years
+/// where the line emits none.
+pub fn lasting_potential<R: Records>(records: &R, line: &Name, year: u32) -> Lasting
+    ensures lasting { IsLastingPotential (R.content records.now) line.now result }
+    ensures year { HasYear result year }
 {
     match line_gas(records, line) {
-        Some(gas) => records.lasting_factor(&Name::potential(gas)),
+        Some(gas) => records.lasting_factor(&Name::potential(gas), year),
         None => Lasting::blank(),
     }
 }

@@ -17,21 +17,21 @@ use Rattle.ghg_engine.proofs.Before.{from_ready, grouped_candidates, lines_ready
 use Rattle.ghg_engine.proofs.Ready.{of_formula, of_total}
 use Rattle.ghg_engine.proofs.evaluation.evaluate.Goals as goal
 
-pub returns-in-Line : goal.returns-in-Line
-returns-in-Line g c =
+pub returns-in-Line-clause-outcome : goal.returns-in-Line-clause-outcome
+returns-in-Line-clause-outcome g c =
     let m = g.R.Records.content c.args.records.now in
     let cells = outcomes_of c.args.cells.now in
     let n = node.Line c.in-Line.name c.in-Line.year in
     subst (λ k. IfOk c.line.result (IsOutcomeOf m k)) (sym c.in-Line.is)
-    (if_ok c.line.result (of_formula m c.requires.acyclic cells n (subst (IsReady m cells) c.in-Line.is c.requires.ready)) c.line.ensures)
+    (if_ok c.line.result (of_formula m c.requires.acyclic cells n (subst (IsReady m cells) c.in-Line.is c.requires.ready)) c.line.ensures.evaluated)
 
-pub returns-in-Equiv : goal.returns-in-Equiv
-returns-in-Equiv g c =
+pub returns-in-Equiv-clause-outcome : goal.returns-in-Equiv-clause-outcome
+returns-in-Equiv-clause-outcome g c =
     let m = g.R.Records.content c.args.records.now in
     let cells = outcomes_of c.args.cells.now in
     let n = node.Equiv c.in-Equiv.name c.in-Equiv.year in
     subst (λ k. IsOutcomeOf m k c.equivalent.result) (sym c.in-Equiv.is)
-    (of_formula m c.requires.acyclic cells n (subst (IsReady m cells) c.in-Equiv.is c.requires.ready) c.equivalent.result c.equivalent.ensures)
+    (of_formula m c.requires.acyclic cells n (subst (IsReady m cells) c.in-Equiv.is c.requires.ready) c.equivalent.result c.equivalent.ensures.evaluated)
 
 pub sum_from-requires-clause-before : goal.sum_from-requires-clause-before
 sum_from-requires-clause-before g c =
@@ -68,8 +68,8 @@ sum_from-requires-clause-lines g c =
     (nodes_for Equivalent (names_at (counts_in top) m changed.names.items) year)) (sym c.total-addends.ensures.top)
     (lines_ready old m c.requires.workbook c.requires.acyclic changed fresh found n ready ready_from (λ k. stands_under k c.in-Total.category) year refl refl))
 
-pub returns-in-Some : goal.returns-in-Some
-returns-in-Some g c =
+pub returns-in-Some-clause-outcome : goal.returns-in-Some-clause-outcome
+returns-in-Some-clause-outcome g c =
     let m = g.R.Records.content c.args.records.now in
     let cells = outcomes_of c.args.cells.now in
     let year = c.in-Total.year in
@@ -80,8 +80,8 @@ returns-in-Some g c =
     c.total-addends.ensures.categories (c.total-addends.ensures.own ∙ c.requires.layout.groups.at c.in-Total.category))
     (ap (λ top. sum_formula (gas_lines_at (counts_in top) m) year) (sym c.total-addends.ensures.top))) c.sum_from.ensures)
 
-pub returns-in-None : goal.returns-in-None
-returns-in-None g c =
+pub returns-in-None-clause-outcome : goal.returns-in-None-clause-outcome
+returns-in-None-clause-outcome g c =
     let m = g.R.Records.content c.args.records.now in
     let cells = outcomes_of c.args.cells.now in
     let year = c.in-Total.year in
@@ -127,8 +127,8 @@ sum_from-requires-in-Some-before-clause-lines g c =
     (nodes_for Equivalent (names_at (counts_in top) m changed.names.items) year)) (sym c.gross-addends.ensures.top)
     (lines_ready old m c.requires.workbook c.requires.acyclic changed fresh found n ready ready_from counts_in_gross year refl refl))
 
-pub returns-in-Some-before : goal.returns-in-Some-before
-returns-in-Some-before g c =
+pub returns-in-Some-before-clause-outcome : goal.returns-in-Some-before-clause-outcome
+returns-in-Some-before-clause-outcome g c =
     let m = g.R.Records.content c.args.records.now in
     let cells = outcomes_of c.args.cells.now in
     let year = c.in-Gross.year in
@@ -139,8 +139,8 @@ returns-in-Some-before g c =
     c.gross-addends.ensures.categories (c.gross-addends.ensures.own ∙ c.requires.layout.groups.above))
     (ap (λ top. sum_formula (gas_lines_at (counts_in top) m) year) (sym c.gross-addends.ensures.top))) c.sum_from-in-Some-before.ensures)
 
-pub returns-in-None-before : goal.returns-in-None-before
-returns-in-None-before g c =
+pub returns-in-None-before-clause-outcome : goal.returns-in-None-before-clause-outcome
+returns-in-None-before-clause-outcome g c =
     let m = g.R.Records.content c.args.records.now in
     let cells = outcomes_of c.args.cells.now in
     let year = c.in-Gross.year in

@@ -29,6 +29,7 @@ loop-node-init g c =
       omega (arith, c.requires.paid),
       c.over-cells.ensures.kept,
       c.in_ok-from.ensures,
+      c.in_ok-known.ensures,
     )
 
 pub evaluate-requires-clause-ready : goal.evaluate-requires-clause-ready
@@ -69,10 +70,11 @@ loop-node-preserved g c =
           (subst (IsSoFar m (take i nodes ++ n ∷ []) (drop (i + 1) nodes) found_then fresh_then) (sym c.least_with-least.ensures)
           (one_so_far m (take i nodes) n (drop (i + 1) nodes) found fresh found_then fresh_then c.loop-node.least e
           (at_next m nodes i n c.loop-node-test.true c.node-item.is found fresh c.loop-node.least c.loop-node.invariant.0)
-          c.in_ok-evaluated.ensures c.in_ok-insert.ensures.outcomes c.in_ok-insert.ensures.fresh)),
+          c.in_ok-evaluated.ensures.outcome c.in_ok-insert.ensures.outcomes c.in_ok-insert.ensures.fresh)),
       omega (arith, c.loop-node.invariant.1, one, c.loop-node-test.true),
       c.in_ok-insert.ensures.kept ∙ c.loop-node.invariant.2,
       c.loop-node.invariant.3,
+      c.evaluate.ensures.known,
     )
 
 pub returns-in-None : goal.returns-in-None

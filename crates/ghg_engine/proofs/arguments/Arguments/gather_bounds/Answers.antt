@@ -17,18 +17,18 @@ use Rattle.ghg_engine.proofs.LineOutcomes.{bound_held, bound_over}
 use Rattle.ghg_engine.proofs.arguments.Arguments.gather_bounds.Goals as goal
 
 pub loop-bound-init : goal.loop-bound-init
-loop-bound-init g c = nothing_held c.args.self.now c.requires.empty c.requires.fit c.requires.blank
+loop-bound-init g c = (nothing_held c.args.self.now c.requires.empty c.requires.fit c.requires.blank, c.requires.kept)
 
-pub operand-operand-requires : goal.operand-operand-requires
-operand-operand-requires g c = one_at (IsBound (g.R.Records.content c.args.records.now) c.args.line.now) c.args.bounds.now c.loop-bound.bound-index c.bound-item.result c.requires.bounds c.loop-bound-test.true c.bound-item.is
+pub operand-operand-requires-clause-bound : goal.operand-operand-requires-clause-bound
+operand-operand-requires-clause-bound g c = one_at (IsBound (g.R.Records.content c.args.records.now) c.args.line.now) c.args.bounds.now c.loop-bound.bound-index c.bound-item.result c.requires.bounds c.loop-bound-test.true c.bound-item.is
 
 pub argument-requires : goal.argument-requires
 argument-requires g c =
     let m = g.R.Records.content c.args.records.now in
-    subst (λ (a : Operand Input). length (nodes_in a) ≤ most_lines) (sym c.operand-operand.ensures) (few_taken m c.args.first c.args.year _ (bound_is m c.args.line.now _ c.requires.workbook))
+    subst (λ (a : Operand Input). length (nodes_in a) ≤ most_lines) (sym c.operand-operand.ensures.operand) (few_taken m c.args.first c.args.year _ (bound_is m c.args.line.now _ c.requires.workbook))
 
-pub returns-in_default : goal.returns-in_default
-returns-in_default g c =
+pub returns-in_default-clause-gathered : goal.returns-in_default-clause-gathered
+returns-in_default-clause-gathered g c =
     let m = g.R.Records.content c.args.records.now in
     let cells = outcomes_of c.args.cells.now in
     let line = c.args.line.now in
@@ -36,10 +36,10 @@ returns-in_default g c =
     let i = c.loop-bound.bound-index in
     let b = c.bound-item.result in
     let more = ap (λ k. take i bounds ++ k ∷ []) c.bound-item.is ∙ sym (take_more bounds i b c.loop-bound-test.true) in
-    let named = ap (operand_outcome (outcome_in cells)) (c.operand-operand.ensures ∙ ap (λ f. map_operand (given m) (bound_to m f c.args.year (binding m line b.parameter))) c.requires.first) in
+    let named = ap (operand_outcome (outcome_in cells)) (c.operand-operand.ensures.operand ∙ ap (λ f. map_operand (given m) (bound_to m f c.args.year (binding m line b.parameter))) c.requires.first) in
     let over = sym named ∙ subst (IsArgument _) c.in_default.is c.in_ok-taken.ensures in
     subst (λ bs. gather (bound_outcomes m cells line c.args.year bs) ≡ Err (record {})) (ap (λ bs. bs ++ drop (i + 1) bounds) more ∙ take-append-drop (i + 1) bounds)
-    (bound_over m cells line c.args.year (take i bounds) b (drop (i + 1) bounds) c.loop-bound.self c.loop-bound.invariant over)
+    (bound_over m cells line c.args.year (take i bounds) b (drop (i + 1) bounds) c.loop-bound.self c.loop-bound.invariant.0 over)
 
 pub loop-bound-preserved : goal.loop-bound-preserved
 loop-bound-preserved g c =
@@ -50,10 +50,10 @@ loop-bound-preserved g c =
     let i = c.loop-bound.bound-index in
     let b = c.bound-item.result in
     let more = ap (λ k. take i bounds ++ k ∷ []) c.bound-item.is ∙ sym (take_more bounds i b c.loop-bound-test.true) in
-    let named = ap (operand_outcome (outcome_in cells)) (c.operand-operand.ensures ∙ ap (λ f. map_operand (given m) (bound_to m f c.args.year (binding m line b.parameter))) c.requires.first) in
+    let named = ap (operand_outcome (outcome_in cells)) (c.operand-operand.ensures.operand ∙ ap (λ f. map_operand (given m) (bound_to m f c.args.year (binding m line b.parameter))) c.requires.first) in
     let taken = subst (λ x. IsTaken x c.in-Some.taken) named (subst (IsArgument _) c.in-Some.is c.in_ok-taken.ensures) in
-    subst (λ bs. IsHeld (bound_outcomes m cells line c.args.year bs) c.push.new.self) more
-    (bound_held m cells line c.args.year (take i bounds) b c.loop-bound.self c.push.new.self c.in-Some.taken c.loop-bound.invariant taken c.in_ok-push.ensures.inputs c.in_ok-push.ensures.fit c.in_ok-push.ensures.blank)
+    let held = bound_held m cells line c.args.year (take i bounds) b c.loop-bound.self c.push.new.self c.in-Some.taken c.loop-bound.invariant.0 taken c.in_ok-push.ensures.inputs c.in_ok-push.ensures.fit c.in_ok-push.ensures.blank in
+    (subst (λ bs. IsHeld (bound_outcomes m cells line c.args.year bs) c.push.new.self) more held, c.operand-operand.ensures.kept)
 
-pub returns : goal.returns
-returns g c = subst (λ bs. IsHeld (bound_outcomes (g.R.Records.content c.args.records.now) (outcomes_of c.args.cells.now) c.args.line.now c.args.year bs) c.loop-bound.self) (take_all c.loop-bound.bound-index c.args.bounds.now c.loop-bound-test.false) c.loop-bound.invariant
+pub returns-clause-gathered : goal.returns-clause-gathered
+returns-clause-gathered g c = subst (λ bs. IsHeld (bound_outcomes (g.R.Records.content c.args.records.now) (outcomes_of c.args.cells.now) c.args.line.now c.args.year bs) c.loop-bound.self) (take_all c.loop-bound.bound-index c.args.bounds.now c.loop-bound-test.false) c.loop-bound.invariant.0

@@ -1,7 +1,7 @@
 use Rattle.std.proofs.Common.{◌≡◌, ◌∙◌, List, [], ◌∷◌, map, refl, sym, ap}
 use Rattle.ghg_equations.specs.declared.row.Param.{Param}
 use Rattle.ghg_equations.specs.Table.{Quantity, ◌of◌}
-use Rattle.ghg_engine.proofs.known.KnownLine.of.Goals as goal
+use Rattle.ghg_engine.proofs.known.KnownLine.numbered.Goals as goal
 
 names_are : (ps : List Param) → map (λ p. p.name.now) ps ≡ map (λ (q : Quantity). q.name) (map (λ (p : Param). p.name.now of p.dim) ps)
 names_are [] = refl
