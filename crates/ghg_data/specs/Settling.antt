@@ -1,5 +1,5 @@
--- What may leave a binding unsound that no change is about: a line that is changed, and an activity or a factor
--- that loses its dimension.
+-- What may leave a binding unsound that no change is about: a line that is changed, and an activity or a
+-- factor that loses its dimension.
 use Rattle.std.specs.Prelude.{◌≡◌, Bool, true, false, not, List, [], ◌++◌, Option, is_some, fold, if◌then◌else◌}
 use Rattle.std.specs.List.{flat_map, list_any}
 use Rattle.ghg_units.specs.declared.row.Figure.{Figure}

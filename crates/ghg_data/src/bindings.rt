@@ -253,8 +253,8 @@ fn consider_lost(
     }
 }
 
-// Looks at what no edit is about and the edits may leave unsound: each parameter of the lines before them where
-// one of these is edited, and else the bindings that take what loses its dimension.
+// Looks at what no edit is about and the edits may leave unsound: each parameter of the lines before them,
+// where one of these lines is edited, and else the bindings that take what loses its dimension.
 fn consider_unsettled(
     alloc: Global,
     draft: &Draft<'_>,

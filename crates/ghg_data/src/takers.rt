@@ -72,7 +72,9 @@ impl Takers {
     ghost use Rattle.ghg_data.specs.Takers.{count_of, key_at, room};
 
     /// No takers. It takes no memory.
-    pub(crate) fn new(alloc: Global) -> Takers {
+    pub(crate) fn new(alloc: Global) -> Takers
+        ensures { (s : Series) → count_of result s ≡ 0 }
+    {
         Takers {
             keys: IndexMap::new(alloc),
             numbers: IndexMap::new(alloc),
