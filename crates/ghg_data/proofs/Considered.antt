@@ -1,14 +1,38 @@
 -- Looking at places one list after the other.
-use Rattle.std.proofs.Common.{◌≡◌, inl, inr, ℕ, zero, suc, ◌+◌, ◌<◌, ◌==◌, Bool, true, false, List, [], ◌++◌, flat_map, fold, Option, Some, None, refl, sym, ap, ◌∙◌, subst, arith, append-nil, eqb-true, eq-eqb}
+use Rattle.std.proofs.Common.{◌≡◌, inl, inr, ℕ, zero, suc, ◌+◌, ◌<◌, ◌==◌, Bool, true, false, List, [], ◌++◌, flat_map, fold, Option, Some, None, refl, sym, ap, ◌∙◌, subst, arith, append-nil, eqb-true, eq-eqb, if◌then◌else◌, Ordering, Less, Equal, Greater}
 use Rattle.std.specs.List.{cons_option}
+use Rattle.std.specs.Option.{option_map_or}
+use Rattle.std.specs.Ordering.{is_gt, min_by_ordering}
 use Rattle.std.proofs.lemmas.Bool.{both_ways, cases_lt}
 use Rattle.std.proofs.lemmas.Grind.{flat_map-append, fold-append}
 use Rattle.ghg_definitions.specs.declared.place.Place.{Place}
 use Rattle.ghg_definitions.specs.declared.record.RecordKey.{RecordKey}
+use Rattle.ghg_definitions.specs.Rules.{lesser_place, place_cmp}
 use Rattle.ghg_data.specs.declared.series.Series.{Series}
 use Rattle.ghg_data.specs.declared.takers.Takers.{Takers}
 use Rattle.ghg_data.specs.Takers.{first_takers, key_at}
 use Rattle.ghg_data.proofs.Faults.{IsAmong, among_left, among_right}
+
+-- where the least fault so far comes before the place, it stays, whether the place is one or not
+pub stays_least : (p : Place) (least : Option Place) → option_map_or (λ other. is_gt (place_cmp p other)) least false ≡ true → (b : Bool) → least ≡ (if b then Some (lesser_place p least) else least)
+stays_least p None e b = absurd (cc)
+stays_least p (Some q) e false = refl
+stays_least p (Some q) e true = by (place_cmp p q) e
+  where
+    by : (o : Ordering) → is_gt o ≡ true → Some q ≡ Some (min_by_ordering o p q)
+    by Less e = absurd (cc)
+    by Equal e = absurd (cc)
+    by Greater e = refl
+
+-- where it does not, the place is the lesser
+pub is_least : (p : Place) (least : Option Place) → option_map_or (λ other. is_gt (place_cmp p other)) least false ≡ false → p ≡ lesser_place p least
+is_least p None e = refl
+is_least p (Some q) e = by (place_cmp p q) e
+  where
+    by : (o : Ordering) → is_gt o ≡ false → p ≡ min_by_ordering o p q
+    by Less e = refl
+    by Equal e = refl
+    by Greater e = absurd (cc)
 
 next : (i : ℕ) → suc i ≡ i + 1
 next i = omega arith

@@ -1,5 +1,5 @@
 -- Whether all figures of a name are of a dimension, told by one of them.
-use Rattle.std.proofs.Common.{◌≡◌, Bool, true, false, not, ◌&&◌, ◌||◌, ◌==◌, List, [], ◌∷◌, Option, Some, None, is_some, if◌then◌else◌, refl, sym, ap, ◌∙◌, arith, eqb-true}
+use Rattle.std.proofs.Common.{◌≡◌, ◌⊎◌, inl, inr, Bool, true, false, not, ◌&&◌, ◌||◌, ◌==◌, List, [], ◌∷◌, Option, Some, None, is_some, if◌then◌else◌, refl, sym, ap, ◌∙◌, arith, eqb-true}
 use Rattle.std.specs.FinMap.{entries, get}
 use Rattle.std.specs.List.{cons_option, filter_map, list_all, list_any}
 use Rattle.std.specs.Option.{option_map_or}
@@ -163,30 +163,34 @@ module _ {m : Data} (is : IsConsistent m) (k : RecordKey) (unyeared : year_of k 
       entry_any keys_total keys_same (λ (e : Entry). is_some (of_name k e)) m q r.0 r.1
       (ap (λ b. is_some (if b then as_figure (Some r.0) else None)) (other_alike k q o) ∙ ap is_some (sym (ap as_figure r.1) ∙ e))))
 
-  pub figures_found : (d : Dim) → are_of d (figures m k) ≡ true → (q : RecordKey) × (g : Figure) × (figure m q ≡ Some g) × (is_other_year k q ≡ true) × (same_dim d (dim_of g.unit) ≡ true)
-  figures_found d all = by (list_any (λ (e : Entry). is_some (of_name k e)) (entries m)) refl
+  -- there are none, or there is one of another year
+  pub figures_one : (figures m k ≡ []) ⊎ ((q : RecordKey) × (g : Figure) × (figure m q ≡ Some g) × (is_other_year k q ≡ true))
+  figures_one = by (list_any (λ (e : Entry). is_some (of_name k e)) (entries m)) refl
     where
-      by : (b : Bool) → list_any (λ (e : Entry). is_some (of_name k e)) (entries m) ≡ b → (q : RecordKey) × (g : Figure) × (figure m q ≡ Some g) × (is_other_year k q ≡ true) × (same_dim d (dim_of g.unit) ≡ true)
+      by : (b : Bool) → list_any (λ (e : Entry). is_some (of_name k e)) (entries m) ≡ b → (figures m k ≡ []) ⊎ ((q : RecordKey) × (g : Figure) × (figure m q ≡ Some g) × (is_other_year k q ≡ true))
       by true h =
           let found = any_entry keys_total keys_same (λ (e : Entry). is_some (of_name k e)) m h in
           let g = some_figure (of_name k (found.0, found.1)) found.3 in
           let parts = alike_figure (is_alike k found.0) (as_figure (Some found.1)) g.0 g.1 in
           let at : figure m found.0 ≡ Some g.0 = ap as_figure found.2 ∙ parts.1 in
-          let other = of_other_year found.0 g.0 at parts.0 in
-          (found.0, g.0, at, other, sym (figures_some d found.0 g.0 at other) ∙ all)
-      by false h = absurd (both_ways _ (ap (are_of d) (none_left (of_name k) (entries m) h)) all)
+          inr (found.0, g.0, at, of_other_year found.0 g.0 at parts.0)
+      by false h = inl (none_left (of_name k) (entries m) h)
 
-pub activities_none : {m : Data} → IsConsistent m → (name : Name) (d : Dim) → ((q : RecordKey) → is_other_year (key.Activity name 0) q ≡ true → figure m q ≡ None) → are_of d (activities m name) ≡ false
-activities_none {m} is name d none = ap (are_of d) (activities_are m name) ∙ figures_none is (key.Activity name 0) refl d none
+-- ---- the figures of an activity or a factor
 
-pub activities_some : {m : Data} → IsConsistent m → (name : Name) (d : Dim) (q : RecordKey) (f : Figure) → figure m q ≡ Some f → is_other_year (key.Activity name 0) q ≡ true → are_of d (activities m name) ≡ same_dim d (dim_of f.unit)
-activities_some {m} is name d q f e o = ap (are_of d) (activities_are m name) ∙ figures_some is (key.Activity name 0) refl d q f e o
+figures_at : (m : Data) (s : Series) → figures_of m s ≡ figures m (dated s 0)
+figures_at m (series.Activity name) = activities_are m name
+figures_at m (series.Factor name) = factors_are m name
 
-pub factors_none : {m : Data} → IsConsistent m → (name : Name) (d : Dim) → ((q : RecordKey) → is_other_year (key.Factor name 0) q ≡ true → figure m q ≡ None) → are_of d (factors m name) ≡ false
-factors_none {m} is name d none = ap (are_of d) (factors_are m name) ∙ figures_none is (key.Factor name 0) refl d none
+undated : (s : Series) → year_of (dated s 0) ≡ 0
+undated (series.Activity name) = refl
+undated (series.Factor name) = refl
 
-pub factors_some : {m : Data} → IsConsistent m → (name : Name) (d : Dim) (q : RecordKey) (f : Figure) → figure m q ≡ Some f → is_other_year (key.Factor name 0) q ≡ true → are_of d (factors m name) ≡ same_dim d (dim_of f.unit)
-factors_some {m} is name d q f e o = ap (are_of d) (factors_are m name) ∙ figures_some is (key.Factor name 0) refl d q f e o
+pub series_none : {m : Data} → IsConsistent m → (s : Series) (d : Dim) → ((q : RecordKey) → is_other_year (dated s 0) q ≡ true → figure m q ≡ None) → are_of d (figures_of m s) ≡ false
+series_none {m} is s d none = ap (are_of d) (figures_at m s) ∙ figures_none is (dated s 0) (undated s) d none
+
+pub series_some : {m : Data} → IsConsistent m → (s : Series) (d : Dim) (q : RecordKey) (f : Figure) → figure m q ≡ Some f → is_other_year (dated s 0) q ≡ true → are_of d (figures_of m s) ≡ same_dim d (dim_of f.unit)
+series_some {m} is s d q f e o = ap (are_of d) (figures_at m s) ∙ figures_some is (dated s 0) (undated s) d q f e o
 
 -- ---- names that lose their dimension
 
@@ -207,17 +211,9 @@ any_of : (test : Dim → Bool) (d : Dim) (fs : List Figure) → are_of d fs ≡ 
 any_of test d [] all = absurd (cc)
 any_of test d (f ∷ fs) all = any_alike test d f fs all
 
-figures_at : (m : Data) (s : Series) → figures_of m s ≡ figures m (dated s 0)
-figures_at m (series.Activity name) = activities_are m name
-figures_at m (series.Factor name) = factors_are m name
-
-undated : (s : Series) → year_of (dated s 0) ≡ 0
-undated (series.Activity name) = refl
-undated (series.Factor name) = refl
-
 pub loses_some : {m : Data} → IsConsistent m → (n : Data) (s : Series) (q : RecordKey) (f : Figure) → figure m q ≡ Some f → is_other_year (dated s 0) q ≡ true → loses_dimension m n s ≡ not (are_of (dim_of f.unit) (figures_of n s))
 loses_some {m} is n s q f at other = any_of (λ d. not (are_of d (figures_of n s))) (dim_of f.unit) (figures_of m s)
-    (ap (are_of (dim_of f.unit)) (figures_at m s) ∙ figures_some is (dated s 0) (undated s) (dim_of f.unit) q f at other ∙ same_dim-itself _ _ refl)
+    (series_some is s (dim_of f.unit) q f at other ∙ same_dim-itself _ _ refl)
 
 pub loses_none : {m : Data} → IsConsistent m → (n : Data) (s : Series) → ((q : RecordKey) → is_other_year (dated s 0) q ≡ true → figure m q ≡ None) → loses_dimension m n s ≡ false
 loses_none {m} is n s none = ap (list_any (λ f. not (are_of (dim_of f.unit) (figures_of n s)))) (figures_at m s ∙ figures_empty is (dated s 0) (undated s) none)
@@ -226,13 +222,16 @@ pub loses_so : (m n : Data) (s : Series) (d : Dim) → are_of d (figures_of m s)
 loses_so m n s d before after = any_of (λ e. not (are_of e (figures_of n s))) d (figures_of m s) before ∙ ap not after
 
 -- a figure of a name that loses its dimension is changed
-pub lost_figure : {m n : Data} → IsConsistent m → IsConsistent n → (s : Series) (d : Dim) → are_of d (figures_of m s) ≡ true → are_of d (figures_of n s) ≡ false
+pub lost_figure : {m n : Data} → IsConsistent m → IsConsistent n → (s : Series) → loses_dimension m n s ≡ true
     → (q : RecordKey) × (f : Figure) × (figure m q ≡ Some f) × (is_other_year (dated s 0) q ≡ true) × (figure n q ≡ figure m q → ⊥)
-lost_figure {m} {n} before now s d all none =
-    let found = figures_found before (dated s 0) (undated s) d (sym (ap (are_of d) (figures_at m s)) ∙ all) in (
-      found.0,
-      found.1,
-      found.2,
-      found.3,
-      λ kept. both_ways _ none (ap (are_of d) (figures_at n s) ∙ figures_some now (dated s 0) (undated s) d found.0 found.1 (kept ∙ found.2) found.3 ∙ found.4),
-    )
+lost_figure {m} {n} before now s loses = elim (figures_one before (dated s 0) (undated s)) [
+  | inl none ↦ absurd (both_ways _ (ap (list_any (λ f. not (are_of (dim_of f.unit) (figures_of n s)))) (figures_at m s ∙ none)) loses)
+  | inr found ↦ (
+    found.0,
+    found.1,
+    found.2,
+    found.3,
+    λ kept. both_ways _ (not_so _ (sym (loses_some before n s found.0 found.1 found.2 found.3) ∙ loses))
+        (series_some now s (dim_of found.1.unit) found.0 found.1 (kept ∙ found.2) found.3 ∙ same_dim-itself _ _ refl),
+  )
+]

@@ -1,11 +1,11 @@
 -- What no change is about stays sound, unless it is bound to a name that loses its dimension, or a line is changed.
-use Rattle.std.proofs.Common.{◌≡◌, ◌⊎◌, inl, inr, ℕ, Bool, true, false, not, ◌&&◌, ◌||◌, List, [], ◌∷◌, ◌++◌, map, flat_map, Option, Some, None, is_some, refl, sym, ap, ◌∙◌, subst, if◌then◌else◌}
+use Rattle.std.proofs.Common.{fold, ◌≡◌, ◌⊎◌, inl, inr, ℕ, Bool, true, false, not, ◌&&◌, ◌||◌, List, [], ◌∷◌, ◌++◌, map, flat_map, Option, Some, None, is_some, refl, sym, ap, ◌∙◌, subst, if◌then◌else◌}
 use Rattle.std.specs.FinMap.{find as find_key, get}
 use Rattle.std.specs.List.{find, list_all, list_any}
 use Rattle.std.specs.Option.{option_map_or}
 use Rattle.std.specs.Str.{bytes_eq}
 use Rattle.std.proofs.lemmas.Bool.{or_cases, or_left, or_parts, both_ways}
-use Rattle.std.proofs.lemmas.Grind.{flat_map-append}
+use Rattle.std.proofs.lemmas.Grind.{fold-append}
 use Rattle.std.proofs.lemmas.Option.{same_Some}
 use Rattle.ghg_equations.specs.declared.eq_id.EqId.{EqId}
 use Rattle.ghg_equations.specs.declared.quantity.Dim.{Dim}
@@ -20,8 +20,8 @@ use Rattle.ghg_definitions.specs.declared.record.Record.{Record}
 use Rattle.ghg_definitions.specs.declared.record.Record.TheVariants as entry
 use Rattle.ghg_definitions.specs.declared.record.RecordKey.{RecordKey}
 use Rattle.ghg_definitions.specs.declared.record.RecordKey.TheVariants as key
-use Rattle.ghg_definitions.specs.Data.{Data, Name, as_binding, as_figure, as_line, as_uncertainty, binding, figure, key_cmp, line, year_of}
-use Rattle.ghg_definitions.specs.Rules.{are_of, binds_parameter, dim_of_output, gives_decay, gives_dimension, is_bound, is_line_of, is_sound, is_uncertainty}
+use Rattle.ghg_definitions.specs.Data.{Data, Name, as_binding, as_figure, as_line, as_uncertainty, binding, figure, key_cmp, line, line_names, year_of}
+use Rattle.ghg_definitions.specs.Rules.{are_of, binds_parameter, dim_of_output, gives_decay, gives_dimension, is_bound, is_line_of, is_sound, is_uncertainty, unsound_place}
 use Rattle.ghg_definitions.specs.Sound.{IsConsistent, IsWorkbook}
 use Rattle.ghg_definitions.proofs.Alike.{both, first_so, second_so}
 use Rattle.ghg_definitions.proofs.Consistent.{workbook_consistent}
@@ -30,15 +30,15 @@ use Rattle.ghg_data.specs.declared.series.Series.TheVariants as series
 use Rattle.ghg_data.specs.declared.takers.Takers.{Takers}
 use Rattle.ghg_data.specs.Calendar.{is_put, is_taken}
 use Rattle.ghg_data.specs.Changes.{Change, applied}
-use Rattle.ghg_data.specs.Faults.{is_fault, is_parameter_place, is_place, key_places, places_about, takes}
+use Rattle.ghg_data.specs.Faults.{considered, is_fault, is_parameter_place, is_place, key_places, line_places, places_about, takes}
 use Rattle.ghg_data.specs.Series.{date_of, dated}
-use Rattle.ghg_data.specs.Settling.{figures_of, has_line, lost_places}
+use Rattle.ghg_data.specs.Settling.{HasLooked, figures_of, has_line, loses_dimension, lost_places}
 use Rattle.ghg_data.specs.Taken.{taken, taken_by}
 use Rattle.ghg_data.specs.Takers.{AreTakersOf, takers_of}
 use Rattle.ghg_data.proofs.Applied.{get-applied, over}
 use Rattle.ghg_data.proofs.Considered.{taker_listed}
-use Rattle.ghg_data.proofs.Covered.{changed_or_kept, left_behind, never_both, sound_before, sound_line, sound_takes}
-use Rattle.ghg_data.proofs.Faults.{IsAmong, among_flat, among_left, among_right, place_parameter, place_uncertain, takes_among, uncertain_place, with_equation}
+use Rattle.ghg_data.proofs.Covered.{covered, changed_or_kept, left_behind, never_both, sound_before, sound_line, sound_takes}
+use Rattle.ghg_data.proofs.Faults.{IsAmong, among_flat, among_left, among_right, place_parameter, place_uncertain, takes_among, uncertain_place, unsound_found, with_equation}
 use Rattle.ghg_data.proofs.Figures.{loses_so, lost_figure}
 use Rattle.ghg_data.proofs.OtherYears.{in_time, of_series}
 
@@ -85,16 +85,16 @@ module _ (m : Data) (cs : List Change) (same : list_any (has_line m) (map (λ d.
     | inr kept ↦ kept
   ]
 
-  -- the binding takes a name whose figures were of a dimension and are not now
+  -- the binding takes a name that loses its dimension
   abbrev pub Lost : Binding → Type 0
-  Lost b = (s : Series) × (taken_by b ≡ Some s) × (d : Dim) × (are_of d (figures_of m s) ≡ true) × (are_of d (figures_of (applied m cs) s) ≡ false)
+  Lost b = (s : Series) × (taken_by b ≡ Some s) × (loses_dimension m (applied m cs) s ≡ true)
 
   either_way : (b : Bool) → (b ≡ true) ⊎ (b ≡ false)
   either_way true = inl refl
   either_way false = inr refl
 
   figures_or_lost : (s : Series) (b : Binding) (d : Dim) → taken_by b ≡ Some s → are_of d (figures_of m s) ≡ true → (are_of d (figures_of (applied m cs) s) ≡ true) ⊎ Lost b
-  figures_or_lost s b d takes_it h = elim (either_way (are_of d (figures_of (applied m cs) s))) [ inl still ↦ inl still | inr lost ↦ inr (s, takes_it, d, h, lost) ]
+  figures_or_lost s b d takes_it h = elim (either_way (are_of d (figures_of (applied m cs) s))) [ inl still ↦ inl still | inr lost ↦ inr (s, takes_it, loses_so m (applied m cs) s d h lost) ]
 
   line_too : (d : Dim) (l : Name) → is_line_of m d l ≡ true → is_line_of (applied m cs) d l ≡ true
   line_too d l h = by (line m l) refl h
@@ -147,22 +147,9 @@ module _ (m : Data) (cs : List Change) (same : list_any (has_line m) (map (λ d.
 -- ---- what is looked at
 
 module _ (m : Data) (w : IsWorkbook m) (cs : List Change) (now : IsConsistent (applied m cs)) (same : list_any (has_line m) (map (λ d. d.0) cs) ≡ false)
-    (t : Takers) (are : AreTakersOf m t) (names : List Series)
-    (named : (s : Series) (y : ℕ) → is_year y ≡ true → (c : Option Record) → find_key key_cmp (dated s y) cs ≡ Some c → IsAmong s names) where
+    (t : Takers) (are : AreTakersOf m t) (names : List Series) (listed : (s : Series) → loses_dimension m (applied m cs) s ≡ true → IsAmong s names) where
   abbrev pub looked_at : List Place
   looked_at = flat_map (lost_places m (applied m cs) t) names ++ flat_map (key_places (applied m cs)) (map (λ d. d.0) cs)
-
-  -- a name that loses its dimension has a figure changed
-  lost_named : (s : Series) (d : Dim) → are_of d (figures_of m s) ≡ true → are_of d (figures_of (applied m cs) s) ≡ false → IsAmong s names
-  lost_named s d all none =
-      let found = lost_figure (workbook_consistent w) now s d all none in
-      let q = found.0 in
-      let at = of_series (workbook_consistent w) (dated s 0) q found.1 found.2 found.3 in
-      by q (at.2 ∙ ap (λ x. dated x.0 (year_of q)) (same_Some _ _ (sym at.1 ∙ date_dated s 0))) (in_time (year_of q) at.3) found.4 (find_key key_cmp q cs) refl
-    where
-      by : (q : RecordKey) → q ≡ dated s (year_of q) → is_year (year_of q) ≡ true → (figure (applied m cs) q ≡ figure m q → ⊥) → (o : Option (Option Record)) → find_key key_cmp q cs ≡ o → IsAmong s names
-      by q is timely changed None e = absurd (changed (ap as_figure (get-applied m cs q ∙ ap (λ o. over o (get m q)) e)))
-      by q is timely changed (Some c) e = named s (year_of q) timely c (ap (λ k. find_key key_cmp k cs) (sym is) ∙ e)
 
   lost_looked_at : (p : Place) (b : Binding) → binding m p.line p.parameter ≡ Some b → Lost m cs same b → IsAmong p looked_at
   lost_looked_at p b bound lost =
@@ -170,8 +157,8 @@ module _ (m : Data) (w : IsWorkbook m) (cs : List Change) (now : IsConsistent (a
       let k = key.Bind p.line p.parameter in
       let taker = are s k (taken_binding (get m k) b bound ∙ lost.1) in
       let place : IsAmong p (key_places (applied m cs) k) = inl refl in
-      among_left p _ _ (among_flat (lost_places m (applied m cs) t) s p names (lost_named s lost.2 lost.3 lost.4)
-      (subst (λ x. IsAmong p (if x then flat_map (key_places (applied m cs)) (takers_of t s) else [])) (sym (loses_so m (applied m cs) s lost.2 lost.3 lost.4))
+      among_left p _ _ (among_flat (lost_places m (applied m cs) t) s p names (listed s lost.2)
+      (subst (λ x. IsAmong p (if x then flat_map (key_places (applied m cs)) (takers_of t s) else [])) (sym lost.2)
       (among_flat (key_places (applied m cs)) k p (takers_of t s) (taker_listed t s k taker.0 _ taker.3 taker.2) place)))
 
   among_key : (p : Place) (k : RecordKey) → IsAmong k (map (λ d. d.0) cs) → IsAmong p (key_places (applied m cs) k) → IsAmong p looked_at
@@ -227,18 +214,38 @@ module _ (m : Data) (w : IsWorkbook m) (cs : List Change) (now : IsConsistent (a
       by true u = by_uncertainty p u h
       by false u = by_parameter p u h
 
--- so it is of the keys that are set and those that are removed, one after the other
-module _ (m : Data) (w : IsWorkbook m) (cs : List Change) (now : IsConsistent (applied m cs)) (same : list_any (has_line m) (map (λ d. d.0) cs) ≡ false)
-    (t : Takers) (are : AreTakersOf m t) (puts gone : List Series)
+-- a name that loses its dimension is among those of which a record is set or removed
+module _ (m : Data) (w : IsWorkbook m) (cs : List Change) (now : IsConsistent (applied m cs)) (puts gone : List Series)
     (put : (s : Series) (y : ℕ) → is_year y && is_put (find_key key_cmp (dated s y) cs) ≡ true → IsAmong s puts)
     (took : (s : Series) (y : ℕ) → is_year y && is_taken (find_key key_cmp (dated s y) cs) ≡ true → IsAmong s gone) where
-  named_either : (s : Series) (y : ℕ) → is_year y ≡ true → (c : Option Record) → find_key key_cmp (dated s y) cs ≡ Some c → IsAmong s (puts ++ gone)
-  named_either s y timely None at = among_right s puts gone (took s y (both _ _ timely (ap is_taken at)))
-  named_either s y timely (Some r) at = among_left s puts gone (put s y (both _ _ timely (ap is_put at)))
+  named : (s : Series) (y : ℕ) → is_year y ≡ true → (c : Option Record) → find_key key_cmp (dated s y) cs ≡ Some c → IsAmong s (puts ++ gone)
+  named s y timely None at = among_right s puts gone (took s y (both _ _ timely (ap is_taken at)))
+  named s y timely (Some r) at = among_left s puts gone (put s y (both _ _ timely (ap is_put at)))
 
-  pub settled_after : (before after : Data) → before ≡ m → after ≡ applied m cs → (p : Place) → is_fault after p ≡ true
-      → IsAmong p ((flat_map (lost_places before after t) puts ++ flat_map (lost_places before after t) gone) ++ flat_map (key_places after) (map (λ d. d.0) cs))
-  settled_after before after is after_is = subst (λ (x : Data). (p : Place) → is_fault after p ≡ true → IsAmong p ((flat_map (lost_places x after t) puts ++ flat_map (lost_places x after t) gone) ++ flat_map (key_places after) (map (λ d. d.0) cs))) (sym is)
-      (subst (λ (n : Data). (p : Place) → is_fault n p ≡ true → IsAmong p ((flat_map (lost_places m n t) puts ++ flat_map (lost_places m n t) gone) ++ flat_map (key_places n) (map (λ d. d.0) cs))) (sym after_is)
-      (λ p h. subst (λ ps. IsAmong p (ps ++ flat_map (key_places (applied m cs)) (map (λ d. d.0) cs))) (flat_map-append (lost_places m (applied m cs) t) puts gone)
-      (settled m w cs now same t are (puts ++ gone) named_either p h)))
+  pub lost_listed : (s : Series) → loses_dimension m (applied m cs) s ≡ true → IsAmong s (puts ++ gone)
+  lost_listed s loses =
+      let found = lost_figure (workbook_consistent w) now s loses in
+      let q = found.0 in
+      let at = of_series (workbook_consistent w) (dated s 0) q found.1 found.2 found.3 in
+      by q (at.2 ∙ ap (λ x. dated x.0 (year_of q)) (same_Some _ _ (sym at.1 ∙ date_dated s 0))) (in_time (year_of q) at.3) found.4 (find_key key_cmp q cs) refl
+    where
+      by : (q : RecordKey) → q ≡ dated s (year_of q) → is_year (year_of q) ≡ true → (figure (applied m cs) q ≡ figure m q → ⊥) → (o : Option (Option Record)) → find_key key_cmp q cs ≡ o → IsAmong s (puts ++ gone)
+      by q is timely changed None e = absurd (changed (ap as_figure (get-applied m cs q ∙ ap (λ o. over o (get m q)) e)))
+      by q is timely changed (Some c) e = named s (year_of q) timely c (ap (λ k. find_key key_cmp k cs) (sym is) ∙ e)
+
+-- the least fault of the new data, from what is looked at and then the changed keys
+module _ (m : Data) (w : IsWorkbook m) (cs : List Change) (now : IsConsistent (applied m cs)) (looked : Option Place)
+    (lines : list_any (has_line m) (map (λ d. d.0) cs) ≡ true → looked ≡ fold (considered (applied m cs)) None (flat_map (line_places m) (line_names m)))
+    (names : list_any (has_line m) (map (λ d. d.0) cs) ≡ false → HasLooked m (applied m cs) None looked) where
+  abbrev pub under : List Place
+  under = flat_map (key_places (applied m cs)) (map (λ d. d.0) cs)
+
+  from_list : (ps : List Place) → looked ≡ fold (considered (applied m cs)) None ps → ((p : Place) → is_fault (applied m cs) p ≡ true → IsAmong p (ps ++ under)) → fold (considered (applied m cs)) looked under ≡ unsound_place (applied m cs)
+  from_list ps is each = ap (λ least. fold (considered (applied m cs)) least under) is ∙ sym (fold-append (considered (applied m cs)) None ps under) ∙ unsound_found now (ps ++ under) each
+
+  pub least_looked : fold (considered (applied m cs)) looked under ≡ unsound_place (applied m cs)
+  least_looked = by (list_any (has_line m) (map (λ d. d.0) cs)) refl
+    where
+      by : (b : Bool) → list_any (has_line m) (map (λ d. d.0) cs) ≡ b → fold (considered (applied m cs)) looked under ≡ unsound_place (applied m cs)
+      by true some = from_list _ (lines some) (covered m w cs)
+      by false none = let h = names none in from_list _ h.4 (settled m w cs now none h.0 h.2 h.1 h.3)

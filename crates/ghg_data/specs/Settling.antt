@@ -1,6 +1,6 @@
 -- What may leave a binding unsound that no change is about: a line that is changed, and an activity or a
 -- factor that loses its dimension.
-use Rattle.std.specs.Prelude.{◌≡◌, Bool, true, false, not, List, [], ◌++◌, Option, is_some, fold, if◌then◌else◌}
+use Rattle.std.specs.Prelude.{◌≡◌, Bool, true, false, not, List, [], Option, is_some, fold, if◌then◌else◌}
 use Rattle.std.specs.List.{flat_map, list_any}
 use Rattle.ghg_units.specs.declared.row.Figure.{Figure}
 use Rattle.ghg_units.specs.Units.{dim_of}
@@ -13,8 +13,8 @@ use Rattle.ghg_definitions.specs.Rules.{activities, are_of, factors}
 use Rattle.ghg_data.specs.declared.series.Series.{Series}
 use Rattle.ghg_data.specs.declared.series.Series.TheVariants as series
 use Rattle.ghg_data.specs.declared.takers.Takers.{Takers}
-use Rattle.ghg_data.specs.Faults.{considered, is_fault, key_places}
-use Rattle.ghg_data.specs.Takers.{takers_of}
+use Rattle.ghg_data.specs.Faults.{considered, key_places}
+use Rattle.ghg_data.specs.Takers.{AreTakersOf, takers_of}
 
 -- the figures of all records of an activity or a factor
 abbrev pub figures_of : Data → Series → List Figure
@@ -34,7 +34,8 @@ abbrev pub has_line : Data → RecordKey → Bool
 has_line m (key.Line name) = is_some (line m name)
 has_line m _ = false
 
--- the least fault once some places were looked at, which with those that these keys are about have each fault
-abbrev pub HasLooked : Data → List RecordKey → Option Place → Option Place → Type 0
-HasLooked n ks old new = (ps : List Place) × (new ≡ fold (considered n) old ps) ×
-    ((p : Place) → is_fault n p ≡ true → IsListed p (ps ++ flat_map (key_places n) ks))
+-- the least fault, once the places of all names that lose their dimension were looked at
+abbrev pub HasLooked : Data → Data → Option Place → Option Place → Type 0
+HasLooked m n old new = (t : Takers) × (names : List Series) × AreTakersOf m t ×
+    ((s : Series) → loses_dimension m n s ≡ true → IsListed s names) ×
+    (new ≡ fold (considered n) old (flat_map (lost_places m n t) names))

@@ -1,23 +1,24 @@
 //! Bindings: each parameter of a line's equation is bound, to something of its dimension.
 
-ghost use Rattle.std.specs.Prelude.{◌≡◌, true, None, find, fold, flat_map, map, option_copied};
-ghost use Rattle.std.specs.List.{AllByRecursion, list_all};
-ghost use Rattle.std.specs.Option.{option_map};
+ghost use Rattle.std.specs.Prelude.{◌≡◌, true, false, None, find, fold, flat_map, map, option_copied};
+ghost use Rattle.std.specs.List.{AllByRecursion, list_all, list_any};
+ghost use Rattle.std.specs.Option.{option_map, option_map_or};
+ghost use Rattle.std.specs.Ordering.{is_gt};
 ghost use Rattle.std.specs.Str.{bytes_eq};
 ghost use Rattle.ghg_equations.specs.Table.{parameters};
 ghost use Rattle.ghg_units.specs.Parameter.{is_parameter};
 ghost use Rattle.ghg_definitions.specs.Data.{first_name, line, line_names};
-ghost use Rattle.ghg_definitions.specs.Rules.{dim_of_output, gives_decay, gives_dimension, is_bound, is_line_of, is_uncertainty, lesser_place, places_in, unsound_place};
+ghost use Rattle.ghg_definitions.specs.Rules.{dim_of_output, gives_decay, gives_dimension, is_bound, is_line_of, is_uncertainty, place_cmp, places_in, unsound_place};
 ghost use Rattle.ghg_definitions.specs.Sound.{IsConsistent, IsWorkbook};
 ghost use Rattle.ghg_data.specs.Changes.{applied};
 ghost use Rattle.ghg_data.specs.Faults.{considered, dim_of_place, is_fault, key_places, line_places, uncertainty_place};
-ghost use Rattle.ghg_data.specs.Settling.{HasLooked, lost_places};
+ghost use Rattle.ghg_data.specs.Settling.{HasLooked, has_line, lost_places};
 ghost use Rattle.ghg_data.specs.Takers.{takers_of};
 
 use crate::draft::{Draft, equation_in};
 use crate::edits::Edits;
 use crate::holdings::Holdings;
-use crate::measures::{is_activity_of, is_factor_of};
+use crate::measures::is_of;
 use crate::parameters::{name_of, params_of};
 use crate::series::Series;
 use crate::takers::Takers;
@@ -58,8 +59,8 @@ fn gives_dimension(draft: &Draft<'_>, dim: Dim, binding: &Binding) -> bool
     ensures { result ≡ gives_dimension draft.now dim binding.now }
 {
     match binding {
-        Binding::Activity(name) => is_activity_of(draft, dim, name),
-        Binding::Factor(name) => is_factor_of(draft, dim, name),
+        Binding::Activity(name) => is_of(draft, dim, &Series::Activity(*name)),
+        Binding::Factor(name) => is_of(draft, dim, &Series::Factor(*name)),
         Binding::Line(name) | Binding::Prev(name) => is_line_of(draft, dim, name),
         Binding::Sum(names) => are_lines_of(draft, dim, names.as_slice()),
         Binding::Decay(_) => false,
@@ -72,7 +73,7 @@ fn gives_decay(draft: &Draft<'_>, binding: &Binding) -> bool
     ensures { result ≡ gives_decay draft.now binding.now }
 {
     match binding {
-        Binding::Decay(name) => is_factor_of(draft, Dim::HalfLife, name),
+        Binding::Decay(name) => is_of(draft, Dim::HalfLife, &Series::Factor(*name)),
         _ => false,
     }
 }
@@ -132,12 +133,13 @@ fn is_fault(draft: &Draft<'_>, place: &Place) -> bool
     }
 }
 
-fn lesser_place(place: &Place, least: &Option<Place>) -> Place
-    ensures { result ≡ lesser_place place.now least.now }
+// The least fault so far comes before the place.
+fn comes_before(least: &Option<Place>, place: &Place) -> bool
+    ensures { result ≡ option_map_or (λ other. is_gt (place_cmp place.now other)) least.now false }
 {
     match least {
-        Some(other) if place.cmp(other) == Ordering::Greater => *other,
-        _ => *place,
+        Some(other) => place.cmp(other) == Ordering::Greater,
+        None => false,
     }
 }
 
@@ -145,8 +147,11 @@ fn lesser_place(place: &Place, least: &Option<Place>) -> Place
 fn consider(draft: &Draft<'_>, least: &mut Option<Place>, place: &Place)
     ensures { least.new ≡ considered draft.now least.old place.now }
 {
+    if comes_before(least, place) {
+        return;
+    }
     if is_fault(draft, place) {
-        *least = Some(lesser_place(place, least));
+        *least = Some(*place);
     }
 }
 
@@ -265,7 +270,11 @@ fn consider_unsettled(
     requires workbook { IsWorkbook holdings.now.content }
     requires consistent { IsConsistent draft.now }
     requires draft { draft.now ≡ applied holdings.now.content edits.now }
-    ensures { HasLooked draft.now (map (λ c. c.0) edits.now) least.old least.new }
+    ensures lines { list_any (has_line holdings.now.content) (map (λ c. c.0) edits.now) ≡ true →
+        least.new ≡ fold (considered draft.now) least.old
+        (flat_map (line_places holdings.now.content) (line_names holdings.now.content)) }
+    ensures names { list_any (has_line holdings.now.content) (map (λ c. c.0) edits.now) ≡ false →
+        HasLooked holdings.now.content draft.now least.old least.new }
 {
     if has_any_line(holdings, edits.keys()) {
         consider_lines(draft, least, holdings);

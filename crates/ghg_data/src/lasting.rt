@@ -13,6 +13,7 @@ pub struct Lasting {
     pub first: u32,
     /// The last of them.
     pub last: u32,
+    /// What it gives.
     pub input: Input,
 }
 

@@ -1,44 +1,38 @@
 //! What the figures of an activity or a factor measure.
 
-ghost use Rattle.std.specs.Prelude.{◌≡◌};
-ghost use Rattle.ghg_definitions.specs.Rules.{activities, are_of, factors};
+ghost use Rattle.std.specs.Prelude.{◌≡◌, IfSome, IfNone, None, Some, true};
+ghost use Rattle.ghg_definitions.specs.declared.record.RecordKey.{RecordKey};
+ghost use Rattle.ghg_definitions.specs.Data.{figure};
+ghost use Rattle.ghg_definitions.specs.Rules.{are_of, is_other_year};
+ghost use Rattle.ghg_definitions.specs.Sound.{IsConsistent};
+ghost use Rattle.ghg_data.specs.Series.{dated};
 ghost use Rattle.ghg_data.specs.Settling.{figures_of};
 
 use crate::draft::Draft;
 use crate::series::Series;
-use ghg_definitions::RecordKey;
 use ghg_equations::Dim;
-use ghg_units::Name;
+use ghg_units::Figure;
 
-/// In place of the year in a key that stands for all years.
-pub(crate) const NO_YEAR: u32 = 0;
+// In place of the year in a key that stands for all years.
+const NO_YEAR: u32 = 0;
 
-/// The activity has records, all of the dimension.
-pub(crate) fn is_activity_of(draft: &Draft<'_>, dim: Dim, name: &Name) -> bool
-    ensures { result ≡ are_of dim (activities draft.now name.now) }
+/// Some figure of an activity or a factor.
+pub(crate) fn some_figure(draft: &Draft<'_>, series: &Series) -> Option<Figure>
+    ensures found { IfSome result (λ f. (q : RecordKey) × (figure draft.now q ≡ Some f) ×
+        (is_other_year (dated series.now 0) q ≡ true)) }
+    ensures none { IfNone result ((q : RecordKey) → is_other_year (dated series.now 0) q ≡ true
+        → figure draft.now q ≡ None) }
+    ensures consistent { IsConsistent draft.now }
 {
-    match draft.other_year(&RecordKey::Activity(*name, NO_YEAR)) {
-        Some(figure) => dim == ghg_units::dim(figure.unit),
-        None => false,
-    }
-}
-
-/// The factor has records, all of the dimension.
-pub(crate) fn is_factor_of(draft: &Draft<'_>, dim: Dim, name: &Name) -> bool
-    ensures { result ≡ are_of dim (factors draft.now name.now) }
-{
-    match draft.other_year(&RecordKey::Factor(*name, NO_YEAR)) {
-        Some(figure) => dim == ghg_units::dim(figure.unit),
-        None => false,
-    }
+    draft.other_year(&series.dated(NO_YEAR))
 }
 
 /// The activity or factor has records, all of the dimension.
-pub(crate) fn is_series_of(draft: &Draft<'_>, dim: Dim, series: &Series) -> bool
+pub(crate) fn is_of(draft: &Draft<'_>, dim: Dim, series: &Series) -> bool
     ensures { result ≡ are_of dim (figures_of draft.now series.now) }
 {
-    match series {
-        Series::Activity(name) => is_activity_of(draft, dim, name),
-        Series::Factor(name) => is_factor_of(draft, dim, name),
+    match some_figure(draft, series) {
+        Some(figure) => dim == ghg_units::dim(figure.unit),
+        None => false,
     }
 }

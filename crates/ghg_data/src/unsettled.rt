@@ -6,7 +6,7 @@ ghost use Rattle.ghg_data.specs.Settling.{has_line, loses_dimension};
 
 use crate::draft::{Draft, equation_in};
 use crate::holdings::Holdings;
-use crate::measures::{NO_YEAR, is_series_of};
+use crate::measures::{is_of, some_figure};
 use crate::series::Series;
 use ghg_definitions::RecordKey;
 
@@ -27,12 +27,12 @@ pub(crate) fn has_any_line(holdings: &Holdings, keys: &[RecordKey]) -> bool
     keys.iter().any(|key| has_line(holdings, key))
 }
 
-/// The activity or factor has figures before, and has none or others than of their dimension after.
+/// The activity or factor has figures before, and after has none or others than of their dimension.
 pub(crate) fn loses_dimension(before: &Draft<'_>, after: &Draft<'_>, series: &Series) -> bool
     ensures { result ≡ loses_dimension before.now after.now series.now }
 {
-    match before.other_year(&series.dated(NO_YEAR)) {
-        Some(figure) => !is_series_of(after, ghg_units::dim(figure.unit), series),
+    match some_figure(before, series) {
+        Some(figure) => !is_of(after, ghg_units::dim(figure.unit), series),
         None => false,
     }
 }

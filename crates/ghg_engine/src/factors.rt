@@ -29,8 +29,8 @@ impl KeptFactor {
         }
     }
 
-    // What a factor gives in a year. Where what is kept is of another factor or of other years, it is looked
-    // up, and kept in place of that.
+    // What a factor gives in a year. Where what is kept is of other years, it is looked up, and kept in place
+    // of that. The name is compared, so that no clause has to say which factor has which number.
     fn input<R: Records>(&mut self, records: &R, name: &Name, year: u32) -> Input
         requires { IsKeptFactor (R.content records.now) self.old }
         ensures kept { IsKeptFactor (R.content records.now) self.new }
@@ -85,8 +85,8 @@ impl Factors {
         Ok(())
     }
 
-    /// What a factor gives in a year. What is kept under the number serves if it is of this factor and year.
-    /// Else it is looked up, and kept there in place of that. Under other numbers nothing is kept.
+    /// What a factor gives in a year. What is kept under its number serves if it is of this year. Else it is
+    /// looked up, and kept there in place of that. Under other numbers nothing is kept.
     pub(crate) fn input<R: Records>(
         &mut self,
         records: &R,

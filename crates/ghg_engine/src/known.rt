@@ -215,18 +215,19 @@ impl Emitter {
         }
     }
 
-    // The warming potential of the gas of a line in a year. Where what is kept is of another line or of other
-    // years, it is looked up, and kept in place of that.
-    fn potential<R: Records>(&mut self, records: &R, name: &Name, year: u32) -> Input
+    // The warming potential of the line's gas in a year. Where what is kept is of other years, it is looked
+    // up, and kept in place of that.
+    fn potential<R: Records>(&mut self, records: &R, year: u32) -> Input
         requires { IsEmitter (R.content records.now) self.old }
         ensures emitter { IsEmitter (R.content records.now) self.new }
         ensures input { result ≡ given (R.content records.now)
-            (potential (R.content records.now) year (line_gas (R.content records.now) name.now)) }
+            (potential (R.content records.now) year (line_gas (R.content records.now) self.old.name)) }
     {
         match self.potential.in_year(year) {
-            Some(input) if self.name == *name => input,
-            _ => {
-                *self = Emitter::of(records, name, year);
+            Some(input) => input,
+            None => {
+                let name = self.name;
+                *self = Emitter::of(records, &name, year);
                 self.potential.input
             }
         }
@@ -307,8 +308,7 @@ impl Known {
         Ok(())
     }
 
-    /// The warming potential of the gas of a line in a year. What is kept at the place serves if it is of
-    /// this line and year. Else it is looked up, and kept there in place of that.
+    /// The warming potential of the gas of a line in a year. It is kept if the line stands at the place.
     pub(crate) fn potential<R: Records>(
         &mut self,
         records: &R,
@@ -322,8 +322,8 @@ impl Known {
             (potential (R.content records.now) year (line_gas (R.content records.now) name.now)) }
     {
         match self.emitters.get_mut(place) {
-            Some(emitter) => emitter.potential(records, name, year),
-            None => potential(records, name, year),
+            Some(emitter) if emitter.name == *name => emitter.potential(records, year),
+            _ => potential(records, name, year),
         }
     }
 }
