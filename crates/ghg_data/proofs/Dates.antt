@@ -47,7 +47,7 @@ series_same (series.Factor a) (series.Factor b) e = ap series.Factor (one_name a
 pub series_equal : (s t : Series) → series_eq s t ≡ true → s ≡ t
 series_equal s t e = series_same s t (sym (series_ties s t) ∙ e)
 
-series_itself : (s : Series) → series_eq s s ≡ true
+pub series_itself : (s : Series) → same_series s s ≡ true
 series_itself (series.Activity a) = nat_list_eq_equiv.refl a
 series_itself (series.Factor a) = nat_list_eq_equiv.refl a
 
@@ -58,7 +58,7 @@ series_back (series.Factor a) (series.Activity b) = refl
 series_back (series.Factor a) (series.Factor b) = nat_list_eq_equiv.symm a b
 
 pub series_eq_laws : IsEquivalence series_eq
-series_eq_laws = record { refl = series_itself; symm = series_back; congr = λ s t u e. ap (λ x. series_eq x u) (series_equal s t e) }
+series_eq_laws = record { refl = λ s. series_ties s s ∙ series_itself s; symm = series_back; congr = λ s t u e. ap (λ x. series_eq x u) (series_equal s t e) }
 
 found : (s : Series) (es : List (Series × Column)) → lookup (series_eq s) es ≡ lookup (same_series s) es
 found s [] = refl

@@ -15,6 +15,7 @@ pub mod Order
 pub mod NamedLines
 pub mod Settled
 pub mod YearBits
+pub mod Keys
 pub mod Dates
 pub mod Places
 pub mod Calendars

@@ -18,15 +18,13 @@ use Rattle.ghg_data.specs.declared.series.Series.{Series}
 use Rattle.ghg_data.specs.Calendar.{ArePlacesOf, HasNoNewPlace, IsPlaced, key_at, place_of}
 use Rattle.ghg_data.specs.Series.{date_of, dated}
 use Rattle.ghg_data.proofs.Dates.{key_of_date}
+use Rattle.ghg_data.proofs.Keys.{one_key}
 
 abbrev Entries : Type 0
 Entries = List (RecordKey × Record)
 
 one_more : (n : ℕ) → suc n ≡ 1 + n
 one_more n = omega arith
-
-one_key : (k q : RecordKey) → key_eq k q ≡ true → k ≡ q
-one_key k q e = keys_same k q (equal_by _ (sym (key_ties k q) ∙ e))
 
 -- ---- an entry is put
 
@@ -37,7 +35,7 @@ module _ (k : RecordKey) (r : Record) where
     where
       by : (b : Bool) → key_eq k e.0 ≡ b → key_at (insert_entry key_eq es k r) (position_or_len (key_eq k) (keys_of es)) ≡ Some k
           → key_at (if b then (e.0, r) ∷ es else e ∷ insert_entry key_eq es k r) (cond (not b) (1 + position_or_len (key_eq k) (keys_of es)) 0) ≡ Some k
-      by true is rest = ap Some (sym (one_key k e.0 is))
+      by true is rest = ap Some (sym (one_key k e.0 (sym (key_ties k e.0) ∙ is)))
       by false is rest = subst (λ i. key_at (e ∷ insert_entry key_eq es k r) i ≡ Some k) (one_more (position_or_len (key_eq k) (keys_of es))) rest
 
   stays_at_put : (es : Entries) (p : ℕ) (q : RecordKey) → key_at es p ≡ Some q → key_at (insert_entry key_eq es k r) p ≡ Some q
@@ -97,7 +95,7 @@ stands k (e ∷ es) l = by (key_eq k e.0) refl (stands k es) l
   where
     by : (b : Bool) → key_eq k e.0 ≡ b → (position_or_len (key_eq k) (keys_of es) < length (keys_of es) → key_at es (position_or_len (key_eq k) (keys_of es)) ≡ Some k)
         → cond (not b) (1 + position_or_len (key_eq k) (keys_of es)) 0 < suc (length (keys_of es)) → key_at (e ∷ es) (cond (not b) (1 + position_or_len (key_eq k) (keys_of es)) 0) ≡ Some k
-    by true is rest m = ap Some (sym (one_key k e.0 is))
+    by true is rest m = ap Some (sym (one_key k e.0 (sym (key_ties k e.0) ∙ is)))
     by false is rest m = subst (λ i. key_at (e ∷ es) i ≡ Some k) (one_more (position_or_len (key_eq k) (keys_of es))) (rest (omega (arith, m)))
 
 found_there : (k : RecordKey) (es : Entries) (i : ℕ) → position (key_eq k) (keys_of es) ≡ Some i → key_at es i ≡ Some k

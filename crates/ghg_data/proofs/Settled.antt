@@ -33,7 +33,7 @@ use Rattle.ghg_data.specs.Changes.{Change, applied}
 use Rattle.ghg_data.specs.Faults.{considered, is_fault, is_parameter_place, is_place, key_places, line_places, places_about, takes}
 use Rattle.ghg_data.specs.Series.{date_of, dated}
 use Rattle.ghg_data.specs.Settling.{HasLooked, figures_of, has_line, loses_dimension, lost_places}
-use Rattle.ghg_data.specs.Taken.{taken, taken_by}
+use Rattle.ghg_data.specs.BoundSeries.{bound_series, series_in}
 use Rattle.ghg_data.specs.Takers.{AreTakersOf, takers_of}
 use Rattle.ghg_data.proofs.Applied.{get-applied, over}
 use Rattle.ghg_data.proofs.Considered.{taker_listed}
@@ -62,14 +62,14 @@ all_too f g h [] e = refl
 all_too f g h (x ∷ xs) e = both _ _ (h x (first_so (f x) _ e)) (all_too f g h xs (second_so (f x) _ e))
 
 -- what the record of a binding takes
-taken_binding : (o : Option Record) (b : Binding) → as_binding o ≡ Some b → taken o ≡ taken_by b
-taken_binding None b e = absurd (cc)
-taken_binding (Some (entry.Span s)) b e = absurd (cc)
-taken_binding (Some (entry.Activity f)) b e = absurd (cc)
-taken_binding (Some (entry.Factor f)) b e = absurd (cc)
-taken_binding (Some (entry.Line c q)) b e = absurd (cc)
-taken_binding (Some (entry.Bind c)) b e = ap taken_by (same_Some c b e)
-taken_binding (Some (entry.Uncert a f)) b e = absurd (cc)
+bound_in : (o : Option Record) (b : Binding) → as_binding o ≡ Some b → series_in o ≡ bound_series b
+bound_in None b e = absurd (cc)
+bound_in (Some (entry.Span s)) b e = absurd (cc)
+bound_in (Some (entry.Activity f)) b e = absurd (cc)
+bound_in (Some (entry.Factor f)) b e = absurd (cc)
+bound_in (Some (entry.Line c q)) b e = absurd (cc)
+bound_in (Some (entry.Bind c)) b e = ap bound_series (same_Some c b e)
+bound_in (Some (entry.Uncert a f)) b e = absurd (cc)
 
 date_dated : (s : Series) (y : ℕ) → date_of (dated s y) ≡ Some (s, y)
 date_dated (series.Activity name) y = refl
@@ -87,13 +87,13 @@ module _ (m : Data) (cs : List Change) (same : list_any (has_line m) (map (λ d.
 
   -- the binding takes a name that loses its dimension
   abbrev pub Lost : Binding → Type 0
-  Lost b = (s : Series) × (taken_by b ≡ Some s) × (loses_dimension m (applied m cs) s ≡ true)
+  Lost b = (s : Series) × (bound_series b ≡ Some s) × (loses_dimension m (applied m cs) s ≡ true)
 
   either_way : (b : Bool) → (b ≡ true) ⊎ (b ≡ false)
   either_way true = inl refl
   either_way false = inr refl
 
-  figures_or_lost : (s : Series) (b : Binding) (d : Dim) → taken_by b ≡ Some s → are_of d (figures_of m s) ≡ true → (are_of d (figures_of (applied m cs) s) ≡ true) ⊎ Lost b
+  figures_or_lost : (s : Series) (b : Binding) (d : Dim) → bound_series b ≡ Some s → are_of d (figures_of m s) ≡ true → (are_of d (figures_of (applied m cs) s) ≡ true) ⊎ Lost b
   figures_or_lost s b d takes_it h = elim (either_way (are_of d (figures_of (applied m cs) s))) [ inl still ↦ inl still | inr lost ↦ inr (s, takes_it, loses_so m (applied m cs) s d h lost) ]
 
   line_too : (d : Dim) (l : Name) → is_line_of m d l ≡ true → is_line_of (applied m cs) d l ≡ true
@@ -155,7 +155,7 @@ module _ (m : Data) (w : IsWorkbook m) (cs : List Change) (now : IsConsistent (a
   lost_looked_at p b bound lost =
       let s = lost.0 in
       let k = key.Bind p.line p.parameter in
-      let taker = are s k (taken_binding (get m k) b bound ∙ lost.1) in
+      let taker = (are s k).0 (bound_in (get m k) b bound ∙ lost.1) in
       let place : IsAmong p (key_places (applied m cs) k) = inl refl in
       among_left p _ _ (among_flat (lost_places m (applied m cs) t) s p names (listed s lost.2)
       (subst (λ x. IsAmong p (if x then flat_map (key_places (applied m cs)) (takers_of t s) else [])) (sym lost.2)

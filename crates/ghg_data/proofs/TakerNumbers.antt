@@ -1,12 +1,12 @@
 -- The takers of an activity or a factor, after a change.
-use Rattle.std.proofs.Common.{◌≡◌, ℕ, ◌+◌, ◌≤◌, ◌<◌, map, length, Bool, true, false, cond, ◌&&◌, ◌||◌, ◌==◌, List, [], ◌∷◌, Option, Some, None, is_some, refl, sym, ap, ap₂, ◌∙◌, subst, true≢false, arith}
+use Rattle.std.proofs.Common.{◌≡◌, ◌↔◌, ℕ, ◌+◌, ◌≤◌, ◌<◌, map, length, Bool, true, false, cond, ◌&&◌, ◌||◌, ◌==◌, List, [], ◌∷◌, Option, Some, None, is_some, refl, sym, ap, ap₂, ◌∙◌, subst, true≢false, arith}
 use Rattle.std.specs.Cmp.{eq_by_cmp_equiv}
 use Rattle.std.specs.FinMap.{get}
 use Rattle.std.specs.List.{list_any}
 use Rattle.std.specs.Map.{lookup}
-use Rattle.std.specs.Option.{option_map, option_map_or}
+use Rattle.std.specs.Option.{option_eq, option_map, option_map_or}
 use Rattle.std.specs.Ordering.{eq_by_cmp}
-use Rattle.std.proofs.lemmas.Bool.{eqb-false, eq-eqb, ne_eqb}
+use Rattle.std.proofs.lemmas.Bool.{eqb-false, eqb-true, eq-eqb, ne_eqb}
 use Rattle.std.proofs.lemmas.List.{length-map}
 use Rattle.std.proofs.lemmas.Map.Steps.{le-length_from_below}
 use Rattle.std.proofs.lemmas.Option.{same_Some}
@@ -16,18 +16,19 @@ use Rattle.ghg_definitions.specs.declared.record.RecordKey.{RecordKey}
 use Rattle.ghg_definitions.specs.Data.{Data, key_cmp}
 use Rattle.ghg_definitions.specs.Rows.{with_record}
 use Rattle.ghg_definitions.proofs.Consistent.{get-with_record}
-use Rattle.ghg_definitions.proofs.Keys.{equal_by, key_ties, keys_same, keys_total}
+use Rattle.ghg_definitions.proofs.Keys.{key_ties, keys_total}
 use Rattle.ghg_data.specs.contracts.takers.NumberedPartialEq.TheImpl as of_numbers
 use Rattle.ghg_data.specs.contracts.takers.TakerPartialEq.TheImpl as of_keys
 use Rattle.ghg_data.specs.declared.series.Series.{Series}
 use Rattle.ghg_data.specs.declared.takers.Numbered.{Numbered}
 use Rattle.ghg_data.specs.declared.takers.Taker.{Taker}
 use Rattle.ghg_data.specs.declared.takers.Takers.{Takers}
-use Rattle.ghg_data.specs.Numbered.{HasNoGap, counted, numbered, same_numbered}
+use Rattle.ghg_data.specs.BoundSeries.{series_in}
+use Rattle.ghg_data.specs.Numbered.{HasNoGap, counted, number_in, numbered, same_numbered, same_taker}
 use Rattle.ghg_data.specs.Series.{same_series}
-use Rattle.ghg_data.specs.Taken.{taken}
-use Rattle.ghg_data.specs.Takers.{AreTakersOf, IsTaker, KeepsTakers, same_taker}
-use Rattle.ghg_data.proofs.Dates.{series_eq, series_eq_laws, series_same, series_ties}
+use Rattle.ghg_data.specs.Takers.{AreTakersOf, HasSameOtherTakers, IsTaker}
+use Rattle.ghg_data.proofs.Dates.{series_eq, series_equal, series_itself, series_same, series_ties}
+use Rattle.ghg_data.proofs.Keys.{key_itself, one_key}
 
 -- the equalities that the code has
 abbrev pub numbered_eq : Numbered → Numbered → Bool
@@ -41,15 +42,6 @@ numbered_ties a b = ap (λ p. p && (a.number == b.number)) (series_ties a.series
 
 taker_ties : (a b : Taker) → taker_eq a b ≡ same_taker a b
 taker_ties a b = ap₂ (λ p q. p && q) (series_ties a.series b.series) (key_ties a.key b.key)
-
-series_itself : (s : Series) → same_series s s ≡ true
-series_itself s = sym (series_ties s s) ∙ series_eq_laws.refl s
-
-key_itself : (k : RecordKey) → eq_by_cmp key_cmp k k ≡ true
-key_itself = (eq_by_cmp_equiv keys_total).refl
-
-one_key : (k q : RecordKey) → eq_by_cmp key_cmp k q ≡ true → k ≡ q
-one_key k q e = keys_same k q (equal_by _ e)
 
 -- ---- look-ups, by the equalities of the specs
 
@@ -78,10 +70,6 @@ module _ (old new : List (Numbered × RecordKey)) (series : Series) (number : �
   replaced_key v given s i =
       replaced_so numbered_eq same_numbered numbered_ties old new k v given (record { series = s; number = i })
       ∙ ap (λ (x : Numbered). cond (same_series x.series s && (x.number == i)) (option_map (λ _. v) (numbered old s i)) (numbered old s i)) is
-
--- the number of a key of a series
-abbrev pub number_in : List (Taker × ℕ) → Series → RecordKey → Option ℕ
-number_in es s k = lookup (same_taker (record { series = s; key = k })) es
 
 module _ (old new : List (Taker × ℕ)) (series : Series) (key : RecordKey) (k : Taker) (is : k ≡ record { series = series; key = key }) where
   pub set_number : (o : Option ℕ) → ((q : Taker) → lookup (taker_eq q) new ≡ cond (taker_eq k q) o (lookup (taker_eq q) old))
@@ -144,6 +132,9 @@ few keys counts gap s =
 abbrev pub Has : (Series → RecordKey → Option ℕ) → (Series → ℕ) → (Series → ℕ → Option RecordKey) → Series → RecordKey → Type 0
 Has N C K s k = (i : ℕ) × (N s k ≡ Some i) × (i < C s) × (K s i ≡ Some k)
 
+abbrev pub Owned : (Series → RecordKey → Option ℕ) → (Series → ℕ) → (Series → ℕ → Option RecordKey) → Type 0
+Owned N C K = (s : Series) (i : ℕ) (k : RecordKey) → i < C s → K s i ≡ Some k → N s k ≡ Some i
+
 abbrev pub Gapless : (Series → ℕ) → (Series → ℕ → Option RecordKey) → Type 0
 Gapless C K = (s : Series) (i : ℕ) → i < C s → is_some (K s i) ≡ true
 
@@ -189,6 +180,56 @@ module _ (series : Series) (key : RecordKey) (N M : Series → RecordKey → Opt
         subst (λ n. h.0 < n) (sym (counts s ∙ ap (λ b. cond b (number + 1) (C s)) e)) h.2,
         keys s h.0 ∙ ap (λ b. cond (b && (number == h.0)) (Some key) (K s h.0)) e ∙ h.3,
       )
+
+  pub put_back : (s : Series) (k : RecordKey) → same_series series s && eq_by_cmp key_cmp key k ≡ false → Has M D L s k → Has N C K s k
+  put_back s k other h = by (same_series series s) (number == h.0) refl refl
+    where
+      had : N s k ≡ Some h.0
+      had = sym (numbers s k ∙ ap (λ b. cond b (Some number) (N s k)) other) ∙ h.1
+
+      at : (b p : Bool) → same_series series s ≡ b → (number == h.0) ≡ p → cond (b && p) (Some key) (K s h.0) ≡ Some k
+      at b p e f = sym (keys s h.0 ∙ ap₂ (λ x y. cond (x && y) (Some key) (K s h.0)) e f) ∙ h.3
+
+      by : (b p : Bool) → same_series series s ≡ b → (number == h.0) ≡ p → Has N C K s k
+      by true true e f =
+          let here : key ≡ k = same_Some key k (at true true e f) in
+          absurd (true≢false (sym (ap₂ (λ x y. x && y) e (subst (λ (x : RecordKey). eq_by_cmp key_cmp key x ≡ true) here (key_itself key))) ∙ other))
+      by true false e f =
+          let more : D s ≡ number + 1 = counts s ∙ ap (λ b. cond b (number + 1) (C s)) e in
+          let was : number ≡ C s = next ∙ ap C (series_same series s e) in
+          let apart : number ≡ h.0 → ⊥ = eqb-false number h.0 f in
+          let under : h.0 < D s = h.2 in
+          (h.0, had, omega (arith, more, was, apart, under), at true false e f)
+      by false p e f = (h.0, had, subst (λ n. h.0 < n) (counts s ∙ ap (λ b. cond b (number + 1) (C s)) e) h.2, at false p e f)
+
+  module _ (own : Owned N C K) (none : Has N C K series key → ⊥) where
+    pub put_own : Owned M D L
+    put_own s i k under stands = by (same_series series s) (number == i) refl refl
+      where
+        at : (b p : Bool) → same_series series s ≡ b → (number == i) ≡ p → cond (b && p) (Some key) (K s i) ≡ Some k
+        at b p e f = sym (keys s i ∙ ap₂ (λ x y. cond (x && y) (Some key) (K s i)) e f) ∙ stands
+
+        renumbered : (b p : Bool) → same_series series s ≡ b → eq_by_cmp key_cmp key k ≡ p → M s k ≡ cond (b && p) (Some number) (N s k)
+        renumbered b p e f = numbers s k ∙ ap₂ (λ x y. cond (x && y) (Some number) (N s k)) e f
+
+        kept : (b p : Bool) → same_series series s ≡ b → eq_by_cmp key_cmp key k ≡ p → i < C s → K s i ≡ Some k → M s k ≡ Some i
+        kept true true e f below was =
+            let here : Has N C K s k = (i, own s i k below was, below, was) in
+            absurd (none (subst (λ (x : Series). Has N C K x key) (sym (series_same series s e)) (subst (λ (x : RecordKey). Has N C K s x) (sym (one_key key k f)) here)))
+        kept true false e f below was = renumbered true false e f ∙ own s i k below was
+        kept false p e f below was = renumbered false p e f ∙ own s i k below was
+
+        by : (b p : Bool) → same_series series s ≡ b → (number == i) ≡ p → M s k ≡ Some i
+        by true true e f =
+            let here : key ≡ k = same_Some key k (at true true e f) in
+            renumbered true true e (subst (λ (x : RecordKey). eq_by_cmp key_cmp key x ≡ true) here (key_itself key)) ∙ ap Some (eqb-true number i f)
+        by true false e f =
+            let more : D s ≡ number + 1 = counts s ∙ ap (λ b. cond b (number + 1) (C s)) e in
+            let was : number ≡ C s = next ∙ ap C (series_same series s e) in
+            let apart : number ≡ i → ⊥ = eqb-false number i f in
+            let below : i < D s = under in
+            kept true _ e refl (omega (arith, more, was, apart, below)) (at true false e f)
+        by false p e f = kept false _ e refl (subst (λ n. i < n) (counts s ∙ ap (λ b. cond b (number + 1) (C s)) e) under) (at false p e f)
 
   pub put_no_gap : Gapless C K → Gapless D L
   put_no_gap gap s i under = by (same_series series s) (number == i) refl refl
@@ -264,6 +305,75 @@ module _ (series : Series) (key moved : RecordKey) (N M : Series → RecordKey �
         key_after s h.0 false _ _ e refl refl ∙ h.3,
       )
 
+  module _ (own : Owned N C K) where
+    pub take_back : (s : Series) (k : RecordKey) → same_series series s && eq_by_cmp key_cmp key k ≡ false → Has M D L s k → Has N C K s k
+    take_back s k other h = by (same_series series s) refl
+      where
+        has : (i : ℕ) → i < C s → K s i ≡ Some k → Has N C K s k
+        has i below was = (i, own s i k below was, below, was)
+
+        inside : (p : Bool) → series ≡ s → same_series series s ≡ true → D s ≡ last → (number == h.0) ≡ p → Has N C K s k
+        inside true here e fewer f =
+            let under : h.0 < D s = h.2 in
+            let differ : last ≡ h.0 → ⊥ = λ q. omega (arith, fewer, under, q) in
+            let stood : K s h.0 ≡ Some key = ap₂ K (sym here) (sym (eqb-true number h.0 f)) ∙ stands in
+            let same : moved ≡ k = same_Some moved k (ap (option_map (λ _. moved)) (sym stood) ∙ sym (key_after s h.0 true false true e (ne_eqb last h.0 differ) f) ∙ h.3) in
+            let most : C s ≡ last + 1 = ap C (sym here) ∙ all in
+            has last (omega (arith, most)) (ap (λ (x : Series). K x last) (sym here) ∙ ends ∙ ap Some same)
+        inside false here e fewer f =
+            let under : h.0 < D s = h.2 in
+            let differ : last ≡ h.0 → ⊥ = λ q. omega (arith, fewer, under, q) in
+            let most : C s ≡ last + 1 = ap C (sym here) ∙ all in
+            has h.0 (omega (arith, most, fewer, under)) (sym (key_after s h.0 true false false e (ne_eqb last h.0 differ) f) ∙ h.3)
+
+        by : (b : Bool) → same_series series s ≡ b → Has N C K s k
+        by true e = inside (number == h.0) (series_same series s e) e (counts s ∙ ap (λ b. cond b last (C s)) e) refl
+        by false e = has h.0 (subst (λ n. h.0 < n) (counts s ∙ ap (λ b. cond b last (C s)) e) h.2) (sym (key_after s h.0 false _ _ e refl refl) ∙ h.3)
+
+    pub take_own : Owned M D L
+    take_own s i k under stood = by (same_series series s) refl
+      where
+        -- no two numbers have one key
+        once : (n j : ℕ) (x q : RecordKey) → n < C s → j < C s → K s n ≡ Some x → K s j ≡ Some q → eq_by_cmp key_cmp x q ≡ true → n ≡ j
+        once n j x q a b f g e = same_Some n j (sym (own s n x a f) ∙ ap (N s) (one_key x q e) ∙ own s j q b g)
+
+        unless : (b : Bool) → (b ≡ true → ⊥) → b ≡ false
+        unless true h = absurd (h refl)
+        unless false h = refl
+
+        inside : (p : Bool) → series ≡ s → same_series series s ≡ true → D s ≡ last → (number == i) ≡ p → M s k ≡ Some i
+        inside true here e fewer f =
+            let below_last : i < D s = under in
+            let differ : last ≡ i → ⊥ = λ q. omega (arith, fewer, below_last, q) in
+            let most : C s ≡ last + 1 = ap C (sym here) ∙ all in
+            let is : number ≡ i = eqb-true number i f in
+            let first : K s number ≡ Some key = ap (λ (x : Series). K x number) (sym here) ∙ stands in
+            let final : K s last ≡ Some moved = ap (λ (x : Series). K x last) (sym here) ∙ ends in
+            let same : moved ≡ k = same_Some moved k (ap (option_map (λ _. moved)) (sym (ap (K s) (sym is) ∙ first)) ∙ sym (key_after s i true false true e (ne_eqb last i differ) f) ∙ stood) in
+            let ended : K s last ≡ Some k = final ∙ ap Some same in
+            let apart : eq_by_cmp key_cmp key k ≡ false = unless _ (λ g. differ (sym (once number last key k (omega (arith, is, fewer, most, below_last)) (omega (arith, most)) first ended g) ∙ is)) in
+            number_after s k true false true e apart (subst (λ (x : RecordKey). eq_by_cmp key_cmp moved x ≡ true) same (key_itself moved))
+            ∙ ap (option_map (λ _. number)) (own s last k (omega (arith, most)) ended) ∙ ap Some is
+        inside false here e fewer f =
+            let below_last : i < D s = under in
+            let differ : last ≡ i → ⊥ = λ q. omega (arith, fewer, below_last, q) in
+            let most : C s ≡ last + 1 = ap C (sym here) ∙ all in
+            let other : number ≡ i → ⊥ = eqb-false number i f in
+            let first : K s number ≡ Some key = ap (λ (x : Series). K x number) (sym here) ∙ stands in
+            let final : K s last ≡ Some moved = ap (λ (x : Series). K x last) (sym here) ∙ ends in
+            let had : K s i ≡ Some k = sym (key_after s i true false false e (ne_eqb last i differ) f) ∙ stood in
+            let inside_old : i < C s = omega (arith, most, fewer, below_last) in
+            let number_inside : number < C s = subst (λ (x : Series). number < C x) here below in
+            let not_key : eq_by_cmp key_cmp key k ≡ false = unless _ (λ g. other (once number i key k number_inside inside_old first had g)) in
+            let not_moved : eq_by_cmp key_cmp moved k ≡ false = unless _ (λ g. differ (once last i moved k (omega (arith, most)) inside_old final had g)) in
+            number_after s k true false false e not_key not_moved ∙ own s i k inside_old had
+
+        by : (b : Bool) → same_series series s ≡ b → M s k ≡ Some i
+        by true e = inside (number == i) (series_same series s e) e (counts s ∙ ap (λ b. cond b last (C s)) e) refl
+        by false e =
+            number_after s k false _ _ e refl refl
+            ∙ own s i k (subst (λ n. i < n) (counts s ∙ ap (λ b. cond b last (C s)) e) under) (sym (key_after s i false _ _ e refl refl) ∙ stood)
+
   pub take_no_gap : Gapless C K → Gapless D L
   take_no_gap gap s i under = by (same_series series s) refl
     where
@@ -283,14 +393,51 @@ module _ (series : Series) (key moved : RecordKey) (N M : Series → RecordKey �
 
 -- ---- a record is noted
 
-pub noted : (m : Data) (key : RecordKey) (entry : Option Record) (now : Option Series) (old between new : Takers)
-    → taken entry ≡ now → ((s : Series) (k : RecordKey) → eq_by_cmp key_cmp key k ≡ false → IsTaker old s k → IsTaker between s k)
-    → ((s : Series) → now ≡ Some s → IsTaker new s key) → KeepsTakers between new → AreTakersOf m old → AreTakersOf (with_record m key entry) new
-noted m key entry now old between new takes kept given stays are s k e = by (eq_by_cmp key_cmp k key) refl
+pub noted : (m : Data) (key : RecordKey) (entry : Option Record) (now : Option Series) (old new : Takers) → series_in entry ≡ now
+    → ((s : Series) (k : RecordKey) → eq_by_cmp key_cmp key k ≡ false → IsTaker old s k ↔ IsTaker new s k)
+    → ((s : Series) → (now ≡ Some s) ↔ IsTaker new s key) → AreTakersOf m old → AreTakersOf (with_record m key entry) new
+noted m key entry now old new takes kept given are s k = by (eq_by_cmp key_cmp k key) refl
   where
     at : (b : Bool) → eq_by_cmp key_cmp k key ≡ b → get (with_record m key entry) k ≡ cond b entry (get m k)
     at b f = get-with_record m key entry k ∙ ap (λ x. cond x entry (get m k)) f
 
-    by : (b : Bool) → eq_by_cmp key_cmp k key ≡ b → IsTaker new s k
-    by true f = subst (λ (x : RecordKey). IsTaker new s x) (sym (one_key k key f)) (given s (sym takes ∙ sym (ap taken (at true f)) ∙ e))
-    by false f = stays s k (kept s k ((eq_by_cmp_equiv keys_total).symm key k ∙ f) (are s k (sym (ap taken (at false f)) ∙ e)))
+    by : (b : Bool) → eq_by_cmp key_cmp k key ≡ b → (series_in (get (with_record m key entry) k) ≡ Some s) ↔ IsTaker new s k
+    by true f =
+        let here : key ≡ k = sym (one_key k key f) in
+        let so : series_in (get (with_record m key entry) k) ≡ now = ap series_in (at true f) ∙ takes in (
+          λ e. subst (λ (x : RecordKey). IsTaker new s x) here ((given s).0 (sym so ∙ e)),
+          λ h. so ∙ (given s).1 (subst (λ (x : RecordKey). IsTaker new s x) (sym here) h),
+        )
+    by false f =
+        let both = kept s k ((eq_by_cmp_equiv keys_total).symm key k ∙ f) in
+        let so : series_in (get (with_record m key entry) k) ≡ series_in (get m k) = ap series_in (at false f) in (
+          λ e. both.0 ((are s k).0 (sym so ∙ e)),
+          λ h. so ∙ (are s k).1 (both.1 h),
+        )
+
+-- a record's key is a taker of no series, once it is none of the series that the record takes
+pub withdrawn : (m : Data) (key : RecordKey) (series : Series) (old between : Takers) → series_in (get m key) ≡ Some series → (IsTaker between series key → ⊥)
+    → HasSameOtherTakers old between series key → AreTakersOf m old → (s : Series) → IsTaker between s key → ⊥
+withdrawn m key series old between had gone others are s h = by (same_series series s) refl
+  where
+    by : (b : Bool) → same_series series s ≡ b → ⊥
+    by true e = gone (subst (λ (x : Series). IsTaker between x key) (sym (series_same series s e)) h)
+    by false e =
+        let still : series ≡ s = same_Some series s (sym had ∙ (are s key).1 ((others s key (ap (λ b. b && eq_by_cmp key_cmp key key) e)).1 h)) in
+        true≢false (sym (subst (λ (x : Series). same_series series x ≡ true) still (series_itself series)) ∙ e)
+
+-- and of one series alone, once it is put there
+pub entered : (key : RecordKey) (series : Series) (between new : Takers) → IsTaker new series key → HasSameOtherTakers between new series key
+    → ((s : Series) → IsTaker between s key → ⊥) → (s : Series) → (Some series ≡ Some s) ↔ IsTaker new s key
+entered key series between new taker others none s =
+    (λ e. subst (λ (x : Series). IsTaker new x key) (same_Some series s e) taker, λ h. by (same_series series s) refl h)
+  where
+    by : (b : Bool) → same_series series s ≡ b → IsTaker new s key → Some series ≡ Some s
+    by true e h = ap Some (series_same series s e)
+    by false e h = absurd (none s ((others s key (ap (λ b. b && eq_by_cmp key_cmp key key) e)).1 h))
+
+pub same_option : (a b : Option Series) → option_eq series_eq a b ≡ true → a ≡ b
+same_option None None e = refl
+same_option None (Some t) e = absurd (cc)
+same_option (Some s) None e = absurd (cc)
+same_option (Some s) (Some t) e = ap Some (series_equal s t e)

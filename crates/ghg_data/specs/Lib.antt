@@ -1,3 +1,4 @@
+pub mod BoundSeries
 pub mod Changes
 pub mod Shelf
 pub mod Refusal
@@ -13,4 +14,3 @@ pub mod Brackets
 pub mod Lasting
 pub mod Numbered
 pub mod Takers
-pub mod Taken

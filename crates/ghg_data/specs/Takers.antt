@@ -1,25 +1,20 @@
 -- Which bindings take each activity and factor.
-use Rattle.std.specs.Prelude.{◌≡◌, ℕ, zero, suc, ◌<◌, Bool, false, ◌&&◌, List, [], ◌++◌, Option, Some, min}
+use Rattle.std.specs.Prelude.{◌≡◌, ◌↔◌, ℕ, zero, suc, ◌<◌, false, ◌&&◌, List, [], ◌++◌, Option, Some, min}
 use Rattle.std.specs.FinMap.{get}
 use Rattle.std.specs.List.{cons_option}
-use Rattle.std.specs.Map.{lookup}
 use Rattle.std.specs.Ordering.{eq_by_cmp}
 use Rattle.indexmap.specs.IndexMap.{spare}
 use Rattle.ghg_definitions.specs.declared.record.RecordKey.{RecordKey}
 use Rattle.ghg_definitions.specs.Data.{Data, key_cmp}
 use Rattle.ghg_data.specs.declared.series.Series.{Series}
-use Rattle.ghg_data.specs.declared.takers.Taker.{Taker}
 use Rattle.ghg_data.specs.declared.takers.Takers.{Takers}
-use Rattle.ghg_data.specs.Numbered.{counted, numbered}
+use Rattle.ghg_data.specs.BoundSeries.{series_in}
+use Rattle.ghg_data.specs.Numbered.{counted, number_in, numbered}
 use Rattle.ghg_data.specs.Series.{same_series}
-use Rattle.ghg_data.specs.Taken.{taken}
-
-abbrev pub same_taker : Taker → Taker → Bool
-same_taker a b = same_series a.series b.series && eq_by_cmp key_cmp a.key b.key
 
 -- the number that a key has under a series
 abbrev pub number_of : Takers → Series → RecordKey → Option ℕ
-number_of t s k = lookup (same_taker (record { series = s; key = k })) t.numbers.entries
+number_of t s k = number_in t.numbers.entries s k
 
 abbrev pub count_of : Takers → Series → ℕ
 count_of t s = counted t.counts.entries s
@@ -31,14 +26,14 @@ key_at t s i = numbered t.keys.entries s i
 abbrev pub IsTaker : Takers → Series → RecordKey → Type 0
 IsTaker t s k = (i : ℕ) × (number_of t s k ≡ Some i) × (i < count_of t s) × (key_at t s i ≡ Some k)
 
--- each key of the one is one of the other
-abbrev pub KeepsTakers : Takers → Takers → Type 0
-KeepsTakers old new = (s : Series) (k : RecordKey) → IsTaker old s k → IsTaker new s k
+-- the same keys under each series
+abbrev pub HasSameTakers : Takers → Takers → Type 0
+HasSameTakers old new = (s : Series) (k : RecordKey) → IsTaker old s k ↔ IsTaker new s k
 
 -- but for this key under this series
-abbrev pub KeepsOtherTakers : Takers → Takers → Series → RecordKey → Type 0
-KeepsOtherTakers old new series key = (s : Series) (k : RecordKey) →
-    same_series series s && eq_by_cmp key_cmp key k ≡ false → IsTaker old s k → IsTaker new s k
+abbrev pub HasSameOtherTakers : Takers → Takers → Series → RecordKey → Type 0
+HasSameOtherTakers old new series key = (s : Series) (k : RecordKey) →
+    same_series series s && eq_by_cmp key_cmp key k ≡ false → IsTaker old s k ↔ IsTaker new s k
 
 -- the keys under the numbers below this one
 abbrev pub first_takers : Takers → Series → ℕ → List RecordKey
@@ -49,9 +44,9 @@ first_takers t s (suc i) = first_takers t s i ++ cons_option (key_at t s i) []
 abbrev pub takers_of : Takers → Series → List RecordKey
 takers_of t s = first_takers t s (count_of t s)
 
--- each record that takes an activity or a factor has its key there
+-- the keys are exactly those of the records that take the activity or the factor
 abbrev pub AreTakersOf : Data → Takers → Type 0
-AreTakersOf m t = (s : Series) (k : RecordKey) → taken (get m k) ≡ Some s → IsTaker t s k
+AreTakersOf m t = (s : Series) (k : RecordKey) → (series_in (get m k) ≡ Some s) ↔ IsTaker t s k
 
 -- how many more takers fit without memory
 abbrev pub room : Takers → ℕ

@@ -8,7 +8,7 @@ ghost use Rattle.ghg_definitions.specs.Data.{key_cmp, line_names};
 ghost use Rattle.ghg_definitions.specs.Rows.{with_record};
 ghost use Rattle.ghg_data.specs.Calendar.{ArePlacesOf, HasSameDates, IsCalendarOf, IsNoted};
 ghost use Rattle.ghg_data.specs.Series.{dated};
-ghost use Rattle.ghg_data.specs.Taken.{taken};
+ghost use Rattle.ghg_data.specs.BoundSeries.{series_in};
 ghost use Rattle.ghg_data.specs.Takers.{AreTakersOf, room};
 ghost use Rattle.ghg_data.specs.Changes.{applied};
 ghost use Rattle.ghg_roots.specs.Decay.{decay_bounds};
@@ -23,7 +23,7 @@ use crate::draft::span_in;
 use crate::edits::Edits;
 use crate::names::change_names;
 use crate::series::Series;
-use crate::takers::{Takers, taken};
+use crate::takers::{Takers, series_in};
 use crate::year_set::YearSet;
 use ghg_definitions::{Record, RecordKey};
 use ghg_interval::Interval;
@@ -240,7 +240,7 @@ fn change_records(
     ensures takers { AreTakersOf (from_entries records.new.entries) takers.new }
 {
     while let Some((key, change)) = changes.pop() {
-        let now = taken(&change);
+        let now = series_in(&change);
         match change {
             Some(entry) => {
                 let before = put_record(records, calendar, key, entry);
@@ -264,7 +264,8 @@ fn put_record(
     requires room { 0 < spare records.old }
     requires years_room { 0 < spare calendar.old.columns }
     requires places { ArePlacesOf records.old.entries calendar.old }
-    ensures taken { result ≡ taken (finite.get {R = key_cmp} (from_entries records.old.entries) key) }
+    ensures series { result ≡ series_in
+        (finite.get {R = key_cmp} (from_entries records.old.entries) key) }
     ensures content { from_entries records.new.entries ≡ with_record
         (from_entries records.old.entries) key (Some entry) }
     ensures dates { IsNoted calendar.old calendar.new key true }
@@ -274,7 +275,7 @@ fn put_record(
 {
     let (place, before) = records.insert_full(key, entry).unwrap();
     calendar.note(&key, Some(place));
-    taken(&before)
+    series_in(&before)
 }
 
 // Takes the record of a key. Answers what it took. The last one comes to stand in its place.
@@ -285,7 +286,8 @@ fn take_record(
 ) -> Option<Series>
     requires years_room { 0 < spare calendar.old.columns }
     requires places { ArePlacesOf records.old.entries calendar.old }
-    ensures taken { result ≡ taken (finite.get {R = key_cmp} (from_entries records.old.entries) key.now) }
+    ensures series { result ≡ series_in
+        (finite.get {R = key_cmp} (from_entries records.old.entries) key.now) }
     ensures content { from_entries records.new.entries ≡ with_record
         (from_entries records.old.entries) key.now None }
     ensures dates { IsNoted calendar.old calendar.new key.now false }
@@ -300,5 +302,5 @@ fn take_record(
     if let Some((moved, _)) = records.get_index(place) {
         calendar.set_place(moved, place);
     }
-    taken(&Some(before))
+    series_in(&Some(before))
 }

@@ -128,8 +128,8 @@ pub trait Records {
     }
 
     /// What a factor gives in a year, and in which years around it: from that in which the record in force
-    /// starts up to the one before the next record starts. Where none is in force, it is a blank up to the year
-    /// before the first record starts.
+    /// starts up to the one before the next record starts. Where none is in force, it is a blank up to the
+    /// year before the first record starts.
     final fn lasting_factor(&self, name: &Name, year: u32) -> Lasting
         ensures lasting { IsLasting (content self.now) name.now result }
         ensures year { HasYear result year }

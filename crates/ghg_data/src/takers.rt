@@ -11,8 +11,8 @@ ghost use Rattle.ghg_definitions.specs.Data.{Data};
 ghost use Rattle.ghg_definitions.specs.Rows.{with_record};
 ghost use Rattle.ghg_data.specs.declared.series.Series.{Series};
 ghost use Rattle.ghg_data.specs.Series.{same_series};
-ghost use Rattle.ghg_data.specs.Numbered.{HasNoGap, counted};
-ghost use Rattle.ghg_data.specs.Taken.{taken, taken_by};
+ghost use Rattle.ghg_data.specs.Numbered.{HasNoGap, HasOwnNumbers, counted};
+ghost use Rattle.ghg_data.specs.BoundSeries.{bound_series, series_in};
 
 use crate::series::Series;
 use ghg_definitions::{Record, RecordKey};
@@ -65,15 +65,16 @@ pub(crate) struct Takers {
     numbers: IndexMap<Taker, usize>,
     counts: IndexMap<Series, usize>,
     ghost no_gap: { HasNoGap keys.entries counts.entries },
+    ghost own_numbers: { HasOwnNumbers keys.entries numbers.entries counts.entries },
 }
 
 impl Takers {
-    ghost use Rattle.ghg_data.specs.Takers.{AreTakersOf, IsTaker, KeepsOtherTakers, KeepsTakers};
+    ghost use Rattle.ghg_data.specs.Takers.{AreTakersOf, HasSameOtherTakers, HasSameTakers, IsTaker};
     ghost use Rattle.ghg_data.specs.Takers.{count_of, key_at, room};
 
     /// No takers. It takes no memory.
     pub(crate) fn new(alloc: Global) -> Takers
-        ensures { (s : Series) → count_of result s ≡ 0 }
+        ensures { (s : Series) (k : RecordKey) → ¬ IsTaker result s k }
     {
         Takers {
             keys: IndexMap::new(alloc),
@@ -84,7 +85,7 @@ impl Takers {
 
     /// Makes room for so many more takers.
     pub(crate) fn reserve(&mut self, additional: usize) -> Result<(), AllocError>
-        ensures takers { KeepsTakers self.old self.new }
+        ensures takers { HasSameTakers self.old self.new }
         ensures room { OnOk result (additional ≤ room self.new) }
     {
         self.keys.reserve(additional)?;
@@ -97,7 +98,8 @@ impl Takers {
         ensures count { result ≡ count_of self.now series.now }
         ensures small { result < 2 ^ 63 }
     {
-        // There are no more takers than keys, so that a number has room for one more.
+        // There are no more takers than keys, so the length of the map, which is below 2 ^ 63, bounds the
+        // count. The proof needs it.
         let _len = self.keys.len();
         match self.counts.get(series) {
             Some(count) => *count,
@@ -105,7 +107,7 @@ impl Takers {
         }
     }
 
-    /// The taker of an activity or a factor that has a number.
+    /// The taker with a number, of an activity or a factor.
     pub(crate) fn key(&self, series: &Series, number: usize) -> Option<&RecordKey>
         ensures { option_copied result ≡ key_at self.now series.now number }
     {
@@ -115,10 +117,14 @@ impl Takers {
     /// Notes what the record of a key takes, and what the one before it took. It takes no memory.
     pub(crate) fn note(&mut self, key: &RecordKey, before: Option<Series>, now: Option<Series>)
         requires { 0 < room self.old }
-        ensures takers { (m : Data) (entry : Option Record) → taken (get m key.now) ≡ before →
-            taken entry ≡ now → AreTakersOf m self.old → AreTakersOf (with_record m key.now entry) self.new }
+        ensures takers { (m : Data) (entry : Option Record) → series_in (get m key.now) ≡ before →
+            series_in entry ≡ now → AreTakersOf m self.old →
+            AreTakersOf (with_record m key.now entry) self.new }
         ensures room { room self.old ≤ room self.new + 1 }
     {
+        if before == now {
+            return;
+        }
         if let Some(series) = before {
             self.take(&series, key);
         }
@@ -127,13 +133,16 @@ impl Takers {
         }
     }
 
-    // Gives a series one more taker.
+    // Puts a taker to those of a series, where it is not one already. It gets the next number.
     fn put(&mut self, series: &Series, key: &RecordKey)
         requires { 0 < room self.old }
         ensures taker { IsTaker self.new series.now key.now }
-        ensures others { KeepsTakers self.old self.new }
+        ensures others { HasSameOtherTakers self.old self.new series.now key.now }
         ensures room { room self.old ≤ room self.new + 1 }
     {
+        if self.number(series, key).is_some() {
+            return;
+        }
         let number = self.count(series);
         self.keys
             .insert(Numbered::of(series, number), *key)
@@ -142,10 +151,10 @@ impl Takers {
         self.counts.insert(*series, number + 1).unwrap();
     }
 
-    // Takes a taker from a series. The last one comes to have its number.
+    // Removes a taker of a series. The last one gets its number.
     fn take(&mut self, series: &Series, key: &RecordKey)
         ensures taker { ¬ IsTaker self.new series.now key.now }
-        ensures others { KeepsOtherTakers self.old self.new series.now key.now }
+        ensures others { HasSameOtherTakers self.old self.new series.now key.now }
         ensures room { room self.old ≤ room self.new }
     {
         let Some(number) = self.number(series, key) else {
@@ -178,7 +187,7 @@ impl Takers {
     }
 }
 
-// Writes how many takers a series has that has some.
+// Writes how many takers a series has. It has some before.
 fn set_count(counts: &mut IndexMap<Series, usize>, series: &Series, count: usize)
     requires { 0 < counted counts.old.entries series.now }
     ensures counts { (s : Series) → counted counts.new.entries s ≡ cond (same_series series.now s) count
@@ -203,22 +212,25 @@ fn replace<K: Eq + Hash, V: Copy>(map: &mut IndexMap<K, V>, key: &K, value: V)
     }
 }
 
-/// The activity or factor that a record takes, if there is a record.
-pub(crate) fn taken(entry: &Option<Record>) -> Option<Series>
-    ensures { result ≡ taken entry.now }
+/// The activity or factor that a record's binding takes, if there is a record and it is one of a binding.
+pub(crate) fn series_in(entry: &Option<Record>) -> Option<Series>
+    ensures { result ≡ series_in entry.now }
 {
     match entry {
-        Some(Record::Bind(binding)) => taken_by(binding),
-        _ => None,
+        Some(Record::Bind(binding)) => bound_series(binding),
+        Some(Record::Span(_)) | Some(Record::Activity(_)) | Some(Record::Factor(_)) => None,
+        Some(Record::Line(_, _)) | Some(Record::Uncert(_, _)) => None,
+        None => None,
     }
 }
 
-fn taken_by(binding: &Binding) -> Option<Series>
-    ensures { result ≡ taken_by binding.now }
+// The activity or factor that a binding takes.
+fn bound_series(binding: &Binding) -> Option<Series>
+    ensures { result ≡ bound_series binding.now }
 {
     match binding {
         Binding::Activity(name) => Some(Series::Activity(*name)),
         Binding::Factor(name) | Binding::Decay(name) => Some(Series::Factor(*name)),
-        _ => None,
+        Binding::Line(_) | Binding::Prev(_) | Binding::Sum(_) | Binding::Key(_) => None,
     }
 }

@@ -1,4 +1,4 @@
-use Rattle.std.proofs.Common.{◌++◌, flat_map, fold, true≢false, sym, ap, ◌∙◌, subst}
+use Rattle.std.proofs.Common.{◌++◌, flat_map, fold, sym, ap, ◌∙◌, subst}
 use Rattle.std.specs.List.{list_any}
 use Rattle.std.proofs.lemmas.Bool.{both_ways}
 use Rattle.std.proofs.lemmas.Grind.{flat_map-append, fold-append}

@@ -1,8 +1,7 @@
-use Rattle.std.proofs.Common.{◌≡◌, true, None, fold, flat_map, map, ap, ◌∙◌, subst}
-use Rattle.std.specs.List.{list_any}
+use Rattle.std.proofs.Common.{None, fold, flat_map, map, ap, ◌∙◌, subst}
 use Rattle.ghg_definitions.specs.Data.{Data, line_names}
 use Rattle.ghg_data.specs.Faults.{considered, key_places, line_places}
-use Rattle.ghg_data.specs.Settling.{HasLooked, has_line}
+use Rattle.ghg_data.specs.Settling.{HasLooked}
 use Rattle.ghg_data.proofs.Settled.{least_looked}
 use Rattle.ghg_data.proofs.bindings.unsound_place.Goals as goal
 

@@ -2,7 +2,7 @@ use Rattle.std.proofs.Common.{◌++◌, [], ◌∷◌, Some, None, ◌∙◌, sy
 use Rattle.std.specs.FinMap.{from_entries}
 use Rattle.ghg_definitions.specs.Data.{Data}
 use Rattle.ghg_data.specs.Changes.{applied}
-use Rattle.ghg_data.specs.Taken.{taken}
+use Rattle.ghg_data.specs.BoundSeries.{series_in}
 use Rattle.ghg_data.specs.Takers.{AreTakersOf}
 use Rattle.ghg_data.proofs.Applied.{applied-pop}
 use Rattle.ghg_data.proofs.Calendars.{calendar_of, record_noted}
@@ -21,7 +21,7 @@ loop-key-preserved c =
       years = calendar_of _ _ left.content c.take_record-before.new.calendar (record_noted m key None c.loop-key.calendar c.take_record-before.new.calendar c.loop-key.invariant.years left.dates);
       takers_room = omega (arith, simp length-append at (ap (λ cs. length cs) popped));
       places = left.places;
-      takers = subst (λ n. AreTakersOf n c.note-in-None.new.self) (sym left.content) (c.note-in-None.ensures.takers m None (sym left.taken) (sym (c.taken-now.ensures ∙ ap taken c.in-None.is)) c.loop-key.invariant.takers);
+      takers = subst (λ n. AreTakersOf n c.note-in-None.new.self) (sym left.content) (c.note-in-None.ensures.takers m None (sym left.series) (sym (c.series_in-now.ensures ∙ ap series_in c.in-None.is)) c.loop-key.invariant.takers);
       content = ap (λ (n : Data). applied n rest) left.content ∙ sym (applied-pop m rest (key, None)) ∙ ap (λ x. applied m (rest ++ (key, x) ∷ [])) (sym c.in-None.is)
           ∙ ap (applied m) (sym popped) ∙ c.loop-key.invariant.content;
     }
@@ -40,7 +40,7 @@ loop-key-preserved-in-Some-change c =
       years = calendar_of _ _ left.content c.put_record-before.new.calendar (record_noted m key (Some entry) c.loop-key.calendar c.put_record-before.new.calendar c.loop-key.invariant.years left.dates);
       takers_room = omega (arith, simp length-append at (ap (λ cs. length cs) popped));
       places = left.places;
-      takers = subst (λ n. AreTakersOf n c.note.new.self) (sym left.content) (c.note.ensures.takers m (Some entry) (sym left.taken) (sym (c.taken-now.ensures ∙ ap taken c.in-Some-change.is)) c.loop-key.invariant.takers);
+      takers = subst (λ n. AreTakersOf n c.note.new.self) (sym left.content) (c.note.ensures.takers m (Some entry) (sym left.series) (sym (c.series_in-now.ensures ∙ ap series_in c.in-Some-change.is)) c.loop-key.invariant.takers);
       content = ap (λ (n : Data). applied n rest) left.content ∙ sym (applied-pop m rest (key, Some entry)) ∙ ap (λ x. applied m (rest ++ (key, x) ∷ [])) (sym c.in-Some-change.is)
           ∙ ap (applied m) (sym popped) ∙ c.loop-key.invariant.content;
     }

@@ -2,7 +2,7 @@ use Rattle.std.proofs.Common.{Some, sym, ap, ◌∙◌, subst}
 use Rattle.ghg_definitions.proofs.Entries.{inserted, looked_up}
 use Rattle.ghg_definitions.proofs.Keys.{key_eq, key_ties, keys_total, keys_same}
 use Rattle.ghg_data.specs.Calendar.{ArePlacesOf, IsPlaced}
-use Rattle.ghg_data.specs.Taken.{taken}
+use Rattle.ghg_data.specs.BoundSeries.{series_in}
 use Rattle.ghg_data.proofs.Applied.{if_ok, on_ok}
 use Rattle.ghg_data.proofs.Places.{put_places}
 use Rattle.ghg_data.proofs.holdings.put_record.Goals as goal
@@ -21,7 +21,7 @@ returns-clause-places c =
     let put = on_ok c.insert_full.result c.unwrap-place.result _ c.unwrap-place.ensures c.insert_full.ensures.entries in
     subst (λ es. ArePlacesOf es new) (sym put) (put_places entries c.args.key c.args.entry old new c.requires.places (subst (λ i. IsPlaced old new c.args.key (Some i)) index c.note.ensures.places))
 
-pub returns-clause-taken : goal.returns-clause-taken
-returns-clause-taken c =
+pub returns-clause-series : goal.returns-clause-series
+returns-clause-series c =
     let old = if_ok c.insert_full.result c.unwrap-place.result _ c.unwrap-place.ensures c.insert_full.ensures.old in
-    c.taken.ensures ∙ ap taken (old ∙ looked_up keys_total key_eq key_ties c.args.key c.args.records.now.entries)
+    c.series_in.ensures ∙ ap series_in (old ∙ looked_up keys_total key_eq key_ties c.args.key c.args.records.now.entries)

@@ -3,18 +3,18 @@ use Rattle.std.specs.Option.{option_map}
 use Rattle.ghg_definitions.proofs.Entries.{looked_up, removed}
 use Rattle.ghg_definitions.proofs.Keys.{key_eq, key_ties, keys_total, keys_same}
 use Rattle.ghg_data.specs.Calendar.{ArePlacesOf}
-use Rattle.ghg_data.specs.Taken.{taken}
+use Rattle.ghg_data.specs.BoundSeries.{series_in}
 use Rattle.ghg_data.proofs.Places.{last_taken, moved_places, taken_none}
 use Rattle.ghg_data.proofs.holdings.take_record.Goals.{in-Some-get_index, in_default-get_index}
 use Rattle.ghg_data.proofs.holdings.take_record.Goals as goal
 
-pub returns-in_default-clause-taken : goal.returns-in_default-clause-taken
-returns-in_default-clause-taken c =
-    ap taken (sym (ap (option_map (λ p. p.2)) c.in_default.is) ∙ c.swap_remove_full.ensures.value ∙ looked_up keys_total key_eq key_ties c.args.key.now c.args.records.now.entries)
+pub returns-in_default-clause-series : goal.returns-in_default-clause-series
+returns-in_default-clause-series c =
+    ap series_in (sym (ap (option_map (λ p. p.2)) c.in_default.is) ∙ c.swap_remove_full.ensures.value ∙ looked_up keys_total key_eq key_ties c.args.key.now c.args.records.now.entries)
 
-pub returns-clause-taken : goal.returns-clause-taken
-returns-clause-taken c =
-    c.taken.ensures ∙ ap taken (sym (ap (option_map (λ p. p.2)) c.in-Some.is) ∙ c.swap_remove_full.ensures.value ∙ looked_up keys_total key_eq key_ties c.args.key.now c.args.records.now.entries)
+pub returns-clause-series : goal.returns-clause-series
+returns-clause-series c =
+    c.series_in.ensures ∙ ap series_in (sym (ap (option_map (λ p. p.2)) c.in-Some.is) ∙ c.swap_remove_full.ensures.value ∙ looked_up keys_total key_eq key_ties c.args.key.now c.args.records.now.entries)
 
 pub returns-in_default-clause-content : goal.returns-in_default-clause-content
 returns-in_default-clause-content c = removed keys_total key_eq key_ties keys_same c.args.records.now.entries _ c.args.key.now c.swap_remove_full.ensures.updates.0

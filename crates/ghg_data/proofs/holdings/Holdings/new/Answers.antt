@@ -2,7 +2,7 @@ use Rattle.std.proofs.Common.{◌≡◌, Option, None, Some, is_some, ◌&&◌, 
 use Rattle.std.specs.FinMap.{from_entries, get, get-empty}
 use Rattle.ghg_definitions.specs.Data.{key_cmp, line_names}
 use Rattle.ghg_data.specs.Series.{dated}
-use Rattle.ghg_data.specs.Taken.{taken}
+use Rattle.ghg_data.specs.BoundSeries.{series_in}
 use Rattle.ghg_units.specs.Year.{is_year}
 use Rattle.ghg_data.proofs.Empty.{no_dates, no_lines}
 use Rattle.ghg_data.proofs.holdings.Holdings.new.Goals as goal
@@ -15,5 +15,5 @@ invariant_of-result c = (
   c.new-2.ensures.items ∙ sym (ap (λ es. line_names (from_entries {R = key_cmp} es)) c.new.ensures.empty ∙ no_lines),
   λ s y. c.new-3.ensures.dates s y ∙ sym (ap (λ es. is_year y && is_some (get (from_entries {R = key_cmp} es) (dated s y))) c.new.ensures.empty ∙ no_dates s y),
   λ s y p e. never (c.new-3.ensures.places s y) e,
-  λ s k e. never (ap (λ es. taken (get (from_entries {R = key_cmp} es) k)) c.new.ensures.empty ∙ ap taken (get-empty key_cmp k)) e,
+  λ s k. (λ e. never (ap (λ es. series_in (get (from_entries {R = key_cmp} es) k)) c.new.ensures.empty ∙ ap series_in (get-empty key_cmp k)) e, λ taker. absurd (c.new-4.ensures s k taker)),
 )

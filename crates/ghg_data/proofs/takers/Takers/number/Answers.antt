@@ -1,16 +1,12 @@
-use Rattle.std.proofs.Common.{◌≡◌, None, Some, true, true≢false, sym, ap, arith, ◌∙◌}
-use Rattle.std.specs.Cmp.{eq_by_cmp_equiv}
+use Rattle.std.proofs.Common.{◌≡◌, None, Some, true≢false, sym, ap, arith, ◌∙◌}
 use Rattle.std.specs.Option.{option_copied}
 use Rattle.std.proofs.lemmas.Option.{same_Some}
-use Rattle.ghg_definitions.specs.declared.record.RecordKey.{RecordKey}
-use Rattle.ghg_definitions.proofs.Keys.{key_eq, key_ties, keys_total}
+use Rattle.ghg_definitions.proofs.Keys.{key_eq, key_ties}
 use Rattle.ghg_data.specs.Takers.{key_at}
+use Rattle.ghg_data.proofs.Keys.{key_itself}
 use Rattle.ghg_data.proofs.TakerNumbers.{number_found}
 use Rattle.ghg_data.proofs.takers.Takers.number.Goals as goal
 use Rattle.ghg_data.proofs.takers.Takers.number.Goals.{else-number-count-via-then-number-count+else-eq, else-number-count-via-else-number-count}
-
-key_itself : (k : RecordKey) → key_eq k k ≡ true
-key_itself k = key_ties k k ∙ (eq_by_cmp_equiv keys_total).refl k
 
 pub returns-in_err-number-clause-none : goal.returns-in_err-number-clause-none
 returns-in_err-number-clause-none c = λ none h.
@@ -35,6 +31,6 @@ returns-else-number-count-clause-none c = λ none h.
     let many = c.count.ensures.count in
     let stands : c.in_ok-stands.stands.now ≡ c.args.key.now = same_Some _ _ (c.in_ok-stands.ensures ∙ ap (key_at c.args.self.now c.args.series.now) same ∙ h.3) in
     elim c.else-number-count.branch [
-      | else-number-count-via-then-number-count+else-eq w ↦ (true≢false (sym (key_itself c.args.key.now) ∙ ap (λ k. key_eq k c.args.key.now) (sym stands) ∙ sym w.eq.ensures ∙ w.if-eq.false))
+      | else-number-count-via-then-number-count+else-eq w ↦ (true≢false (sym (key_ties c.args.key.now c.args.key.now ∙ key_itself c.args.key.now) ∙ ap (λ k. key_eq k c.args.key.now) (sym stands) ∙ sym w.eq.ensures ∙ w.if-eq.false))
       | else-number-count-via-else-number-count w ↦ (let over = w.if-number-count.false in absurd (omega (arith, same, under, many, over)))
     ]
