@@ -30,6 +30,7 @@ pub use book::{Book, after};
 pub use edits::Edits;
 pub use lasting::Lasting;
 pub use lookups::input_of_key;
+pub use names::take_name;
 pub use parameters::params_of;
 pub use records::Records;
 pub use refusal::PlanRefusal;

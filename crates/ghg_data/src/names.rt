@@ -96,7 +96,8 @@ fn put_name(names: &mut Vec<Name>, name: &Name)
     }
 }
 
-fn take_name(names: &mut Vec<Name>, name: &Name)
+/// Takes a name out of names in order, if it is one of them. It takes no memory.
+pub fn take_name(names: &mut Vec<Name>, name: &Name)
     ensures items { IsStrictlySortedBy name_cmp names.old.items → names.new.items ≡ without_name name.now
         names.old.items }
     ensures len { vec_len names.new ≤ vec_len names.old }

@@ -18,7 +18,7 @@ use Rattle.ghg_definitions.specs.Listed.{IsListed}
 use Rattle.ghg_definitions.proofs.Alike.{first_so, second_so}
 use Rattle.ghg_definitions.proofs.Grounded.{line_listed}
 use Rattle.ghg_definitions.proofs.Lines.{lines_sorted}
-use Rattle.ghg_definitions.proofs.Listed.{contained, from_filter, in_either, listed, listed_filter, listed_right}
+use Rattle.ghg_definitions.proofs.Listed.{from_filter, in_either, listed, listed_filter, listed_right}
 use Rattle.ghg_definitions.proofs.NodeLists.{emitting}
 use Rattle.ghg_definitions.proofs.Depth.{or_else}
 use Rattle.ghg_affected.specs.Subtotals.{is_above_parts}
@@ -27,12 +27,12 @@ use Rattle.ghg_data.specs.Changes.{Change, applied}
 use Rattle.ghg_data.proofs.Covered.{changed_or_kept}
 use Rattle.ghg_data.proofs.Faults.{IsAmong}
 use Rattle.ghg_graph.specs.Entries.{IsEnteredOrder, are_entries, is_entry}
-use Rattle.ghg_graph.specs.Ordering.{IsBehind, IsLineOrder}
+use Rattle.ghg_graph.specs.Ordering.{IsLineOrder}
 use Rattle.ghg_engine.specs.declared.groups.Groups.{Groups}
 use Rattle.ghg_engine.specs.Grouping.{AddsLines, AreInOrder, IsGrouping, emitted_at, group_at}
 use Rattle.ghg_graph.proofs.Emitting.{same_names}
-use Rattle.ghg_graph.proofs.Entering.{present_in}
-use Rattle.ghg_engine.proofs.InPlaces.{HasMore, none_more, one_more, placed_if}
+use Rattle.ghg_graph.proofs.Entering.{present_in, stand_apart}
+use Rattle.ghg_engine.proofs.InPlaces.{HasLess, HasMore, none_less, none_more, one_less, one_more, placed_if, taken_if}
 
 -- ---- the lines that emit a gas at categories that pass
 
@@ -98,6 +98,24 @@ module _ (old new : Data) (lines : List Name) (adds : AddsLines old new lines) (
         | inr absent ↦ inr ((adds.added k).1 (present_at test new k on, absent), on)
       ]))
 
+  -- the lines of before are left
+  all_left : (names : List Name) → HasLess (emits_at test new) (gas_lines_at test new) lines names → names ≡ gas_lines_at test old
+  all_left names less = same_names names (gas_lines_at test old) less.order (sorted_at test old)
+      (λ k i.
+      let at = (less.named k).0 i in
+      let on = to_emits_at test new k at.0 in
+      of_emits_at test old k (elim (or_else (is_some (line old k))) [
+        | inl present ↦ same_at k present ∙ on
+        | inr absent ↦ absurd (at.1 ((adds.added k).1 (present_at test new k on, absent), on))
+      ]))
+      (λ k i.
+      let on = to_emits_at test old k i in
+      let present = present_at test old k on in
+      (less.named k).1 (
+        of_emits_at test new k (sym (same_at k present) ∙ on),
+        λ added. true_not_false (sym present ∙ ((adds.added k).0 added.0).1),
+      ))
+
 -- ---- the groups with the lines so far
 
 pub record IsGroupedWith (m : Data) (before : Groups) (names : List Name) (groups : Groups) : Type 0 where
@@ -110,16 +128,13 @@ in_order m before names groups held = record {
   above = held.above_with.order;
 }
 
-copied : (test : Category → Bool) (old new : Data) (names xs : List Name) → names ≡ gas_lines_at test old → xs ≡ names → HasMore (emits_at test new) names [] xs
-copied test old new names xs is same =
-    subst (HasMore (emits_at test new) names []) (sym same) (none_more (emits_at test new) names (subst (IsStrictlySortedBy name_cmp) (sym is) (sorted_at test old)))
+with_none : (test : Category → Bool) (old new : Data) (names : List Name) → names ≡ gas_lines_at test old → HasMore (emits_at test new) names [] names
+with_none test old new names is = none_more (emits_at test new) names (subst (IsStrictlySortedBy name_cmp) (sym is) (sorted_at test old))
 
-pub grouped_none : (old new : Data) (before groups : Groups) → IsGrouping old before
-    → ((c : Category) → group_at groups.at c ≡ group_at before.at c) → groups.above.items ≡ before.above.items
-    → IsGroupedWith new before [] groups
-grouped_none old new before groups are at above = record {
-  at_with = λ c. copied (λ k. is_same k c) old new _ _ (are.at c) (at c);
-  above_with = copied is_above_parts old new _ _ are.above above;
+pub grouped_none : (old new : Data) (groups : Groups) → IsGrouping old groups → IsGroupedWith new groups [] groups
+grouped_none old new groups are = record {
+  at_with = λ c. with_none (λ k. is_same k c) old new _ (are.at c);
+  above_with = with_none is_above_parts old new _ are.above;
 }
 
 -- one line more
@@ -150,6 +165,52 @@ grouped_with old new before groups lines are adds held = record {
   above = all_at old new lines adds is_above_parts _ (subst (λ xs. HasMore (emits_at is_above_parts new) xs lines groups.above.items) are.above held.above_with);
 }
 
+-- ---- the groups without the lines so far
+
+pub record IsGroupedWithout (m : Data) (before : Groups) (names : List Name) (groups : Groups) : Type 0 where
+  pub at_without : (c : Category) → HasLess (emits_at (λ k. is_same k c) m) (group_at before.at c) names (group_at groups.at c)
+  pub above_without : HasLess (emits_at is_above_parts m) before.above.items names groups.above.items
+
+pub left_in_order : (m : Data) (before : Groups) (names : List Name) (groups : Groups) → IsGroupedWithout m before names groups → AreInOrder groups
+left_in_order m before names groups held = record {
+  at = λ c. (held.at_without c).order;
+  above = held.above_without.order;
+}
+
+pub ungrouped_none : (m : Data) (groups : Groups) → IsGrouping m groups → IsGroupedWithout m groups [] groups
+ungrouped_none m groups are = record {
+  at_without = λ c. none_less (emits_at (λ k. is_same k c) m) _ (subst (IsStrictlySortedBy name_cmp) (sym (are.at c)) (sorted_at (λ k. is_same k c) m));
+  above_without = none_less (emits_at is_above_parts m) _ (subst (IsStrictlySortedBy name_cmp) (sym are.above) (sorted_at is_above_parts m));
+}
+
+-- one line more is gone
+one_gone : (m : Data) (test : Category → Bool) (before names xs ys : List Name) (name : Name) (at : Option Category) → emitted_at m name ≡ at
+    → HasLess (emits_at test m) before names xs → ys ≡ taken_if name (option_map_or test at false) xs → HasLess (emits_at test m) before (names ++ name ∷ []) ys
+one_gone m test before names xs ys name at is less taken =
+    subst (HasLess (emits_at test m) before (names ++ name ∷ [])) (ap (λ o. taken_if name (option_map_or test o false) xs) is ∙ sym taken) (one_less (emits_at test m) before names xs name less)
+
+pub ungrouped_next : (m : Data) (before : Groups) (names : List Name) (name : Name) (c : Category) (old new : Groups) → IsGroupedWithout m before names old → emitted_at m name ≡ Some c
+    → ((d : Category) → group_at new.at d ≡ taken_if name (is_same c d) (group_at old.at d)) → new.above.items ≡ taken_if name (is_above_parts c) old.above.items
+    → IsGroupedWithout m before (names ++ name ∷ []) new
+ungrouped_next m before names name c old new held is at above = record {
+  at_without = λ d. one_gone m (λ k. is_same k d) _ names _ _ name (Some c) is (held.at_without d) (at d);
+  above_without = one_gone m is_above_parts _ names _ _ name (Some c) is held.above_without above;
+}
+
+pub ungrouped_still : (m : Data) (before : Groups) (names : List Name) (name : Name) (groups : Groups) → IsGroupedWithout m before names groups → emitted_at m name ≡ None
+    → IsGroupedWithout m before (names ++ name ∷ []) groups
+ungrouped_still m before names name groups held is = record {
+  at_without = λ d. one_gone m (λ k. is_same k d) _ names _ _ name None is (held.at_without d) refl;
+  above_without = one_gone m is_above_parts _ names _ _ name None is held.above_without refl;
+}
+
+-- all lines
+pub grouped_without : (old new : Data) (before groups : Groups) (lines : List Name) → IsGrouping new before → AddsLines old new lines → IsGroupedWithout new before lines groups → IsGrouping old groups
+grouped_without old new before groups lines are adds held = record {
+  at = λ c. all_left old new lines adds (λ k. is_same k c) _ (subst (λ xs. HasLess (emits_at (λ k. is_same k c) new) xs lines (group_at groups.at c)) (are.at c) (held.at_without c));
+  above = all_left old new lines adds is_above_parts _ (subst (λ xs. HasLess (emits_at is_above_parts new) xs lines groups.above.items) are.above held.above_without);
+}
+
 -- ---- lines that edits enter
 
 -- a record that is changed is an entry
@@ -157,18 +218,6 @@ entry_of : (m : Data) (cs : List Change) → are_entries m cs ≡ true → (k : 
 entry_of m [] e k i = absurd i
 entry_of m (c ∷ cs) e k (inl same) = ap (is_entry m) same ∙ first_so (is_entry m c.0) _ e
 entry_of m (c ∷ cs) e k (inr i) = entry_of m cs (second_so (is_entry m c.0) _ e) k i
-
--- a name that is done does not stand behind,
-not_done : (m : Data) (done names : List Name) → IsBehind m done names → (k : Name) → IsListed k done → IsListed k names → ⊥
-not_done m done [] behind k i j = j
-not_done m done (name ∷ names) behind k i (inl e) = behind.1 (contained done name (subst (λ l. IsListed l done) e i))
-not_done m done (name ∷ names) behind k i (inr j) = not_done m (name ∷ done) names behind.3 k (inr i) j
-
--- so none stands in both parts of an order
-not_both : (m : Data) (done lines names : List Name) → IsBehind m done (lines ++ names) → (k : Name) → IsListed k lines → IsListed k names → ⊥
-not_both m done [] names behind k i j = i
-not_both m done (line ∷ lines) names behind k (inl e) j = not_done m (line ∷ done) (lines ++ names) behind.3 k (inl e) (listed_right k lines names j)
-not_both m done (line ∷ lines) names behind k (inr i) j = not_both m (line ∷ done) lines names behind.3 k i j
 
 pub entered_lines : (m : Data) (cs : List Change) (lines names : List Name) → are_entries m cs ≡ true → IsLineOrder m lines
     → IsEnteredOrder m (applied m cs) names → AddsLines m (applied m cs) names
@@ -180,7 +229,7 @@ entered_lines m cs lines names entries is entered = record {
   added = λ k. (
     λ i. (
       present_in (applied m cs) [] (lines ++ names) order.behind k (listed_right k lines names i),
-      never_so (is_some (line m k)) (λ present. not_both (applied m cs) [] lines names order.behind k (listed lines k (is.complete k present)) i),
+      never_so (is_some (line m k)) (λ present. stand_apart (applied m cs) [] lines names order.behind k (listed lines k (is.complete k present)) i),
     ),
     λ h. elim (in_either k lines names (listed (lines ++ names) k (order.complete k h.0))) [
       | inl i ↦ absurd (true_not_false (sym (present_in m [] lines is.behind k i) ∙ h.1))

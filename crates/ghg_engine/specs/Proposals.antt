@@ -1,5 +1,5 @@
 -- What is proposed, and what is not.
-use Rattle.std.specs.Prelude.{◌≡◌, ⊤, true, List, length, Option, Some, None}
+use Rattle.std.specs.Prelude.{◌≡◌, ⊤, List, length}
 use Rattle.ghg_units.specs.declared.node.Node.{Node}
 use Rattle.ghg_definitions.specs.Compilation.{compilation}
 use Rattle.ghg_definitions.specs.Data.{Data}
@@ -8,14 +8,12 @@ use Rattle.ghg_data.specs.Changes.{Change, applied}
 use Rattle.ghg_data.specs.Shelf.{IsPlanned}
 use Rattle.ghg_affected.specs.Affected.{affected_nodes}
 use Rattle.ghg_engine.specs.Views.{EngineView, shelf_of}
-use Rattle.ghg_engine.specs.declared.layout.Layout.{Layout}
 use Rattle.ghg_engine.specs.declared.proposal.Fresh.{Fresh}
 use Rattle.ghg_engine.specs.declared.proposal.Proposal.{Proposal}
 use Rattle.ghg_engine.specs.declared.refusal.EngineRefusal.{EngineRefusal}
 use Rattle.ghg_engine.specs.declared.refusal.EngineRefusal.TheVariants as refusal
 use Rattle.ghg_engine.specs.Cells.{cell_at, found_in}
 use Rattle.ghg_engine.specs.Compiled.{AreOfLines, IsCompiled}
-use Rattle.ghg_graph.specs.Corrections.{are_of_figures}
 use Rattle.ghg_engine.specs.Layouts.{IsLayout}
 
 -- the edits were planned on the book as it stands, and leave no ring
@@ -30,12 +28,6 @@ pub record IsFresh (old new : Data) (fresh : Fresh) : Type 0 where
   pub of_lines : AreOfLines new (cell_at fresh.cells)
   pub count : fresh.count ≡ length (affected_nodes old new)
 
--- the layout is that of the data which the edits lead to; where none is given, they are of figures alone, and
--- it stays
-abbrev pub IsLaid : Data → List Change → Option Layout → Type 0
-IsLaid m edits None = are_of_figures edits ≡ true
-IsLaid m edits (Some layout) = IsLayout (applied m edits) layout
-
 -- the edits were planned on the book as it stands, the cells and the layout are those that they lead to, none
 -- of the cells is of a line that is not there then, as many nodes are affected, and the engine has room for
 -- the cells
@@ -44,7 +36,7 @@ pub record IsProposed (engine : EngineView) (proposal : Proposal) : Type 0 where
   pub compiled : IsCompiled (applied engine.content proposal.edits)
       (found_in (cell_at proposal.fresh) (compilation engine.content))
   pub of_lines : AreOfLines (applied engine.content proposal.edits) (cell_at proposal.fresh)
-  pub laid : IsLaid engine.content proposal.edits proposal.layout
+  pub laid : IsLayout (applied engine.content proposal.edits) proposal.layout
   pub cells : proposal.cells ≡ length (affected_nodes engine.content (applied engine.content proposal.edits))
   pub room : engine.room ≡ 1
 

@@ -16,13 +16,13 @@ ghost use Rattle.ghg_definitions.specs.Rings.{IsAcyclic};
 ghost use Rattle.ghg_affected.specs.Affected.{affected_nodes};
 ghost use Rattle.ghg_graph.specs.Entries.{are_entries};
 ghost use Rattle.ghg_graph.specs.Refusal.{IfRing, IsLeastRingOf};
-ghost use Rattle.ghg_engine.specs.Layouts.{IsLayout};
-ghost use Rattle.ghg_engine.specs.Proposals.{IfOverflow, IsArranged, IsFresh, IsLaid, IsProposed};
+ghost use Rattle.ghg_engine.specs.Layouts.{IsChangedLayout, IsLayout};
+ghost use Rattle.ghg_engine.specs.Proposals.{IfOverflow, IsArranged, IsFresh, IsProposed};
 ghost use Rattle.ghg_engine.specs.Views.{shelf_of};
 
 use crate::cells::Cells;
 use crate::evaluation::evaluate_all;
-use crate::layout::Layout;
+use crate::layout::{Changed, Layout, acyclic_entered};
 use crate::nodes::is_node;
 use crate::overlay::found;
 use crate::proposal::{Fresh, Proposal};
@@ -49,11 +49,12 @@ pub struct Engine {
     settled: bool,
     // Some of the cells may be of nodes that there are no more: of years that have left the inventory.
     cells: Cells,
-    layout: Layout,
+    // That of the book, unless a proposal has taken it that was neither accepted nor refused.
+    layout: Option<Layout>,
 }
 
 impl Model for Engine {
-    ghost use Rattle.std.specs.Prelude.{◌≡◌, true, if◌then◌else◌};
+    ghost use Rattle.std.specs.Prelude.{◌≡◌, true, if◌then◌else◌, IfSome};
     ghost use Rattle.std.specs.Coded.{codes};
     ghost use Rattle.ghg_engine.specs.Cells.{cell_at, found_in, no_outcomes};
     ghost use Rattle.ghg_engine.specs.Compiled.{AreOfLines, IsCompiled};
@@ -71,7 +72,7 @@ impl Model for Engine {
     } };
 
     ghost invariant = { λ e. IsCompiled e.book.content (found_in (cell_at e.front) (cell_at e.cells))
-        × IsLayout e.book.content e.layout × (e.settled ≡ true → cell_at e.front ≡ no_outcomes)
+        × IfSome e.layout (IsLayout e.book.content) × (e.settled ≡ true → cell_at e.front ≡ no_outcomes)
         × AreOfLines e.book.content (found_in (cell_at e.front) (cell_at e.cells)) };
 }
 
@@ -103,7 +104,7 @@ impl Engine {
             front: Cells::new(alloc),
             settled: true,
             cells: Cells::new(alloc),
-            layout: Layout::new(alloc),
+            layout: Some(Layout::new(alloc)),
         }
     }
 
@@ -166,14 +167,19 @@ impl Engine {
         ensures contained { IfOk result (λ p. HoldsExactValues (applied self.old.content p.edits)) }
     {
         self.settle()?;
-        let layout = self.changed_layout(alloc, &edits)?;
-        let fresh = self.fresh(alloc, &edits, &layout, steps)?;
-        Ok(Proposal {
-            edits,
-            fresh: fresh.cells,
-            layout,
-            cells: fresh.count,
-        })
+        let changed = self.changed_layout(alloc, &edits)?;
+        match self.evaluated(alloc, &edits, &changed.layout, steps) {
+            Ok(Fresh { cells, count }) => Ok(Proposal {
+                edits,
+                fresh: cells,
+                layout: changed.layout,
+                cells: count,
+            }),
+            Err(refusal) => {
+                self.take_back(&edits, changed);
+                Err(refusal)
+            }
+        }
     }
 
     // Makes room for the cells of a proposal: those of the one before join the others. The outcomes of the
@@ -190,41 +196,44 @@ impl Engine {
         Ok(())
     }
 
-    // The layout of the data that edits lead to, unless they are of figures alone.
-    fn changed_layout(&self, alloc: Global, edits: &Edits) -> Result<Option<Layout>, AllocError>
-        requires { IsArranged self.now edits.now }
-        ensures { IfOk result (IsLaid self.now.content edits.now) }
+    // The layout of the data that edits lead to. Where they leave all lines, it is that of the book, which is
+    // taken out, and grows by the lines that are entered.
+    fn changed_layout(&mut self, alloc: Global, edits: &Edits) -> Result<Changed, AllocError>
+        requires { IsArranged self.old edits.now }
+        ensures same { self.new ≡ self.old }
+        ensures changed { IfOk result (IsChangedLayout self.old.content edits.now) }
     {
-        if are_of_figures(edits) {
-            return Ok(None);
+        if !are_entries(&self.book, edits) {
+            let layout = Layout::of(alloc, &after(&self.book, edits))?;
+            let entered = Vec::new(alloc);
+            return Ok(Changed { layout, entered });
         }
-        let layout = if are_entries(&self.book, edits) {
-            self.layout.with_entered(alloc, &self.book, edits)?
-        } else {
-            Layout::of(alloc, &after(&self.book, edits))?
-        };
-        Ok(Some(layout))
+        let entered = acyclic_entered(alloc, &self.book, edits)?;
+        let own = self.take_layout(alloc)?;
+        let layout = own.with_entered(&self.book, edits, &entered)?;
+        Ok(Changed { layout, entered })
     }
 
-    // The cells of the nodes that edits affect, by the layout that is given or else stays.
-    fn fresh<L: Ledger>(
-        &self,
-        alloc: Global,
-        edits: &Edits,
-        layout: &Option<Layout>,
-        steps: &mut Steps<L>,
-    ) -> Result<Fresh, EngineRefusal>
-        requires arranged { IsArranged self.now edits.now }
-        requires room { self.now.room ≡ 1 }
-        requires laid { IsLaid self.now.content edits.now layout.now }
-        ensures steps { steps.new ≤ steps.old + length
-            (affected_nodes self.now.content (applied self.now.content edits.now)) }
-        ensures fresh { MatchResult result (IsFresh self.now.content (applied self.now.content edits.now))
-            (IfOverflow (λ n. overflow (applied self.now.content edits.now) ≡ Some n)) }
+    // Takes out the layout of the book. It is made anew where it was taken out before.
+    fn take_layout(&mut self, alloc: Global) -> Result<Layout, AllocError>
+        ensures same { self.new ≡ self.old }
+        ensures layout { IfOk result (IsLayout self.old.content) }
     {
-        match layout {
-            Some(layout) => self.evaluated(alloc, edits, layout, steps),
-            None => self.evaluated(alloc, edits, &self.layout, steps),
+        match self.layout.take() {
+            Some(layout) => Ok(layout),
+            None => Layout::of(alloc, &self.book),
+        }
+    }
+
+    // Takes back the layout that was taken out for edits which are refused.
+    fn take_back(&mut self, edits: &Edits, changed: Changed)
+        requires planned { IsPlanned (shelf_of self.old) edits.now }
+        requires changed { IsChangedLayout self.old.content edits.now changed }
+        ensures { self.new ≡ self.old }
+    {
+        if are_entries(&self.book, edits) {
+            let Changed { layout, entered } = changed;
+            self.layout = Some(layout.without_entered(&self.book, edits, &entered));
         }
     }
 
@@ -290,9 +299,7 @@ impl Engine {
         self.book.commit(edits);
         self.front = fresh;
         self.settled = false;
-        if let Some(layout) = layout {
-            self.layout = layout;
-        }
+        self.layout = Some(layout);
     }
 }
 

@@ -6,14 +6,15 @@ ghost use Rattle.ghg_categories.specs.Tree.{is_same};
 ghost use Rattle.ghg_categories.specs.declared.category.Category.{Category};
 ghost use Rattle.ghg_definitions.specs.Data.{Data, name_cmp};
 ghost use Rattle.ghg_affected.specs.Subtotals.{children, gross_parts, is_above_parts};
-ghost use Rattle.ghg_data.specs.Names.{with_name};
+ghost use Rattle.ghg_data.specs.Names.{with_name, without_name};
 ghost use Rattle.ghg_engine.specs.Grouping.{AddsLines, AreGroupsOf, AreInOrder, IsGrouping, emitted_at, group_at};
 
 use crate::children::{GROSS_PARTS, children};
 use crate::parts::Addends;
 use ghg_categories::Category;
-use ghg_data::Records;
+use ghg_data::{Records, take_name};
 use ghg_equations::equation;
+use ghg_graph::put_name;
 use ghg_units::Name;
 use std::alloc::{AllocError, Global};
 use std::collections::BTreeMap;
@@ -52,22 +53,24 @@ impl ByCategory {
         Ok(())
     }
 
-    // A copy. No line is looked up.
-    fn copy(&self) -> Result<ByCategory, AllocError>
-        ensures { IfOk result (λ copy. (c : Category) → group_at copy c ≡ group_at self.now c) }
-    {
-        Ok(ByCategory {
-            groups: self.groups.clone()?,
-        })
-    }
-
     // Puts a name into its place in the group of a category.
     fn insert(&mut self, category: Category, name: &Name) -> Result<(), AllocError>
         requires { (c : Category) → IsStrictlySortedBy name_cmp (group_at self.old c) }
         ensures { OnOk result ((c : Category) → group_at self.new c ≡
             (if is_same category c then with_name name.now (group_at self.old c) else group_at self.old c)) }
     {
-        insert_name(self.groups.entry(category)?.or_default(), name)
+        put_name(self.groups.entry(category)?.or_default(), name)
+    }
+
+    // Takes a name out of the group of a category.
+    fn take(&mut self, category: Category, name: &Name)
+        requires { (c : Category) → IsStrictlySortedBy name_cmp (group_at self.old c) }
+        ensures { (c : Category) → group_at self.new c ≡
+            (if is_same category c then without_name name.now (group_at self.old c) else group_at self.old c) }
+    {
+        if let Some(names) = self.groups.get_mut(&category) {
+            take_name(names, name);
+        }
     }
 }
 
@@ -108,24 +111,34 @@ impl Groups {
         Ok(groups)
     }
 
-    /// The groups of data that have these lines more than the data of these groups: the same names, and in
-    /// their places those of the given lines that emit a gas. No other line is looked up.
-    pub(crate) fn with_lines<R: Records>(
-        &self,
-        alloc: Global,
+    /// Puts lines into the groups of data without these: in their places those of the lines that emit a gas.
+    /// No other line is looked up.
+    pub(crate) fn put_lines<R: Records>(
+        &mut self,
         records: &R,
         lines: &[Name],
-    ) -> Result<Groups, AllocError>
-        requires { (old : Data) × IsGrouping old self.now × AddsLines old (R.content records.now) lines.now }
-        ensures { IfOk result (IsGrouping (R.content records.now)) }
+    ) -> Result<(), AllocError>
+        requires { (old : Data) × IsGrouping old self.old × AddsLines old (R.content records.now) lines.now }
+        ensures { OnOk result (IsGrouping (R.content records.now) self.new) }
     {
-        let mut groups = self.copy(alloc)?;
         for name in lines {
             if let Some(category) = emitted_at(records, name) {
-                groups.insert(category, name)?;
+                self.insert(category, name)?;
             }
         }
-        Ok(groups)
+        Ok(())
+    }
+
+    /// Takes lines out of the groups of data with these. It takes no memory, and no other line is looked up.
+    pub(crate) fn take_lines<R: Records>(&mut self, records: &R, lines: &[Name])
+        requires { IsGrouping (R.content records.now) self.old }
+        ensures { (old : Data) → AddsLines old (R.content records.now) lines.now → IsGrouping old self.new }
+    {
+        for name in lines {
+            if let Some(category) = emitted_at(records, name) {
+                self.take(category, name);
+            }
+        }
     }
 
     /// What the total of a category adds.
@@ -154,16 +167,6 @@ impl Groups {
         }
     }
 
-    fn copy(&self, alloc: Global) -> Result<Groups, AllocError>
-        ensures at { IfOk result (λ copy. (c : Category) → group_at copy.at c ≡ group_at self.now.at c) }
-        ensures above { IfOk result (λ copy. copy.above.items ≡ self.now.above.items) }
-    {
-        Ok(Groups {
-            at: self.at.copy()?,
-            above: Vec::from_slice(alloc, &self.above)?,
-        })
-    }
-
     // Puts a line that stands at a category into its places in its groups.
     fn insert(&mut self, category: Category, name: &Name) -> Result<(), AllocError>
         requires { AreInOrder self.old }
@@ -175,9 +178,25 @@ impl Groups {
             else self.old.above.items)) }
     {
         if is_above_parts(category) {
-            insert_name(&mut self.above, name)?;
+            put_name(&mut self.above, name)?;
         }
         self.at.insert(category, name)
+    }
+
+    // Takes a line that stands at a category out of its groups.
+    fn take(&mut self, category: Category, name: &Name)
+        requires { AreInOrder self.old }
+        ensures at { (c : Category) → group_at self.new.at c ≡
+            (if is_same category c then without_name name.now (group_at self.old.at c)
+            else group_at self.old.at c) }
+        ensures above { self.new.above.items ≡
+            (if is_above_parts category then without_name name.now self.old.above.items
+            else self.old.above.items) }
+    {
+        if is_above_parts(category) {
+            take_name(&mut self.above, name);
+        }
+        self.at.take(category, name);
     }
 
     // Puts a line that stands at a category into its groups.
@@ -199,17 +218,6 @@ fn is_above_parts(category: Category) -> bool
     ensures { result ≡ is_above_parts category }
 {
     matches!(category, Category::National | Category::C3)
-}
-
-// Puts a name into its place among names in order.
-fn insert_name(names: &mut Vec<Name>, name: &Name) -> Result<(), AllocError>
-    requires { IsStrictlySortedBy name_cmp names.old.items }
-    ensures { OnOk result (names.new.items ≡ with_name name.now names.old.items) }
-{
-    match names.binary_search(name) {
-        Ok(_) => Ok(()),
-        Err(place) => Ok(names.insert(place, *name)?),
-    }
 }
 
 // The category at which a line stands that emits a gas.

@@ -8,11 +8,13 @@ ghost use Rattle.ghg_definitions.specs.Rings.{IsAcyclic};
 ghost use Rattle.ghg_data.specs.Changes.{applied};
 ghost use Rattle.ghg_data.specs.Shelf.{IsPlanned};
 ghost use Rattle.ghg_graph.specs.Entries.{IsEnteredOrder, are_entries};
-ghost use Rattle.ghg_engine.specs.Layouts.{IsLayout};
+ghost use Rattle.ghg_engine.specs.Layouts.{IsEnteredLayout, IsLayout};
 
 use crate::groups::Groups;
 use ghg_data::{Book, Edits, Records, after};
-use ghg_graph::{CycleRefusal, LineIndex, acyclic_order, entered_order, with_entered};
+use ghg_graph::{
+    CycleRefusal, LineIndex, acyclic_order, entered_order, with_entered, without_entered,
+};
 use ghg_units::Name;
 use std::alloc::{AllocError, Global};
 
@@ -22,6 +24,13 @@ use std::alloc::{AllocError, Global};
 pub(crate) struct Layout {
     pub(crate) index: LineIndex,
     pub(crate) groups: Groups,
+}
+
+/// The layout that edits lead to, and the lines that they enter, where they leave all others.
+#[derive(Drop)]
+pub(crate) struct Changed {
+    pub(crate) layout: Layout,
+    pub(crate) entered: Vec<Name>,
 }
 
 impl Layout {
@@ -46,30 +55,49 @@ impl Layout {
         Ok(Layout { index, groups })
     }
 
-    /// The layout once edits are made that enter lines and leave the others.
+    /// The layout once edits are made that enter lines, which grows from that of the book by these lines in an
+    /// order. The lines of the book are not gone over.
     pub(crate) fn with_entered(
-        &self,
-        alloc: Global,
+        self,
         book: &Book,
         edits: &Edits,
+        entered: &[Name],
     ) -> Result<Layout, AllocError>
         requires planned { IsPlanned book.now edits.now }
-        requires old { IsAcyclic book.now.content }
-        requires new { IsAcyclic (applied book.now.content edits.now) }
         requires entries { are_entries book.now.content edits.now ≡ true }
-        requires layout { IsLayout book.now.content self.now }
-        ensures { IfOk result (IsLayout (applied book.now.content edits.now)) }
+        requires layout { IsLayout book.now.content self }
+        requires order { IsEnteredOrder book.now.content (applied book.now.content edits.now) entered.now }
+        ensures { IfOk result (IsEnteredLayout book.now.content (applied book.now.content edits.now)
+            entered.now) }
     {
-        let entered = acyclic_entered(alloc, book, edits)?;
-        let index = with_entered(alloc, book, edits, &self.index, &entered)?;
-        let records = after(book, edits);
-        let groups = self.groups.with_lines(alloc, &records, &entered)?;
+        let Layout { index, mut groups } = self;
+        let index = with_entered(book, edits, index, entered)?;
+        groups.put_lines(&after(book, edits), entered)?;
         Ok(Layout { index, groups })
+    }
+
+    /// The layout of the book, from that with the lines that edits enter. It takes no memory, and the lines of
+    /// the book are not gone over.
+    pub(crate) fn without_entered(self, book: &Book, edits: &Edits, entered: &[Name]) -> Layout
+        requires planned { IsPlanned book.now edits.now }
+        requires entries { are_entries book.now.content edits.now ≡ true }
+        requires layout { IsEnteredLayout book.now.content (applied book.now.content edits.now)
+            entered.now self }
+        ensures { IsLayout book.now.content result }
+    {
+        let Layout { index, mut groups } = self;
+        groups.take_lines(&after(book, edits), entered);
+        let index = without_entered(book, edits, index, entered);
+        Layout { index, groups }
     }
 }
 
-// The lines that edits enter without a ring, each behind those of them that it takes.
-fn acyclic_entered(alloc: Global, book: &Book, edits: &Edits) -> Result<Vec<Name>, AllocError>
+/// The lines that edits enter without a ring, each behind those of them that it takes.
+pub(crate) fn acyclic_entered(
+    alloc: Global,
+    book: &Book,
+    edits: &Edits,
+) -> Result<Vec<Name>, AllocError>
     requires planned { IsPlanned book.now edits.now }
     requires old { IsAcyclic book.now.content }
     requires new { IsAcyclic (applied book.now.content edits.now) }

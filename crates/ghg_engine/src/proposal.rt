@@ -6,13 +6,12 @@ use crate::cells::Cells;
 use crate::layout::Layout;
 use ghg_data::Edits;
 
-/// Edits, and what changes with them in the engine: the cells of the nodes that they affect, and the layout,
-/// unless it stays.
+/// Edits, and what changes with them in the engine: the cells of the nodes that they affect, and the layout.
 #[derive(Drop)]
 pub struct Proposal {
     pub(crate) edits: Edits,
     pub(crate) fresh: Cells,
-    pub(crate) layout: Option<Layout>,
+    pub(crate) layout: Layout,
     pub(crate) cells: u64,
 }
 

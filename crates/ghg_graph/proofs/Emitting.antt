@@ -1,12 +1,12 @@
 -- Emitters in order, and those among lines more.
-use Rattle.std.proofs.Common.{◌≡◌, ◌⊎◌, inl, inr, ℕ, ◌+◌, ◌<◌, true, false, is_some, List, [], ◌∷◌, ◌++◌, get_or, length, take, option_and_then, Ordering, Less, Equal, Greater, refl, sym, ap, ◌∙◌, subst}
+use Rattle.std.proofs.Common.{◌≡◌, ◌⊎◌, inl, inr, ℕ, ◌+◌, ◌<◌, Bool, true, false, not, is_some, List, [], ◌∷◌, ◌++◌, get_or, length, take, option_and_then, Ordering, Less, Equal, Greater, refl, sym, ap, ◌∙◌, subst}
 use Rattle.std.proofs.lemmas.List.Kept.{IsStrictlySortedBy-filter}
 use Rattle.std.proofs.lemmas.Map.Lookups.{btree_set_from_contains, exact_bytes}
 use Rattle.std.specs.Cmp.{IsTotalOrder}
 use Rattle.std.specs.Cmp.Lexicographic.{nat_list_cmp_total}
 use Rattle.std.specs.List.{AllByRecursion}
 use Rattle.std.specs.List.Sorted.{IsStrictlySortedBy}
-use Rattle.std.specs.Ordering.{ordering_reverse}
+use Rattle.std.specs.Ordering.{eq_by_cmp, ordering_reverse}
 use Rattle.std.specs.Prelude.{◌↔◌}
 use Rattle.ghg_equations.specs.Quantity.{gas_of}
 use Rattle.ghg_equations.specs.Table.{output}
@@ -15,20 +15,21 @@ use Rattle.ghg_definitions.specs.Data.{Data, Name, as_line, line, line_names, na
 use Rattle.ghg_definitions.specs.Listed.{IsListed}
 use Rattle.ghg_definitions.proofs.Keys.{names_same}
 use Rattle.ghg_definitions.proofs.Lines.{lines_sorted}
-use Rattle.ghg_definitions.proofs.Listed.{contained, in_either, listed, listed_left, listed_right}
+use Rattle.ghg_definitions.proofs.Listed.{contained, from_filter, in_either, listed, listed_filter, listed_left, listed_right}
 use Rattle.ghg_definitions.proofs.NodeLists.{emitting, gas_lines_are}
 use Rattle.ghg_affected.proofs.Bools.{true_not_false}
-use Rattle.ghg_data.specs.Names.{placed, with_name}
-use Rattle.ghg_graph.specs.Entries.{AreEmittersWith}
+use Rattle.ghg_data.specs.Names.{placed, with_name, without_name}
+use Rattle.ghg_graph.specs.Entries.{AreEmittersWith, AreNamesWithout}
 use Rattle.ghg_graph.specs.Index.{IsLineIndex}
 use Rattle.ghg_graph.specs.Ordering.{IsLineOrder}
 use Rattle.ghg_graph.specs.declared.index.LineIndex.{LineIndex}
-use Rattle.ghg_graph.specs.Takers.{AreTakers, AreTakersWith}
-use Rattle.ghg_graph.proofs.Entering.{KeepsLines, present_in}
+use Rattle.ghg_graph.specs.Takers.{AreTakers, AreTakersBefore, AreTakersWith}
+use Rattle.ghg_graph.proofs.Entering.{KeepsLines, present_in, stand_apart}
+use Rattle.ghg_graph.proofs.Marking.{equal_itself, names_equal}
 use Rattle.ghg_graph.proofs.Membership.{key_listed, listed_key}
 use Rattle.ghg_graph.proofs.Numbering.{take_next}
 use Rattle.ghg_graph.proofs.Reaching.{same_truth}
-use Rattle.ghg_graph.proofs.Taking.{takers_joined}
+use Rattle.ghg_graph.proofs.Taking.{takers_cut, takers_joined}
 
 -- ---- names in order with one more
 
@@ -139,6 +140,50 @@ with_next m emitters lines i line old new h e before after =
     subst (λ ls. AreEmittersWith m emitters ls new) (sym (take_next lines i line h e))
     (joined m emitters (take i lines) (line ∷ []) old new before after)
 
+-- ---- names in order without others
+
+pub without_none : (names : List Name) → IsStrictlySortedBy name_cmp names → AreNamesWithout names [] names
+without_none names up = record {
+  order = up;
+  named = λ k. (λ i. (i, λ none. none), λ h. h.0);
+}
+
+pub other_name : (n k : Name) → not (eq_by_cmp name_cmp n k) ≡ true → k ≡ n → ⊥
+other_name n k on same = true_not_false (sym on ∙ ap not (ap (λ j. eq_by_cmp name_cmp n j) same ∙ equal_itself n))
+
+pub name_differs : (n k : Name) → (k ≡ n → ⊥) → not (eq_by_cmp name_cmp n k) ≡ true
+name_differs n k differ = by (eq_by_cmp name_cmp n k) refl
+  where
+    by : (b : Bool) → eq_by_cmp name_cmp n k ≡ b → not b ≡ true
+    by true e = absurd (differ (sym (names_equal n k e)))
+    by false e = refl
+
+pub without_next : (before others : List Name) (i : ℕ) (name : Name) (old new : List Name) → i < length others
+    → name ≡ get_or others i name → AreNamesWithout before (take i others) old → new ≡ without_name name old
+    → AreNamesWithout before (take (i + 1) others) new
+without_next before others i name old new h e so_far is =
+    subst (λ ys. AreNamesWithout before ys new) (sym (take_next others i name h e))
+    (subst (AreNamesWithout before (take i others ++ name ∷ [])) (sym is) (record {
+      order = IsStrictlySortedBy-filter name_cmp left old so_far.order;
+      named = λ k. (
+        λ j.
+            let at = from_filter left k old j in
+            let was = (so_far.named k).0 at.0 in (
+              was.0,
+              λ on. elim (in_either k (take i others) (name ∷ []) on) [
+                | inl l ↦ was.1 l
+                | inr l ↦ elim l [ inl same ↦ other_name name k at.1 same | inr none ↦ none ]
+              ],
+            ),
+        λ at. listed_filter left k old
+            ((so_far.named k).1 (at.0, λ l. at.1 (listed_left k (take i others) (name ∷ []) l)))
+            (name_differs name k (λ same. at.1 (listed_right k (take i others) (name ∷ []) (inl same)))),
+      );
+    }))
+  where
+    left : Name → Bool
+    left x = not (eq_by_cmp name_cmp name x)
+
 -- ---- the lines of data, and entered ones
 
 pub same_names : (xs ys : List Name) → IsStrictlySortedBy name_cmp xs → IsStrictlySortedBy name_cmp ys
@@ -182,4 +227,34 @@ module _ (old new : Data) (kept : KeepsLines old new) (lines more : List Name) (
     takers = subst (λ ns. AreTakers new ns result.takers) (sym all)
         (takers_joined old new kept lines more before index.takers result.takers
         (subst (λ ns. AreTakers old ns index.takers) same is.takers) takers);
+  }
+
+  emitters_left : (names : List Name) → AreNamesWithout (gas_lines new) more names → names ≡ gas_lines old
+  emitters_left names are = same_names names (gas_lines old) are.order (emitters_sorted old)
+      (λ k i.
+      let at = (are.named k).0 i in
+      let on = (gas_lines_are new k).1 (contained (gas_lines new) k at.0) in
+      elim (in_either k lines more (listed _ k (after.complete k (emitting new k on)))) [
+        | inl j ↦
+            let present = present_in old [] lines before.behind k j in
+            listed (gas_lines old) k ((gas_lines_are old k).0 (sym (emits_still k present) ∙ on))
+        | inr j ↦ absurd (at.1 j)
+      ])
+      (λ k i.
+      let on = (gas_lines_are old k).1 (contained (gas_lines old) k i) in
+      let present = emitting old k on in
+      (are.named k).1 (
+        listed (gas_lines new) k ((gas_lines_are new k).0 (emits_still k present ∙ on)),
+        stand_apart new [] lines more after.behind k (listed lines k (before.complete k present)),
+      ))
+
+  pub index_left : (index : LineIndex) → IsLineIndex new index → index.lines.items ≡ lines ++ more → (result : LineIndex)
+      → result.lines.items ≡ lines → AreNamesWithout index.emitters.items more result.emitters.items
+      → AreTakersBefore (length lines) new (lines ++ more) index.takers result.takers → IsLineIndex old result
+  index_left index is all result left emitters takers = record {
+    lines = subst (IsLineOrder old) (sym left) before;
+    emitters = emitters_left result.emitters.items (subst (λ es. AreNamesWithout es more result.emitters.items) is.emitters emitters);
+    takers = subst (λ ns. AreTakers old ns result.takers) (sym left)
+        (takers_cut old new kept lines more before index.takers result.takers
+        (subst (λ ns. AreTakers new ns index.takers) all is.takers) takers);
   }

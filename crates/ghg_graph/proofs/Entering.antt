@@ -1,5 +1,5 @@
 -- Where edits enter lines, and leave those that there are.
-use Rattle.std.proofs.Common.{◌≡◌, inl, inr, Bool, true, false, not, is_some, List, [], ◌∷◌, filter, filter_map, map, refl, sym, ap, ◌∙◌, subst}
+use Rattle.std.proofs.Common.{◌≡◌, inl, inr, Bool, true, false, not, is_some, List, [], ◌∷◌, ◌++◌, filter, filter_map, map, refl, sym, ap, ◌∙◌, subst}
 use Rattle.std.specs.BTreeSet.{BTreeSet, IsFromIterResult}
 use Rattle.std.specs.Cmp.Lexicographic.{nat_list_cmp_total}
 use Rattle.std.specs.FinMap.{get}
@@ -11,7 +11,7 @@ use Rattle.ghg_definitions.specs.Listed.{IsListed}
 use Rattle.ghg_definitions.specs.Rings.{IsAcyclic, IsRing, Leads, Takes, TakesBinding}
 use Rattle.ghg_definitions.specs.Sound.{IsWorkbook}
 use Rattle.ghg_definitions.proofs.Chains.{turned}
-use Rattle.ghg_definitions.proofs.Listed.{from_filter, from_filter_map, listed, listed_filter, listed_filter_map}
+use Rattle.ghg_definitions.proofs.Listed.{contained, from_filter, from_filter_map, listed, listed_filter, listed_filter_map, listed_right}
 use Rattle.ghg_definitions.proofs.NodeLists.{named_line}
 use Rattle.ghg_definitions.proofs.Rings.{taken_present}
 use Rattle.ghg_definitions.proofs.Depth.{or_else}
@@ -101,6 +101,18 @@ pub present_in : (old : Data) (done names : List Name) → IsBehind old done nam
 present_in old done [] behind k i = absurd i
 present_in old done (name ∷ names) behind k (inl e) = ap (λ l. is_some (line old l)) e ∙ behind.0
 present_in old done (name ∷ names) behind k (inr i) = present_in old (name ∷ done) names behind.3 k i
+
+-- a name that is done does not stand behind,
+not_done : (m : Data) (done names : List Name) → IsBehind m done names → (k : Name) → IsListed k done → IsListed k names → ⊥
+not_done m done [] behind k i j = j
+not_done m done (name ∷ names) behind k i (inl e) = behind.1 (contained done name (subst (λ l. IsListed l done) e i))
+not_done m done (name ∷ names) behind k i (inr j) = not_done m (name ∷ done) names behind.3 k (inr i) j
+
+-- so none stands in both parts of an order
+pub stand_apart : (m : Data) (done lines names : List Name) → IsBehind m done (lines ++ names) → (k : Name) → IsListed k lines → IsListed k names → ⊥
+stand_apart m done [] names behind k i j = i
+stand_apart m done (line ∷ lines) names behind k (inl e) j = not_done m (line ∷ done) (lines ++ names) behind.3 k (inl e) (listed_right k lines names j)
+stand_apart m done (line ∷ lines) names behind k (inr i) j = stand_apart m (line ∷ done) lines names behind.3 k i j
 
 module _ (old new : Data) (was : IsWorkbook old) (kept : KeepsLines old new) where
   line_kept : (k : Name) → is_some (line old k) ≡ true → is_some (line new k) ≡ true

@@ -6,14 +6,16 @@ use Rattle.ghg_definitions.specs.declared.record.Record.{Record}
 use Rattle.ghg_definitions.specs.declared.record.RecordKey.TheVariants as key
 use Rattle.ghg_definitions.specs.Compilation.{emits, gas_lines}
 use Rattle.ghg_definitions.specs.Data.{Data, Name, as_line, key_cmp, line}
+use Rattle.ghg_definitions.specs.Listed.{IsListed}
 use Rattle.ghg_affected.specs.Figures.{DifferInFigures}
 use Rattle.ghg_affected.proofs.Bools.{true_not_false}
 use Rattle.ghg_affected.proofs.Figures.{same_gas_lines}
 use Rattle.ghg_data.proofs.Empty.{no_lines}
 use Rattle.ghg_graph.specs.Index.{IsLineIndex}
 use Rattle.ghg_graph.specs.Ordering.{IsLineOrder}
-use Rattle.ghg_graph.specs.Takers.{AreTakers, IsIndex, figures_taken, lines_taken}
+use Rattle.ghg_graph.specs.Takers.{AreTakers, IsIndex, figures_taken, lines_taken, places_of}
 use Rattle.ghg_graph.specs.declared.index.LineIndex.{LineIndex}
+use Rattle.ghg_graph.specs.declared.takers.Places.{Places}
 use Rattle.ghg_graph.specs.declared.takers.Takers.{Takers}
 use Rattle.ghg_graph.proofs.Corrected.{same_order}
 use Rattle.ghg_graph.proofs.Taking.{same_takers}
@@ -29,17 +31,21 @@ no_line k e = true_not_false (sym e ∙ ap (λ r. is_some (as_line r)) (get-empt
 no_order : IsLineOrder (empty {X = Record} {R = key_cmp}) []
 no_order = record { behind = tt; complete = λ name e. absurd (no_line name e) }
 
-no_index : (names : Option Binding → List Name) (m : Data) → IsIndex names m [] []
-no_index names m = λ name place. (λ i. absurd i, λ h. absurd (omega (arith, h.0)))
+abbrev IsEmpty : Places → Type 0
+IsEmpty places = (name : Name) → places_of places name ≡ []
 
-no_takers : (m : Data) (takers : Takers) → takers.figures ≡ [] → takers.lines ≡ [] → AreTakers m [] takers
+no_index : (names : Option Binding → List Name) (m : Data) (places : Places) → IsEmpty places → IsIndex names m [] places
+no_index names m places none = λ name place.
+    (λ i. absurd (subst (IsListed place) (none name) i), λ h. absurd (omega (arith, h.0)))
+
+no_takers : (m : Data) (takers : Takers) → IsEmpty takers.figures → IsEmpty takers.lines → AreTakers m [] takers
 no_takers m takers figures lines = record {
-  of_figures = subst (IsIndex figures_taken m []) (sym figures) (no_index figures_taken m);
-  of_lines = subst (IsIndex lines_taken m []) (sym lines) (no_index lines_taken m);
+  of_figures = no_index figures_taken m takers.figures figures;
+  of_lines = no_index lines_taken m takers.lines lines;
 }
 
 pub nothing_in_index : (index : LineIndex) → index.lines.items ≡ [] → index.emitters.items ≡ []
-    → index.takers.figures ≡ [] → index.takers.lines ≡ [] → IsLineIndex (empty {X = Record} {R = key_cmp}) index
+    → IsEmpty index.takers.figures → IsEmpty index.takers.lines → IsLineIndex (empty {X = Record} {R = key_cmp}) index
 nothing_in_index index lines emitters of_figures of_lines = record {
   lines = subst (IsLineOrder (empty {X = Record} {R = key_cmp})) (sym lines) no_order;
   emitters = emitters ∙ sym no_emitters;

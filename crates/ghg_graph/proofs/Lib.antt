@@ -26,7 +26,6 @@ pub mod Falling
 pub mod Moving
 pub mod Standing
 pub mod Entering
-pub mod Placing
 pub mod Emitting
 pub mod Above
 pub mod NewYears

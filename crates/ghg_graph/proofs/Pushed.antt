@@ -1,7 +1,11 @@
 -- One item more in the list that a map has under a key.
-use Rattle.std.proofs.Common.{◌≡◌, Bool, true, false, cond, if◌then◌else◌, List, [], ◌∷◌, ◌++◌, Option, Some, None, Vec, Global, vec_len, refl, sym, ap, ◌∙◌}
+use Rattle.std.proofs.Common.{◌≡◌, Bool, true, false, cond, if◌then◌else◌, List, [], ◌∷◌, ◌++◌, Option, Some, None, IsSome, Vec, Global, vec_len, rules, refl, sym, ap, ◌∙◌}
 use Rattle.std.proofs.lemmas.List.{append-nil}
 use Rattle.std.specs.Option.{UnwrapsOrElse, option_map_or}
+
+pub some_is : {A : Type 0} (o : Option A) (x : A) → o ≡ Some x → IsSome o
+some_is None x is = absurd (cc)
+some_is (Some y) x is = search rules
 
 -- the items, of which there are none where there is no list
 abbrev pub items_in : {X : Type 0} → Option (Vec X Global) → List X

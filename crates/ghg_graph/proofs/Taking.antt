@@ -1,15 +1,14 @@
 -- Places under the names of what lines take.
-use Rattle.std.proofs.Common.{◌≡◌, ◌⊎◌, inl, inr, ℕ, ◌+◌, ◌<◌, ◌≤◌, Bool, true, false, cond, if◌then◌else◌, List, [], ◌∷◌, ◌++◌, length, get_or, map, filter, flat_map, drop, take, is_eq, Option, Some, None, refl, sym, ap, ap₂, ◌∙◌, subst, arith, length-append}
+use Rattle.std.proofs.Common.{◌≡◌, ◌⊎◌, inl, inr, ℕ, ◌+◌, ◌<◌, ◌≤◌, Bool, true, false, cond, if◌then◌else◌, List, [], ◌∷◌, ◌++◌, length, get_or, map, filter, flat_map, drop, take, is_eq, Option, Some, None, Vec, Global, refl, sym, ap, ap₂, ◌∙◌, subst, arith, length-append}
 use Rattle.std.specs.Prelude.{◌↔◌}
 use native.Mathlib.Decide.{ℕ_discrete}
 use Prim.{yes, no}
-use Rattle.std.proofs.lemmas.List.{append-nil, drop_more, get_or_append_left, get_or_default, map-append}
+use Rattle.std.proofs.lemmas.List.{append-nil, drop_more, get_or_append_left, get_or_default}
+use Rattle.std.proofs.lemmas.Bool.{lt-ltb, ltb-true}
 use Rattle.std.proofs.lemmas.List.Concat.{flat_map-append}
-use Rattle.std.proofs.lemmas.List.Elements.{filter-append}
-use Rattle.std.proofs.lemmas.List.Sorted.{Contains-permutation, IsPermutation-sym}
+use Rattle.std.proofs.Math.Dec.{ltb}
 use Rattle.std.specs.FinMap.{get}
 use Rattle.std.specs.List.{AllByRecursion}
-use Rattle.std.specs.List.Sorted.{IsPermutation}
 use Rattle.std.specs.Option.{option_map_or}
 use Rattle.ghg_equations.specs.declared.eq_id.EqId.{EqId}
 use Rattle.ghg_equations.specs.declared.row.Param.{Param}
@@ -18,35 +17,25 @@ use Rattle.ghg_units.specs.declared.row.Binding.{Binding}
 use Rattle.ghg_definitions.specs.declared.record.RecordKey.TheVariants as key
 use Rattle.ghg_definitions.specs.Data.{Data, Name, as_binding, as_line, binding, line, name_cmp}
 use Rattle.ghg_definitions.specs.Listed.{IsListed}
-use Rattle.ghg_definitions.proofs.Listed.{contained, from_filter, from_map, in_either, listed, listed_filter, listed_left, listed_map, listed_right}
+use Rattle.ghg_definitions.proofs.Listed.{from_filter, in_either, listed_filter, listed_left, listed_right}
 use Rattle.ghg_affected.specs.Figures.{DifferInFigures}
 use Rattle.ghg_data.specs.Parameters.{quantity}
 use Rattle.ghg_graph.specs.Numbers.{name_at}
 use Rattle.ghg_graph.specs.Ordering.{IsLineOrder}
-use Rattle.ghg_graph.specs.Takers.{AreTakers, AreTakersWith, IsIndex, IsIndexFrom, IsIndexWith, IsPut, Places, figures_taken, lines_taken, named_by, places_of}
-use Rattle.ghg_graph.specs.declared.takers.Taken.{Taken}
+use Rattle.ghg_graph.specs.Takers.{AreTakers, AreTakersBefore, AreTakersWith, IsCut, IsIndex, IsIndexWith, IsNamedFrom, IsPut, figures_taken, lines_taken, named_by, places_of}
+use Rattle.ghg_graph.specs.declared.takers.Places.{Places}
 use Rattle.ghg_graph.specs.declared.takers.Takers.{Takers}
 use Rattle.ghg_graph.proofs.EquationParameters.{flat_named}
 use Rattle.ghg_graph.proofs.Entering.{KeepsLines, present_in}
 use Rattle.ghg_graph.proofs.Marking.{equal_itself, names_equal}
 use Rattle.ghg_graph.proofs.Named.{at_name, less_or_not}
 use Rattle.ghg_graph.proofs.Numbering.{take_next}
+use Rattle.ghg_graph.proofs.Pushed.{items_in}
 
 -- ---- a place under names
 
 pub put_none : (place : ℕ) (places : Places) → IsPut [] place places places
 put_none place places = λ name k. (λ i. inl i, λ i. elim i [ inl j ↦ j | inr none ↦ absurd none.1 ])
-
-pushed_places : (t : Taken) (old new : Places) → new ≡ old ++ t ∷ [] → (q : Name)
-    → places_of new q ≡ places_of old q ++ (if is_eq (name_cmp t.name q) then t.place ∷ [] else [])
-pushed_places t old new e q =
-    ap (λ ts. places_of ts q) e ∙ ap (map (λ (u : Taken). u.place)) (filter-append (λ (u : Taken). is_eq (name_cmp u.name q)) old (t ∷ []))
-    ∙ map-append (λ (u : Taken). u.place) (filter (λ (u : Taken). is_eq (name_cmp u.name q)) old) (filter (λ (u : Taken). is_eq (name_cmp u.name q)) (t ∷ []))
-    ∙ ap (λ xs. places_of old q ++ xs) (by (is_eq (name_cmp t.name q)))
-  where
-    by : (b : Bool) → map (λ (u : Taken). u.place) (cond b (t ∷ []) []) ≡ (if b then t.place ∷ [] else [])
-    by true = refl
-    by false = refl
 
 put_one : (name : Name) (place : ℕ) (old new : Places)
     → ((q : Name) → places_of new q ≡ places_of old q ++ (if is_eq (name_cmp name q) then place ∷ [] else []))
@@ -99,11 +88,12 @@ put_more xs ys place a b c first second = λ q k. (
 -- one name more of names that are gone through
 pub name_put : (names : List Name) (i : ℕ) (name : Name) (place : ℕ) (first old new : Places)
     → i < length names → name ≡ get_or names i name → IsPut (take i names) place first old
-    → new ≡ old ++ record { name = name; place = place } ∷ [] → IsPut (take (i + 1) names) place first new
+    → ((q : Name) → places_of new q ≡ places_of old q ++ (if is_eq (name_cmp name q) then place ∷ [] else []))
+    → IsPut (take (i + 1) names) place first new
 name_put names i name place first old new h e before one =
     subst (λ ns. IsPut ns place first new) (sym (take_next names i name h e))
     (put_more (take i names) (name ∷ []) place first old new before
-    (put_one name place old new (pushed_places (record { name = name; place = place }) old new one)))
+    (put_one name place old new one))
 
 flat_next : {A B : Type 0} (f : A → List B) (xs : List A) (i : ℕ) (x : A) → i < length xs → x ≡ get_or xs i x
     → flat_map f (take (i + 1) xs) ≡ flat_map f (take i xs) ++ f x
@@ -144,80 +134,189 @@ named_at names m l ps id at all =
 
 -- ---- the lines from one place up to another
 
--- under each name stand the places, from the first and below the number, of those of the lines that name it
-abbrev pub IsIndexUpTo : ℕ → ℕ → (Option Binding → List Name) → Data → List Name → Places → Type 0
-IsIndexUpTo first count names m lines places = (name : Name) (place : ℕ) → IsListed place (places_of places name) ↔
-    ((first ≤ place) × (place < count) × IsListed name (named_by names m (name_at lines place)))
+-- beside the places that stood there
+abbrev pub IsIndexUpTo : ℕ → ℕ → (Option Binding → List Name) → Data → List Name → Places → Places → Type 0
+IsIndexUpTo first count names m lines old new = (name : Name) (place : ℕ) → IsListed place (places_of new name) ↔
+    (IsListed place (places_of old name) ⊎
+    ((first ≤ place) × (place < count) × IsListed name (named_by names m (name_at lines place))))
 
-pub nothing_indexed : (names : Option Binding → List Name) (m : Data) (lines : List Name) (first : ℕ)
-    → IsIndexUpTo first first names m lines []
-nothing_indexed names m lines first = λ name place. (λ i. absurd i, λ i. absurd (omega (arith, i.0, i.1)))
+pub nothing_indexed : (names : Option Binding → List Name) (m : Data) (lines : List Name) (first : ℕ) (places : Places)
+    → IsIndexUpTo first first names m lines places places
+nothing_indexed names m lines first places = λ name place.
+    (λ i. inl i, λ i. elim i [ inl j ↦ j | inr none ↦ absurd (omega (arith, none.0, none.1)) ])
 
 pub line_indexed : (names : Option Binding → List Name) (m : Data) (lines : List Name) (first n : ℕ) (l : Name)
-    (old new : Places) → first ≤ n → l ≡ name_at lines n → IsIndexUpTo first n names m lines old
-    → IsPut (named_by names m l) n old new → IsIndexUpTo first (n + 1) names m lines new
-line_indexed names m lines first n l old new low is before put = λ name place. (
+    (start old new : Places) → first ≤ n → l ≡ name_at lines n → IsIndexUpTo first n names m lines start old
+    → IsPut (named_by names m l) n old new → IsIndexUpTo first (n + 1) names m lines start new
+line_indexed names m lines first n l start old new low is before put = λ name place. (
   λ i. elim ((put name place).0 i) [
-    | inl j ↦ let h = (before name place).0 j in (h.0, omega (arith, h.1), h.2)
-    | inr j ↦ (
+    | inl j ↦ elim ((before name place).0 j) [ inl was ↦ inl was | inr h ↦ inr (h.0, omega (arith, h.1), h.2) ]
+    | inr j ↦ inr (
       omega (arith, j.0, low),
       omega (arith, j.0),
       subst (λ k. IsListed name (named_by names m k)) (is ∙ ap (name_at lines) (sym j.0)) j.1,
     )
   ],
-  λ h. (put name place).1 (elim (ℕ_discrete place n) [
-    | yes same ↦ inr (same, subst (λ k. IsListed name (named_by names m k)) (ap (name_at lines) same ∙ sym is) h.2)
-    | no other ↦ inl ((before name place).1 (h.0, omega (arith, h.1), h.2))
+  λ i. (put name place).1 (elim i [
+    | inl was ↦ inl ((before name place).1 (inl was))
+    | inr h ↦ elim (ℕ_discrete place n) [
+      | yes same ↦ inr (same, subst (λ k. IsListed name (named_by names m k)) (ap (name_at lines) same ∙ sym is) h.2)
+      | no other ↦ inl ((before name place).1 (inr (h.0, omega (arith, h.1), h.2)))
+    ]
   ]),
 )
 
 -- no place is left
-pub all_indexed : (names : Option Binding → List Name) (m : Data) (lines : List Name) (first n : ℕ) (places : Places)
-    → n ≤ length lines → length lines ≤ n → IsIndexUpTo first n names m lines places → IsIndexFrom first names m lines places
-all_indexed names m lines first n places high low is = λ name place. (
-  λ i. let h = (is name place).0 i in (h.0, omega (arith, h.1, high), h.2),
-  λ h. (is name place).1 (h.0, omega (arith, h.1, low), h.2),
-)
-
--- ---- in any order
-
-moved_places : (old new : Places) → IsPermutation old new → (name : Name) (place : ℕ)
-    → IsListed place (places_of old name) → IsListed place (places_of new name)
-moved_places old new moved name place i =
-    let at = from_map (λ (t : Taken). t.place) place (filter (λ (t : Taken). is_eq (name_cmp t.name name)) old) i in
-    let its = from_filter (λ (t : Taken). is_eq (name_cmp t.name name)) at.0 old at.1 in
-    subst (λ k. IsListed k (places_of new name)) (sym at.2) (listed_map (λ (t : Taken). t.place) at.0 _
-    (listed_filter (λ (t : Taken). is_eq (name_cmp t.name name)) at.0 new (listed new at.0 (Contains-permutation old new at.0 moved (contained old at.0 its.0))) its.1))
-
-pub same_places : (old new : Places) → IsPermutation old new → (name : Name) (place : ℕ)
-    → IsListed place (places_of new name) ↔ IsListed place (places_of old name)
-same_places old new moved name place = (moved_places new old (IsPermutation-sym old new moved) name place, moved_places old new moved name place)
-
--- all lines
-pub index_of_all : (names : Option Binding → List Name) (m : Data) (lines : List Name) (taken places : Places)
-    → IsPermutation taken places → IsIndexFrom 0 names m lines taken → IsIndex names m lines places
-index_of_all names m lines taken places moved is = λ name place. (
-  λ i. let h = (is name place).0 ((same_places taken places moved name place).0 i) in (h.1, h.2),
-  λ h. (same_places taken places moved name place).1 ((is name place).1 (omega arith, h.0, h.1)),
-)
-
--- more lines
-pub index_with : (first : ℕ) (names : Option Binding → List Name) (m : Data) (lines : List Name)
-    (old more new : Places) → IsPermutation (old ++ more) new → IsIndexFrom first names m lines more
+pub all_indexed : (names : Option Binding → List Name) (m : Data) (lines : List Name) (first n : ℕ) (old new : Places)
+    → n ≤ length lines → length lines ≤ n → IsIndexUpTo first n names m lines old new
     → IsIndexWith first names m lines old new
-index_with first names m lines old more new moved is = λ name place.
-    let joined : places_of (old ++ more) name ≡ places_of old name ++ places_of more name =
-    ap (map (λ (t : Taken). t.place)) (filter-append (λ (t : Taken). is_eq (name_cmp t.name name)) old more)
-    ∙ map-append (λ (t : Taken). t.place) (filter (λ (t : Taken). is_eq (name_cmp t.name name)) old) (filter (λ (t : Taken). is_eq (name_cmp t.name name)) more) in (
-      λ i. elim (in_either place (places_of old name) (places_of more name) (subst (IsListed place) joined ((same_places (old ++ more) new moved name place).0 i))) [
-        | inl j ↦ inl j
-        | inr j ↦ inr ((is name place).0 j)
-      ],
-      λ i. (same_places (old ++ more) new moved name place).1 (subst (IsListed place) (sym joined) (elim i [
-        | inl j ↦ listed_left place (places_of old name) (places_of more name) j
-        | inr j ↦ listed_right place (places_of old name) (places_of more name) ((is name place).1 j)
-      ])),
-    )
+all_indexed names m lines first n old new high low is = λ name place. (
+  λ i. elim ((is name place).0 i) [ inl was ↦ inl was | inr h ↦ inr (h.0, omega (arith, h.1, high), h.2) ],
+  λ i. (is name place).1 (elim i [ inl was ↦ inl was | inr h ↦ inr (h.0, omega (arith, h.1, low), h.2) ]),
+)
+
+-- all lines, where no place stood
+pub index_of_all : (names : Option Binding → List Name) (m : Data) (lines : List Name) (old new : Places)
+    → ((name : Name) → places_of old name ≡ []) → IsIndexWith 0 names m lines old new → IsIndex names m lines new
+index_of_all names m lines old new none is = λ name place. (
+  λ i. elim ((is name place).0 i) [ inl was ↦ absurd (subst (IsListed place) (none name) was) | inr h ↦ (h.1, h.2) ],
+  λ h. (is name place).1 (inr (omega arith, h.0, h.1)),
+)
+
+-- ---- where the places from one on are removed
+
+pub cut_none : (P : Name → Type 0) (first : ℕ) (places : Places) → ((name : Name) → P name → ⊥) → IsCut P first places places
+cut_none P first places none = record {
+  kept = λ name place low i. i;
+  only = λ name place i. i;
+  below = λ name place p i. absurd (none name p);
+}
+
+pub cut_more : (P Q R : Name → Type 0) (first : ℕ) (a b c : Places) → ((name : Name) → R name → P name ⊎ Q name)
+    → IsCut P first a b → IsCut Q first b c → IsCut R first a c
+cut_more P Q R first a b c both one two = record {
+  kept = λ name place low i. two.kept name place low (one.kept name place low i);
+  only = λ name place i. one.only name place (two.only name place i);
+  below = λ name place r i. elim (both name r) [
+    | inl p ↦ one.below name place p (two.only name place i)
+    | inr q ↦ two.below name place q i
+  ];
+}
+
+pub cut_weaker : (P R : Name → Type 0) (first : ℕ) (a b : Places) → ((name : Name) → R name → P name)
+    → IsCut P first a b → IsCut R first a b
+cut_weaker P R first a b to cut = record {
+  kept = cut.kept;
+  only = cut.only;
+  below = λ name place r i. cut.below name place (to name r) i;
+}
+
+-- under a name without places
+pub cut_absent : (first : ℕ) (name : Name) (places : Places) → places_of places name ≡ []
+    → IsCut (λ k. k ≡ name) first places places
+cut_absent first name places none = record {
+  kept = λ k place low i. i;
+  only = λ k place i. i;
+  below = λ k place same i. absurd (subst (IsListed place) (ap (places_of places) same ∙ none) i);
+}
+
+-- the places below the number are left in the list under one name
+pub cut_under : (first : ℕ) (name : Name) (old new : Places)
+    → ((k : Name) → places_of new k ≡ cond (is_eq (name_cmp name k)) (filter (λ p. ltb p first) (places_of old k)) (places_of old k))
+    → IsCut (λ k. k ≡ name) first old new
+cut_under first name old new is = record {
+  kept = λ k place low i. subst (IsListed place) (sym (is k)) (to (is_eq (name_cmp name k)) (places_of old k) place low i);
+  only = λ k place i. back (is_eq (name_cmp name k)) (places_of old k) place (subst (IsListed place) (is k) i);
+  below = λ k place same i.
+      let on = ap (is_eq) (ap (name_cmp name) same) ∙ equal_itself name in
+      ltb-true place first (from_filter low_part place (places_of old k)
+      (subst (IsListed place) (is k ∙ ap (λ b. cond b (filter low_part (places_of old k)) (places_of old k)) on) i)).1;
+}
+  where
+    low_part : ℕ → Bool
+    low_part p = ltb p first
+
+    to : (b : Bool) (places : List ℕ) (place : ℕ) → place < first → IsListed place places
+        → IsListed place (cond b (filter low_part places) places)
+    to true places place low i = listed_filter low_part place places i (lt-ltb place first low)
+    to false places place low i = i
+
+    back : (b : Bool) (places : List ℕ) (place : ℕ) → IsListed place (cond b (filter low_part places) places)
+        → IsListed place places
+    back true places place i = (from_filter low_part place places i).0
+    back false places place i = i
+
+-- in the list that a map has under the name
+pub items_cut : (first : ℕ) (old new : Option (Vec ℕ Global)) (found after : Vec ℕ Global) (b : Bool)
+    → new ≡ cond b (Some after) old → (b ≡ true → old ≡ Some found)
+    → after.items ≡ filter (λ p. ltb p first) found.items
+    → items_in new ≡ cond b (filter (λ p. ltb p first) (items_in old)) (items_in old)
+items_cut first old new found after true is at items =
+    ap items_in is ∙ items ∙ ap (λ o. filter (λ p. ltb p first) (items_in o)) (sym (at refl))
+items_cut first old new found after false is at items = ap items_in is
+
+-- one name more of names that are gone through
+pub name_cut : (names : List Name) (i : ℕ) (name : Name) (first : ℕ) (start old new : Places) → i < length names
+    → name ≡ get_or names i name → IsCut (λ k. IsListed k (take i names)) first start old
+    → IsCut (λ k. k ≡ name) first old new → IsCut (λ k. IsListed k (take (i + 1) names)) first start new
+name_cut names i name first start old new h e before one =
+    cut_more (λ k. IsListed k (take i names)) (λ k. k ≡ name) (λ k. IsListed k (take (i + 1) names)) first start old new
+    (λ k j. elim (in_either k (take i names) (name ∷ []) (subst (IsListed k) (take_next names i name h e) j)) [
+      | inl l ↦ inl l
+      | inr l ↦ inr (elim l [ inl same ↦ same | inr none ↦ absurd none ])
+    ]) before one
+
+-- the names of one binding more
+pub binding_cut : (names : Option Binding → List Name) (m : Data) (l : Name) (ps : List Param) (i : ℕ) (d : Param)
+    (first : ℕ) (start old new : Places) (b : Option Binding) (given : List Name) → i < length ps
+    → b ≡ binding m l (get_or ps i d).name.now → given ≡ names b
+    → IsCut (λ k. IsListed k (flat_map (λ (q : Param). names (binding m l q.name.now)) (take i ps))) first start old
+    → IsCut (λ k. IsListed k given) first old new
+    → IsCut (λ k. IsListed k (flat_map (λ (q : Param). names (binding m l q.name.now)) (take (i + 1) ps))) first start new
+binding_cut names m l ps i d first start old new b given h bound is before more =
+    cut_more (λ k. IsListed k (flat_map f (take i ps))) (λ k. IsListed k given)
+    (λ k. IsListed k (flat_map f (take (i + 1) ps))) first start old new
+    (λ k j. elim (in_either k (flat_map f (take i ps)) (f p)
+    (subst (IsListed k) (flat_next f ps i p h (get_or_default ps i d p h)) j)) [
+      | inl on ↦ inl on
+      | inr on ↦ inr (subst (IsListed k) (sym (is ∙ ap names bound)) on)
+    ]) before more
+  where
+    p : Param
+    p = get_or ps i d
+
+    f : Param → List Name
+    f q = names (binding m l q.name.now)
+
+-- a line from the first place on, and below the number, names it
+abbrev pub IsNamedUpTo : ℕ → ℕ → (Option Binding → List Name) → Data → List Name → Name → Type 0
+IsNamedUpTo first count names m lines name =
+    (place : ℕ) × (first ≤ place) × (place < count) × IsListed name (named_by names m (name_at lines place))
+
+pub nothing_cut : (names : Option Binding → List Name) (m : Data) (lines : List Name) (first : ℕ) (places : Places)
+    → IsCut (IsNamedUpTo first first names m lines) first places places
+nothing_cut names m lines first places =
+    cut_none (IsNamedUpTo first first names m lines) first places (λ name h. omega (arith, h.1, h.2))
+
+pub line_cut : (names : Option Binding → List Name) (m : Data) (lines : List Name) (first n : ℕ) (l : Name)
+    (start old new : Places) → l ≡ name_at lines n → IsCut (IsNamedUpTo first n names m lines) first start old
+    → IsCut (λ k. IsListed k (named_by names m l)) first old new
+    → IsCut (IsNamedUpTo first (n + 1) names m lines) first start new
+line_cut names m lines first n l start old new is before cut =
+    cut_more (IsNamedUpTo first n names m lines) (λ k. IsListed k (named_by names m l))
+    (IsNamedUpTo first (n + 1) names m lines) first start old new
+    (λ k h. elim (ℕ_discrete h.0 n) [
+      | yes same ↦ inr (subst (λ j. IsListed k (named_by names m j)) (ap (name_at lines) same ∙ sym is) h.3)
+      | no other ↦ inl (h.0, h.1, omega (arith, h.2), h.3)
+    ]) before cut
+
+-- no place is left
+pub all_cut : (names : Option Binding → List Name) (m : Data) (lines : List Name) (first n : ℕ) (old new : Places)
+    → length lines ≤ n → IsCut (IsNamedUpTo first n names m lines) first old new
+    → IsCut (IsNamedFrom first names m lines) first old new
+all_cut names m lines first n old new low cut =
+    cut_weaker (IsNamedUpTo first n names m lines) (IsNamedFrom first names m lines) first old new
+    (λ k h. (h.0, h.1.0, omega (arith, h.1.1, low), h.1.2)) cut
 
 -- ---- what a line names, where its record and its bindings are the same
 
@@ -290,4 +389,27 @@ module _ (old new : Data) (kept : KeepsLines old new) (lines more : List Name) (
   takers_joined was is before after = record {
     of_figures = index_joined figures_taken was.figures is.figures before.of_figures after.of_figures;
     of_lines = index_joined lines_taken was.lines is.lines before.of_lines after.of_lines;
+  }
+
+  index_cut : (names : Option Binding → List Name) (was is : Places) → IsIndex names new (lines ++ more) was
+      → IsCut (IsNamedFrom (length lines) names new (lines ++ more)) (length lines) was is → IsIndex names old lines is
+  index_cut names was is before cut = λ name place. (
+    λ i.
+        let h = (before name place).0 (cut.only name place i) in
+        elim (less_or_not place (length lines)) [
+          | inl low ↦ (low, subst (IsListed name) (sym (named_still names place low)) h.1)
+          | inr high ↦
+              let up : length lines ≤ place = elim high [ inl e ↦ omega (arith, e) | inr g ↦ omega (arith, g) ] in
+              let low = cut.below name place (place, (up, h.0, h.1)) i in
+              absurd (omega (arith, up, low))
+        ],
+    λ h. cut.kept name place h.0
+        ((before name place).1 (omega (arith, h.0, length-append lines more), subst (IsListed name) (named_still names place h.0) h.1)),
+  )
+
+  pub takers_cut : (was is : Takers) → AreTakers new (lines ++ more) was
+      → AreTakersBefore (length lines) new (lines ++ more) was is → AreTakers old lines is
+  takers_cut was is before cut = record {
+    of_figures = index_cut figures_taken was.figures is.figures before.of_figures cut.of_figures;
+    of_lines = index_cut lines_taken was.lines is.lines before.of_lines cut.of_lines;
   }

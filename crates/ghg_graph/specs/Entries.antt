@@ -9,7 +9,9 @@ use Rattle.ghg_definitions.specs.Data.{Data, Name, line, name_cmp}
 use Rattle.ghg_definitions.specs.Listed.{IsListed}
 use Rattle.ghg_definitions.specs.Rings.{IsAcyclic}
 use Rattle.ghg_data.specs.Changes.{Change}
+use Rattle.ghg_graph.specs.Index.{IsLineIndex}
 use Rattle.ghg_graph.specs.Ordering.{IsLineOrder}
+use Rattle.ghg_graph.specs.declared.index.LineIndex.{LineIndex}
 
 -- the record is that of a figure or of uncertainties, or of a line that the data do not have, or of one of
 -- its bindings
@@ -37,8 +39,19 @@ pub record IsEnteredOrder (old new : Data) (names : List Name) : Type 0 where
   pub acyclic : IsAcyclic new
   pub behind : (lines : List Name) → IsLineOrder old lines → IsLineOrder new (lines ++ names)
 
+-- the index of the new data, in which the names stand behind the lines of the old ones in an order
+pub record IsEnteredIndex (old new : Data) (names : List Name) (index : LineIndex) : Type 0 where
+  pub is : IsLineIndex new index
+  pub order : IsEnteredOrder old new names
+  pub behind : (lines : List Name) × IsLineOrder old lines × (index.lines.items ≡ lines ++ names)
+
 -- the names in order, of emitters and of those of the lines that emit a gas
 pub record AreEmittersWith (m : Data) (emitters lines names : List Name) : Type 0 where
   pub order : IsStrictlySortedBy name_cmp names
   pub named : (name : Name) → IsListed name names ↔
       (IsListed name emitters ⊎ (IsListed name lines × (emits m name ≡ true)))
+
+-- the names in order that are left without the others
+pub record AreNamesWithout (before others names : List Name) : Type 0 where
+  pub order : IsStrictlySortedBy name_cmp names
+  pub named : (name : Name) → IsListed name names ↔ (IsListed name before × (¬ IsListed name others))

@@ -1,7 +1,7 @@
 -- What lines take, and which lines take it.
-use Rattle.std.specs.Prelude.{◌≡◌, ◌⊎◌, ◌↔◌, ℕ, ◌<◌, ◌≤◌, List, [], ◌∷◌, filter, flat_map, length, map, Option, Some}
+use Rattle.std.specs.Prelude.{◌≡◌, ◌⊎◌, ◌↔◌, ℕ, ◌<◌, ◌≤◌, List, [], ◌∷◌, flat_map, length, Option, Some}
+use Rattle.std.specs.BTreeMap.{get}
 use Rattle.std.specs.Option.{option_map_or}
-use Rattle.std.specs.Ordering.{is_eq}
 use Rattle.ghg_equations.specs.Table.{parameters}
 use Rattle.ghg_units.specs.declared.row.Binding.{Binding}
 use Rattle.ghg_units.specs.declared.row.Binding.TheVariants as bound
@@ -9,9 +9,8 @@ use Rattle.ghg_definitions.specs.Data.{Data, Name, binding, line, name_cmp}
 use Rattle.ghg_definitions.specs.Listed.{IsListed}
 use Rattle.ghg_definitions.specs.Rings.{taken_by}
 use Rattle.ghg_graph.specs.Numbers.{name_at}
-use Rattle.ghg_graph.specs.declared.takers.Taken.{Taken}
+use Rattle.ghg_graph.specs.declared.takers.Places.{Places}
 use Rattle.ghg_graph.specs.declared.takers.Takers.{Takers}
-use Rattle.ghg_graph.specs.declared.takers.Takings.{Takings}
 
 -- ---- what lines take
 
@@ -34,13 +33,9 @@ named_by names m name =
 
 -- ---- which lines take it
 
--- names, each with the place of a line that takes it
-abbrev pub Places : Type 0
-Places = List Taken
-
 -- the places under a name
 abbrev pub places_of : Places → Name → List ℕ
-places_of places name = map (λ t. t.place) (filter (λ t. is_eq (name_cmp t.name name)) places)
+places_of places name = option_map_or (λ found. found.items) (get name_cmp places.by_name name) []
 
 -- the place is put under each of the names
 abbrev pub IsPut : List Name → ℕ → Places → Places → Type 0
@@ -56,6 +51,13 @@ pub record AreTakers (m : Data) (lines : List Name) (takers : Takers) : Type 0 w
   pub of_figures : IsIndex figures_taken m lines takers.figures
   pub of_lines : IsIndex lines_taken m lines takers.lines
 
+-- the places below the number stay, and under each name that has P no other is left
+pub record IsCut (P : Name → Type 0) (first : ℕ) (old new : Places) : Type 0 where
+  pub kept : (name : Name) (place : ℕ) → place < first → IsListed place (places_of old name) →
+      IsListed place (places_of new name)
+  pub only : (name : Name) (place : ℕ) → IsListed place (places_of new name) → IsListed place (places_of old name)
+  pub below : (name : Name) (place : ℕ) → P name → IsListed place (places_of new name) → place < first
+
 -- ---- which lines take it from a place on
 
 -- the line at the place names it
@@ -63,18 +65,19 @@ abbrev pub IsNamed : ℕ → (Option Binding → List Name) → Data → List Na
 IsNamed first names m lines name place =
     (first ≤ place) × (place < length lines) × IsListed name (named_by names m (name_at lines place))
 
-abbrev pub IsIndexFrom : ℕ → (Option Binding → List Name) → Data → List Name → Places → Type 0
-IsIndexFrom first names m lines places = (name : Name) (place : ℕ) →
-    IsListed place (places_of places name) ↔ IsNamed first names m lines name place
-
-pub record AreTakings (first : ℕ) (m : Data) (lines : List Name) (takings : Takings) : Type 0 where
-  pub of_figures : IsIndexFrom first figures_taken m lines takings.figures.items
-  pub of_lines : IsIndexFrom first lines_taken m lines takings.lines.items
-
 -- beside the places that stood there
 abbrev pub IsIndexWith : ℕ → (Option Binding → List Name) → Data → List Name → Places → Places → Type 0
 IsIndexWith first names m lines old new = (name : Name) (place : ℕ) → IsListed place (places_of new name) ↔
     (IsListed place (places_of old name) ⊎ IsNamed first names m lines name place)
+
+-- a line from the place on names it
+abbrev pub IsNamedFrom : ℕ → (Option Binding → List Name) → Data → List Name → Name → Type 0
+IsNamedFrom first names m lines name = (place : ℕ) × IsNamed first names m lines name place
+
+-- without the places of lines from this one on
+pub record AreTakersBefore (first : ℕ) (m : Data) (lines : List Name) (old new : Takers) : Type 0 where
+  pub of_figures : IsCut (IsNamedFrom first figures_taken m lines) first old.figures new.figures
+  pub of_lines : IsCut (IsNamedFrom first lines_taken m lines) first old.lines new.lines
 
 pub record AreTakersWith (first : ℕ) (m : Data) (lines : List Name) (old new : Takers) : Type 0 where
   pub of_figures : IsIndexWith first figures_taken m lines old.figures new.figures

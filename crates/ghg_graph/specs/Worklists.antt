@@ -5,8 +5,9 @@ use Rattle.std.specs.Ordering.{nat_cmp}
 use Rattle.ghg_definitions.specs.Data.{Name, name_cmp}
 use Rattle.ghg_definitions.specs.Listed.{IsListed}
 use Rattle.ghg_graph.specs.Numbers.{name_at}
-use Rattle.ghg_graph.specs.Takers.{Places, places_of}
+use Rattle.ghg_graph.specs.Takers.{places_of}
 use Rattle.ghg_graph.specs.declared.index.LineIndex.{LineIndex}
+use Rattle.ghg_graph.specs.declared.takers.Places.{Places}
 use Rattle.ghg_graph.specs.declared.worklist.Worklist.{Worklist}
 
 -- the place is selected

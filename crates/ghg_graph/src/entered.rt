@@ -10,7 +10,8 @@ ghost use Rattle.ghg_data.specs.Shelf.{IsPlanned};
 ghost use Rattle.ghg_definitions.specs.Data.{line, line_name, name_cmp};
 ghost use Rattle.ghg_definitions.specs.Rings.{IsAcyclic};
 ghost use Rattle.ghg_definitions.specs.Sound.{IsWorkbook};
-ghost use Rattle.ghg_graph.specs.Entries.{AreEmittersWith, AreEntered, IsEnteredOrder, are_entries, is_entry};
+ghost use Rattle.ghg_graph.specs.Entries.{AreEmittersWith, AreEntered, AreNamesWithout, IsEnteredIndex, IsEnteredOrder};
+ghost use Rattle.ghg_graph.specs.Entries.{are_entries, is_entry};
 ghost use Rattle.ghg_graph.specs.Index.{IsLineIndex};
 ghost use Rattle.ghg_graph.specs.Refusal.{IfRing, IsLeastRingOf};
 
@@ -19,7 +20,7 @@ use crate::index::LineIndex;
 use crate::numbers::{equation_of, numbered};
 use crate::ordering::named_order;
 use crate::rings::CycleRefusal;
-use ghg_data::{Book, Edits, Records, after};
+use ghg_data::{Book, Edits, Records, after, take_name};
 use ghg_definitions::RecordKey;
 use ghg_units::Name;
 use std::alloc::{AllocError, Global};
@@ -115,27 +116,31 @@ fn line_name(key: &RecordKey) -> Option<Name>
     }
 }
 
-/// The index of the lines once edits are made that enter lines: those of the book, and behind them the
-/// entered ones in an order.
+/// The index of the lines once edits are made that enter lines, which grows from that of the book: behind its
+/// lines stand the entered ones in an order. The lines of the book are not gone over.
 pub fn with_entered(
-    alloc: Global,
     book: &Book,
     edits: &Edits,
-    index: &LineIndex,
+    index: LineIndex,
     entered: &[Name],
 ) -> Result<LineIndex, AllocError>
     requires planned { IsPlanned book.now edits.now }
     requires entries { are_entries book.now.content edits.now ≡ true }
-    requires index { IsLineIndex book.now.content index.now }
+    requires index { IsLineIndex book.now.content index }
     requires order { IsEnteredOrder book.now.content (applied book.now.content edits.now) entered.now }
-    ensures { IfOk result (IsLineIndex (applied book.now.content edits.now)) }
+    ensures { IfOk result (IsEnteredIndex book.now.content (applied book.now.content edits.now)
+        entered.now) }
 {
     let records = after(book, edits);
-    let lines = joined(alloc, &index.lines, entered)?;
-    let emitters = with_emitters(alloc, &records, &index.emitters, entered)?;
-    let takers = index
-        .takers
-        .with(alloc, &records, &lines, index.lines.len())?;
+    let LineIndex {
+        mut lines,
+        mut emitters,
+        mut takers,
+    } = index;
+    let first = lines.len();
+    lines.extend_from_slice(entered)?;
+    put_emitters(&records, entered, &mut emitters)?;
+    takers.add(&records, &lines, first)?;
     Ok(LineIndex {
         lines,
         emitters,
@@ -143,40 +148,54 @@ pub fn with_entered(
     })
 }
 
-fn joined(alloc: Global, names: &[Name], more: &[Name]) -> Result<Vec<Name>, AllocError>
-    ensures { IfOk result (λ all. all.items ≡ names.now ++ more.now) }
+/// The index of the lines of the book, from that with the lines that edits enter, which stand behind them. It
+/// takes no memory, and the lines of the book are not gone over.
+pub fn without_entered(book: &Book, edits: &Edits, index: LineIndex, entered: &[Name]) -> LineIndex
+    requires planned { IsPlanned book.now edits.now }
+    requires entries { are_entries book.now.content edits.now ≡ true }
+    requires index { IsEnteredIndex book.now.content (applied book.now.content edits.now) entered.now index }
+    ensures { IsLineIndex book.now.content result }
 {
-    let mut all = Vec::with_capacity(alloc, names.len() + more.len())?;
-    all.extend_from_slice(names)?;
-    all.extend_from_slice(more)?;
-    Ok(all)
-}
-
-// The emitters, and in their places those of the lines that emit a gas.
-fn with_emitters<R: Records>(
-    alloc: Global,
-    records: &R,
-    emitters: &[Name],
-    lines: &[Name],
-) -> Result<Vec<Name>, AllocError>
-    requires { IsStrictlySortedBy name_cmp emitters.now }
-    ensures { IfOk result (λ names. AreEmittersWith (R.content records.now) emitters.now lines.now
-        names.items) }
-{
-    let mut names = with_room(alloc, emitters, lines)?;
-    for line in lines {
-        put_emitter(records, line, &mut names)?;
+    let LineIndex {
+        mut lines,
+        mut emitters,
+        mut takers,
+    } = index;
+    let first = lines.len() - entered.len();
+    takers.cut(&after(book, edits), &lines, first);
+    take_names(&mut emitters, entered);
+    lines.truncate(first);
+    LineIndex {
+        lines,
+        emitters,
+        takers,
     }
-    Ok(names)
 }
 
-// A copy of names with room for others.
-fn with_room(alloc: Global, names: &[Name], others: &[Name]) -> Result<Vec<Name>, AllocError>
-    ensures { IfOk result (λ copy. copy.items ≡ names.now) }
+// Takes the others out of names in order, as far as they are among them.
+fn take_names(names: &mut Vec<Name>, others: &[Name])
+    requires { IsStrictlySortedBy name_cmp names.old.items }
+    ensures { AreNamesWithout names.old.items others.now names.new.items }
 {
-    let mut copy = Vec::with_capacity(alloc, names.len() + others.len())?;
-    copy.extend_from_slice(names)?;
-    Ok(copy)
+    for name in others {
+        take_name(names, name);
+    }
+}
+
+// Puts those of the lines that emit a gas into their places among the emitters.
+fn put_emitters<R: Records>(
+    records: &R,
+    lines: &[Name],
+    emitters: &mut Vec<Name>,
+) -> Result<(), AllocError>
+    requires { IsStrictlySortedBy name_cmp emitters.old.items }
+    ensures { OnOk result (AreEmittersWith (R.content records.now) emitters.old.items lines.now
+        emitters.new.items) }
+{
+    for line in lines {
+        put_emitter(records, line, emitters)?;
+    }
+    Ok(())
 }
 
 fn put_emitter<R: Records>(
@@ -189,12 +208,13 @@ fn put_emitter<R: Records>(
         names.new.items) }
 {
     match line_gas(records, line) {
-        Some(_) => put_name(line, names),
+        Some(_) => put_name(names, line),
         None => Ok(()),
     }
 }
 
-fn put_name(name: &Name, names: &mut Vec<Name>) -> Result<(), AllocError>
+/// Puts a name into its place among names in order, if it is not one of them.
+pub fn put_name(names: &mut Vec<Name>, name: &Name) -> Result<(), AllocError>
     requires { IsStrictlySortedBy name_cmp names.old.items }
     ensures { OnOk result (names.new.items ≡ with_name name.now names.old.items) }
 {

@@ -28,7 +28,7 @@ mod worklist;
 
 pub use cells::Cells;
 pub use corrections::{affected, are_of_figures};
-pub use entered::{are_entries, entered_order, with_entered};
+pub use entered::{are_entries, entered_order, put_name, with_entered, without_entered};
 pub use gases::{emitters, lasting_potential, potential};
 pub use in_order::nodes_in_order;
 pub use index::LineIndex;

@@ -1,11 +1,11 @@
 //! The places of lines to which figures and changed lines lead, each once.
 
-ghost use Rattle.std.specs.Prelude.{◌≡◌, ◌∷◌, ◌<◌, ℕ, [], flat_map, length, map, IfOk, OnOk};
+ghost use Rattle.std.specs.Prelude.{◌≡◌, ◌∷◌, ◌<◌, ℕ, [], flat_map, length, IfOk, OnOk};
 ghost use Rattle.ghg_graph.specs.Takers.{places_of};
 ghost use Rattle.ghg_graph.specs.Worklists.{AllBelow, AreAdded, AreClosed, AreWithin, IsIn, IsQueued, IsSpread};
 
 use crate::index::LineIndex;
-use crate::takers::{Places, Taken};
+use crate::takers::Places;
 use ghg_units::Name;
 use std::alloc::{AllocError, Global};
 use std::collections::BTreeSet;
@@ -31,7 +31,7 @@ pub(crate) fn reached_places(
 {
     let mut worklist = Worklist::new(alloc);
     worklist.add_figures(figures, &index.takers.figures)?;
-    worklist.add_all(first)?;
+    worklist.add(first)?;
     worklist.spread(index)?;
     Ok(worklist.selected)
 }
@@ -77,19 +77,8 @@ impl Worklist {
         Ok(())
     }
 
-    // Adds the places of takers.
-    fn add(&mut self, takers: &[Taken]) -> Result<(), AllocError>
-        requires { IsQueued self.old }
-        ensures queued { OnOk result (IsQueued self.new) }
-        ensures added { OnOk result (AreAdded (map (λ t. t.place) takers.now) self.old self.new) }
-    {
-        for taker in takers {
-            self.put(taker.place)?;
-        }
-        Ok(())
-    }
-
-    fn add_all(&mut self, places: &[usize]) -> Result<(), AllocError>
+    // Adds places.
+    fn add(&mut self, places: &[usize]) -> Result<(), AllocError>
         requires { IsQueued self.old }
         ensures queued { OnOk result (IsQueued self.new) }
         ensures added { OnOk result (AreAdded places.now self.old self.new) }

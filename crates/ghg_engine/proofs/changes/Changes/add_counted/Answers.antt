@@ -1,4 +1,4 @@
-use Rattle.std.proofs.Common.{◌≡◌, ◌∙◌, Bool, false, filter, sym, subst}
+use Rattle.std.proofs.Common.{◌∙◌, Bool, false, filter, sym, subst}
 use Rattle.std.specs.Option.{option_map_or}
 use Rattle.ghg_units.specs.declared.node.Node.{Node}
 use Rattle.ghg_units.specs.declared.node.Node.TheVariants.{Equiv}

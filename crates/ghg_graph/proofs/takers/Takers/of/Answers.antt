@@ -5,8 +5,9 @@ use Rattle.ghg_graph.proofs.takers.Takers.of.Goals as goal
 pub returns : goal.returns
 returns g c =
     let m = g.R.Records.content c.args.records.now in
-    let takings = c.in_ok-takings.takings in
+    let none = c.new-takers.result in
+    let takers = c.add.new.self in
     record {
-      of_figures = index_of_all figures_taken m c.args.lines.now takings.figures.items c.of.result c.of.ensures c.in_ok-takings.ensures.of_figures;
-      of_lines = index_of_all lines_taken m c.args.lines.now takings.lines.items c.of-2.result c.of-2.ensures c.in_ok-takings.ensures.of_lines;
+      of_figures = index_of_all figures_taken m c.args.lines.now none.figures takers.figures c.new-takers.ensures.figures c.in_ok-add.ensures.of_figures;
+      of_lines = index_of_all lines_taken m c.args.lines.now none.lines takers.lines c.new-takers.ensures.lines c.in_ok-add.ensures.of_lines;
     }

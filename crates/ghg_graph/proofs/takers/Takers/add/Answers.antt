@@ -1,0 +1,38 @@
+use Rattle.std.proofs.Common.{◌∙◌, []}
+use Rattle.std.proofs.lemmas.List.{get_or_default}
+use Rattle.ghg_graph.specs.Takers.{figures_taken, lines_taken}
+use Rattle.ghg_graph.proofs.Taking.{all_indexed, line_indexed, nothing_indexed}
+use Rattle.ghg_graph.proofs.takers.Takers.add.Goals as goal
+
+pub loop-place-init : goal.loop-place-init
+loop-place-init g c =
+    let m = g.R.Records.content c.args.records.now in
+    let lines = c.args.lines.now in
+    let first = c.args.first in
+    record {
+      of_figures = nothing_indexed figures_taken m lines first c.args.self.now.figures;
+      of_lines = nothing_indexed lines_taken m lines first c.args.self.now.lines;
+    }
+
+pub loop-place-preserved : goal.loop-place-preserved
+loop-place-preserved g c =
+    let m = g.R.Records.content c.args.records.now in
+    let lines = c.args.lines.now in
+    let n = c.loop-place.place in
+    let line = c.index-lines-place.result in
+    let is = c.index-lines-place.is ∙ get_or_default lines n line [] c.loop-place-test.true in
+    record {
+      of_figures = line_indexed figures_taken m lines c.args.first n line c.args.self.now.figures c.loop-place.self.figures c.put_line.new.self.figures c.loop-place.auto.place is c.loop-place.invariant.of_figures c.in_ok-put_line.ensures.figures;
+      of_lines = line_indexed lines_taken m lines c.args.first n line c.args.self.now.lines c.loop-place.self.lines c.put_line.new.self.lines c.loop-place.auto.place is c.loop-place.invariant.of_lines c.in_ok-put_line.ensures.lines;
+    }
+
+pub returns : goal.returns
+returns g c =
+    let m = g.R.Records.content c.args.records.now in
+    let lines = c.args.lines.now in
+    let n = c.loop-place.place in
+    let high = c.loop-place.auto.place-end c.requires in
+    record {
+      of_figures = all_indexed figures_taken m lines c.args.first n c.args.self.now.figures c.loop-place.self.figures high c.loop-place-test.false c.loop-place.invariant.of_figures;
+      of_lines = all_indexed lines_taken m lines c.args.first n c.args.self.now.lines c.loop-place.self.lines high c.loop-place-test.false c.loop-place.invariant.of_lines;
+    }

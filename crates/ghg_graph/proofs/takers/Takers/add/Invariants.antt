@@ -1,0 +1,11 @@
+use Rattle.ghg_graph.specs.Takers.{figures_taken, lines_taken}
+use Rattle.ghg_graph.proofs.Taking.{IsIndexUpTo}
+use Rattle.ghg_graph.proofs.takers.Takers.add.Given as goal
+
+abbrev pub invariant-loop-place : goal.invariant-loop-place
+invariant-loop-place g l =
+    let m = g.R.Records.content l.records in
+    record {
+      of_figures : IsIndexUpTo l.first l.place figures_taken m l.lines l.fn.self.figures l.self.figures;
+      of_lines : IsIndexUpTo l.first l.place lines_taken m l.lines l.fn.self.lines l.self.lines;
+    }
