@@ -146,23 +146,3 @@ one_less p before others names name less = by (p name) refl
         λ h. (less.named k).1 (h.0, λ on. h.1 (listed_left k others (name ∷ []) on.0, on.1)),
       );
     }
-
--- ---- out of the group of a category
-
-pub name_taken : (old new : Option (Vec Name Global)) (before now : Vec Name Global) (a c : Category) (name : Name)
-    → new ≡ cond (is_at (code_order a) c) (Some now) old → (a ≡ c → Some before ≡ old)
-    → now.items ≡ without_name name before.items → names_in new ≡ taken_if name (is_same a c) (names_in old)
-name_taken old new before now a c name is same items = by (is_same a c) (is ∙ ap (λ t. cond t (Some now) old) (tied a c)) (λ e. same (same_is a c e))
-  where
-    by : (b : Bool) → new ≡ cond b (Some now) old → (b ≡ true → Some before ≡ old) → names_in new ≡ taken_if name b (names_in old)
-    by true is same = ap names_in is ∙ items ∙ ap (without_name name) (ap names_in (same refl))
-    by false is same = ap names_in is
-
--- nothing is taken where there is no group
-pub none_taken_at : (at old : Option (Vec Name Global)) (a c : Category) (name : Name) → (a ≡ c → at ≡ old) → at ≡ None
-    → names_in old ≡ taken_if name (is_same a c) (names_in old)
-none_taken_at at old a c name same none = by (is_same a c) (λ e. same (same_is a c e))
-  where
-    by : (b : Bool) → (b ≡ true → at ≡ old) → names_in old ≡ taken_if name b (names_in old)
-    by true same = ap names_in (sym (same refl) ∙ none) ∙ sym (ap (λ o. without_name name (names_in o)) (sym (same refl) ∙ none))
-    by false same = refl

@@ -7,15 +7,12 @@ use Rattle.ghg_categories.specs.Tree.{is_same}
 use Rattle.ghg_definitions.specs.declared.record.Record.{Record}
 use Rattle.ghg_definitions.specs.Compilation.{gas_lines_at}
 use Rattle.ghg_definitions.specs.Data.{Data, category, key_cmp}
-use Rattle.ghg_affected.specs.Figures.{DifferInFigures}
 use Rattle.ghg_affected.specs.Subtotals.{is_above_parts}
-use Rattle.ghg_affected.proofs.Figures.{same_gas_lines_at}
 use Rattle.ghg_graph.specs.Index.{IsLineIndex}
-use Rattle.ghg_engine.specs.declared.groups.Groups.{Groups}
 use Rattle.ghg_engine.specs.declared.layout.Layout.{Layout}
 use Rattle.ghg_engine.specs.Grouping.{IsGrouping, group_at}
 use Rattle.ghg_engine.specs.Layouts.{IsLayout}
-use Rattle.ghg_graph.proofs.Indexing.{no_emitters, same_line_index}
+use Rattle.ghg_graph.proofs.Indexing.{no_emitters}
 
 -- ---- without records
 
@@ -29,18 +26,4 @@ nothing_laid layout index at above = record {
     at = λ c. at c ∙ sym (none_at (λ k. is_same k c));
     above = above ∙ sym (none_at is_above_parts);
   };
-}
-
--- ---- where figures alone differ
-
-pub same_groups : (old new : Data) → DifferInFigures old new → (groups : Groups) → IsGrouping old groups → IsGrouping new groups
-same_groups old new differ groups is = record {
-  at = λ c. is.at c ∙ same_gas_lines_at old new differ (λ k. is_same k c);
-  above = is.above ∙ same_gas_lines_at old new differ is_above_parts;
-}
-
-pub same_layout : (old new : Data) → DifferInFigures old new → (layout : Layout) → IsLayout old layout → IsLayout new layout
-same_layout old new differ layout is = record {
-  index = same_line_index old new differ layout.index is.index;
-  groups = same_groups old new differ layout.groups is.groups;
 }

@@ -4,7 +4,7 @@ use Rattle.ghg_definitions.specs.Data.{Data, Name}
 use Rattle.ghg_data.specs.Changes.{Change, applied}
 use Rattle.ghg_graph.specs.Entries.{IsEnteredIndex, are_entries}
 use Rattle.ghg_graph.specs.Index.{IsLineIndex}
-use Rattle.ghg_engine.specs.declared.layout.Changed.{Changed}
+use Rattle.ghg_engine.specs.declared.layout.ChangedLayout.{ChangedLayout}
 use Rattle.ghg_engine.specs.declared.layout.Layout.{Layout}
 use Rattle.ghg_engine.specs.Grouping.{IsGrouping}
 
@@ -18,7 +18,7 @@ pub record IsEnteredLayout (old new : Data) (names : List Name) (layout : Layout
   pub index : IsEnteredIndex old new names layout.index
 
 -- that of the data to which edits lead; where these leave all lines, the names stand behind them
-pub record IsChangedLayout (m : Data) (edits : List Change) (changed : Changed) : Type 0 where
+pub record IsChangedLayout (m : Data) (edits : List Change) (changed : ChangedLayout) : Type 0 where
   pub is : IsLayout (applied m edits) changed.layout
   pub entered : are_entries m edits ≡ true →
       IsEnteredLayout m (applied m edits) changed.entered.items changed.layout

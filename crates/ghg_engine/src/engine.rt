@@ -22,7 +22,7 @@ ghost use Rattle.ghg_engine.specs.Views.{shelf_of};
 
 use crate::cells::Cells;
 use crate::evaluation::evaluate_all;
-use crate::layout::{Changed, Layout, acyclic_entered};
+use crate::layout::{ChangedLayout, Layout, acyclic_entered};
 use crate::nodes::is_node;
 use crate::overlay::found;
 use crate::proposal::{Fresh, Proposal};
@@ -49,7 +49,7 @@ pub struct Engine {
     settled: bool,
     // Some of the cells may be of nodes that there are no more: of years that have left the inventory.
     cells: Cells,
-    // That of the book, unless a proposal has taken it that was neither accepted nor refused.
+    // That of the book. None where a proposal that took it was dropped, or where memory ran out while it grew.
     layout: Option<Layout>,
 }
 
@@ -151,7 +151,8 @@ impl Engine {
 
     /// The compilation of the book with edits that were planned on it as it stands; or the least node that is
     /// beyond the limits, while none of its inputs is. It spends at most one step for each node that the
-    /// edits affect. The book and the outcomes of its nodes stay with every answer; only room is made.
+    /// edits affect. The book and the outcomes of its nodes stay with every answer; only room is made. A proposal
+    /// takes the order of the lines and their groups with it: if it is dropped, the next one makes them anew.
     pub fn propose<L: Ledger>(
         &mut self,
         alloc: Global,
@@ -198,7 +199,7 @@ impl Engine {
 
     // The layout of the data that edits lead to. Where they leave all lines, it is that of the book, which is
     // taken out, and grows by the lines that are entered.
-    fn changed_layout(&mut self, alloc: Global, edits: &Edits) -> Result<Changed, AllocError>
+    fn changed_layout(&mut self, alloc: Global, edits: &Edits) -> Result<ChangedLayout, AllocError>
         requires { IsArranged self.old edits.now }
         ensures same { self.new ≡ self.old }
         ensures changed { IfOk result (IsChangedLayout self.old.content edits.now) }
@@ -206,12 +207,12 @@ impl Engine {
         if !are_entries(&self.book, edits) {
             let layout = Layout::of(alloc, &after(&self.book, edits))?;
             let entered = Vec::new(alloc);
-            return Ok(Changed { layout, entered });
+            return Ok(ChangedLayout { layout, entered });
         }
         let entered = acyclic_entered(alloc, &self.book, edits)?;
         let own = self.take_layout(alloc)?;
         let layout = own.with_entered(&self.book, edits, &entered)?;
-        Ok(Changed { layout, entered })
+        Ok(ChangedLayout { layout, entered })
     }
 
     // Takes out the layout of the book. It is made anew where it was taken out before.
@@ -226,13 +227,13 @@ impl Engine {
     }
 
     // Takes back the layout that was taken out for edits which are refused.
-    fn take_back(&mut self, edits: &Edits, changed: Changed)
+    fn take_back(&mut self, edits: &Edits, changed: ChangedLayout)
         requires planned { IsPlanned (shelf_of self.old) edits.now }
         requires changed { IsChangedLayout self.old.content edits.now changed }
         ensures { self.new ≡ self.old }
     {
         if are_entries(&self.book, edits) {
-            let Changed { layout, entered } = changed;
+            let ChangedLayout { layout, entered } = changed;
             self.layout = Some(layout.without_entered(&self.book, edits, &entered));
         }
     }

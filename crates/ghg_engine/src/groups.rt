@@ -111,8 +111,8 @@ impl Groups {
         Ok(groups)
     }
 
-    /// Puts lines into the groups of data without these: in their places those of the lines that emit a gas.
-    /// No other line is looked up.
+    /// Puts those of the lines that emit a gas into their groups, each in its place. The groups are those of
+    /// the data without these lines. No other line is looked up.
     pub(crate) fn put_lines<R: Records>(
         &mut self,
         records: &R,
@@ -129,7 +129,8 @@ impl Groups {
         Ok(())
     }
 
-    /// Takes lines out of the groups of data with these. It takes no memory, and no other line is looked up.
+    /// Takes lines out of their groups. The groups are those of the data with these lines. It takes no memory,
+    /// and no other line is looked up.
     pub(crate) fn take_lines<R: Records>(&mut self, records: &R, lines: &[Name])
         requires { IsGrouping (R.content records.now) self.old }
         ensures { (old : Data) → AddsLines old (R.content records.now) lines.now → IsGrouping old self.new }

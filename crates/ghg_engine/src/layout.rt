@@ -26,9 +26,9 @@ pub(crate) struct Layout {
     pub(crate) groups: Groups,
 }
 
-/// The layout that edits lead to, and the lines that they enter, where they leave all others.
+/// The layout that edits lead to, and the lines that they enter, where they leave all others; else no lines.
 #[derive(Drop)]
-pub(crate) struct Changed {
+pub(crate) struct ChangedLayout {
     pub(crate) layout: Layout,
     pub(crate) entered: Vec<Name>,
 }
@@ -55,8 +55,8 @@ impl Layout {
         Ok(Layout { index, groups })
     }
 
-    /// The layout once edits are made that enter lines, which grows from that of the book by these lines in an
-    /// order. The lines of the book are not gone over.
+    /// The layout once edits are made that enter lines: that of the book, with these lines in an order behind
+    /// the others. The lines of the book are not gone over.
     pub(crate) fn with_entered(
         self,
         book: &Book,

@@ -7,18 +7,15 @@ use Rattle.ghg_definitions.specs.declared.record.RecordKey.TheVariants as key
 use Rattle.ghg_definitions.specs.Compilation.{emits, gas_lines}
 use Rattle.ghg_definitions.specs.Data.{Data, Name, as_line, key_cmp, line}
 use Rattle.ghg_definitions.specs.Listed.{IsListed}
-use Rattle.ghg_affected.specs.Figures.{DifferInFigures}
 use Rattle.ghg_affected.proofs.Bools.{true_not_false}
-use Rattle.ghg_affected.proofs.Figures.{same_gas_lines}
 use Rattle.ghg_data.proofs.Empty.{no_lines}
 use Rattle.ghg_graph.specs.Index.{IsLineIndex}
 use Rattle.ghg_graph.specs.Ordering.{IsLineOrder}
-use Rattle.ghg_graph.specs.Takers.{AreTakers, IsIndex, figures_taken, lines_taken, places_of}
+use Rattle.ghg_graph.specs.Taken.{figures_taken, lines_taken}
+use Rattle.ghg_graph.specs.Takers.{AreTakers, IsIndex, places_of}
 use Rattle.ghg_graph.specs.declared.index.LineIndex.{LineIndex}
 use Rattle.ghg_graph.specs.declared.takers.Places.{Places}
 use Rattle.ghg_graph.specs.declared.takers.Takers.{Takers}
-use Rattle.ghg_graph.proofs.Corrected.{same_order}
-use Rattle.ghg_graph.proofs.Taking.{same_takers}
 
 -- ---- without records
 
@@ -51,14 +48,4 @@ nothing_in_index index lines emitters of_figures of_lines = record {
   emitters = emitters ∙ sym no_emitters;
   takers = subst (λ ns. AreTakers (empty {X = Record} {R = key_cmp}) ns index.takers) (sym lines)
       (no_takers (empty {X = Record} {R = key_cmp}) index.takers of_figures of_lines);
-}
-
--- ---- where figures alone differ
-
-pub same_line_index : (old new : Data) → DifferInFigures old new → (index : LineIndex)
-    → IsLineIndex old index → IsLineIndex new index
-same_line_index old new differ index is = record {
-  lines = same_order old new differ index.lines.items is.lines;
-  emitters = is.emitters ∙ same_gas_lines old new differ;
-  takers = same_takers old new differ index.lines.items index.takers is.takers;
 }

@@ -18,6 +18,7 @@ pub mod Idle
 pub mod Selecting
 pub mod Membership
 pub mod Pushed
+pub mod Ascending
 pub mod Taking
 pub mod Worklists
 pub mod Weighing

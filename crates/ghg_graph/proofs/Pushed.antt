@@ -11,18 +11,19 @@ some_is (Some y) x is = search rules
 abbrev pub items_in : {X : Type 0} → Option (Vec X Global) → List X
 items_in {X} o = option_map_or (λ (v : Vec X Global). v.items) o []
 
+-- those of a list that was made where there was none
+pub items_are : {X : Type 0} (at : Option (Vec X Global)) (before : Vec X Global)
+    → UnwrapsOrElse at (λ v. (v.items ≡ []) × (vec_len v ≡ 0)) before → before.items ≡ items_in at
+items_are None before h = h.0
+items_are {X} (Some v) before h = ap (λ (w : Vec X Global). w.items) h
+
 pub item_pushed : {X : Type 0} (old new at : Option (Vec X Global)) (before now : Vec X Global) (b : Bool) (x : X)
     → new ≡ cond b (Some now) old → (b ≡ true → at ≡ old)
     → UnwrapsOrElse at (λ v. (v.items ≡ []) × (vec_len v ≡ 0)) before → now.items ≡ before.items ++ x ∷ []
     → items_in new ≡ items_in old ++ (if b then x ∷ [] else [])
 item_pushed {X} old new at before now b x is same unwraps items = by b is same
   where
-    before_is : (o : Option (Vec X Global)) → UnwrapsOrElse o (λ v. (v.items ≡ []) × (vec_len v ≡ 0)) before
-        → before.items ≡ items_in o
-    before_is None h = h.0
-    before_is (Some v) h = ap (λ (w : Vec X Global). w.items) h
-
     by : (b : Bool) → new ≡ cond b (Some now) old → (b ≡ true → at ≡ old)
         → items_in new ≡ items_in old ++ (if b then x ∷ [] else [])
-    by true is same = ap items_in is ∙ items ∙ ap (λ xs. xs ++ x ∷ []) (before_is at unwraps ∙ ap items_in (same refl))
+    by true is same = ap items_in is ∙ items ∙ ap (λ xs. xs ++ x ∷ []) (items_are at before unwraps ∙ ap items_in (same refl))
     by false is same = ap items_in is ∙ sym (append-nil (items_in old))

@@ -18,11 +18,11 @@ use Rattle.ghg_definitions.specs.declared.record.RecordKey.TheVariants as key
 use Rattle.ghg_definitions.specs.Data.{Data, Name, as_binding, as_line, binding, line, name_cmp}
 use Rattle.ghg_definitions.specs.Listed.{IsListed}
 use Rattle.ghg_definitions.proofs.Listed.{from_filter, in_either, listed_filter, listed_left, listed_right}
-use Rattle.ghg_affected.specs.Figures.{DifferInFigures}
 use Rattle.ghg_data.specs.Parameters.{quantity}
 use Rattle.ghg_graph.specs.Numbers.{name_at}
 use Rattle.ghg_graph.specs.Ordering.{IsLineOrder}
-use Rattle.ghg_graph.specs.Takers.{AreTakers, AreTakersBefore, AreTakersWith, IsCut, IsIndex, IsIndexWith, IsNamedFrom, IsPut, figures_taken, lines_taken, named_by, places_of}
+use Rattle.ghg_graph.specs.Taken.{figures_taken, lines_taken, named_by}
+use Rattle.ghg_graph.specs.Takers.{AreTakers, AreTakersBefore, AreTakersWith, AreUpTo, IsCut, IsIndex, IsIndexWith, IsNamedFrom, IsPut, places_of}
 use Rattle.ghg_graph.specs.declared.takers.Places.{Places}
 use Rattle.ghg_graph.specs.declared.takers.Takers.{Takers}
 use Rattle.ghg_graph.proofs.EquationParameters.{flat_named}
@@ -68,6 +68,10 @@ put_one name place old new h = λ q k. by q k (is_eq (name_cmp name q)) refl (h 
       where
         clash : ◌≡◌ {A = Bool} true false → ⊥
         clash f = cc
+
+-- no place comes that is behind it
+pub put_up_to : (names : List Name) (place : ℕ) (old new : Places) → IsPut names place old new → AreUpTo place old → AreUpTo place new
+put_up_to names place old new put high = λ q k i. elim ((put q k).0 i) [ inl j ↦ high q k j | inr j ↦ omega (arith, j.0) ]
 
 put_more : (xs ys : List Name) (place : ℕ) (a b c : Places) → IsPut xs place a b → IsPut ys place b c
     → IsPut (xs ++ ys) place a c
@@ -166,6 +170,14 @@ line_indexed names m lines first n l start old new low is before put = λ name p
   ]),
 )
 
+-- so no place is behind the next one
+pub indexed_up_to : (names : Option Binding → List Name) (m : Data) (lines : List Name) (first n : ℕ) (old new : Places)
+    → first ≤ n → AreUpTo first old → IsIndexUpTo first n names m lines old new → AreUpTo n new
+indexed_up_to names m lines first n old new low high is = λ name place i. elim ((is name place).0 i) [
+  | inl was ↦ let below = high name place was in omega (arith, below, low)
+  | inr h ↦ omega (arith, h.1)
+]
+
 -- no place is left
 pub all_indexed : (names : Option Binding → List Name) (m : Data) (lines : List Name) (first n : ℕ) (old new : Places)
     → n ≤ length lines → length lines ≤ n → IsIndexUpTo first n names m lines old new
@@ -174,6 +186,11 @@ all_indexed names m lines first n old new high low is = λ name place. (
   λ i. elim ((is name place).0 i) [ inl was ↦ inl was | inr h ↦ inr (h.0, omega (arith, h.1, high), h.2) ],
   λ i. (is name place).1 (elim i [ inl was ↦ inl was | inr h ↦ inr (h.0, omega (arith, h.1, low), h.2) ]),
 )
+
+-- no place in an index is behind the lines
+pub index_up_to : (names : Option Binding → List Name) (m : Data) (lines : List Name) (n : ℕ) (places : Places)
+    → length lines ≤ n → IsIndex names m lines places → AreUpTo n places
+index_up_to names m lines n places low is = λ name place i. let h = (is name place).0 i in omega (arith, h.0, low)
 
 -- all lines, where no place stood
 pub index_of_all : (names : Option Binding → List Name) (m : Data) (lines : List Name) (old new : Places)
@@ -212,12 +229,12 @@ cut_weaker P R first a b to cut = record {
 }
 
 -- under a name without places
-pub cut_absent : (first : ℕ) (name : Name) (places : Places) → places_of places name ≡ []
-    → IsCut (λ k. k ≡ name) first places places
-cut_absent first name places none = record {
-  kept = λ k place low i. i;
-  only = λ k place i. i;
-  below = λ k place same i. absurd (subst (IsListed place) (ap (places_of places) same ∙ none) i);
+pub cut_absent : (first : ℕ) (name : Name) (old new : Places) → ((k : Name) → places_of new k ≡ places_of old k)
+    → places_of old name ≡ [] → IsCut (λ k. k ≡ name) first old new
+cut_absent first name old new same none = record {
+  kept = λ k place low i. subst (IsListed place) (sym (same k)) i;
+  only = λ k place i. subst (IsListed place) (same k) i;
+  below = λ k place e i. absurd (subst (IsListed place) (same k ∙ ap (places_of old) e ∙ none) i);
 }
 
 -- the places below the number are left in the list under one name
@@ -254,6 +271,12 @@ pub items_cut : (first : ℕ) (old new : Option (Vec ℕ Global)) (found after :
 items_cut first old new found after true is at items =
     ap items_in is ∙ items ∙ ap (λ o. filter (λ p. ltb p first) (items_in o)) (sym (at refl))
 items_cut first old new found after false is at items = ap items_in is
+
+-- a list without places is removed
+pub items_gone : (old new : Option (Vec ℕ Global)) (found : Vec ℕ Global) (b : Bool) → new ≡ cond b None old
+    → (b ≡ true → old ≡ Some found) → found.items ≡ [] → items_in new ≡ items_in old
+items_gone old new found true is at none = ap items_in is ∙ sym (ap items_in (at refl) ∙ none)
+items_gone old new found false is at none = ap items_in is
 
 -- one name more of names that are gone through
 pub name_cut : (names : List Name) (i : ℕ) (name : Name) (first : ℕ) (start old new : Places) → i < length names
@@ -336,26 +359,6 @@ module _ (old new : Data) (names : Option Binding → List Name) (l : Name)
           ≡ option_map_or (λ e. flat_map (λ q. names (binding new l q.name)) (parameters e)) o []
       by None = refl
       by (Some e) = same_flat (parameters e)
-
--- ---- where figures alone differ
-
-module _ (old new : Data) (differ : DifferInFigures old new) where
-  figures_named : (names : Option Binding → List Name) (l : Name) → named_by names old l ≡ named_by names new l
-  figures_named names l =
-      same_named old new names l (λ q. differ.others (key.Bind l q) refl) (differ.others (key.Line l) refl)
-
-  same_index_of : (names : Option Binding → List Name) (lines : List Name) (places : Places)
-      → IsIndex names old lines places → IsIndex names new lines places
-  same_index_of names lines places is = λ name place. (
-    λ i. let h = (is name place).0 i in (h.0, subst (IsListed name) (figures_named names (name_at lines place)) h.1),
-    λ h. (is name place).1 (h.0, subst (IsListed name) (sym (figures_named names (name_at lines place))) h.1),
-  )
-
-  pub same_takers : (lines : List Name) (takers : Takers) → AreTakers old lines takers → AreTakers new lines takers
-  same_takers lines takers are = record {
-    of_figures = same_index_of figures_taken lines takers.figures are.of_figures;
-    of_lines = same_index_of lines_taken lines takers.lines are.of_lines;
-  }
 
 -- ---- where lines are kept, and more come behind them
 

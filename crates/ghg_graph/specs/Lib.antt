@@ -12,6 +12,8 @@ pub mod NodeOrders
 pub mod Corrections
 pub mod Years
 pub mod Reached
+pub mod Ascending
+pub mod Taken
 pub mod Takers
 pub mod Index
 pub mod Worklists

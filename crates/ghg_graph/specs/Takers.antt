@@ -1,41 +1,21 @@
--- What lines take, and which lines take it.
-use Rattle.std.specs.Prelude.{◌≡◌, ◌⊎◌, ◌↔◌, ℕ, ◌<◌, ◌≤◌, List, [], ◌∷◌, flat_map, length, Option, Some}
-use Rattle.std.specs.BTreeMap.{get}
-use Rattle.std.specs.Option.{option_map_or}
-use Rattle.ghg_equations.specs.Table.{parameters}
+-- Which lines take an activity, a factor or a line.
+use Rattle.std.specs.Prelude.{◌≡◌, ◌⊎◌, ◌↔◌, ℕ, ◌<◌, ◌≤◌, List, length, Option}
 use Rattle.ghg_units.specs.declared.row.Binding.{Binding}
-use Rattle.ghg_units.specs.declared.row.Binding.TheVariants as bound
-use Rattle.ghg_definitions.specs.Data.{Data, Name, binding, line, name_cmp}
+use Rattle.ghg_definitions.specs.Data.{Data, Name}
 use Rattle.ghg_definitions.specs.Listed.{IsListed}
-use Rattle.ghg_definitions.specs.Rings.{taken_by}
+use Rattle.ghg_graph.specs.Ascending.{places_in}
 use Rattle.ghg_graph.specs.Numbers.{name_at}
+use Rattle.ghg_graph.specs.Taken.{figures_taken, lines_taken, named_by}
 use Rattle.ghg_graph.specs.declared.takers.Places.{Places}
 use Rattle.ghg_graph.specs.declared.takers.Takers.{Takers}
 
--- ---- what lines take
-
--- the activity or factor whose figures a binding takes
-abbrev pub figures_taken : Option Binding → List Name
-figures_taken (Some (bound.Activity name)) = name ∷ []
-figures_taken (Some (bound.Factor name)) = name ∷ []
-figures_taken (Some (bound.Decay name)) = name ∷ []
-figures_taken _ = []
-
--- the lines whose values a binding takes, that of the year before among them
-abbrev pub lines_taken : Option Binding → List Name
-lines_taken (Some (bound.Prev name)) = name ∷ []
-lines_taken b = taken_by b
-
--- the names of the bindings of a line's parameters
-abbrev pub named_by : (Option Binding → List Name) → Data → Name → List Name
-named_by names m name =
-    option_map_or (λ e. flat_map (λ q. names (binding m name q.name)) (parameters e)) (line m name) []
-
--- ---- which lines take it
-
 -- the places under a name
 abbrev pub places_of : Places → Name → List ℕ
-places_of places name = option_map_or (λ found. found.items) (get name_cmp places.by_name name) []
+places_of places name = places_in places.by_name.entries name
+
+-- no place is behind this one
+abbrev pub AreUpTo : ℕ → Places → Type 0
+AreUpTo last places = (name : Name) (place : ℕ) → IsListed place (places_of places name) → place ≤ last
 
 -- the place is put under each of the names
 abbrev pub IsPut : List Name → ℕ → Places → Places → Type 0

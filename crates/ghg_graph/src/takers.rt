@@ -1,10 +1,13 @@
 //! Which lines take an activity, a factor or a line.
 
-ghost use Rattle.std.specs.Prelude.{◌≡◌, ◌≤◌, ◌++◌, ◌∷◌, [], if◌then◌else◌, length, option_copied, OnOk, IfOk};
+ghost use Rattle.std.specs.Prelude.{◌≡◌, ◌<◌, ◌≤◌, ◌++◌, ◌∷◌, [], if◌then◌else◌, length, option_copied, OnOk, IfOk};
+ghost use Rattle.std.specs.List.Sorted.{IsPartitionPoint};
 ghost use Rattle.std.specs.Ordering.{is_eq};
 ghost use Rattle.ghg_definitions.specs.Data.{Name, name_cmp};
 ghost use Rattle.ghg_definitions.specs.Listed.{IsListed};
-ghost use Rattle.ghg_graph.specs.Takers.{AreTakers, AreTakersBefore, AreTakersWith, IsCut, IsPut, figures_taken, lines_taken, named_by, places_of};
+ghost use Rattle.ghg_graph.specs.Ascending.{AreAscending, IsAscending};
+ghost use Rattle.ghg_graph.specs.Taken.{figures_taken, lines_taken};
+ghost use Rattle.ghg_graph.specs.Taken.{named_by};
 
 use crate::numbers::{equation_of, taken_by};
 use ghg_data::{Records, params_of};
@@ -13,13 +16,16 @@ use std::alloc::{AllocError, Global};
 use std::collections::BTreeMap;
 use std::slice;
 
-/// For names that lines take, the places of the lines that take each.
+/// For names that lines take, the places of the lines that take each, in order.
 #[derive(Drop)]
 pub(crate) struct Places {
     by_name: BTreeMap<Name, Vec<usize>>,
+    ghost ascending: { AreAscending by_name.entries },
 }
 
 impl Places {
+    ghost use Rattle.ghg_graph.specs.Takers.{AreUpTo, IsCut, IsPut, places_of};
+
     /// No names. It takes no memory.
     fn new(alloc: Global) -> Places
         ensures { (name : Name) → places_of result name ≡ [] }
@@ -39,8 +45,9 @@ impl Places {
         }
     }
 
-    // Puts a place under each of the names.
+    // Puts a place under each of the names. No other place is behind it.
     fn put_all(&mut self, names: &[Name], place: usize) -> Result<(), AllocError>
+        requires { AreUpTo place self.old }
         ensures { OnOk result (IsPut names.now place self.old self.new) }
     {
         for name in names {
@@ -58,23 +65,38 @@ impl Places {
         }
     }
 
-    // Removes the places from one on under a name.
+    // Removes the places from one on under a name, and the name if none is left.
     fn cut(&mut self, name: &Name, first: usize)
         ensures { IsCut (λ other. other ≡ name.now) first self.old self.new }
     {
-        if let Some(places) = self.by_name.get_mut(name) {
-            places.retain(|place| *place < first);
+        let Some(places) = self.by_name.get_mut(name) else {
+            return;
+        };
+        let count = count_below(places.as_slice(), first);
+        places.truncate(count);
+        if places.is_empty() {
+            self.by_name.remove(name);
         }
     }
 
     // Puts a place under a name, behind the others.
     fn put(&mut self, name: &Name, place: usize) -> Result<(), AllocError>
+        requires { AreUpTo place self.old }
         ensures { OnOk result ((other : Name) → places_of self.new other ≡ places_of self.old other ++
             (if is_eq (name_cmp name.now other) then place ∷ [] else [])) }
     {
         self.by_name.entry(*name)?.or_default().push(place)?;
         Ok(())
     }
+}
+
+// How many of the places in order are below a number.
+fn count_below(places: &[usize], number: usize) -> usize
+    requires { IsAscending places.now }
+    ensures bound { result ≤ length places.now }
+    ensures parts { IsPartitionPoint (λ place. place < number) (λ place. number ≤ place) places.now result }
+{
+    places.partition_point(|place| *place < number)
 }
 
 /// For each activity or factor, and for each line, the places of the lines that take it, in the same year or,
@@ -86,6 +108,8 @@ pub(crate) struct Takers {
 }
 
 impl Takers {
+    ghost use Rattle.ghg_graph.specs.Takers.{AreTakers, AreTakersBefore, AreTakersWith, AreUpTo, IsCut, IsPut, places_of};
+
     /// No takers. It takes no memory.
     pub(crate) fn new(alloc: Global) -> Takers
         ensures figures { (name : Name) → places_of result.figures name ≡ [] }
@@ -110,14 +134,16 @@ impl Takers {
         Ok(takers)
     }
 
-    /// Adds those among the lines from a place on. The others are not looked up.
+    /// Adds those among the lines from a place on, behind the others. The others are not looked up.
     pub(crate) fn add<R: Records>(
         &mut self,
         records: &R,
         lines: &[Name],
         first: usize,
     ) -> Result<(), AllocError>
-        requires { first ≤ length lines.now }
+        requires first { first ≤ length lines.now }
+        requires figures { AreUpTo first self.old.figures }
+        requires lines { AreUpTo first self.old.lines }
         ensures { OnOk result (AreTakersWith first (R.content records.now) lines.now self.old self.new) }
     {
         for place in first..lines.len() {
@@ -126,7 +152,8 @@ impl Takers {
         Ok(())
     }
 
-    /// Removes those among the lines from a place on. It takes no memory, and the others are not looked up.
+    /// Removes those among the lines from a place on. It takes no memory, and the others are not looked up: a
+    /// search among the places under each name finds where they begin.
     pub(crate) fn cut<R: Records>(&mut self, records: &R, lines: &[Name], first: usize)
         requires { first ≤ length lines.now }
         ensures { AreTakersBefore first (R.content records.now) lines.now self.old self.new }
@@ -153,13 +180,15 @@ impl Takers {
         }
     }
 
-    // Puts the place of a line under all that it takes.
+    // Puts the place of a line under all that it takes. No other place is behind it.
     fn put_line<R: Records>(
         &mut self,
         records: &R,
         line: &Name,
         place: usize,
     ) -> Result<(), AllocError>
+        requires figures { AreUpTo place self.old.figures }
+        requires lines { AreUpTo place self.old.lines }
         ensures figures { OnOk result (IsPut (named_by figures_taken (R.content records.now) line.now) place
             self.old.figures self.new.figures) }
         ensures lines { OnOk result (IsPut (named_by lines_taken (R.content records.now) line.now) place

@@ -1,16 +1,30 @@
-use Rattle.std.proofs.Common.{◌≡◌, ◌∙◌, ◌++◌, arith, length, refl, subst, sym}
+use Rattle.std.proofs.Common.{◌≡◌, ◌≤◌, ◌∙◌, ◌++◌, arith, length, refl, subst, sym}
 use Rattle.std.specs.List.Sorted.{IsStrictlySortedBy}
 use Rattle.ghg_definitions.specs.Data.{name_cmp}
 use Rattle.ghg_data.specs.Changes.{applied}
 use Rattle.ghg_graph.specs.Entries.{AreEmittersWith}
+use Rattle.ghg_graph.specs.Taken.{figures_taken, lines_taken}
 use Rattle.ghg_graph.specs.Takers.{AreTakersWith}
 use Rattle.ghg_graph.proofs.Emitting.{emitters_sorted, index_joined}
 use Rattle.ghg_graph.proofs.Entering.{keeps_lines}
+use Rattle.ghg_graph.proofs.Taking.{index_up_to}
 use Rattle.ghg_graph.proofs.entered.with_entered.Goals as goal
 
 pub put_emitters-requires : goal.put_emitters-requires
 put_emitters-requires c =
     subst (IsStrictlySortedBy name_cmp) (sym c.requires.index.emitters) (emitters_sorted c.args.book.now.content)
+
+pub add-requires-clause-figures : goal.add-requires-clause-figures
+add-requires-clause-figures c =
+    let index = c.args.index in
+    let size : length index.lines.items ≤ c.len-first.result = grind (arith, c.len-first.ensures, index.lines.ok) in
+    index_up_to figures_taken c.args.book.now.content index.lines.items c.len-first.result index.takers.figures size c.requires.index.takers.of_figures
+
+pub add-requires-clause-lines : goal.add-requires-clause-lines
+add-requires-clause-lines c =
+    let index = c.args.index in
+    let size : length index.lines.items ≤ c.len-first.result = grind (arith, c.len-first.ensures, index.lines.ok) in
+    index_up_to lines_taken c.args.book.now.content index.lines.items c.len-first.result index.takers.lines size c.requires.index.takers.of_lines
 
 pub returns : goal.returns
 returns c =

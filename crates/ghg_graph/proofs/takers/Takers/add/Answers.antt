@@ -1,7 +1,7 @@
 use Rattle.std.proofs.Common.{◌∙◌, []}
 use Rattle.std.proofs.lemmas.List.{get_or_default}
-use Rattle.ghg_graph.specs.Takers.{figures_taken, lines_taken}
-use Rattle.ghg_graph.proofs.Taking.{all_indexed, line_indexed, nothing_indexed}
+use Rattle.ghg_graph.specs.Taken.{figures_taken, lines_taken}
+use Rattle.ghg_graph.proofs.Taking.{all_indexed, indexed_up_to, line_indexed, nothing_indexed}
 use Rattle.ghg_graph.proofs.takers.Takers.add.Goals as goal
 
 pub loop-place-init : goal.loop-place-init
@@ -13,6 +13,16 @@ loop-place-init g c =
       of_figures = nothing_indexed figures_taken m lines first c.args.self.now.figures;
       of_lines = nothing_indexed lines_taken m lines first c.args.self.now.lines;
     }
+
+pub put_line-requires-clause-figures : goal.put_line-requires-clause-figures
+put_line-requires-clause-figures g c =
+    indexed_up_to figures_taken (g.R.Records.content c.args.records.now) c.args.lines.now c.args.first c.loop-place.place c.args.self.now.figures c.loop-place.self.figures
+    c.loop-place.auto.place c.requires.figures c.loop-place.invariant.of_figures
+
+pub put_line-requires-clause-lines : goal.put_line-requires-clause-lines
+put_line-requires-clause-lines g c =
+    indexed_up_to lines_taken (g.R.Records.content c.args.records.now) c.args.lines.now c.args.first c.loop-place.place c.args.self.now.lines c.loop-place.self.lines
+    c.loop-place.auto.place c.requires.lines c.loop-place.invariant.of_lines
 
 pub loop-place-preserved : goal.loop-place-preserved
 loop-place-preserved g c =
@@ -31,7 +41,7 @@ returns g c =
     let m = g.R.Records.content c.args.records.now in
     let lines = c.args.lines.now in
     let n = c.loop-place.place in
-    let high = c.loop-place.auto.place-end c.requires in
+    let high = c.loop-place.auto.place-end c.requires.first in
     record {
       of_figures = all_indexed figures_taken m lines c.args.first n c.args.self.now.figures c.loop-place.self.figures high c.loop-place-test.false c.loop-place.invariant.of_figures;
       of_lines = all_indexed lines_taken m lines c.args.first n c.args.self.now.lines c.loop-place.self.lines high c.loop-place-test.false c.loop-place.invariant.of_lines;

@@ -2,8 +2,9 @@ use Rattle.std.proofs.Common.{◌≡◌, ◌∙◌, ap, flat_map, subst, true}
 use Rattle.std.proofs.lemmas.List.{take_all}
 use Rattle.ghg_units.specs.Parameter.{is_parameter}
 use Rattle.ghg_definitions.specs.Data.{binding}
-use Rattle.ghg_graph.specs.Takers.{IsPut, figures_taken, lines_taken}
-use Rattle.ghg_graph.proofs.Taking.{all_left, binding_put, named_at, put_none}
+use Rattle.ghg_graph.specs.Taken.{figures_taken, lines_taken}
+use Rattle.ghg_graph.specs.Takers.{IsPut}
+use Rattle.ghg_graph.proofs.Taking.{all_left, binding_put, named_at, put_none, put_up_to}
 use Rattle.ghg_graph.proofs.takers.Takers.put_line.Goals as goal
 
 pub loop-param-init : goal.loop-param-init
@@ -12,6 +13,12 @@ loop-param-init g c = record {
   of_figures = put_none c.args.place c.args.self.now.figures;
   of_lines = put_none c.args.place c.args.self.now.lines;
 }
+
+pub put_all-requires : goal.put_all-requires
+put_all-requires g c = put_up_to _ c.args.place c.args.self.now.figures c.loop-param.self.figures c.loop-param.invariant.of_figures c.requires.figures
+
+pub put_all-requires-in-loop-param : goal.put_all-requires-in-loop-param
+put_all-requires-in-loop-param g c = put_up_to _ c.args.place c.args.self.now.lines c.loop-param.self.lines c.loop-param.invariant.of_lines c.requires.lines
 
 pub loop-param-preserved : goal.loop-param-preserved
 loop-param-preserved g c =
