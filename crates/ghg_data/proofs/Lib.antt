@@ -22,3 +22,4 @@ pub mod Calendars
 pub mod Changed
 pub mod Considered
 pub mod TakerNumbers
+pub mod TakersOfLines

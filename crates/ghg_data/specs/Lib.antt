@@ -14,3 +14,5 @@ pub mod Brackets
 pub mod Lasting
 pub mod Numbered
 pub mod Takers
+pub mod Taken
+pub mod LineTakers

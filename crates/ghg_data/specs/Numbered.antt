@@ -1,5 +1,6 @@
 -- Keys under an activity or a factor and a number, the number of each, and how many there are.
-use Rattle.std.specs.Prelude.{ℕ, ◌<◌, ◌==◌, Bool, true, ◌&&◌, List, Option, Some, ◌≡◌, is_some}
+use Rattle.std.specs.Prelude.{ℕ, zero, suc, ◌<◌, ◌==◌, Bool, true, ◌&&◌, List, [], ◌++◌, Option, Some, ◌≡◌, is_some}
+use Rattle.std.specs.List.{cons_option}
 use Rattle.std.specs.Map.{lookup}
 use Rattle.std.specs.Option.{option_map_or}
 use Rattle.std.specs.Ordering.{eq_by_cmp}
@@ -9,6 +10,11 @@ use Rattle.ghg_data.specs.declared.series.Series.{Series}
 use Rattle.ghg_data.specs.declared.takers.Numbered.{Numbered}
 use Rattle.ghg_data.specs.declared.takers.Taker.{Taker}
 use Rattle.ghg_data.specs.Series.{same_series}
+
+-- what stands under the numbers below this one
+abbrev pub first_of : {A : Type 0} → (ℕ → Option A) → ℕ → List A
+first_of at zero = []
+first_of at (suc i) = first_of at i ++ cons_option (at i) []
 
 abbrev pub same_numbered : Numbered → Numbered → Bool
 same_numbered a b = same_series a.series b.series && (a.number == b.number)

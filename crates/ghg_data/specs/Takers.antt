@@ -1,7 +1,6 @@
 -- Which bindings take each activity and factor.
-use Rattle.std.specs.Prelude.{◌≡◌, ◌↔◌, ℕ, zero, suc, ◌<◌, false, ◌&&◌, List, [], ◌++◌, Option, Some, min}
+use Rattle.std.specs.Prelude.{◌≡◌, ◌↔◌, ℕ, ◌<◌, false, ◌&&◌, List, Option, Some, min}
 use Rattle.std.specs.FinMap.{get}
-use Rattle.std.specs.List.{cons_option}
 use Rattle.std.specs.Ordering.{eq_by_cmp}
 use Rattle.indexmap.specs.IndexMap.{spare}
 use Rattle.ghg_definitions.specs.declared.record.RecordKey.{RecordKey}
@@ -9,7 +8,7 @@ use Rattle.ghg_definitions.specs.Data.{Data, key_cmp}
 use Rattle.ghg_data.specs.declared.series.Series.{Series}
 use Rattle.ghg_data.specs.declared.takers.Takers.{Takers}
 use Rattle.ghg_data.specs.BoundSeries.{series_in}
-use Rattle.ghg_data.specs.Numbered.{counted, number_in, numbered}
+use Rattle.ghg_data.specs.Numbered.{counted, first_of, number_in, numbered}
 use Rattle.ghg_data.specs.Series.{same_series}
 
 -- the number that a key has under a series
@@ -35,14 +34,9 @@ abbrev pub HasSameOtherTakers : Takers → Takers → Series → RecordKey → T
 HasSameOtherTakers old new series key = (s : Series) (k : RecordKey) →
     same_series series s && eq_by_cmp key_cmp key k ≡ false → IsTaker old s k ↔ IsTaker new s k
 
--- the keys under the numbers below this one
-abbrev pub first_takers : Takers → Series → ℕ → List RecordKey
-first_takers t s zero = []
-first_takers t s (suc i) = first_takers t s i ++ cons_option (key_at t s i) []
-
 -- all keys of a series
 abbrev pub takers_of : Takers → Series → List RecordKey
-takers_of t s = first_takers t s (count_of t s)
+takers_of t s = first_of (key_at t s) (count_of t s)
 
 -- the keys are exactly those of the records that take the activity or the factor
 abbrev pub AreTakersOf : Data → Takers → Type 0

@@ -1,52 +1,36 @@
 //! Bindings: each parameter of a line's equation is bound, to something of its dimension.
 
-ghost use Rattle.std.specs.Prelude.{◌≡◌, true, false, None, find, fold, flat_map, map, option_copied};
-ghost use Rattle.std.specs.List.{AllByRecursion, list_all, list_any};
+ghost use Rattle.std.specs.Prelude.{◌≡◌, true, false, filter, find, fold, flat_map, map, option_copied};
+ghost use Rattle.std.specs.List.{AllByRecursion, list_all};
 ghost use Rattle.std.specs.Option.{option_map, option_map_or};
 ghost use Rattle.std.specs.Ordering.{is_gt};
 ghost use Rattle.std.specs.Str.{bytes_eq};
 ghost use Rattle.ghg_equations.specs.Table.{parameters};
 ghost use Rattle.ghg_units.specs.Parameter.{is_parameter};
 ghost use Rattle.ghg_definitions.specs.Data.{first_name, line, line_names};
-ghost use Rattle.ghg_definitions.specs.Rules.{dim_of_output, gives_decay, gives_dimension, is_bound, is_line_of, is_uncertainty, place_cmp, places_in, unsound_place};
+ghost use Rattle.ghg_definitions.specs.Rules.{gives_decay, gives_dimension, is_bound, is_line_of, is_uncertainty, place_cmp, places_in, unsound_place};
 ghost use Rattle.ghg_definitions.specs.Sound.{IsConsistent, IsWorkbook};
 ghost use Rattle.ghg_data.specs.Changes.{applied};
 ghost use Rattle.ghg_data.specs.Faults.{considered, dim_of_place, is_fault, key_places, line_places, uncertainty_place};
-ghost use Rattle.ghg_data.specs.Settling.{HasLooked, has_line, lost_places};
+ghost use Rattle.ghg_data.specs.LineTakers.{HasTakers, takers_of_line};
+ghost use Rattle.ghg_data.specs.Settling.{HasLooked, has_many_takers, left_places, lost_places, taker_places, takes_line};
 ghost use Rattle.ghg_data.specs.Takers.{takers_of};
 
-use crate::draft::{Draft, equation_in};
+use crate::draft::Draft;
 use crate::edits::Edits;
 use crate::holdings::Holdings;
-use crate::measures::is_of;
+use crate::line_takers::LineTakers;
+use crate::measures::{is_line_of, is_of};
 use crate::parameters::{name_of, params_of};
 use crate::series::Series;
+use crate::taken::takes_line;
 use crate::takers::Takers;
-use crate::unsettled::{has_any_line, loses_dimension};
+use crate::unsettled::{has_many_takers, loses_dimension, loses_output};
 use ghg_definitions::{Place, RecordKey};
-use ghg_equations::{Dim, EqId, Output, Param, equation};
+use ghg_equations::{Dim, EqId, Param};
 use ghg_units::{Binding, Name, ParamName};
 use std::alloc::Global;
 use std::cmp::Ordering;
-
-fn dim_of_output(output: Output) -> Dim
-    ensures { result ≡ dim_of_output output }
-{
-    match output {
-        Output::Emission(_) => Dim::Gas,
-        Output::Aux(dim) => dim,
-    }
-}
-
-// The line is present, and its output is of the dimension.
-fn is_line_of(draft: &Draft<'_>, dim: Dim, name: &Name) -> bool
-    ensures { result ≡ is_line_of draft.now dim name.now }
-{
-    match draft.line(name) {
-        Some(id) => dim == dim_of_output(equation(id).output),
-        None => false,
-    }
-}
 
 fn are_lines_of(draft: &Draft<'_>, dim: Dim, names: &[Name]) -> bool
     ensures { result ≡ list_all (λ n. is_line_of draft.now dim n) names.now }
@@ -216,15 +200,22 @@ fn consider_key(draft: &Draft<'_>, least: &mut Option<Place>, key: &RecordKey)
     }
 }
 
+// Looks at each parameter that a line had before the edits.
+fn consider_line(draft: &Draft<'_>, least: &mut Option<Place>, holdings: &Holdings, line: &Name)
+    ensures { least.new ≡ fold (considered draft.now) least.old (line_places holdings.now.content line.now) }
+{
+    if let Some(id) = holdings.line(line) {
+        consider_parameters(draft, least, line, id);
+    }
+}
+
 // Looks at each parameter of the lines before the edits.
 fn consider_lines(draft: &Draft<'_>, least: &mut Option<Place>, holdings: &Holdings)
     ensures { least.new ≡ fold (considered draft.now) least.old
         (flat_map (line_places holdings.now.content) (line_names holdings.now.content)) }
 {
     for line in holdings.lines() {
-        if let Some(id) = equation_in(holdings.get(&RecordKey::Line(*line))) {
-            consider_parameters(draft, least, line, id);
-        }
+        consider_line(draft, least, holdings, line);
     }
 }
 
@@ -258,33 +249,137 @@ fn consider_lost(
     }
 }
 
-// Looks at what no edit is about and the edits may leave unsound: each parameter of the lines before them,
-// where one of these lines is edited, and else the bindings that take what loses its dimension.
-fn consider_unsettled(
+// Looks at each of these parameters of a line which is bound to something that takes another line.
+fn consider_takings(
+    draft: &Draft<'_>,
+    least: &mut Option<Place>,
+    taker: &Name,
+    params: &[Param],
+    line: &Name,
+)
+    requires { AllByRecursion (λ q. is_parameter q.name.now ≡ true) params.now }
+    ensures { least.new ≡ fold (considered draft.now) least.old (filter (takes_line draft.now line.now)
+        (map (λ q. record { line = taker.now; parameter = q.name.now }) params.now)) }
+{
+    for param in params {
+        let place = Place {
+            line: *taker,
+            parameter: name_of(param),
+        };
+        if takes_line(draft, &place, line) {
+            consider(draft, least, &place);
+        }
+    }
+}
+
+// Looks at each parameter that a line had which is bound to something that takes another line.
+fn consider_taker(
+    draft: &Draft<'_>,
+    least: &mut Option<Place>,
+    holdings: &Holdings,
+    taker: &Name,
+    line: &Name,
+)
+    ensures { least.new ≡ fold (considered draft.now) least.old (filter (takes_line draft.now line.now)
+        (line_places holdings.now.content taker.now)) }
+{
+    if let Some(id) = holdings.line(taker) {
+        consider_takings(draft, least, taker, params_of(id), line);
+    }
+}
+
+// Looks at what takes a line, of the lines that may take it. A binding that is edited is looked at with its
+// key, so here those count that take it after the edits.
+fn consider_line_takers<T: LineTakers>(
+    draft: &Draft<'_>,
+    least: &mut Option<Place>,
+    holdings: &Holdings,
+    takers: &T,
+    line: &Name,
+)
+    ensures { least.new ≡ fold (considered draft.now) least.old (taker_places holdings.now.content draft.now
+        (takers_of_line (T.count_of takers.now) (T.taker_at takers.now)) line.now) }
+{
+    for number in 0..takers.count(line) {
+        if let Some(taker) = takers.taker(line, number) {
+            consider_taker(draft, least, holdings, taker, line);
+        }
+    }
+}
+
+// Looks at each parameter that an edited line had, since it may leave a binding behind. Where the line loses
+// its dimension, it looks at what takes it, too.
+fn consider_left<T: LineTakers>(
+    draft: &Draft<'_>,
+    least: &mut Option<Place>,
+    holdings: &Holdings,
+    takers: &T,
+    key: &RecordKey,
+)
+    ensures { least.new ≡ fold (considered draft.now) least.old (left_places holdings.now.content draft.now
+        (takers_of_line (T.count_of takers.now) (T.taker_at takers.now)) key.now) }
+{
+    let RecordKey::Line(name) = key else {
+        return;
+    };
+    let Some(id) = holdings.line(name) else {
+        return;
+    };
+    consider_parameters(draft, least, name, id);
+    if loses_output(draft, name, id) {
+        consider_line_takers(draft, least, holdings, takers, name);
+    }
+}
+
+// Looks at what each edited line may leave unsound.
+fn consider_each_left<T: LineTakers>(
+    draft: &Draft<'_>,
+    least: &mut Option<Place>,
+    holdings: &Holdings,
+    takers: &T,
+    keys: &[RecordKey],
+)
+    ensures { least.new ≡ fold (considered draft.now) least.old
+        (flat_map (left_places holdings.now.content draft.now
+        (takers_of_line (T.count_of takers.now) (T.taker_at takers.now))) keys.now) }
+{
+    for key in keys {
+        consider_left(draft, least, holdings, takers, key);
+    }
+}
+
+// Looks at what no edit is about and the edits may leave unsound: the bindings that take what loses its
+// dimension, and the parameters that edited lines had. Where at least as many numbers of takers are to be
+// looked at as there are lines, it looks at all lines instead.
+fn consider_unsettled<T: LineTakers>(
     alloc: Global,
     draft: &Draft<'_>,
     least: &mut Option<Place>,
     holdings: &Holdings,
     edits: &Edits,
+    takers: &T,
 )
     requires workbook { IsWorkbook holdings.now.content }
     requires consistent { IsConsistent draft.now }
     requires draft { draft.now ≡ applied holdings.now.content edits.now }
-    ensures lines { list_any (has_line holdings.now.content) (map (λ c. c.0) edits.now) ≡ true →
-        least.new ≡ fold (considered draft.now) least.old
+    ensures lines { has_many_takers holdings.now.content draft.now (T.count_of takers.now)
+        (map (λ c. c.0) edits.now) ≡ true → least.new ≡ fold (considered draft.now) least.old
         (flat_map (line_places holdings.now.content) (line_names holdings.now.content)) }
-    ensures names { list_any (has_line holdings.now.content) (map (λ c. c.0) edits.now) ≡ false →
-        HasLooked holdings.now.content draft.now least.old least.new }
+    ensures takers { has_many_takers holdings.now.content draft.now (T.count_of takers.now)
+        (map (λ c. c.0) edits.now) ≡ false → HasLooked holdings.now.content draft.now
+        (takers_of_line (T.count_of takers.now) (T.taker_at takers.now)) (map (λ c. c.0) edits.now)
+        least.old least.new }
 {
-    if has_any_line(holdings, edits.keys()) {
+    if has_many_takers(holdings, draft, takers, edits.keys()) {
         consider_lines(draft, least, holdings);
         return;
     }
     let none = Edits::new(alloc);
     let before = Draft::of(holdings, &none);
-    let takers = holdings.takers();
-    consider_lost(&before, draft, least, takers, edits.series_put());
-    consider_lost(&before, draft, least, takers, edits.series_taken());
+    let bound = holdings.takers();
+    consider_lost(&before, draft, least, bound, edits.series_put());
+    consider_lost(&before, draft, least, bound, edits.series_taken());
+    consider_each_left(draft, least, holdings, takers, edits.keys());
 }
 
 // Looks at the places that changed keys are about.
@@ -297,14 +392,21 @@ fn consider_keys(draft: &Draft<'_>, least: &mut Option<Place>, keys: &[RecordKey
 }
 
 /// The least place that is unsound once the edits are made.
-pub(crate) fn unsound_place(alloc: Global, holdings: &Holdings, edits: &Edits) -> Option<Place>
+pub(crate) fn unsound_place<T: LineTakers>(
+    alloc: Global,
+    holdings: &Holdings,
+    edits: &Edits,
+    takers: &T,
+) -> Option<Place>
     requires workbook { IsWorkbook holdings.now.content }
     requires consistent { IsConsistent (applied holdings.now.content edits.now) }
+    requires takers { HasTakers holdings.now.content
+        (takers_of_line (T.count_of takers.now) (T.taker_at takers.now)) }
     ensures { result ≡ unsound_place (applied holdings.now.content edits.now) }
 {
     let draft = Draft::of(holdings, edits);
     let mut least = None;
-    consider_unsettled(alloc, &draft, &mut least, holdings, edits);
+    consider_unsettled(alloc, &draft, &mut least, holdings, edits, takers);
     consider_keys(&draft, &mut least, edits.keys());
     least
 }

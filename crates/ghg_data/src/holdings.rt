@@ -4,7 +4,7 @@ ghost use Rattle.std.specs.Prelude.{◌≡◌, ℕ, ◌+◌, ◌^◌, ◌≤◌,
 ghost use Rattle.std.specs.FinMap as finite;
 ghost use Rattle.std.specs.FinMap.{from_entries};
 ghost use Rattle.indexmap.specs.IndexMap.{spare};
-ghost use Rattle.ghg_definitions.specs.Data.{key_cmp, line_names};
+ghost use Rattle.ghg_definitions.specs.Data.{key_cmp, line, line_names};
 ghost use Rattle.ghg_definitions.specs.Rows.{with_record};
 ghost use Rattle.ghg_data.specs.Calendar.{ArePlacesOf, HasSameDates, IsCalendarOf, IsNoted};
 ghost use Rattle.ghg_data.specs.Series.{dated};
@@ -19,13 +19,14 @@ ghost use Rattle.ghg_data.specs.YearSet.{has_year};
 use crate::brackets::Brackets;
 use crate::calendar::Calendar;
 use crate::column::Window;
-use crate::draft::span_in;
+use crate::draft::{equation_in, span_in};
 use crate::edits::Edits;
 use crate::names::change_names;
 use crate::series::Series;
 use crate::takers::{Takers, series_in};
 use crate::year_set::YearSet;
 use ghg_definitions::{Record, RecordKey};
+use ghg_equations::EqId;
 use ghg_interval::Interval;
 use ghg_units::{Name, Span};
 use indexmap::IndexMap;
@@ -94,6 +95,13 @@ impl Holdings {
             Some(place) => Some(self.records.get_index(place)?.1),
             None => self.records.get(key),
         }
+    }
+
+    /// The equation of a line that is present.
+    pub(crate) fn line(&self, name: &Name) -> Option<EqId>
+        ensures { result ≡ line self.now.content name.now }
+    {
+        equation_in(self.get(&RecordKey::Line(*name)))
     }
 
     /// How many records there are.

@@ -10,6 +10,7 @@ ghost use Rattle.ghg_definitions.specs.Rules.{judged, planned, row_fault, rows_a
 ghost use Rattle.ghg_definitions.specs.Sound.{IsConsistent, IsWorkbook};
 ghost use Rattle.ghg_data.specs.Changes.{AreOfRows, ChangesAlso, applied};
 ghost use Rattle.ghg_data.specs.Counts.{count_after, line_count_after};
+ghost use Rattle.ghg_data.specs.LineTakers.{HasTakers, takers_of_line};
 ghost use Rattle.ghg_data.specs.Refusal.{IfRule, IsPlanOf};
 
 use crate::bindings::unsound_place;
@@ -17,6 +18,7 @@ use crate::draft::Draft;
 use crate::edits::Edits;
 use crate::holdings::Holdings;
 use crate::limits::limit_fault;
+use crate::line_takers::LineTakers;
 use crate::refusal::PlanRefusal;
 use crate::rows::{key_of, record_of, row_fault};
 use ghg_units::{Act, Row, RowForm, Rule};
@@ -32,15 +34,18 @@ struct Progress {
 
 /// The edits that rows make, where they break no rule; or the first rule that is broken.
 #[tactic(auto, unfolding(ghg_definitions::specs::Rules::planned))]
-pub(crate) fn planned_edits(
+pub(crate) fn planned_edits<T: LineTakers>(
     alloc: Global,
     holdings: &Holdings,
     rows: &[Row],
     rest: Option<Rule>,
     kept_bytes: u64,
+    takers: &T,
 ) -> Result<Edits, PlanRefusal>
     requires workbook { IsWorkbook holdings.now.content }
     requires well_formed { AllByRecursion IsWellFormed rows.now }
+    requires takers { HasTakers holdings.now.content
+        (takers_of_line (T.count_of takers.now) (T.taker_at takers.now)) }
     ensures planned { IsPlanOf (planned holdings.now.content rows.now rest kept_bytes)
         holdings.now.content result }
     ensures after { IfOk result (λ edits. applied holdings.now.content edits ≡ after
@@ -49,7 +54,7 @@ pub(crate) fn planned_edits(
     ensures workbook { IfOk result (λ edits. IsWorkbook (applied holdings.now.content edits)) }
 {
     let progress = progress_of(alloc, holdings, rows)?;
-    judge(alloc, holdings, &progress, rest, kept_bytes)?;
+    judge(alloc, holdings, &progress, rest, kept_bytes, takers)?;
     let Progress { edits, .. } = progress;
     Ok(edits)
 }
@@ -140,18 +145,21 @@ fn line_count_after(row: &Row, lines: usize) -> usize
 }
 
 // Whether the records with all edits made keep the rules that see them whole.
-fn judge(
+fn judge<T: LineTakers>(
     alloc: Global,
     holdings: &Holdings,
     progress: &Progress,
     rest: Option<Rule>,
     kept_bytes: u64,
+    takers: &T,
 ) -> Result<(), PlanRefusal>
     requires workbook { IsWorkbook holdings.now.content }
     requires consistent { IsConsistent (applied holdings.now.content progress.now.edits) }
     requires records { progress.now.records ≡ len (applied holdings.now.content progress.now.edits) }
     requires lines { progress.now.lines ≡ length
         (line_names (applied holdings.now.content progress.now.edits)) }
+    requires takers { HasTakers holdings.now.content
+        (takers_of_line (T.count_of takers.now) (T.taker_at takers.now)) }
     ensures judged { MatchResult result
         (λ _. judged rest kept_bytes (applied holdings.now.content progress.now.edits) ≡ Ok
         (applied holdings.now.content progress.now.edits))
@@ -163,7 +171,7 @@ fn judge(
         return Err(PlanRefusal::Rule(rule));
     }
     let edits = &progress.edits;
-    if let Some(place) = unsound_place(alloc, holdings, edits) {
+    if let Some(place) = unsound_place(alloc, holdings, edits, takers) {
         return Err(PlanRefusal::Rule(Rule::BadBinding(place.line, place.parameter)));
     }
     let draft = Draft::of(holdings, edits);

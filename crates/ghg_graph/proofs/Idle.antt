@@ -36,7 +36,7 @@ use Rattle.ghg_graph.specs.Ordering.{IsLineOrder}
 use Rattle.ghg_graph.specs.Reached.{IsGasWalk, IsWalk, is_reached}
 use Rattle.ghg_graph.specs.Years.{nodes_by_year}
 use Rattle.ghg_graph.specs.Selections.{HasChanged, HasFigures, IsSelection, has_figure, is_selected, is_weighed, present_line}
-use Rattle.ghg_graph.specs.Taken.{figures_taken, lines_taken, named_by}
+use Rattle.ghg_data.specs.Taken.{figures_taken, lines_taken, named_by}
 use Rattle.ghg_graph.proofs.Marking.{equivalents_same, lines_same}
 use Rattle.ghg_graph.proofs.YearParts.{years_same}
 use Rattle.ghg_graph.proofs.Reaching.{reached_affected}

@@ -30,3 +30,4 @@ pub mod Entering
 pub mod Emitting
 pub mod Above
 pub mod NewYears
+pub mod TakersOfLines

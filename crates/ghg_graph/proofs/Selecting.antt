@@ -16,7 +16,7 @@ use Rattle.ghg_graph.specs.Index.{IsLineIndex}
 use Rattle.ghg_graph.specs.Numbers.{name_at}
 use Rattle.ghg_graph.specs.Ordering.{IsBehind}
 use Rattle.ghg_graph.specs.Selections.{IsSelection, is_selected}
-use Rattle.ghg_graph.specs.Taken.{figures_taken, lines_taken, named_by}
+use Rattle.ghg_data.specs.Taken.{figures_taken, lines_taken, named_by}
 use Rattle.ghg_graph.specs.Takers.{places_of}
 use Rattle.ghg_graph.specs.Worklists.{AreClosed, IsIn}
 use Rattle.ghg_graph.specs.declared.index.LineIndex.{LineIndex}

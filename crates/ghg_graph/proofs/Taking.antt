@@ -21,7 +21,7 @@ use Rattle.ghg_definitions.proofs.Listed.{from_filter, in_either, listed_filter,
 use Rattle.ghg_data.specs.Parameters.{quantity}
 use Rattle.ghg_graph.specs.Numbers.{name_at}
 use Rattle.ghg_graph.specs.Ordering.{IsLineOrder}
-use Rattle.ghg_graph.specs.Taken.{figures_taken, lines_taken, named_by}
+use Rattle.ghg_data.specs.Taken.{figures_taken, lines_taken, named_by}
 use Rattle.ghg_graph.specs.Takers.{AreTakers, AreTakersBefore, AreTakersWith, AreUpTo, IsCut, IsIndex, IsIndexWith, IsNamedFrom, IsPut, places_of}
 use Rattle.ghg_graph.specs.declared.takers.Places.{Places}
 use Rattle.ghg_graph.specs.declared.takers.Takers.{Takers}

@@ -13,7 +13,6 @@ pub mod Corrections
 pub mod Years
 pub mod Reached
 pub mod Ascending
-pub mod Taken
 pub mod Takers
 pub mod Index
 pub mod Worklists

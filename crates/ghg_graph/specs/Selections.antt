@@ -12,7 +12,7 @@ use Rattle.ghg_definitions.specs.Compilation.{line_gas}
 use Rattle.ghg_definitions.specs.Data.{Data, Name, line, name_cmp}
 use Rattle.ghg_definitions.specs.Listed.{IsListed}
 use Rattle.ghg_graph.specs.Numbers.{name_at}
-use Rattle.ghg_graph.specs.Taken.{figures_taken, lines_taken, named_by}
+use Rattle.ghg_data.specs.Taken.{figures_taken, lines_taken, named_by}
 
 -- the set has the key's activity or factor
 abbrev pub has_figure : BTreeSet Name → RecordKey → Bool

@@ -3,9 +3,9 @@ use Rattle.std.specs.Prelude.{◌≡◌, ◌⊎◌, ◌↔◌, ℕ, ◌<◌, ◌
 use Rattle.ghg_units.specs.declared.row.Binding.{Binding}
 use Rattle.ghg_definitions.specs.Data.{Data, Name}
 use Rattle.ghg_definitions.specs.Listed.{IsListed}
+use Rattle.ghg_data.specs.Taken.{figures_taken, lines_taken, named_by}
 use Rattle.ghg_graph.specs.Ascending.{places_in}
 use Rattle.ghg_graph.specs.Numbers.{name_at}
-use Rattle.ghg_graph.specs.Taken.{figures_taken, lines_taken, named_by}
 use Rattle.ghg_graph.specs.declared.takers.Places.{Places}
 use Rattle.ghg_graph.specs.declared.takers.Takers.{Takers}
 
@@ -35,7 +35,8 @@ pub record AreTakers (m : Data) (lines : List Name) (takers : Takers) : Type 0 w
 pub record IsCut (P : Name → Type 0) (first : ℕ) (old new : Places) : Type 0 where
   pub kept : (name : Name) (place : ℕ) → place < first → IsListed place (places_of old name) →
       IsListed place (places_of new name)
-  pub only : (name : Name) (place : ℕ) → IsListed place (places_of new name) → IsListed place (places_of old name)
+  pub only : (name : Name) (place : ℕ) → IsListed place (places_of new name) →
+      IsListed place (places_of old name)
   pub below : (name : Name) (place : ℕ) → P name → IsListed place (places_of new name) → place < first
 
 -- ---- which lines take it from a place on

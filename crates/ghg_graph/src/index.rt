@@ -4,12 +4,12 @@ ghost use Rattle.std.specs.Prelude.{IfOk};
 ghost use Rattle.std.specs.FinMap.{empty};
 ghost use Rattle.ghg_definitions.specs.declared.record.Record.{Record};
 ghost use Rattle.ghg_definitions.specs.Data.{key_cmp};
-ghost use Rattle.ghg_graph.specs.Index.{IsLineIndex};
+ghost use Rattle.ghg_graph.specs.Index.{IndexesHaveTakers, IsLineIndex, taker_at, taker_count};
 ghost use Rattle.ghg_graph.specs.Ordering.{IsLineOrder};
 
 use crate::gases::emitters;
 use crate::takers::Takers;
-use ghg_data::Records;
+use ghg_data::{LineTakers, Records};
 use ghg_units::Name;
 use std::alloc::{AllocError, Global};
 
@@ -53,3 +53,24 @@ impl LineIndex {
         })
     }
 }
+
+// The lines that take a line have numbers by their places.
+impl LineTakers for LineIndex {
+    ghost count_of = { taker_count };
+
+    ghost taker_at = { taker_at };
+
+    fn count(&self, line: &Name) -> usize {
+        self.takers.lines.at(line).len()
+    }
+
+    fn taker(&self, line: &Name, number: usize) -> Option<&Name> {
+        let place = self.takers.lines.at(line).get(number)?;
+        self.lines.get(*place)
+    }
+}
+
+/// The index of a workbook has each line that takes another among those that may take it.
+pub fn indexes_have_takers()
+    ensures { IndexesHaveTakers }
+{}

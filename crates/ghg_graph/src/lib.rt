@@ -31,7 +31,7 @@ pub use corrections::{affected, are_of_figures};
 pub use entered::{are_entries, entered_order, put_name, with_entered, without_entered};
 pub use gases::{emitters, lasting_potential, potential};
 pub use in_order::nodes_in_order;
-pub use index::LineIndex;
+pub use index::{LineIndex, indexes_have_takers};
 pub use nodes::Nodes;
 pub use operands::{Operand, bound_operand};
 pub use ordering::{acyclic_order, check_acyclic, line_order};

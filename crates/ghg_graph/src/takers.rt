@@ -5,12 +5,11 @@ ghost use Rattle.std.specs.List.Sorted.{IsPartitionPoint};
 ghost use Rattle.std.specs.Ordering.{is_eq};
 ghost use Rattle.ghg_definitions.specs.Data.{Name, name_cmp};
 ghost use Rattle.ghg_definitions.specs.Listed.{IsListed};
+ghost use Rattle.ghg_data.specs.Taken.{figures_taken, lines_taken, named_by};
 ghost use Rattle.ghg_graph.specs.Ascending.{AreAscending, IsAscending};
-ghost use Rattle.ghg_graph.specs.Taken.{figures_taken, lines_taken};
-ghost use Rattle.ghg_graph.specs.Taken.{named_by};
 
-use crate::numbers::{equation_of, taken_by};
-use ghg_data::{Records, params_of};
+use crate::numbers::equation_of;
+use ghg_data::{Records, lines_taken, params_of};
 use ghg_units::{Binding, Name};
 use std::alloc::{AllocError, Global};
 use std::collections::BTreeMap;
@@ -165,10 +164,12 @@ impl Takers {
 
     // Removes the places from one on under all that a line takes.
     fn cut_line<R: Records>(&mut self, records: &R, line: &Name, first: usize)
-        ensures figures { IsCut (λ name. IsListed name
-            (named_by figures_taken (R.content records.now) line.now)) first self.old.figures self.new.figures }
-        ensures lines { IsCut (λ name. IsListed name
-            (named_by lines_taken (R.content records.now) line.now)) first self.old.lines self.new.lines }
+        ensures figures { IsCut
+            (λ name. IsListed name (named_by figures_taken (R.content records.now) line.now)) first
+            self.old.figures self.new.figures }
+        ensures lines { IsCut
+            (λ name. IsListed name (named_by lines_taken (R.content records.now) line.now)) first
+            self.old.lines self.new.lines }
     {
         let Some(id) = equation_of(records, line) else {
             return;
@@ -215,15 +216,5 @@ fn figures_taken(binding: Option<&Binding>) -> &[Name]
             slice::from_ref(name)
         }
         _ => &[],
-    }
-}
-
-// The lines whose values a binding takes, that of the year before among them.
-fn lines_taken(binding: Option<&Binding>) -> &[Name]
-    ensures { result.now ≡ lines_taken (option_copied binding.entry) }
-{
-    match binding {
-        Some(Binding::Prev(name)) => slice::from_ref(name),
-        _ => taken_by(binding),
     }
 }

@@ -3,7 +3,7 @@ use Rattle.std.specs.List.Sorted.{IsStrictlySortedBy}
 use Rattle.ghg_definitions.specs.Data.{name_cmp}
 use Rattle.ghg_data.specs.Changes.{applied}
 use Rattle.ghg_graph.specs.Entries.{AreEmittersWith}
-use Rattle.ghg_graph.specs.Taken.{figures_taken, lines_taken}
+use Rattle.ghg_data.specs.Taken.{figures_taken, lines_taken}
 use Rattle.ghg_graph.specs.Takers.{AreTakersWith}
 use Rattle.ghg_graph.proofs.Emitting.{emitters_sorted, index_joined}
 use Rattle.ghg_graph.proofs.Entering.{keeps_lines}

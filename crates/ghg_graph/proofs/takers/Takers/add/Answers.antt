@@ -1,6 +1,6 @@
 use Rattle.std.proofs.Common.{◌∙◌, []}
 use Rattle.std.proofs.lemmas.List.{get_or_default}
-use Rattle.ghg_graph.specs.Taken.{figures_taken, lines_taken}
+use Rattle.ghg_data.specs.Taken.{figures_taken, lines_taken}
 use Rattle.ghg_graph.proofs.Taking.{all_indexed, indexed_up_to, line_indexed, nothing_indexed}
 use Rattle.ghg_graph.proofs.takers.Takers.add.Goals as goal
 

@@ -1,6 +1,6 @@
 use Rattle.std.proofs.Common.{◌∙◌, []}
 use Rattle.std.proofs.lemmas.List.{get_or_default}
-use Rattle.ghg_graph.specs.Taken.{figures_taken, lines_taken}
+use Rattle.ghg_data.specs.Taken.{figures_taken, lines_taken}
 use Rattle.ghg_graph.proofs.Taking.{all_cut, line_cut, nothing_cut}
 use Rattle.ghg_graph.proofs.takers.Takers.cut.Goals as goal
 

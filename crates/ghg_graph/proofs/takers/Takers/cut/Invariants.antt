@@ -1,4 +1,4 @@
-use Rattle.ghg_graph.specs.Taken.{figures_taken, lines_taken}
+use Rattle.ghg_data.specs.Taken.{figures_taken, lines_taken}
 use Rattle.ghg_graph.specs.Takers.{IsCut}
 use Rattle.ghg_graph.proofs.Taking.{IsNamedUpTo}
 use Rattle.ghg_graph.proofs.takers.Takers.cut.Given as goal

@@ -3,7 +3,7 @@ use Rattle.std.proofs.lemmas.List.{take_all}
 use Rattle.ghg_units.specs.Parameter.{is_parameter}
 use Rattle.ghg_definitions.specs.Data.{binding}
 use Rattle.ghg_definitions.specs.Listed.{IsListed}
-use Rattle.ghg_graph.specs.Taken.{figures_taken, lines_taken}
+use Rattle.ghg_data.specs.Taken.{figures_taken, lines_taken}
 use Rattle.ghg_graph.specs.Takers.{IsCut}
 use Rattle.ghg_graph.proofs.Taking.{all_left, binding_cut, cut_none, named_at}
 use Rattle.ghg_graph.proofs.takers.Takers.cut_line.Goals as goal

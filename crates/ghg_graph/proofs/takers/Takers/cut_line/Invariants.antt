@@ -3,7 +3,7 @@ use Rattle.std.specs.List.{AllByRecursion}
 use Rattle.ghg_units.specs.Parameter.{is_parameter}
 use Rattle.ghg_definitions.specs.Data.{binding}
 use Rattle.ghg_definitions.specs.Listed.{IsListed}
-use Rattle.ghg_graph.specs.Taken.{figures_taken, lines_taken}
+use Rattle.ghg_data.specs.Taken.{figures_taken, lines_taken}
 use Rattle.ghg_graph.specs.Takers.{IsCut}
 use Rattle.ghg_graph.proofs.takers.Takers.cut_line.Given as goal
 

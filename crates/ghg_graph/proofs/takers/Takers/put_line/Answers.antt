@@ -2,7 +2,7 @@ use Rattle.std.proofs.Common.{◌≡◌, ◌∙◌, ap, flat_map, subst, true}
 use Rattle.std.proofs.lemmas.List.{take_all}
 use Rattle.ghg_units.specs.Parameter.{is_parameter}
 use Rattle.ghg_definitions.specs.Data.{binding}
-use Rattle.ghg_graph.specs.Taken.{figures_taken, lines_taken}
+use Rattle.ghg_data.specs.Taken.{figures_taken, lines_taken}
 use Rattle.ghg_graph.specs.Takers.{IsPut}
 use Rattle.ghg_graph.proofs.Taking.{all_left, binding_put, named_at, put_none, put_up_to}
 use Rattle.ghg_graph.proofs.takers.Takers.put_line.Goals as goal
