@@ -1,7 +1,7 @@
 -- What columns have once one of them is changed or taken out.
 use Rattle.std.proofs.Common.{◌≡◌, ℕ, ◌-◌, ◌&&◌, ◌==◌, Bool, true, false, cond, nat_le, [], Option, Some, None, Ok, refl, sym, ap, ◌∙◌}
 use Rattle.std.proofs.Math.Path.{fun_ext}
-use Rattle.std.specs.BTreeMap.{BTreeMap, get, is_at}
+use Rattle.std.specs.BTreeMap.{BTreeMap, is_at}
 use Rattle.std.specs.List.{slice_get}
 use Rattle.std.specs.Map.{lookup}
 use Rattle.std.specs.Option.{option_and_then, option_map}
@@ -10,7 +10,7 @@ use Rattle.ghg_units.specs.declared.node.Node.{Node}
 use Rattle.ghg_definitions.specs.Formulas.{Outcome}
 use Rattle.ghg_definitions.specs.Nodes.{year_in}
 use Rattle.ghg_engine.specs.declared.series.Series.{Series}
-use Rattle.ghg_engine.specs.Cells.{IsPut, in_columns, in_series, in_year_of, no_outcomes, series_of, series_order, with_outcome}
+use Rattle.ghg_engine.specs.Cells.{IsPut, in_columns, in_runs, in_series, in_year_of, no_outcomes, series_of, series_order, with_outcome}
 use Rattle.ghg_engine.specs.Columns.{HasIn, IsPutIn, Run, value_in}
 use Rattle.ghg_engine.proofs.Columns.{no_place}
 use Rattle.ghg_engine.proofs.Places.{same_place, series_itself, series_same}
@@ -51,44 +51,44 @@ module _ (s : Series) (before after : Run) (year : ℕ) (n : Node) (of_series : 
 
 -- ---- one column among others
 
-module _ (old : BTreeMap Series Run) (s : Series) where
-  pub there : (k : Node) → is_at (series_order s) (series_of k) ≡ true → in_columns old k ≡ option_and_then (in_year_of k) (get series_order old s)
-  there k same = ap (λ t. option_and_then (in_year_of k) (get series_order old t)) (sym (series_same s (series_of k) same))
+module _ (old : Series → Option Run) (s : Series) where
+  pub there : (k : Node) → is_at (series_order s) (series_of k) ≡ true → in_runs old k ≡ option_and_then (in_year_of k) (old s)
+  there k same = ap (λ t. option_and_then (in_year_of k) (old t)) (sym (series_same s (series_of k) same))
 
-  module _ (new : BTreeMap Series Run) (after : Option Run) (updates : (q : Series) → get series_order new q ≡ cond (is_at (series_order s) q) after (get series_order old q)) where
-    updated : (k : Node) → in_columns new k ≡ cond (is_at (series_order s) (series_of k)) (option_and_then (in_year_of k) after) (in_columns old k)
+  module _ (new : Series → Option Run) (after : Option Run) (updates : (q : Series) → new q ≡ cond (is_at (series_order s) q) after (old q)) where
+    updated : (k : Node) → in_runs new k ≡ cond (is_at (series_order s) (series_of k)) (option_and_then (in_year_of k) after) (in_runs old k)
     updated k = ap (option_and_then (in_year_of k)) (updates (series_of k)) ∙ by (is_at (series_order s) (series_of k))
       where
-        by : (b : Bool) → option_and_then (in_year_of k) (cond b after (get series_order old (series_of k))) ≡ cond b (option_and_then (in_year_of k) after) (in_columns old k)
+        by : (b : Bool) → option_and_then (in_year_of k) (cond b after (old (series_of k))) ≡ cond b (option_and_then (in_year_of k) after) (in_runs old k)
         by true = refl
         by false = refl
 
   -- what the column was: the one that is there, or none
-  module _ (new : BTreeMap Series Run) (before after : Run) (updates : (q : Series) → get series_order new q ≡ cond (is_at (series_order s) q) (Some after) (get series_order old q)) where
+  module _ (new : Series → Option Run) (before after : Run) (updates : (q : Series) → new q ≡ cond (is_at (series_order s) q) (Some after) (old q)) where
     abbrev pub Was : Type 0
-    Was = (k : Node) → option_and_then (in_year_of k) (get series_order old s) ≡ in_year_of k before
+    Was = (k : Node) → option_and_then (in_year_of k) (old s) ≡ in_year_of k before
 
     module _ (was : Was) where
-      pub column_with : (year : ℕ) (n : Node) → series_of n ≡ s → year_in n ≡ year → (x : Input) → HasIn before after year (Some x) → in_columns new ≡ with_outcome (in_columns old) n (Ok x)
+      pub column_with : (year : ℕ) (n : Node) → series_of n ≡ s → year_in n ≡ year → (x : Input) → HasIn before after year (Some x) → in_runs new ≡ with_outcome (in_runs old) n (Ok x)
       column_with year n of_series in_year x has = fun_ext (λ k. updated new (Some after) updates k ∙ by k (is_at (series_order s) (series_of k)) refl
-          ∙ sym (ap (λ b. cond b (Some (Ok x)) (in_columns old k)) (same_place s year n of_series in_year k)))
+          ∙ sym (ap (λ b. cond b (Some (Ok x)) (in_runs old k)) (same_place s year n of_series in_year k)))
         where
           in_years : (k : Node) (b : Bool) → option_map Ok (cond b (Some x) (value_in before (year_in k))) ≡ cond b (Some (Ok x)) (in_year_of k before)
           in_years k true = refl
           in_years k false = refl
 
-          by : (k : Node) (a : Bool) → is_at (series_order s) (series_of k) ≡ a → cond a (in_year_of k after) (in_columns old k) ≡ cond (a && (year_in k == year)) (Some (Ok x)) (in_columns old k)
+          by : (k : Node) (a : Bool) → is_at (series_order s) (series_of k) ≡ a → cond a (in_year_of k after) (in_runs old k) ≡ cond (a && (year_in k == year)) (Some (Ok x)) (in_runs old k)
           by k true same = ap (option_map Ok) (has (year_in k)) ∙ in_years k (year_in k == year) ∙ ap (λ o. cond (year_in k == year) (Some (Ok x)) o) (sym (there k same ∙ was k))
           by k false apart = refl
 
-      pub column_as_it_was : after ≡ before → in_columns new ≡ in_columns old
+      pub column_as_it_was : after ≡ before → in_runs new ≡ in_runs old
       column_as_it_was is = fun_ext (λ k. updated new (Some after) updates k ∙ by k (is_at (series_order s) (series_of k)) refl)
         where
-          by : (k : Node) (a : Bool) → is_at (series_order s) (series_of k) ≡ a → cond a (in_year_of k after) (in_columns old k) ≡ in_columns old k
+          by : (k : Node) (a : Bool) → is_at (series_order s) (series_of k) ≡ a → cond a (in_year_of k after) (in_runs old k) ≡ in_runs old k
           by k true same = ap (in_year_of k) is ∙ sym (there k same ∙ was k)
           by k false apart = refl
 
-      pub column_put : (year : ℕ) (n : Node) → series_of n ≡ s → year_in n ≡ year → (x : Input) (r : Option Input) → IsPutIn before after year x r → IsPut (in_columns old) (in_columns new) n x r
+      pub column_put : (year : ℕ) (n : Node) → series_of n ≡ s → year_in n ≡ year → (x : Input) (r : Option Input) → IsPutIn before after year x r → IsPut (in_runs old) (in_runs new) n x r
       column_put year n of_series in_year x None has = column_with year n of_series in_year x has
       column_put year n of_series in_year x (Some rest) back = (
         there n (ap (is_at (series_order s)) of_series ∙ series_itself s) ∙ was n ∙ ap (λ y. option_map Ok (value_in before y)) in_year ∙ ap (option_map Ok) (no_place before year back.0),
@@ -96,22 +96,22 @@ module _ (old : BTreeMap Series Run) (s : Series) where
         back.2,
       )
 
-  pub was_there : (before : Run) → get series_order old s ≡ Some before → (k : Node) → option_and_then (in_year_of k) (get series_order old s) ≡ in_year_of k before
+  pub was_there : (before : Run) → old s ≡ Some before → (k : Node) → option_and_then (in_year_of k) (old s) ≡ in_year_of k before
   was_there before is k = ap (option_and_then (in_year_of k)) is
 
-  pub was_absent : (year : ℕ) → get series_order old s ≡ None → (k : Node) → option_and_then (in_year_of k) (get series_order old s) ≡ in_year_of k (record { first = year; values = [] })
+  pub was_absent : (year : ℕ) → old s ≡ None → (k : Node) → option_and_then (in_year_of k) (old s) ≡ in_year_of k (record { first = year; values = [] })
   was_absent year is k = ap (option_and_then (in_year_of k)) is ∙ sym (no_values (record { first = year; values = [] }) refl k)
 
   -- the column is taken out
-  module _ (run : Run) (found : get series_order old s ≡ Some run) where
-    pub column_out : (k : Node) → in_series s run k ≡ cond (is_at (series_order s) (series_of k)) (in_columns old k) None
+  module _ (run : Run) (found : old s ≡ Some run) where
+    pub column_out : (k : Node) → in_series s run k ≡ cond (is_at (series_order s) (series_of k)) (in_runs old k) None
     column_out k = by (is_at (series_order s) (series_of k)) refl
       where
-        by : (b : Bool) → is_at (series_order s) (series_of k) ≡ b → cond b (in_year_of k run) None ≡ cond b (in_columns old k) None
+        by : (b : Bool) → is_at (series_order s) (series_of k) ≡ b → cond b (in_year_of k run) None ≡ cond b (in_runs old k) None
         by true same = sym (there k same ∙ ap (option_and_then (in_year_of k)) found)
         by false apart = refl
 
-  pub columns_left : (new : BTreeMap Series Run) → ((q : Series) → get series_order new q ≡ cond (is_at (series_order s) q) None (get series_order old q)) → (k : Node) → in_columns new k ≡ cond (is_at (series_order s) (series_of k)) None (in_columns old k)
+  pub columns_left : (new : Series → Option Run) → ((q : Series) → new q ≡ cond (is_at (series_order s) q) None (old q)) → (k : Node) → in_runs new k ≡ cond (is_at (series_order s) (series_of k)) None (in_runs old k)
   columns_left new updates k = updated new None updates k
 
 -- ---- none

@@ -6,11 +6,11 @@ use Rattle.ghg_categories.specs.declared.category.Category.{Category}
 use Rattle.ghg_categories.specs.Tree.{is_same}
 use Rattle.ghg_definitions.specs.declared.record.Record.{Record}
 use Rattle.ghg_definitions.specs.Compilation.{gas_lines_at}
-use Rattle.ghg_definitions.specs.Data.{Data, category, key_cmp}
+use Rattle.ghg_definitions.specs.Data.{category, key_cmp}
 use Rattle.ghg_affected.specs.Subtotals.{is_above_parts}
 use Rattle.ghg_graph.specs.Index.{IsLineIndex}
 use Rattle.ghg_engine.specs.declared.layout.Layout.{Layout}
-use Rattle.ghg_engine.specs.Grouping.{IsGrouping, group_at}
+use Rattle.ghg_engine.specs.Grouping.{group_at}
 use Rattle.ghg_engine.specs.Layouts.{IsLayout}
 use Rattle.ghg_graph.proofs.Indexing.{no_emitters}
 

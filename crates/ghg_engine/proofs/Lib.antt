@@ -6,6 +6,7 @@ pub mod Turns
 pub mod Columns
 pub mod Written
 pub mod InColumns
+pub mod UnderNumbers
 pub mod Removed
 pub mod Taken
 pub mod Gone

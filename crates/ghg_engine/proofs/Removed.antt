@@ -114,7 +114,7 @@ module _ (s : Series) where
       by k false apart false other = refl
 
   pub column_without : (old new : BTreeMap Series Run) → ((q : Series) → get series_order new q ≡ cond (is_at (series_order s) q) None (get series_order old q)) → in_columns new ≡ without_series (in_columns old) s
-  column_without old new updates = fun_ext (columns_left old s new updates)
+  column_without old new updates = fun_ext (columns_left (get series_order old) s (get series_order new) updates)
 
   pub elsewhere : (outcomes : Outcomes) (n : Node) → is_at (series_order s) (series_of n) ≡ false → without_series outcomes s n ≡ outcomes n
   elsewhere outcomes n apart = ap (λ b. cond b None (outcomes n)) apart

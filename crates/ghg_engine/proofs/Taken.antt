@@ -108,13 +108,13 @@ module _ (s : Series) (run : Run) (aside : Outcomes) (old new : BTreeMap Series 
 
       by : (k : Node) (b : Bool) → is_at (series_order s) (series_of k) ≡ b
           → option_or (aside k) (option_and_then (in_year_of k) (cond b (Some run) (get series_order old (series_of k)))) ≡ option_or (cond b (in_year_of k run) None) (option_or (aside k) (in_columns old k))
-      by k true same = value k (in_year_of k run) refl (λ t. apart k (ap (λ b. is_some (cond b (in_year_of k run) None)) same ∙ t)) (λ out. there old s k same ∙ hidden k out)
+      by k true same = value k (in_year_of k run) refl (λ t. apart k (ap (λ b. is_some (cond b (in_year_of k run) None)) same ∙ t)) (λ out. there (get series_order old) s k same ∙ hidden k out)
       by k false other = refl
 
 -- an empty column in a place that had none changes nothing
 module _ (s : Series) (run : Run) (old new : BTreeMap Series Run) (updates : (q : Series) → get series_order new q ≡ cond (is_at (series_order s) q) (Some run) (get series_order old q)) (empty : run.values ≡ []) (absent : get series_order old s ≡ None) where
   pub empty_column : in_columns new ≡ in_columns old
-  empty_column = column_as_it_was old s new run run updates (λ k. ap (option_and_then (in_year_of k)) absent ∙ sym (no_values run empty k)) refl
+  empty_column = column_as_it_was (get series_order old) s (get series_order new) run run updates (λ k. ap (option_and_then (in_year_of k)) absent ∙ sym (no_values run empty k)) refl
 
   pub empty_covered : (front : Run) → IfSome (get series_order new s) (Covers front)
   empty_covered front = subst (λ o. IfSome o (Covers front))
@@ -159,7 +159,7 @@ module _ (s : Series) (run next after rest : Run) (aside : Outcomes) (old new : 
     (updates : (q : Series) → get series_order new q ≡ cond (is_at (series_order s) q) (Some after) (get series_order old q)) (found : get series_order old s ≡ Some run)
     (apart : AreApart (in_series s next) aside) (follows : next.first ≡ run.first + length run.values) where
   at_series : (k : Node) → is_at (series_order s) (series_of k) ≡ true → in_columns old k ≡ in_year_of k run
-  at_series k same = there old s k same ∙ ap (option_and_then (in_year_of k)) found
+  at_series k same = there (get series_order old) s k same ∙ ap (option_and_then (in_year_of k)) found
 
   in_both : (k : Node) → after.first ≡ run.first → after.values ≡ run.values ++ next.values → in_year_of k after ≡ option_or (in_year_of k next) (in_year_of k run)
   in_both k first values =
@@ -187,7 +187,7 @@ module _ (s : Series) (run next after rest : Run) (aside : Outcomes) (old new : 
       by k false other = refl
 
   pub column_not_appended : after ≡ run → rest ≡ next → found_in (in_series s rest) (found_in aside (in_columns new)) ≡ found_in (in_series s next) (found_in aside (in_columns old))
-  column_not_appended same stays = ap₂ (λ r columns. found_in (in_series s r) (found_in aside columns)) stays (column_as_it_was old s new run after updates (was_there old s run found) same)
+  column_not_appended same stays = ap₂ (λ r columns. found_in (in_series s r) (found_in aside columns)) stays (column_as_it_was (get series_order old) s (get series_order new) run after updates (was_there (get series_order old) s run found) same)
 
   pub column_taken : (b : Bool) → after.first ≡ run.first → after.values ≡ (if b then run.values ++ next.values else run.values) → rest.first ≡ next.first → rest.values ≡ (if b then [] else next.values)
       → found_in (in_series s rest) (found_in aside (in_columns new)) ≡ found_in (in_series s next) (found_in aside (in_columns old))
@@ -202,5 +202,5 @@ module _ (s : Series) (next rest : Run) (old new : BTreeMap Series Run) (updates
     where
       by : (k : Node) (b : Bool) → is_at (series_order s) (series_of k) ≡ b → option_or (cond b (in_year_of k rest) None) (after k) ≡ option_or (cond b (in_year_of k next) None) (before k)
           → option_or (option_and_then (in_year_of k) (cond b (Some rest) (get series_order old (series_of k)))) (after k) ≡ option_or (in_columns old k) (before k)
-      by k true same h = h ∙ ap (λ o. option_or o (before k)) (sym (there old s k same ∙ ap (option_and_then (in_year_of k)) found))
+      by k true same h = h ∙ ap (λ o. option_or o (before k)) (sym (there (get series_order old) s k same ∙ ap (option_and_then (in_year_of k)) found))
       by k false other h = ap (option_or (in_columns old k)) h

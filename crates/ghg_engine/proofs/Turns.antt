@@ -2,6 +2,7 @@
 use Rattle.std.proofs.Common.{◌≡◌, ℕ, ◌+◌, ◌<◌, ◌≤◌, Bool, true, false, cond, inl, inr, if◌then◌else◌, List, [], ◌∷◌, ◌++◌, Contains, length, filter, get_or, take, drop, Option, Some, None, refl, sym, ap, ap₂, ◌∙◌, subst, add-one, drop-cons}
 use Rattle.std.proofs.lemmas.List.{take_all}
 use Rattle.ghg_units.specs.declared.node.Node.{Node}
+use Rattle.ghg_affected.specs.Counts.{StandOnce}
 use Rattle.ghg_affected.specs.Equalities.{same_node}
 use Rattle.ghg_affected.specs.Patches.{IsInTurn, least_break}
 use Rattle.ghg_affected.specs.Subtotals.{AreBehindSubtotals}
@@ -63,6 +64,14 @@ least_more m done n =
     by : (b : Bool) (ks : List Node) → (if b then Some (lesser_node n (least_node ks)) else least_node ks) ≡ least_node (cond b (n ∷ ks) ks)
     by true ks = refl
     by false ks = refl
+
+-- none of them stands before itself
+not_before : (done : List Node) (n : Node) (rest : List Node) → StandOnce (done ++ n ∷ rest) → Contains done n → ⊥
+not_before [] n rest once c = listed [] n c
+not_before (d ∷ done) n rest once c = elim (listed (d ∷ done) n c) [
+  | inl e ↦ once.0 (contained (done ++ n ∷ rest) d (listed_right d done (n ∷ rest) (inl (sym e))))
+  | inr i ↦ not_before done n rest once.1 (contained done n i)
+]
 
 -- ---- some are evaluated, and the rest is not
 
@@ -132,6 +141,10 @@ module _ (m : Data) where
     behind = so_far.behind.1;
     least_is = ap₂ (λ (o : Option Node) (b : Bool). least_with o b n) so_far.least_is at.breaks ∙ least_more m done n;
   }
+
+  -- a node that stands behind those that are done has no fresh cell yet
+  pub none_yet : (done : List Node) (n : Node) (rest : List Node) (found fresh : Outcomes) (least : Option Node) → StandOnce (done ++ n ∷ rest) → IsSoFar done (n ∷ rest) found fresh least → fresh n ≡ None
+  none_yet done n rest found fresh least once so_far = so_far.no_others n (not_before done n rest once)
 
   -- the next of the nodes
   pub at_next : (ns : List Node) (i : ℕ) (n : Node) → i < length ns → n ≡ get_or ns i n → (found fresh : Outcomes) (least : Option Node) → IsSoFar (take i ns) (drop i ns) found fresh least → IsSoFar (take i ns) (n ∷ drop (i + 1) ns) found fresh least

@@ -73,9 +73,13 @@ in_year_of n run = option_map Ok (value_in run (year_in n))
 abbrev pub in_series : Series → Run → Outcomes
 in_series s run n = if is_at (series_order s) (series_of n) then in_year_of n run else None
 
+-- what the columns of series have for nodes
+abbrev pub in_runs : (Series → Option Run) → Outcomes
+in_runs runs n = option_and_then (in_year_of n) (runs (series_of n))
+
 -- what columns have for nodes
 abbrev pub in_columns : BTreeMap Series Run → Outcomes
-in_columns columns n = option_and_then (in_year_of n) (get series_order columns (series_of n))
+in_columns columns = in_runs (get series_order columns)
 
 -- the value stands at the node; or it is handed back, as none stands there, and all is as it was
 abbrev pub IsPut : Outcomes → Outcomes → Node → Input → Option Input → Type 0

@@ -1,5 +1,7 @@
 pub mod Columns
 pub mod Cells
+pub mod Numbered
+pub mod Fresh
 pub mod Overlays
 pub mod Compiled
 pub mod Breaking

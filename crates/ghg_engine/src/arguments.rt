@@ -23,7 +23,7 @@ use crate::equations::evaluate;
 use crate::factors::Factors;
 use crate::known::{Bound, KnownLine};
 use crate::overlay::Overlay;
-use crate::parts::{Part, gather_parts};
+use crate::parts::{Part, Parts, gather_parts};
 use ghg_cell::{Input, Ticket, Value, sum};
 use ghg_data::{Records, input_of_key};
 use ghg_equations::EqId;
@@ -79,7 +79,7 @@ pub(crate) struct Arguments {
     // One of them is blank.
     blank: bool,
     // The parts of a sum among them.
-    parts: Vec<Input>,
+    parts: Parts,
 }
 
 impl Arguments {
@@ -91,7 +91,7 @@ impl Arguments {
             inputs: Vec::new(alloc),
             fit: true,
             blank: false,
-            parts: Vec::new(alloc),
+            parts: Parts::new(alloc),
         }
     }
 
@@ -119,6 +119,7 @@ impl Arguments {
         self.inputs.clear();
         self.fit = true;
         self.blank = false;
+        self.parts.begin(year);
         self.gather_bounds(records, factors, cells, first, name, &line.bounds, year)
     }
 
@@ -187,7 +188,7 @@ impl Arguments {
 fn argument(
     cells: &Overlay<'_>,
     operand: &Operand<'_>,
-    parts: &mut Vec<Input>,
+    parts: &mut Parts,
 ) -> Result<Option<Taken>, AllocError>
     requires { length (nodes_in (operand_of operand.now)) ≤ most_lines }
     ensures { IfOk result (IsArgument
@@ -195,7 +196,7 @@ fn argument(
 {
     match operand {
         Operand::Given(input) => Ok(Some(Taken::of(*input))),
-        Operand::Value(node) => Ok(Taken::of_cell(cells.outcome(node))),
+        Operand::Value(node) => Ok(Taken::of_cell(parts.read(cells, node)?)),
         Operand::Sum(names, year) => sum_of(cells, names, *year, parts),
     }
 }
@@ -205,7 +206,7 @@ fn sum_of(
     cells: &Overlay<'_>,
     names: &[Name],
     year: u32,
-    parts: &mut Vec<Input>,
+    parts: &mut Parts,
 ) -> Result<Option<Taken>, AllocError>
     requires { length names.now ≤ most_lines }
     ensures { IfOk result (IsArgument
@@ -214,7 +215,7 @@ fn sum_of(
     if !gather_parts(cells, Part::Line, names, year, parts)? {
         return Ok(None);
     }
-    match sum(parts) {
+    match sum(parts.as_slice()) {
         Ok(input) => Ok(Some(Taken::of(input))),
         Err(Over) => Ok(Some(Taken::beyond())),
     }

@@ -72,8 +72,12 @@ impl Cells {
         }
     }
 
-    // Gives a node its outcome aside of its column.
-    fn put_aside(&mut self, node: &Node, outcome: Result<Value, Over>) -> Result<(), AllocError>
+    /// Gives a node its outcome aside of its column.
+    pub(crate) fn put_aside(
+        &mut self,
+        node: &Node,
+        outcome: Result<Value, Over>,
+    ) -> Result<(), AllocError>
         ensures ok { OnOk result (cell_at self.new ≡ with_outcome (cell_at self.old) node.now outcome) }
         ensures err { OnErr result (cell_at self.new ≡ cell_at self.old) }
     {
@@ -204,6 +208,15 @@ impl Cells {
         Ok(())
     }
 
+    /// Puts a column in front.
+    pub(crate) fn put_column(&mut self, series: Series, column: Column) -> Result<(), AllocError>
+        ensures { OnOk result (cell_at self.new ≡ found_in (in_series series column) (cell_at self.old)) }
+    {
+        let whole = self.prepare(&series, &column)?;
+        self.take_column(series, column, whole);
+        Ok(())
+    }
+
     fn take_column(&mut self, series: Series, column: Column, whole: bool)
         requires { IsPrepared self.old series column whole }
         ensures { cell_at self.new ≡ found_in (in_series series column) (cell_at self.old) }
@@ -243,6 +256,9 @@ impl Cells {
         ensures columns { self.new.columns ≡ self.old.columns }
         ensures clear { AreApart (in_series series.now column.now) (tree.get node_order self.new.aside) }
     {
+        if self.aside.is_empty() {
+            return;
+        }
         for offset in 0..column.len() {
             self.aside.remove(&series.node(column.year(offset)));
         }
@@ -359,7 +375,7 @@ fn put(
     if let Some(column) = columns.get_mut(&series) {
         return column.put(year, value);
     }
-    let column = Column::of(alloc, year, value)?;
+    let column = Column::of(alloc, year, value, year)?;
     columns.insert(series, column)?;
     Ok(None)
 }

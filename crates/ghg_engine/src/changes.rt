@@ -5,7 +5,7 @@ ghost use Rattle.std.specs.List.{list_any};
 ghost use Rattle.ghg_units.specs.declared.node.Node.TheVariants as node;
 ghost use Rattle.ghg_definitions.specs.Compilation.{compilation};
 ghost use Rattle.ghg_definitions.specs.Trials.{is_over};
-ghost use Rattle.ghg_engine.specs.Cells.{cell_at};
+ghost use Rattle.ghg_engine.specs.Fresh.{fresh_at};
 ghost use Rattle.ghg_engine.specs.Changes.{AreChanges, HasMoreChanges, input_at};
 ghost use Rattle.ghg_engine.specs.declared.parts.Part.TheVariants as part;
 ghost use Rattle.ghg_engine.specs.Grouping.{names_at};
@@ -57,7 +57,7 @@ impl Changes {
         addends: &Addends<'_>,
         year: u32,
     ) -> Result<bool, AllocError>
-        ensures { IfOk result (λ whole. whole ≡ true → AreChanges (cell_at cells.now.fresh)
+        ensures { IfOk result (λ whole. whole ≡ true → AreChanges (fresh_at cells.now.fresh)
             (compilation (C.content before.now)) (addends_for addends.now year) self.new) }
     {
         self.gone.clear();
@@ -79,11 +79,11 @@ impl Changes {
         top: Option<Category>,
         year: u32,
     ) -> Result<bool, AllocError>
-        ensures changes { IfOk result (λ whole. whole ≡ true → AreChanges (cell_at cells.now.fresh)
+        ensures changes { IfOk result (λ whole. whole ≡ true → AreChanges (fresh_at cells.now.fresh)
             (compilation (C.content before.now)) (nodes_for part.Equivalent
             (names_at (counts_in top) (R.content records.now) names.now) year) self.new) }
         ensures over { IfOk result (λ whole. whole ≡ false → list_any
-            (λ n. is_over (cell_at cells.now.fresh n)) (nodes_for part.Equivalent
+            (λ n. is_over (fresh_at cells.now.fresh n)) (nodes_for part.Equivalent
             (names_at (counts_in top) (R.content records.now) names.now) year) ≡ true) }
     {
         self.gone.clear();
@@ -100,11 +100,11 @@ impl Changes {
         top: Option<Category>,
         year: u32,
     ) -> Result<bool, AllocError>
-        ensures changes { IfOk result (λ whole. whole ≡ true → HasMoreChanges (cell_at cells.now.fresh)
+        ensures changes { IfOk result (λ whole. whole ≡ true → HasMoreChanges (fresh_at cells.now.fresh)
             (compilation (C.content before.now)) (nodes_for part.Equivalent
             (names_at (counts_in top) (R.content records.now) names.now) year) self.old self.new) }
         ensures over { IfOk result (λ whole. whole ≡ false → list_any
-            (λ n. is_over (cell_at cells.now.fresh n)) (nodes_for part.Equivalent
+            (λ n. is_over (fresh_at cells.now.fresh n)) (nodes_for part.Equivalent
             (names_at (counts_in top) (R.content records.now) names.now) year) ≡ true) }
     {
         for name in names {
@@ -122,7 +122,7 @@ impl Changes {
         categories: &[Category],
         year: u32,
     ) -> Result<bool, AllocError>
-        ensures { IfOk result (λ whole. whole ≡ true → HasMoreChanges (cell_at cells.now.fresh)
+        ensures { IfOk result (λ whole. whole ≡ true → HasMoreChanges (fresh_at cells.now.fresh)
             (compilation (C.content before.now)) (map (λ c. node.Total c year) categories.now)
             self.old self.new) }
     {
@@ -141,7 +141,7 @@ impl Changes {
         names: &[Name],
         year: u32,
     ) -> Result<bool, AllocError>
-        ensures { IfOk result (λ whole. whole ≡ true → HasMoreChanges (cell_at cells.now.fresh)
+        ensures { IfOk result (λ whole. whole ≡ true → HasMoreChanges (fresh_at cells.now.fresh)
             (compilation (C.content before.now)) (map (λ name. node.Equiv name year) names.now)
             self.old self.new) }
     {
@@ -161,10 +161,10 @@ impl Changes {
         before: &C,
         node: &Node,
     ) -> Result<bool, AllocError>
-        ensures changes { IfOk result (λ whole. whole ≡ true → HasMoreChanges (cell_at cells.now.fresh)
+        ensures changes { IfOk result (λ whole. whole ≡ true → HasMoreChanges (fresh_at cells.now.fresh)
             (compilation (C.content before.now)) (node.now ∷ []) self.old self.new) }
         ensures over { IfOk result (λ whole. whole ≡ false →
-            is_over (cell_at cells.now.fresh node.now) ≡ true) }
+            is_over (fresh_at cells.now.fresh node.now) ≡ true) }
     {
         match cells.fresh_outcome(node) {
             None => Ok(true),

@@ -11,9 +11,11 @@ use std::mem::size_of;
 /// A value takes 80 bytes of a column.
 const _: () = prove!(size_of::<Value>() == 80);
 
-/// For how many more years a column makes room at a time. A compilation has columns of all years, and a
-/// correction mostly columns of one.
+/// For how many more years a column makes room at a time, where none was made before.
 const MORE_YEARS: usize = 8;
+
+/// For how many years behind its first a new column makes room at most: those of the longest inventory.
+const MOST_YEARS_BEHIND: u32 = 150;
 
 /// Values of consecutive years. Contracts see the first of these years, and the values from that year on.
 #[derive(Drop)]
@@ -44,11 +46,17 @@ impl Column {
         }
     }
 
-    /// The value of one year.
-    pub(crate) fn of(alloc: Global, year: u32, value: Value) -> Result<Column, AllocError>
+    /// The value of one year, with room for the years up to the last, if that comes behind it.
+    pub(crate) fn of(
+        alloc: Global,
+        year: u32,
+        value: Value,
+        last: u32,
+    ) -> Result<Column, AllocError>
         ensures { IfOk result (λ column. column ≡ record { first = year; values = value ∷ [] }) }
     {
-        let mut values = Vec::with_capacity(alloc, 1)?;
+        let more = last.saturating_sub(year).min(MOST_YEARS_BEHIND) as usize;
+        let mut values = Vec::with_capacity(alloc, 1 + more)?;
         values.push(value)?;
         Ok(Column {
             first: year,

@@ -15,6 +15,7 @@ ghost use Rattle.ghg_engine.specs.Changes.{AreChangedLines, AreNamesOf, IsBefore
 ghost use Rattle.ghg_definitions.specs.Trials.{value_of};
 ghost use Rattle.ghg_engine.specs.Evaluation.{AreEvaluated, AreKept, IsEvaluatedAt, IsEvaluatedSum, IsOutcomeOf, IsReady, IsTotalOf};
 ghost use Rattle.ghg_engine.specs.Factors.{AreKeptFactors};
+ghost use Rattle.ghg_engine.specs.Fresh.{fresh_at};
 ghost use Rattle.ghg_engine.specs.Known.{IsKnown, IsKnownLine};
 ghost use Rattle.ghg_engine.specs.Layouts.{IsLayout};
 ghost use Rattle.ghg_engine.specs.Overlays.{outcomes_of};
@@ -29,9 +30,11 @@ use crate::factors::Factors;
 use crate::groups::Groups;
 use crate::known::{Known, KnownLine, Turn, line_at};
 use crate::layout::Layout;
+use crate::numbered::Room;
 use crate::overlay::Overlay;
-use crate::parts::{Addends, gather_addends, gather_counted};
+use crate::parts::{Addends, Parts, gather_addends, gather_counted};
 use crate::refusal::EngineRefusal;
+use crate::series::year_of;
 use ghg_cell::{Input, MOST_PARTS, Permits, Ticket, equiv, total, total_from};
 use ghg_data::Records;
 use ghg_graph::first_year;
@@ -70,10 +73,11 @@ pub(crate) fn evaluate_all<R: Records, C: ghg_graph::Cells>(
     let from = with_lines(alloc, records, before, nodes)?;
     let mut permits = permits;
     let mut buffers = Buffers::new(alloc);
-    let mut cells = Overlay::over(alloc, kept);
+    let mut cells = Overlay::over(alloc, kept, room_for(&known, nodes));
     let mut least = None;
     for node in nodes {
         let ticket = permits.ticket().unwrap();
+        buffers.parts.begin(year_of(node));
         let evaluated = evaluate(
             records,
             &mut known,
@@ -89,7 +93,7 @@ pub(crate) fn evaluate_all<R: Records, C: ghg_graph::Cells>(
         cells.insert(node, evaluated.outcome)?;
     }
     match least {
-        None => Ok(cells.into_fresh()),
+        None => Ok(cells.into_fresh()?),
         Some(node) => Err(EngineRefusal::Overflow(node)),
     }
 }
@@ -148,12 +152,31 @@ fn equivalent_line(node: &Node) -> Option<Name>
     }
 }
 
+// The years of nodes, if the nodes are at least half as many as the lines and emitters of the first year
+// would have in all of them; else the first year alone. So there is not much more room than twice that of the
+// values.
+fn room_for(known: &Known, nodes: &[Node]) -> Room {
+    let (Some(first), Some(last)) = (nodes.first(), nodes.last()) else {
+        return Room { first: 0, last: 0 };
+    };
+    let first = year_of(first);
+    let years = year_of(last).saturating_sub(first) as usize;
+    if known.count().saturating_mul(years) / 2 <= nodes.len() {
+        Room {
+            first,
+            last: year_of(last),
+        }
+    } else {
+        Room { first, last: first }
+    }
+}
+
 // What the evaluations of nodes share.
 #[derive(Drop)]
 struct Buffers {
     turn: Turn,
     arguments: Arguments,
-    parts: Vec<Input>,
+    parts: Parts,
     changes: Changes,
 }
 
@@ -162,7 +185,7 @@ impl Buffers {
         Buffers {
             turn: Turn::new(),
             arguments: Arguments::new(alloc),
-            parts: Vec::new(alloc),
+            parts: Parts::new(alloc),
             changes: Changes::new(alloc),
         }
     }
@@ -208,7 +231,7 @@ fn evaluate<R: Records, C: ghg_graph::Cells>(
     requires first { first ≡ first_year (span (R.content records.now)) }
     requires ready { IsReady (R.content records.now) (outcomes_of cells.now) node.now }
     requires before { IfSome before.now (λ b. IsReadyFrom (C.content b.cells.now) (R.content records.now)
-        b.changed (cell_at cells.now.fresh) node.now) }
+        b.changed (fresh_at cells.now.fresh) node.now) }
     ensures known { IsKnown (R.content records.now) known.new }
     ensures outcome { IfOk result (IsOutcomeOf (R.content records.now) node.now) }
 {
@@ -229,8 +252,9 @@ fn evaluate<R: Records, C: ghg_graph::Cells>(
             )
         }
         Node::Equiv(name, year) => {
-            let place = buffers.turn.next_emitter(*year);
-            Ok(equivalent(records, known, place, cells, name, *year, ticket))
+            let Buffers { turn, parts, .. } = buffers;
+            let place = turn.next_emitter(*year);
+            equivalent(records, known, place, cells, name, *year, ticket, parts)
         }
         Node::Total(category, year) => {
             let addends = layout.groups.total(*category);
@@ -296,10 +320,10 @@ fn sum_from<R: Records, C: ghg_graph::Cells>(
 ) -> Result<Evaluated, AllocError>
     requires workbook { IsWorkbook (R.content emitters.now.records.now) }
     requires emitters { emitters.now.names.now ≡ gas_lines (R.content emitters.now.records.now) }
-    requires before { IsResummed (outcomes_of cells.now) (cell_at cells.now.fresh)
+    requires before { IsResummed (outcomes_of cells.now) (fresh_at cells.now.fresh)
         (compilation (C.content before.now.cells.now)) node.now
         (addends_for addends.now year) (addends_for changed.now year) }
-    requires lines { IsResummed (outcomes_of cells.now) (cell_at cells.now.fresh)
+    requires lines { IsResummed (outcomes_of cells.now) (fresh_at cells.now.fresh)
         (compilation (C.content before.now.cells.now)) node.now
         (all_for (R.content emitters.now.records.now) addends.now year)
         (changed_for (R.content emitters.now.records.now) before.now.changed addends.now year) }
@@ -339,7 +363,7 @@ fn sum_changed<R: Records, C: ghg_graph::Cells>(
 ) -> Result<Evaluated, AllocError>
     requires workbook { IsWorkbook (R.content emitters.now.records.now) }
     requires emitters { emitters.now.names.now ≡ gas_lines (R.content emitters.now.records.now) }
-    requires lines { IsResummed (outcomes_of cells.now) (cell_at cells.now.fresh)
+    requires lines { IsResummed (outcomes_of cells.now) (fresh_at cells.now.fresh)
         (compilation (C.content before.now.cells.now)) node.now
         (all_for (R.content emitters.now.records.now) addends.now year)
         (changed_for (R.content emitters.now.records.now) before.now.changed addends.now year) }
@@ -348,7 +372,7 @@ fn sum_changed<R: Records, C: ghg_graph::Cells>(
 {
     let Buffers { parts, changes, .. } = buffers;
     if gather_addends(cells, addends, year, parts)? && parts.len() <= MOST_PARTS {
-        return Ok(Evaluated::of(total(ticket, parts)));
+        return Ok(Evaluated::of(total(ticket, parts.as_slice())));
     }
     let Some(value) = before.cells.value(node) else {
         return sum_lines(emitters, cells, addends, year, ticket, parts);
@@ -445,18 +469,19 @@ fn equivalent<R: Records>(
     name: &Name,
     year: u32,
     ticket: Ticket,
-) -> Evaluated
+    parts: &mut Parts,
+) -> Result<Evaluated, AllocError>
     requires { IsKnown (R.content records.now) known.old }
     ensures known { IsKnown (R.content records.now) known.new }
-    ensures evaluated { IsEvaluatedAt (sheet_of (R.content records.now)) (outcomes_of cells.now)
-        (Node.Equiv name.now year) result }
+    ensures evaluated { IfOk result (IsEvaluatedAt (sheet_of (R.content records.now)) (outcomes_of cells.now)
+        (Node.Equiv name.now year)) }
 {
-    match cells.outcome(&Node::Line(*name, year)) {
+    match parts.read(cells, &Node::Line(*name, year))? {
         Ok(value) => {
             let potential = known.potential(records, place, name, year);
-            Evaluated::of(equiv(ticket, &value, &potential))
+            Ok(Evaluated::of(equiv(ticket, &value, &potential)))
         }
-        Err(Over) => Evaluated::passed_on(),
+        Err(Over) => Ok(Evaluated::passed_on()),
     }
 }
 
@@ -468,7 +493,7 @@ fn sum<R: Records>(
     addends: &Addends<'_>,
     year: u32,
     ticket: Ticket,
-    parts: &mut Vec<Input>,
+    parts: &mut Parts,
 ) -> Result<Evaluated, AllocError>
     requires workbook { IsWorkbook (R.content emitters.now.records.now) }
     requires emitters { emitters.now.names.now ≡ gas_lines (R.content emitters.now.records.now) }
@@ -476,7 +501,7 @@ fn sum<R: Records>(
         addends.now year) }
 {
     if gather_addends(cells, addends, year, parts)? && parts.len() <= MOST_PARTS {
-        return Ok(Evaluated::of(total(ticket, parts)));
+        return Ok(Evaluated::of(total(ticket, parts.as_slice())));
     }
     sum_lines(emitters, cells, addends, year, ticket, parts)
 }
@@ -488,7 +513,7 @@ fn sum_lines<R: Records>(
     addends: &Addends<'_>,
     year: u32,
     ticket: Ticket,
-    parts: &mut Vec<Input>,
+    parts: &mut Parts,
 ) -> Result<Evaluated, AllocError>
     requires workbook { IsWorkbook (R.content emitters.now.records.now) }
     requires emitters { emitters.now.names.now ≡ gas_lines (R.content emitters.now.records.now) }
@@ -503,7 +528,7 @@ fn sum_lines<R: Records>(
         year,
         parts,
     )? {
-        Ok(Evaluated::of(total(ticket, parts)))
+        Ok(Evaluated::of(total(ticket, parts.as_slice())))
     } else {
         Ok(Evaluated::passed_on())
     }

@@ -66,7 +66,8 @@ impl ByCategory {
     fn take(&mut self, category: Category, name: &Name)
         requires { (c : Category) → IsStrictlySortedBy name_cmp (group_at self.old c) }
         ensures { (c : Category) → group_at self.new c ≡
-            (if is_same category c then without_name name.now (group_at self.old c) else group_at self.old c) }
+            (if is_same category c then without_name name.now (group_at self.old c)
+            else group_at self.old c) }
     {
         if let Some(names) = self.groups.get_mut(&category) {
             take_name(names, name);
@@ -129,8 +130,8 @@ impl Groups {
         Ok(())
     }
 
-    /// Takes lines out of their groups. The groups are those of the data with these lines. It takes no memory,
-    /// and no other line is looked up.
+    /// Takes lines out of their groups. The groups are those of the data with these lines. It takes no
+    /// memory, and no other line is looked up.
     pub(crate) fn take_lines<R: Records>(&mut self, records: &R, lines: &[Name])
         requires { IsGrouping (R.content records.now) self.old }
         ensures { (old : Data) → AddsLines old (R.content records.now) lines.now → IsGrouping old self.new }

@@ -275,6 +275,11 @@ impl Known {
         Ok(known)
     }
 
+    /// How many lines and emitters these are.
+    pub(crate) fn count(&self) -> usize {
+        self.lines.len().saturating_add(self.emitters.len())
+    }
+
     fn add_line<R: Records>(
         &mut self,
         records: &R,

@@ -76,8 +76,8 @@ impl Layout {
         Ok(Layout { index, groups })
     }
 
-    /// The layout of the book, from that with the lines that edits enter. It takes no memory, and the lines of
-    /// the book are not gone over.
+    /// The layout of the book, from that with the lines that edits enter. It takes no memory, and the lines
+    /// of the book are not gone over.
     pub(crate) fn without_entered(self, book: &Book, edits: &Edits, entered: &[Name]) -> Layout
         requires planned { IsPlanned book.now edits.now }
         requires entries { are_entries book.now.content edits.now ≡ true }

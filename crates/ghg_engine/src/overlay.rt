@@ -1,11 +1,14 @@
 //! Fresh cells over cells that are kept.
 
-ghost use Rattle.std.specs.Prelude.{◌≡◌, OnOk};
+ghost use Rattle.std.specs.Prelude.{◌≡◌, IfOk, None, OnOk};
 ghost use Rattle.std.specs.Option.{option_map};
 ghost use Rattle.ghg_engine.specs.Cells.{cell_at, found_in, no_outcomes, outcome_behind, outcome_in, with_outcome};
+ghost use Rattle.ghg_engine.specs.Fresh.{fresh_at};
 ghost use Rattle.ghg_engine.specs.Overlays.{outcomes_of};
 
 use crate::cells::Cells;
+use crate::fresh::FreshCells;
+use crate::numbered::Room;
 use ghg_cell::{Input, Value};
 use ghg_interval::Over;
 use ghg_units::Node;
@@ -14,64 +17,76 @@ use std::alloc::{AllocError, Global};
 /// Cells of nodes that are evaluated anew, in front of cells that are kept.
 #[derive(Drop)]
 pub(crate) struct Overlay<'a> {
-    fresh: Cells,
+    fresh: FreshCells,
     kept: &'a Cells,
 }
 
 impl<'a> Overlay<'a> {
     /// No fresh cells yet. It takes no memory.
-    pub(crate) fn over(alloc: Global, kept: &'a Cells) -> Overlay<'a>
-        ensures fresh { cell_at result.fresh ≡ no_outcomes }
+    pub(crate) fn over(alloc: Global, kept: &'a Cells, room: Room) -> Overlay<'a>
+        ensures fresh { fresh_at result.fresh ≡ no_outcomes }
         ensures kept { result.kept.now ≡ kept.now }
     {
         Overlay {
-            fresh: Cells::new(alloc),
+            fresh: FreshCells::new(alloc, room),
             kept,
         }
     }
 
-    /// The outcome of a node, which is blank where it has no cell.
-    pub(crate) fn outcome(&self, node: &Node) -> Result<Input, Over>
+    /// The outcome of a node, which is blank where it has no cell. If its series has a number among the fresh
+    /// ones, the guess at it is put right.
+    pub(crate) fn outcome(&self, node: &Node, guess: &mut usize) -> Result<Input, Over>
         ensures { result ≡ outcome_in (outcomes_of self.now) node.now }
     {
-        match found(&self.fresh, self.kept, node) {
+        match self.get(node, guess) {
             Some(Ok(value)) => Ok(*value.input()),
             Some(Err(Over)) => Err(Over),
             None => Ok(Input::Blank),
         }
     }
 
+    // The outcome of a node, where it has a cell.
+    fn get(&self, node: &Node, guess: &mut usize) -> Option<Result<&Value, Over>>
+        ensures { option_map outcome_behind result ≡ outcomes_of self.now node.now }
+    {
+        match self.fresh.get(node, guess) {
+            Some(outcome) => Some(outcome),
+            None => self.kept.get(node),
+        }
+    }
+
     /// The outcome of a node that is evaluated anew; `None` where it is not, or not yet.
     pub(crate) fn fresh_outcome(&self, node: &Node) -> Option<Result<Input, Over>>
-        ensures { result ≡ cell_at self.now.fresh node.now }
+        ensures { result ≡ fresh_at self.now.fresh node.now }
     {
-        match self.fresh.get(node) {
+        match self.fresh.get(node, &mut 0) {
             Some(Ok(value)) => Some(Ok(*value.input())),
             Some(Err(Over)) => Some(Err(Over)),
             None => None,
         }
     }
 
-    /// Gives a node its outcome.
+    /// Gives a node without a fresh cell its outcome.
     pub(crate) fn insert(
         &mut self,
         node: &Node,
         outcome: Result<Value, Over>,
     ) -> Result<(), AllocError>
+        requires { fresh_at self.old.fresh node.now ≡ None }
         ensures outcomes { OnOk result (outcomes_of self.new ≡ with_outcome
             (outcomes_of self.old) node.now outcome) }
-        ensures fresh { OnOk result (cell_at self.new.fresh ≡ with_outcome
-            (cell_at self.old.fresh) node.now outcome) }
+        ensures fresh { OnOk result (fresh_at self.new.fresh ≡ with_outcome
+            (fresh_at self.old.fresh) node.now outcome) }
         ensures kept { OnOk result (self.new.kept.now ≡ self.old.kept.now) }
     {
         self.fresh.insert(node, outcome)
     }
 
     /// The fresh cells.
-    pub(crate) fn into_fresh(self) -> Cells
-        ensures { result ≡ self.entry.fresh }
+    pub(crate) fn into_fresh(self) -> Result<Cells, AllocError>
+        ensures { IfOk result (λ cells. cell_at cells ≡ fresh_at self.entry.fresh) }
     {
-        self.fresh
+        self.fresh.into_cells()
     }
 }
 

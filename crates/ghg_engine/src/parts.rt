@@ -1,13 +1,15 @@
 //! The parts of sums.
 
-ghost use Rattle.std.specs.Prelude.{◌≡◌, ◌∷◌, [], IfOk, false, map};
+ghost use Rattle.std.specs.Prelude.{◌≡◌, ◌∷◌, [], IfOk, false, length, map};
 ghost use Rattle.std.specs.Option.{option_map_or};
 ghost use Rattle.ghg_definitions.specs.Data.{category};
 ghost use Rattle.ghg_engine.specs.declared.parts.Part.TheVariants as part;
+ghost use Rattle.ghg_engine.specs.Cells.{outcome_in};
 ghost use Rattle.ghg_engine.specs.Grouping.{names_at};
 ghost use Rattle.ghg_engine.specs.Overlays.{outcomes_of};
 ghost use Rattle.ghg_engine.specs.Parts.{AreAdded, AreParts, addends_for, counts_in, node_for, nodes_for};
 
+use crate::guesses::Guesses;
 use crate::overlay::Overlay;
 use ghg_categories::{Category, is_under};
 use ghg_cell::Input;
@@ -15,7 +17,8 @@ use ghg_data::Records;
 use ghg_graph::counts_in_gross;
 use ghg_interval::Over;
 use ghg_units::{Name, Node};
-use std::alloc::AllocError;
+use std::alloc::{AllocError, Global};
+use std::marker::Model;
 
 /// What is added of each line.
 #[derive(Clone, Copy, Drop)]
@@ -46,6 +49,88 @@ pub(crate) struct Addends<'a> {
     pub(crate) top: Option<Category>,
 }
 
+/// The parts of a sum, and guesses at where series are read. The buffer serves one node after another.
+/// Contracts see the parts.
+#[derive(Drop)]
+pub(crate) struct Parts {
+    inputs: Vec<Input>,
+    guesses: Guesses,
+}
+
+impl Model for Parts {
+    ghost use Rattle.std.specs.Prelude.{List};
+    ghost use Rattle.ghg_cell.specs.declared.input.Input.{Input};
+
+    ghost Value = { List Input };
+
+    ghost view = { λ p. p.inputs.items };
+}
+
+impl Parts {
+    /// No parts. It takes no memory.
+    pub(crate) fn new(alloc: Global) -> Parts
+        ensures { result ≡ [] }
+    {
+        Parts {
+            inputs: Vec::new(alloc),
+            guesses: Guesses::new(alloc),
+        }
+    }
+
+    /// Goes back to the first guess where the nodes of another year begin.
+    pub(crate) fn begin(&mut self, year: u32)
+        ensures { self.new ≡ self.old }
+    {
+        self.guesses.begin(year);
+    }
+
+    /// How many parts are gathered.
+    pub(crate) fn len(&self) -> usize
+        ensures { result ≡ length self.now }
+    {
+        self.inputs.len()
+    }
+
+    /// The parts that are gathered.
+    pub(crate) fn as_slice(&self) -> &[Input]
+        ensures { result.now ≡ self.now }
+    {
+        &self.inputs
+    }
+
+    /// What a node gives to others.
+    pub(crate) fn read(
+        &mut self,
+        cells: &Overlay<'_>,
+        node: &Node,
+    ) -> Result<Result<Input, Over>, AllocError>
+        ensures same { self.new ≡ self.old }
+        ensures outcome { IfOk result (λ outcome. outcome ≡ outcome_in (outcomes_of cells.now) node.now) }
+    {
+        let mut number = self.guesses.guess();
+        let outcome = cells.outcome(node, &mut number);
+        self.guesses.note(number)?;
+        Ok(outcome)
+    }
+
+    fn clear(&mut self)
+        ensures { self.new ≡ [] }
+    {
+        self.inputs.clear();
+    }
+
+    // Adds what a node gives to others. Answers whether it is not over.
+    fn add(&mut self, cells: &Overlay<'_>, node: &Node) -> Result<bool, AllocError>
+        ensures { IfOk result (AreAdded (outcomes_of cells.now) (node.now ∷ []) self.old self.new) }
+    {
+        match self.read(cells, node)? {
+            Ok(input) => self.inputs.push(input)?,
+            Err(Over) => return Ok(false),
+        }
+        Ok(true)
+    }
+}
+
 /// Gathers what is added of lines in a year, in a buffer that all sums share. Answers whether none of it is
 /// over.
 pub(crate) fn gather_parts(
@@ -53,9 +138,9 @@ pub(crate) fn gather_parts(
     part: Part,
     names: &[Name],
     year: u32,
-    parts: &mut Vec<Input>,
+    parts: &mut Parts,
 ) -> Result<bool, AllocError>
-    ensures { IfOk result (AreParts (outcomes_of cells.now) (nodes_for part names.now year) parts.new.items) }
+    ensures { IfOk result (AreParts (outcomes_of cells.now) (nodes_for part names.now year) parts.new) }
 {
     parts.clear();
     add_lines(cells, part, names, year, parts)
@@ -67,9 +152,9 @@ pub(crate) fn gather_addends(
     cells: &Overlay<'_>,
     addends: &Addends<'_>,
     year: u32,
-    parts: &mut Vec<Input>,
+    parts: &mut Parts,
 ) -> Result<bool, AllocError>
-    ensures { IfOk result (AreParts (outcomes_of cells.now) (addends_for addends.now year) parts.new.items) }
+    ensures { IfOk result (AreParts (outcomes_of cells.now) (addends_for addends.now year) parts.new) }
 {
     parts.clear();
     if !add_totals(cells, addends.categories, year, parts)? {
@@ -86,14 +171,14 @@ pub(crate) fn gather_counted<R: Records>(
     names: &[Name],
     top: Option<Category>,
     year: u32,
-    parts: &mut Vec<Input>,
+    parts: &mut Parts,
 ) -> Result<bool, AllocError>
     ensures { IfOk result (AreParts (outcomes_of cells.now) (nodes_for part.Equivalent
-        (names_at (counts_in top) (R.content records.now) names.now) year) parts.new.items) }
+        (names_at (counts_in top) (R.content records.now) names.now) year) parts.new) }
 {
     parts.clear();
     for name in names {
-        if counts(records, top, name) && !add_part(cells, &Node::Equiv(*name, year), parts)? {
+        if counts(records, top, name) && !parts.add(cells, &Node::Equiv(*name, year))? {
             return Ok(false);
         }
     }
@@ -124,13 +209,13 @@ fn add_totals(
     cells: &Overlay<'_>,
     categories: &[Category],
     year: u32,
-    parts: &mut Vec<Input>,
+    parts: &mut Parts,
 ) -> Result<bool, AllocError>
     ensures { IfOk result (AreAdded (outcomes_of cells.now) (map (λ c. Node.Total c year) categories.now)
-        parts.old.items parts.new.items) }
+        parts.old parts.new) }
 {
     for category in categories {
-        if !add_part(cells, &Node::Total(*category, year), parts)? {
+        if !parts.add(cells, &Node::Total(*category, year))? {
             return Ok(false);
         }
     }
@@ -142,26 +227,15 @@ fn add_lines(
     part: Part,
     names: &[Name],
     year: u32,
-    parts: &mut Vec<Input>,
+    parts: &mut Parts,
 ) -> Result<bool, AllocError>
     ensures { IfOk result (AreAdded (outcomes_of cells.now) (nodes_for part names.now year)
-        parts.old.items parts.new.items) }
+        parts.old parts.new) }
 {
     for name in names {
-        if !add_part(cells, &part.node(name, year), parts)? {
+        if !parts.add(cells, &part.node(name, year))? {
             return Ok(false);
         }
-    }
-    Ok(true)
-}
-
-// Adds what a node gives to the parts. Answers whether it is not over.
-fn add_part(cells: &Overlay<'_>, node: &Node, parts: &mut Vec<Input>) -> Result<bool, AllocError>
-    ensures { IfOk result (AreAdded (outcomes_of cells.now) (node.now ∷ []) parts.old.items parts.new.items) }
-{
-    match cells.outcome(node) {
-        Ok(input) => parts.push(input)?,
-        Err(Over) => return Ok(false),
     }
     Ok(true)
 }

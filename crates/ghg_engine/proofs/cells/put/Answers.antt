@@ -22,7 +22,7 @@ returns-in-Some c =
     let found = sym c.get_mut.ensures.value ∙ ap option_copied_mut c.in-Some.is in
     let updates = ((c.get_mut.follows.holds after).3 (some_is _ before found)).0 in
     IfOk-weaker c.put.result (IsPutIn before after year x) (IsPut (in_columns old) (in_columns new) n x)
-    (column_put old s new before after updates (was_there old s before found) year n (sym c.of-series.ensures) (sym c.year_of-year.ensures) x) c.put.ensures
+    (column_put (get series_order old) s (get series_order new) before after updates (was_there (get series_order old) s before found) year n (sym c.of-series.ensures) (sym c.year_of-year.ensures) x) c.put.ensures
 
 pub returns : goal.returns
 returns c =
@@ -34,6 +34,6 @@ returns c =
     let x = c.args.value in
     let none = ap (λ m. get series_order m s) same ∙ sym c.get_mut.ensures.value ∙ ap option_copied_mut c.in_default.is in
     let has = subst (λ run. HasIn (record { first = year; values = [] }) run year (Some x)) (sym c.in_ok-column.ensures) (has_added year year [] x (omega arith) (omega arith)) in
-    column_with old s c.insert.new.self (record { first = year; values = [] }) c.in_ok-column.column c.in_ok-insert.ensures.updates.0 (was_absent old s year none)
+    column_with (get series_order old) s (get series_order c.insert.new.self) (record { first = year; values = [] }) c.in_ok-column.column c.in_ok-insert.ensures.updates.0 (was_absent (get series_order old) s year none)
     year n (sym c.of-series.ensures) (sym c.year_of-year.ensures) x has
     ∙ ap (λ m. with_outcome (in_columns m) n (Ok x)) same

@@ -8,11 +8,11 @@ use Rattle.ghg_engine.specs.Overlays.{outcomes_of}
 use Rattle.ghg_engine.proofs.Answered.{if_ok}
 use Rattle.ghg_categories.specs.Tree.{is_same, stands_under}
 use Rattle.ghg_affected.specs.Subtotals.{children, gross_parts, is_above_parts}
-use Rattle.ghg_engine.specs.Cells.{cell_at}
 use Rattle.ghg_engine.specs.Grouping.{names_at}
 use Rattle.ghg_engine.specs.declared.parts.Part.TheVariants.{Equivalent}
 use Rattle.ghg_engine.specs.Changes.{IsReadyFrom, IsResummed, changed_for}
 use Rattle.ghg_engine.specs.Parts.{addends_for, all_for, counts_in, nodes_for}
+use Rattle.ghg_engine.specs.Fresh.{fresh_at}
 use Rattle.ghg_engine.proofs.Before.{from_ready, grouped_candidates, lines_ready, of_some}
 use Rattle.ghg_engine.proofs.Ready.{of_formula, of_total}
 use Rattle.ghg_engine.proofs.evaluation.evaluate.Goals as goal
@@ -30,13 +30,13 @@ returns-in-Equiv-clause-outcome g c =
     let m = g.R.Records.content c.args.records.now in
     let cells = outcomes_of c.args.cells.now in
     let n = node.Equiv c.in-Equiv.name c.in-Equiv.year in
-    subst (λ k. IsOutcomeOf m k c.equivalent.result) (sym c.in-Equiv.is)
-    (of_formula m c.requires.acyclic cells n (subst (IsReady m cells) c.in-Equiv.is c.requires.ready) c.equivalent.result c.equivalent.ensures.evaluated)
+    subst (λ k. IfOk c.equivalent.result (IsOutcomeOf m k)) (sym c.in-Equiv.is)
+    (if_ok c.equivalent.result (of_formula m c.requires.acyclic cells n (subst (IsReady m cells) c.in-Equiv.is c.requires.ready)) c.equivalent.ensures.evaluated)
 
 pub sum_from-requires-clause-before : goal.sum_from-requires-clause-before
 sum_from-requires-clause-before g c =
     let m = g.R.Records.content c.args.records.now in
-    let fresh = cell_at c.args.cells.now.fresh in
+    let fresh = fresh_at c.args.cells.now.fresh in
     let found = outcomes_of c.args.cells.now in
     let year = c.in-Total.year in
     let n = node.Total c.in-Total.category year in
@@ -54,7 +54,7 @@ sum_from-requires-clause-before g c =
 pub sum_from-requires-clause-lines : goal.sum_from-requires-clause-lines
 sum_from-requires-clause-lines g c =
     let m = g.R.Records.content c.args.records.now in
-    let fresh = cell_at c.args.cells.now.fresh in
+    let fresh = fresh_at c.args.cells.now.fresh in
     let found = outcomes_of c.args.cells.now in
     let year = c.in-Total.year in
     let n = node.Total c.in-Total.category year in
@@ -95,7 +95,7 @@ returns-in-None-clause-outcome g c =
 pub sum_from-requires-in-Some-before-clause-before : goal.sum_from-requires-in-Some-before-clause-before
 sum_from-requires-in-Some-before-clause-before g c =
     let m = g.R.Records.content c.args.records.now in
-    let fresh = cell_at c.args.cells.now.fresh in
+    let fresh = fresh_at c.args.cells.now.fresh in
     let found = outcomes_of c.args.cells.now in
     let year = c.in-Gross.year in
     let n = node.Gross year in
@@ -113,7 +113,7 @@ sum_from-requires-in-Some-before-clause-before g c =
 pub sum_from-requires-in-Some-before-clause-lines : goal.sum_from-requires-in-Some-before-clause-lines
 sum_from-requires-in-Some-before-clause-lines g c =
     let m = g.R.Records.content c.args.records.now in
-    let fresh = cell_at c.args.cells.now.fresh in
+    let fresh = fresh_at c.args.cells.now.fresh in
     let found = outcomes_of c.args.cells.now in
     let year = c.in-Gross.year in
     let n = node.Gross year in

@@ -11,8 +11,8 @@ pub returns-then-len-le-MOST_PARTS : goal.returns-then-len-le-MOST_PARTS
 returns-then-len-le-MOST_PARTS g c =
     let cells = outcomes_of c.args.cells.now in
     let ns = addends_for c.args.addends.now c.args.year in
-    let parts = c.gather_addends.new.parts.items in
-    let total_is = c.total.ensures ∙ ap summed c.deref.ensures.value in
+    let parts = c.gather_addends.new.parts in
+    let total_is = c.total.ensures ∙ ap summed c.as_slice.ensures in
     inl (fitting_sum cells ns parts c.of.result (subst (AreParts cells ns parts) c.if-branch.true c.in_ok-gather_addends.ensures)
     (c.of.ensures.outcome ∙ total_is) (c.of.ensures.breaks ∙ ap (λ x. is_over (Some x)) total_is))
 

@@ -1,4 +1,4 @@
-use Rattle.std.proofs.Common.{◌≡◌, ◌∙◌, ◌≤◌, length, ℕ, Bool, true, false, List, Option, Some, refl, ap, subst, arith}
+use Rattle.std.proofs.Common.{◌≡◌, ◌∙◌, ◌≤◌, length, ℕ, Bool, true, false, List, Option, Some, refl, sym, ap, subst}
 use Rattle.std.proofs.lemmas.List.{length-map}
 use Rattle.ghg_categories.specs.declared.category.Category.{Category}
 use Rattle.ghg_cell.specs.declared.input.Input.{Input}
@@ -33,19 +33,19 @@ pub total-requires : goal.total-requires
 total-requires g c =
     let m = g.R.Records.content c.args.emitters.now.records.now in
     let top = c.args.addends.now.top in
-    let parts = c.gather_counted.new.parts.items in
+    let parts = c.gather_counted.new.parts in
     let held = counted m (outcomes_of c.args.cells.now) top c.args.emitters.now.names.now c.args.year parts _ true
     c.requires.emitters c.if-branch.true c.in_ok-gather_counted.ensures in
     let few = few_counted m top c.args.year parts c.requires.workbook (held.count refl) in
-    omega (arith, few, c.deref.ensures)
+    subst (λ (ps : List Input). length ps ≤ most_lines) (sym c.as_slice.ensures) few
 
 pub returns-then-branch : goal.returns-then-branch
 returns-then-branch g c =
     let m = g.R.Records.content c.args.emitters.now.records.now in
     let cells = outcomes_of c.args.cells.now in
     let ns = all_for m c.args.addends.now c.args.year in
-    let parts = c.gather_counted.new.parts.items in
-    let total_is = c.total.ensures ∙ ap summed c.deref.ensures.value in
+    let parts = c.gather_counted.new.parts in
+    let total_is = c.total.ensures ∙ ap summed c.as_slice.ensures in
     (sum_of_parts cells ns parts c.of.result (counted m cells c.args.addends.now.top c.args.emitters.now.names.now c.args.year parts _ true
     c.requires.emitters c.if-branch.true c.in_ok-gather_counted.ensures)
     (c.of.ensures.outcome ∙ total_is) (c.of.ensures.breaks ∙ ap (λ x. is_over (Some x)) total_is))
@@ -55,7 +55,7 @@ returns-else-branch g c =
     let m = g.R.Records.content c.args.emitters.now.records.now in
     let cells = outcomes_of c.args.cells.now in
     let ns = all_for m c.args.addends.now c.args.year in
-    let parts = c.gather_counted.new.parts.items in
+    let parts = c.gather_counted.new.parts in
     (sum_passed_on cells ns parts c.passed_on.result (counted m cells c.args.addends.now.top c.args.emitters.now.names.now c.args.year parts _ false
     c.requires.emitters c.if-branch.false c.in_ok-gather_counted.ensures)
     c.passed_on.ensures.outcome c.passed_on.ensures.breaks)

@@ -23,20 +23,20 @@ module _ (cells : Outcomes) (year : ℕ) (cs : List Category) (i : ℕ) (d : Cat
       (subst (AreAdded cells (Total (get_or cs i d) year ∷ []) between after) e one)
 
 pub loop-category-init : goal.loop-category-init
-loop-category-init c = nothing_added (outcomes_of c.args.cells.now) c.args.parts.now.items
+loop-category-init c = nothing_added (outcomes_of c.args.cells.now) c.args.parts.now
 
 pub returns-then-not-branch : goal.returns-then-not-branch
 returns-then-not-branch c =
     total_over (outcomes_of c.args.cells.now) c.args.year c.args.categories.now c.loop-category.category-index _ c.loop-category-test.true
-    c.args.parts.now.items c.loop-category.parts.items c.add_part.new.parts.items c.loop-category.invariant
-    c.in_ok-add_part.field-0 c.in_ok-add_part.ensures c.if-not-branch.true
+    c.args.parts.now c.loop-category.parts c.add.new.self c.loop-category.invariant
+    c.in_ok-add.field-0 c.in_ok-add.ensures c.if-not-branch.true
 
 pub loop-category-preserved : goal.loop-category-preserved
 loop-category-preserved c =
     total_added (outcomes_of c.args.cells.now) c.args.year c.args.categories.now c.loop-category.category-index _ c.loop-category-test.true
-    c.args.parts.now.items c.loop-category.parts.items c.add_part.new.parts.items c.loop-category.invariant
-    c.in_ok-add_part.field-0 c.in_ok-add_part.ensures c.if-not-branch.false
+    c.args.parts.now c.loop-category.parts c.add.new.self c.loop-category.invariant
+    c.in_ok-add.field-0 c.in_ok-add.ensures c.if-not-branch.false
 
 pub returns : goal.returns
-returns c = subst (λ cs. AreAdded (outcomes_of c.args.cells.now) (map (λ d. Total d c.args.year) cs) c.args.parts.now.items c.loop-category.parts.items true)
+returns c = subst (λ cs. AreAdded (outcomes_of c.args.cells.now) (map (λ d. Total d c.args.year) cs) c.args.parts.now c.loop-category.parts true)
     (take_all c.loop-category.category-index c.args.categories.now c.loop-category-test.false) c.loop-category.invariant

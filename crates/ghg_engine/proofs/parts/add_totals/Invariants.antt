@@ -5,4 +5,4 @@ use Rattle.ghg_engine.specs.Parts.{AreAdded}
 use Rattle.ghg_engine.proofs.parts.add_totals.Given as goal
 
 abbrev pub invariant-loop-category : goal.invariant-loop-category
-invariant-loop-category l = AreAdded (outcomes_of l.cells) (map (λ c. Total c l.year) (take l.category-index l.categories)) l.initial.parts.items l.parts.items true
+invariant-loop-category l = AreAdded (outcomes_of l.cells) (map (λ c. Total c l.year) (take l.category-index l.categories)) l.initial.parts l.parts true

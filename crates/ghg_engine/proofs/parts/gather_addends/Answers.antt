@@ -12,10 +12,10 @@ returns-then-not-branch c =
     let cells = outcomes_of c.args.cells.now in
     let totals = map (λ d. Total d c.args.year) c.args.addends.now.categories.now in
     let own = nodes_for Equivalent c.args.addends.now.own.now c.args.year in
-    let parts = c.add_totals.new.parts.items in
-    all_added cells (addends_for c.args.addends.now c.args.year) c.clear.new.self.items parts false c.clear.ensures.items
-    (over_added cells totals own c.clear.new.self.items parts parts
-    (subst (AreAdded cells totals c.clear.new.self.items parts) c.if-not-branch.true c.in_ok-add_totals.ensures))
+    let parts = c.add_totals.new.parts in
+    all_added cells (addends_for c.args.addends.now c.args.year) c.clear.new.self parts false c.clear.ensures
+    (over_added cells totals own c.clear.new.self parts parts
+    (subst (AreAdded cells totals c.clear.new.self parts) c.if-not-branch.true c.in_ok-add_totals.ensures))
 
 pub returns : goal.returns
 returns c =
@@ -23,7 +23,7 @@ returns c =
     let totals = map (λ d. Total d c.args.year) c.args.addends.now.categories.now in
     let own = nodes_for Equivalent c.args.addends.now.own.now c.args.year in
     if_ok c.add_lines.result
-    (λ whole added. all_added cells (addends_for c.args.addends.now c.args.year) c.clear.new.self.items c.add_lines.new.parts.items whole c.clear.ensures.items
-    (more_added cells totals own c.clear.new.self.items c.add_totals.new.parts.items c.add_lines.new.parts.items whole
-    (subst (AreAdded cells totals c.clear.new.self.items c.add_totals.new.parts.items) c.if-not-branch.false c.in_ok-add_totals.ensures) added))
+    (λ whole added. all_added cells (addends_for c.args.addends.now c.args.year) c.clear.new.self c.add_lines.new.parts whole c.clear.ensures
+    (more_added cells totals own c.clear.new.self c.add_totals.new.parts c.add_lines.new.parts whole
+    (subst (AreAdded cells totals c.clear.new.self c.add_totals.new.parts) c.if-not-branch.false c.in_ok-add_totals.ensures) added))
     c.add_lines.ensures

@@ -6,4 +6,4 @@ use Rattle.ghg_engine.specs.Parts.{AreAdded, counts_in, nodes_for}
 use Rattle.ghg_engine.proofs.parts.gather_counted.Given as goal
 
 abbrev pub invariant-loop-name : goal.invariant-loop-name
-invariant-loop-name g l = AreAdded (outcomes_of l.cells) (nodes_for Equivalent (names_at (counts_in l.top) (g.R.Records.content l.records) (take l.name-index l.names)) l.year) [] l.parts.items true
+invariant-loop-name g l = AreAdded (outcomes_of l.cells) (nodes_for Equivalent (names_at (counts_in l.top) (g.R.Records.content l.records) (take l.name-index l.names)) l.year) [] l.parts true

@@ -7,5 +7,5 @@ use Rattle.ghg_engine.proofs.parts.gather_parts.Goals as goal
 pub returns : goal.returns
 returns c = if_ok c.add_lines.result
     (λ whole. all_added (outcomes_of c.args.cells.now) (nodes_for c.args.part c.args.names.now c.args.year)
-    c.clear.new.self.items c.add_lines.new.parts.items whole c.clear.ensures.items)
+    c.clear.new.self c.add_lines.new.parts whole c.clear.ensures)
     c.add_lines.ensures

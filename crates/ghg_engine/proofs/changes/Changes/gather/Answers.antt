@@ -1,15 +1,15 @@
 use Rattle.std.proofs.Common.{map}
 use Rattle.ghg_units.specs.declared.node.Node.TheVariants.{Equiv, Total}
 use Rattle.ghg_definitions.specs.Compilation.{compilation}
-use Rattle.ghg_engine.specs.Cells.{cell_at}
 use Rattle.ghg_engine.specs.Parts.{addends_for}
+use Rattle.ghg_engine.specs.Fresh.{fresh_at}
 use Rattle.ghg_engine.proofs.Answered.{if_ok}
 use Rattle.ghg_engine.proofs.Changed.{all_changes, more_changes}
 use Rattle.ghg_engine.proofs.changes.Changes.gather.Goals as goal
 
 pub returns : goal.returns
 returns g c =
-    let fresh = cell_at c.args.cells.now.fresh in
+    let fresh = fresh_at c.args.cells.now.fresh in
     let before = compilation (g.C.Cells.content c.args.before.now) in
     let a = c.args.addends.now in
     let year = c.args.year in

@@ -1,0 +1,148 @@
+//! Columns of series that have numbers.
+
+ghost use Rattle.std.specs.Prelude.{◌≡◌, ◌++◌, ◌∷◌, [], None, IfNone, IfOk, IfSome, Ok, OnOk, Some};
+ghost use Rattle.ghg_engine.specs.Cells.{IsPut};
+ghost use Rattle.ghg_engine.specs.Numbered.{HaveOneNumber, in_numbered, run_of, series_at};
+
+use crate::column::Column;
+use crate::series::{Series, year_of};
+use ghg_cell::Value;
+use ghg_units::Node;
+use std::alloc::{AllocError, Global};
+use std::collections::BTreeMap;
+use std::marker::Model;
+
+/// Years for which a column gets room at once, if it begins with the first of them.
+#[derive(Clone, Copy, Drop)]
+pub(crate) struct Room {
+    pub(crate) first: u32,
+    pub(crate) last: u32,
+}
+
+impl Room {
+    // The last year for which a column that begins with a year gets room.
+    fn last_from(&self, year: u32) -> u32 {
+        if year == self.first { self.last } else { year }
+    }
+}
+
+/// A series and its values.
+#[derive(Drop)]
+pub(crate) struct SeriesColumn {
+    pub(crate) series: Series,
+    pub(crate) column: Column,
+}
+
+/// The columns of series, which have the numbers from zero on in the order in which they were put first. A
+/// right guess at the number of a series spares the search for it. Contracts see the columns in that order.
+#[derive(Drop)]
+pub(crate) struct NumberedColumns {
+    alloc: Global,
+    columns: Vec<SeriesColumn>,
+    numbers: BTreeMap<Series, usize>,
+    // The number of the series that is likely to be written next.
+    next: usize,
+    room: Room,
+}
+
+impl Model for NumberedColumns {
+    ghost use Rattle.std.specs.Prelude.{List};
+    ghost use Rattle.ghg_engine.specs.declared.numbered.SeriesColumn.{SeriesColumn};
+    ghost use Rattle.ghg_engine.specs.Numbered.{AreNumbered};
+
+    ghost Value = { List SeriesColumn };
+
+    ghost view = { λ c. c.columns.items };
+
+    ghost invariant = { λ c. AreNumbered c.columns.items c.numbers };
+}
+
+impl NumberedColumns {
+    /// No columns. It takes no memory.
+    pub(crate) fn new(alloc: Global, room: Room) -> NumberedColumns
+        ensures { result ≡ [] }
+    {
+        NumberedColumns {
+            alloc,
+            columns: Vec::new(alloc),
+            numbers: BTreeMap::new(alloc),
+            next: 0,
+            room,
+        }
+    }
+
+    /// The value of a node, if its series has one in its year. The guess at the number of the series is put
+    /// right, if the series has a number.
+    pub(crate) fn get(&self, node: &Node, guess: &mut usize) -> Option<&Value>
+        ensures none { IfNone result (in_numbered self.now node.now ≡ None) }
+        ensures value { IfSome result (λ value. in_numbered self.now node.now ≡ Some (Ok value.now)) }
+    {
+        let number = self.number(&Series::of(node), *guess)?;
+        *guess = number;
+        self.columns[number].column.get(year_of(node))
+    }
+
+    /// Puts a value into the column of its node, if it has the year or has it next. Else the value is handed
+    /// back. A series that has a number, and is put in the order of the numbers, costs no search.
+    pub(crate) fn put(&mut self, node: &Node, value: Value) -> Result<Option<Value>, AllocError>
+        ensures { IfOk result (IsPut (in_numbered self.old) (in_numbered self.new) node.now value) }
+    {
+        let series = Series::of(node);
+        let Some(number) = self.number(&series, self.next) else {
+            self.add(&series, year_of(node), value)?;
+            return Ok(None);
+        };
+        self.begin_behind(number);
+        self.columns[number].column.put(year_of(node), value)
+    }
+
+    /// The columns, in the order of their numbers.
+    pub(crate) fn into_columns(self) -> Vec<SeriesColumn>
+        ensures columns { result.items ≡ self }
+        ensures numbers { HaveOneNumber result.items }
+    {
+        self.columns
+    }
+
+    // The number of a series.
+    fn number(&self, series: &Series, guess: usize) -> Option<usize>
+        ensures none { IfNone result (run_of self.now series.now ≡ None) }
+        ensures number { IfSome result (λ i. series_at self.now i ≡ Some series.now) }
+    {
+        match self.columns.get(guess) {
+            Some(held) if held.series.cmp(series).is_eq() => Some(guess),
+            _ => self.numbers.get(series).copied(),
+        }
+    }
+
+    // The series behind a number is likely to be written next, or the first one behind the last.
+    fn begin_behind(&mut self, number: usize)
+        ensures { self.new ≡ self.old }
+    {
+        let next = number.saturating_add(1);
+        self.next = if next < self.columns.len() { next } else { 0 };
+    }
+
+    // Gives a series without a number the next one, and a value of one year.
+    fn add(&mut self, series: &Series, year: u32, value: Value) -> Result<(), AllocError>
+        requires { run_of self.old series.now ≡ None }
+        ensures { OnOk result (self.new ≡ self.old ++ record {
+          series = series.now;
+          column = record { first = year; values = value ∷ [] };
+        } ∷ []) }
+    {
+        let column = Column::of(self.alloc, year, value, self.room.last_from(year))?;
+        let number = self.columns.len();
+        self.columns.push(SeriesColumn {
+            series: *series,
+            column,
+        })?;
+        match self.numbers.insert(*series, number) {
+            Ok(_) => Ok(()),
+            Err(error) => {
+                self.columns.pop();
+                Err(error.into())
+            }
+        }
+    }
+}
