@@ -14,7 +14,7 @@ use Rattle.ghg_engine.specs.declared.refusal.EngineRefusal.{EngineRefusal}
 use Rattle.ghg_engine.specs.declared.refusal.EngineRefusal.TheVariants as refusal
 use Rattle.ghg_engine.specs.Cells.{cell_at, found_in}
 use Rattle.ghg_engine.specs.Compiled.{AreOfLines, IsCompiled}
-use Rattle.ghg_engine.specs.Layouts.{IsLayout}
+use Rattle.ghg_engine.specs.Layouts.{IsChangedLayout}
 
 -- the edits were planned on the book as it stands, and leave no ring
 pub record IsArranged (engine : EngineView) (edits : List Change) : Type 0 where
@@ -36,7 +36,7 @@ pub record IsProposed (engine : EngineView) (proposal : Proposal) : Type 0 where
   pub compiled : IsCompiled (applied engine.content proposal.edits)
       (found_in (cell_at proposal.fresh) (compilation engine.content))
   pub of_lines : AreOfLines (applied engine.content proposal.edits) (cell_at proposal.fresh)
-  pub laid : IsLayout (applied engine.content proposal.edits) proposal.layout
+  pub laid : IsChangedLayout engine.content proposal.edits proposal.changed
   pub cells : proposal.cells ≡ length (affected_nodes engine.content (applied engine.content proposal.edits))
   pub room : engine.room ≡ 1
 

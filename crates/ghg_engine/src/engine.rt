@@ -7,10 +7,10 @@ ghost use Rattle.ghg_units.specs.WellFormed.{IsWellFormed};
 ghost use Rattle.ghg_definitions.specs.Compilation.{compilation, overflow, sheet_of};
 ghost use Rattle.ghg_definitions.specs.Containment.{HoldsExactValues};
 ghost use Rattle.ghg_definitions.specs.Rows.{after};
-ghost use Rattle.ghg_definitions.specs.Rules.{arranged};
+ghost use Rattle.ghg_definitions.specs.Rules.{arranged, planned};
 ghost use Rattle.ghg_definitions.specs.Trials.{IsCompilation, value_of};
 ghost use Rattle.ghg_data.specs.Changes.{AreOfRows, applied};
-ghost use Rattle.ghg_data.specs.Refusal.{IfRule};
+ghost use Rattle.ghg_data.specs.Refusal.{IfRule, IsPlanOf};
 ghost use Rattle.ghg_data.specs.Shelf.{IsPlanned};
 ghost use Rattle.ghg_definitions.specs.Rings.{IsAcyclic};
 ghost use Rattle.ghg_affected.specs.Affected.{affected_nodes};
@@ -32,6 +32,7 @@ use ghg_cell::{Value, take};
 use ghg_data::{Book, Edits, PlanRefusal, after};
 use ghg_graph::{
     CycleRefusal, affected, are_entries, are_of_figures, check_acyclic, entered_order,
+    indexes_have_takers,
 };
 use ghg_steps::Steps;
 use ghg_units::{Node, Row, Rule};
@@ -49,7 +50,7 @@ pub struct Engine {
     settled: bool,
     // Some of the cells may be of nodes that there are no more: of years that have left the inventory.
     cells: Cells,
-    // That of the book. None where a proposal that took it was dropped, or where memory ran out while it grew.
+    // That of the book. None while a proposal has it, or where memory ran out as it grew.
     layout: Option<Layout>,
 }
 
@@ -135,7 +136,7 @@ impl Engine {
         ensures few { IfOk result (AreOfRows rows.now) }
         ensures ready { IfOk result (IsArranged self.new) }
     {
-        let edits = match self.book.plan(alloc, rows, rest, kept_bytes) {
+        let edits = match plan_edits(alloc, &mut self.book, &self.layout, rows, rest, kept_bytes) {
             Ok(edits) => edits,
             Err(refusal) => return Err(refusal),
         };
@@ -151,8 +152,9 @@ impl Engine {
 
     /// The compilation of the book with edits that were planned on it as it stands; or the least node that is
     /// beyond the limits, while none of its inputs is. It spends at most one step for each node that the
-    /// edits affect. The book and the outcomes of its nodes stay with every answer; only room is made. A proposal
-    /// takes the order of the lines and their groups with it: if it is dropped, the next one makes them anew.
+    /// edits affect. The book and the outcomes of its nodes stay with every answer; only room is made. A
+    /// proposal takes the order of the lines and their groups with it, until `accept` or `dismiss`: if it is
+    /// dropped otherwise, the next one makes them anew.
     pub fn propose<L: Ledger>(
         &mut self,
         alloc: Global,
@@ -173,7 +175,7 @@ impl Engine {
             Ok(Fresh { cells, count }) => Ok(Proposal {
                 edits,
                 fresh: cells,
-                layout: changed.layout,
+                changed,
                 cells: count,
             }),
             Err(refusal) => {
@@ -226,7 +228,7 @@ impl Engine {
         }
     }
 
-    // Takes back the layout that was taken out for edits which are refused.
+    // Takes back the layout that was taken out for edits which are not made.
     fn take_back(&mut self, edits: &Edits, changed: ChangedLayout)
         requires planned { IsPlanned (shelf_of self.old) edits.now }
         requires changed { IsChangedLayout self.old.content edits.now changed }
@@ -293,14 +295,51 @@ impl Engine {
         let Proposal {
             edits,
             fresh,
-            layout,
+            changed,
             ..
         } = proposal;
         drop_withdrawn(&mut self.cells, &self.book, &edits);
         self.book.commit(edits);
         self.front = fresh;
         self.settled = false;
-        self.layout = Some(layout);
+        self.layout = Some(changed.layout);
+    }
+
+    /// Drops a proposal that was made on this engine as it stands. The lines that it enters leave the order
+    /// of the lines and their groups again. It takes no memory, and has no error to answer.
+    pub fn dismiss(&mut self, proposal: Proposal)
+        requires { IsProposed self.old proposal }
+        ensures { self.new ≡ self.old }
+    {
+        let Proposal { edits, changed, .. } = proposal;
+        self.take_back(&edits, changed);
+    }
+}
+
+// What a book plans. Its layout tells which lines take one that is edited.
+fn plan_edits(
+    alloc: Global,
+    book: &mut Book,
+    layout: &Option<Layout>,
+    rows: &[Row],
+    rest: Option<Rule>,
+    kept_bytes: u64,
+) -> Result<Edits, PlanRefusal>
+    requires well_formed { AllByRecursion IsWellFormed rows.now }
+    requires layout { IfSome layout.now (IsLayout book.old.content) }
+    ensures kept { book.new.content ≡ book.old.content }
+    ensures planned { IsPlanOf (planned book.old.content rows.now rest kept_bytes) book.old.content result }
+    ensures after { IfOk result (λ edits. applied book.old.content edits ≡ after
+        book.old.content rows.now) }
+    ensures few { IfOk result (AreOfRows rows.now) }
+    ensures ready { IfOk result (IsPlanned book.new) }
+{
+    match layout {
+        Some(layout) => {
+            indexes_have_takers();
+            book.plan_with(alloc, rows, rest, kept_bytes, &layout.index)
+        }
+        None => book.plan(alloc, rows, rest, kept_bytes),
     }
 }
 

@@ -3,7 +3,7 @@
 ghost use Rattle.std.specs.Prelude.{◌≡◌};
 
 use crate::cells::Cells;
-use crate::layout::Layout;
+use crate::layout::ChangedLayout;
 use ghg_data::Edits;
 
 /// Edits, and what changes with them in the engine: the cells of the nodes that they affect, and the layout.
@@ -11,7 +11,7 @@ use ghg_data::Edits;
 pub struct Proposal {
     pub(crate) edits: Edits,
     pub(crate) fresh: Cells,
-    pub(crate) layout: Layout,
+    pub(crate) changed: ChangedLayout,
     pub(crate) cells: u64,
 }
 

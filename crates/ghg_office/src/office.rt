@@ -15,7 +15,7 @@ ghost use Rattle.ghg_office.specs.Sound.{IsSoundReply};
 use crate::accepted::Accepted;
 use crate::fault::OpenFault;
 use crate::id::SubmissionId;
-use crate::keeping::append_row;
+use crate::keeping::keep_body;
 use crate::proposing::prepare;
 use crate::reply::{Acceptance, Reply};
 use ghg_data::{Book, Records};
@@ -220,12 +220,18 @@ impl Office {
             (reply_of result ≡ Reply.KeeperFault) }
     {
         let proposal = prepare(&mut self.engine, &mut self.accepted, alloc, body, steps)?;
-        let kept = Text::new(Vec::from_slice(alloc, body)?);
-        append_row(keeper, stored, &id, body)?;
-        let cells = proposal.cells();
-        self.engine.accept(proposal);
-        let seq = self.accepted.push(id, kept);
-        Ok(Acceptance { seq, cells })
+        match keep_body(alloc, keeper, stored, &id, body) {
+            Ok(kept) => {
+                let cells = proposal.cells();
+                self.engine.accept(proposal);
+                let seq = self.accepted.push(id, kept);
+                Ok(Acceptance { seq, cells })
+            }
+            Err(reply) => {
+                self.engine.dismiss(proposal);
+                Err(reply)
+            }
+        }
     }
 
     /// Answers a request for a table of a year, printed from the compilation of the data in force.

@@ -47,9 +47,8 @@ pub(crate) fn prepare<L: Ledger>(
 {
     let rows = read_rows(alloc, body)?;
     let kept_bytes = accepted.kept_bytes() + body.len() as u64;
-    let proposal = propose(engine, alloc, rows, kept_bytes, steps)?;
     accepted.reserve()?;
-    Ok(proposal)
+    propose(engine, alloc, rows, kept_bytes, steps)
 }
 
 // The proposal that the rows of a body ask for, or the first rule that is broken. The records stay.

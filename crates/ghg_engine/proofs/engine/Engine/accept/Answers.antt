@@ -28,10 +28,10 @@ invariant_of-self c =
     let over = subst (λ m. IsCompiled (applied m edits) (found_in fresh (compilation m))) (sym is) c.requires.compiled in
     let ours = subst (λ m. AreOfLines (applied m edits) fresh) (sym is) c.requires.of_lines in
     let kept = settled_compiled old (cell_at c.self.inside.front) cells c.self.inside.settled (ap (λ s. s.room) c.self.view_is ∙ c.requires.room) c.self.invariant.2 c.self.invariant.0 in
-    let laid = c.requires.laid in (
+    let laid = c.requires.laid.is in (
       subst (λ m. IsCompiled m (found_in fresh left)) (sym c.commit.ensures)
           (compiled_alike new (found_in fresh cells) (found_in fresh left) (λ n node. ap (option_or (fresh n)) (c.drop_withdrawn.ensures.kept n node)) (front_compiled old new cells fresh kept over)),
-      subst (λ m. IsLayout m c.args.proposal.layout) (ap (λ m. applied m edits) (sym is) ∙ sym c.commit.ensures) laid,
+      subst (λ m. IsLayout m c.args.proposal.changed.layout) (ap (λ m. applied m edits) (sym is) ∙ sym c.commit.ensures) laid,
       λ e. absurd (not_settled e),
       subst (λ m. AreOfLines m (found_in fresh left)) (sym c.commit.ensures) (both_of_lines new fresh left ours c.drop_withdrawn.ensures.of_lines),
     )

@@ -19,14 +19,14 @@ returns-in-Err-clause-planned c =
 
 pub returns-in-Ok-check_edits-clause-planned : goal.returns-in-Ok-check_edits-clause-planned
 returns-in-Ok-check_edits-clause-planned c =
-    let kept = ap (λ m. applied m c.in-Ok.edits) c.plan.ensures.kept in
+    let kept = ap (λ m. applied m c.in-Ok.edits) c.plan_edits.ensures.kept in
     subst (λ m. arranged m c.args.rows.now c.args.rest c.args.kept_bytes ≡ Ok (applied m c.in-Ok.edits)) (ap (λ s. s.content) c.self.view_is)
     (acyclic_arranged c.self.inside.book.content c.args.rows.now c.args.rest c.args.kept_bytes (applied c.self.inside.book.content c.in-Ok.edits) (subst IsWorkbook kept c.in-Ok.ensures.ready.workbook) c.in-Ok.ensures.planned (subst IsAcyclic kept c.in-Ok-check_edits.ensures))
 
 pub returns-in-Err-Ring-clause-planned : goal.returns-in-Err-Ring-clause-planned
 returns-in-Err-Ring-clause-planned c =
-    let kept = ap (λ m. applied m c.in-Ok.edits) c.plan.ensures.kept in
-    let made = applied c.plan.new.self.content c.in-Ok.edits in
+    let kept = ap (λ m. applied m c.in-Ok.edits) c.plan_edits.ensures.kept in
+    let made = applied c.plan_edits.new.book.content c.in-Ok.edits in
     let named = subst (IfRing (IsLeastRingOf made)) c.in-Err-Ring.field-0-is c.in-Err-Ring.ensures in
     let ring : IsLeastRing (applied c.self.inside.book.content c.in-Ok.edits) c.least.result (drop 1 c.in-Err-Ring.ring) = subst (λ m. IsLeastRing m c.least.result (drop 1 c.in-Err-Ring.ring)) kept (subst (IsLeastRingOf made) c.least.ensures named) in
     subst (λ m. arranged m c.args.rows.now c.args.rest c.args.kept_bytes ≡ Err (Cycle c.least.result)) (ap (λ s. s.content) c.self.view_is)
@@ -35,7 +35,7 @@ returns-in-Err-Ring-clause-planned c =
 pub returns-then-are_of_figures-clause-planned : goal.returns-then-are_of_figures-clause-planned
 returns-then-are_of_figures-clause-planned c =
     let old = c.self.inside.book.content in
-    let kept = ap (λ m. applied m c.in-Ok.edits) c.plan.ensures.kept in
+    let kept = ap (λ m. applied m c.in-Ok.edits) c.plan_edits.ensures.kept in
     subst (λ m. arranged m c.args.rows.now c.args.rest c.args.kept_bytes ≡ Ok (applied m c.in-Ok.edits)) (ap (λ s. s.content) c.self.view_is)
     (acyclic_arranged old c.args.rows.now c.args.rest c.args.kept_bytes (applied old c.in-Ok.edits) (subst IsWorkbook kept c.in-Ok.ensures.ready.workbook) c.in-Ok.ensures.planned
     (stays_acyclic old (applied old c.in-Ok.edits) (differ_in_figures old c.in-Ok.edits (sym c.are_of_figures.ensures ∙ c.if-are_of_figures.true)) c.self.invariant.0.acyclic))
@@ -45,9 +45,9 @@ returns-then-are_of_figures-clause-ready c =
     let old = c.self.inside.book.content in
     record {
       planned = c.in-Ok.ensures.ready;
-      acyclic = subst (λ m. IsAcyclic (applied m c.in-Ok.edits)) (sym c.plan.ensures.kept)
+      acyclic = subst (λ m. IsAcyclic (applied m c.in-Ok.edits)) (sym c.plan_edits.ensures.kept)
           (stays_acyclic old (applied old c.in-Ok.edits) (differ_in_figures old c.in-Ok.edits (sym c.are_of_figures.ensures ∙ c.if-are_of_figures.true)) c.self.invariant.0.acyclic);
     }
 
 pub check_edits-requires-clause-acyclic : goal.check_edits-requires-clause-acyclic
-check_edits-requires-clause-acyclic c = subst IsAcyclic (sym c.plan.ensures.kept) c.self.invariant.0.acyclic
+check_edits-requires-clause-acyclic c = subst IsAcyclic (sym c.plan_edits.ensures.kept) c.self.invariant.0.acyclic
