@@ -1,5 +1,5 @@
-//! Tests of an office over a keeper: how many nodes a submission affects, and that what was accepted is
-//! repeated by an office that is reopened.
+//! Tests of an office over a keeper: how many nodes a submission affects, that what was accepted is repeated
+//! by an office that is reopened, and that what the keeper did not take can be submitted again.
 //!
 //! They stand in a crate of their own, above the office and the kit's `sqlite`.
 #![tactic(auto)]
@@ -8,3 +8,5 @@
 mod counted;
 #[cfg(test)]
 mod reopened;
+#[cfg(test)]
+mod unkept;

@@ -346,13 +346,15 @@ fn totals_take_equivalents_which_weigh_lines(rt: HostRuntime) {
     );
 }
 
-// Plans, proposes and accepts rows, with steps of a new ledger. An error has the node that is over, if any.
-fn accept_with<L: Ledger>(
+// Plans and proposes rows, with steps of a new ledger, and accepts or dismisses the proposal: how many nodes
+// they affect. An error has the node that is over, if any.
+fn settle_with<L: Ledger>(
     blank: Blank,
     alloc: Global,
     engine: &mut Engine,
     rows: &[Row],
-) -> Result<(), Option<Node>>
+    accepted: bool,
+) -> Result<u64, Option<Node>>
     requires rows { AllByRecursion IsWellFormed rows.now }
     requires name { blank.name ≡ L.name }
     requires parts { blank.parts ≡ L.parts }
@@ -363,24 +365,34 @@ fn accept_with<L: Ledger>(
     };
     match engine.propose(alloc, edits, &mut Steps::<L>::new(blank)) {
         Ok(proposal) => {
-            engine.accept(proposal);
-            Ok(())
+            let cells = proposal.cells();
+            if accepted {
+                engine.accept(proposal);
+            } else {
+                engine.dismiss(proposal);
+            }
+            Ok(cells)
         }
         Err(EngineRefusal::Overflow(node)) => Err(Some(node)),
         Err(EngineRefusal::Memory) => Err(None),
     }
 }
 
-fn accept(alloc: Global, engine: &mut Engine, rows: &[Row]) -> Result<(), Option<Node>>
+fn settle(
+    alloc: Global,
+    engine: &mut Engine,
+    rows: &[Row],
+    accepted: bool,
+) -> Result<u64, Option<Node>>
     requires { AllByRecursion IsWellFormed rows.now }
 {
-    accept_with::<Brand>(Blank::new(1), alloc, engine, rows)
+    settle_with::<Brand>(Blank::new(1), alloc, engine, rows, accepted)
 }
 
 /// Submits rows that break no rule.
 pub(crate) fn enter(rt: &impl Abort, alloc: Global, engine: &mut Engine, rows: &str) {
     let read = read(rt, alloc, rows);
-    check(rt, accept(alloc, engine, &read.rows).is_ok(), rows);
+    check(rt, settle(alloc, engine, &read.rows, true).is_ok(), rows);
 }
 
 // A kind of node.
@@ -479,7 +491,7 @@ const CASES: &[(&[Submission], &[NodeValue])] = &[
 fn submits(rt: &impl Abort, alloc: Global, engine: &mut Engine, submission: &Submission) -> bool {
     let (rows, over) = *submission;
     let read = read(rt, alloc, rows);
-    let answer = accept(alloc, engine, &read.rows);
+    let answer = settle(alloc, engine, &read.rows, true);
     match over {
         Some((kind, of, year)) => answer == Err(node(kind, of, year)),
         None => answer.is_ok(),
@@ -511,6 +523,182 @@ fn nodes_have_their_values(rt: HostRuntime) {
             &mut Engine::new(rt.alloc()),
             submissions,
             values,
+        );
+    }
+}
+
+// The energy of a fuel, and a boiler that burns it with the factor of the plant.
+const FUEL_AND_BOILER: &str =
+    "enter,line,1A2,FUEL.TJ,,Q13,,,,\nenter,bind,FUEL.TJ,FM,,activity,FUEL.T,,,\n\
+    enter,bind,FUEL.TJ,NCV,,factor,FUEL.NCV,,,\nenter,activity,,FUEL.T,1990,1000,,,t,\n\
+    enter,factor,,FUEL.NCV,1990,25,,,TJ/Gg,\nenter,line,1A2,BOILER,,Q10,,,,\n\
+    enter,bind,BOILER,FC,,line,FUEL.TJ,,,\nenter,bind,BOILER,EF,,factor,GAS.EF,,,\n";
+
+const GAS: &str = "correct,factor,,GAS.EF,1990,56000,,,kg/TJ,\n";
+
+const FUEL: &str = "correct,activity,,FUEL.T,1990,2000,,,t,\n";
+
+// Rows to one engine in turn, whether their proposal is accepted, and how many nodes they affect.
+const PROPOSALS: &[(&str, bool, u64)] = &[
+    // In each of two years 76 categories, the gross total, a line and its equivalent.
+    (PLANT, true, 2 * 79),
+    // In each year two lines, the equivalent of the boiler, the totals 1A2, 1A, 1 and 0, and the gross total.
+    (FUEL_AND_BOILER, false, 2 * 8),
+    // The plant, its equivalent, the totals 1A1a, 1A1, 1A, 1 and 0, and the gross total.
+    (GAS, false, 2 * 8),
+    (FUEL_AND_BOILER, true, 2 * 8),
+    // The boiler, its equivalent and the total 1A2 besides.
+    (GAS, true, 2 * 11),
+    // In 1990 what the entered lines affect in each year.
+    (FUEL, true, 8),
+];
+
+// 2000 t of 25 TJ/Gg are 50 TJ, which at 56 t of CO2 for each TJ emit 2.8 Gg; 1000 TJ emit 56 Gg.
+const PROPOSED: &[NodeValue] = &[
+    (Kind::Line, "FUEL.TJ", 1990, "50"),
+    (Kind::Line, "BOILER", 1990, "2.8"),
+    (Kind::Line, "BOILER", 1991, "NE"),
+    (Kind::Line, "ELEC.GAS", 1990, "56"),
+];
+
+fn check_proposals(rt: &impl Abort, alloc: Global, engine: &mut Engine) {
+    for (rows, accepted, count) in PROPOSALS {
+        let read = read(rt, alloc, rows);
+        let cells = settle(alloc, engine, &read.rows, *accepted);
+        check(rt, cells == Ok(*count), rows);
+    }
+    for value in PROPOSED {
+        check(rt, has_value(engine, value), value.1);
+    }
+}
+
+#[test]
+fn a_dismissed_proposal_may_come_again(rt: HostRuntime) {
+    check_proposals(&rt, rt.alloc(), &mut Engine::new(rt.alloc()));
+}
+
+// The energy of a mass of fuel, and a balance of energies that takes it by two of its parameters.
+const HUB: &str = "enter,span,,,1990,1991,1990,,,\nenter,line,1A1a,HUB,,Q13,,,,\n\
+    enter,bind,HUB,FM,,key,NO,,,\nenter,bind,HUB,NCV,,key,NO,,,\nenter,line,1A1a,TWICE,,Q22,,,,\n\
+    enter,bind,TWICE,PR,,key,NO,,,\nenter,bind,TWICE,IM,,line,HUB,,,\n\
+    enter,bind,TWICE,EX,,prev,HUB,,,\nenter,bind,TWICE,IB,,key,NO,,,\n\
+    enter,bind,TWICE,SC,,key,NO,,,\n";
+
+// Another energy, and lines that take the first of the year before, and in a sum.
+const TAKERS: &str = "enter,line,1A1a,OTHER,,Q13,,,,\nenter,bind,OTHER,FM,,key,NO,,,\n\
+    enter,bind,OTHER,NCV,,key,NO,,,\nenter,line,1A1a,BY.PREV,,Q10,,,,\n\
+    enter,bind,BY.PREV,FC,,prev,HUB,,,\nenter,bind,BY.PREV,EF,,key,NO,,,\n\
+    enter,line,1A1a,BY.SUM,,Q10,,,,\nenter,bind,BY.SUM,FC,,sum,OTHER HUB,,,\n\
+    enter,bind,BY.SUM,EF,,key,NO,,,\n";
+
+const BARE: &str = "withdraw,line,,HUB,,,,,,\n";
+
+const BOUND: &str = "withdraw,bind,HUB,FM,,,,,,\nwithdraw,bind,HUB,NCV,,,,,,\n";
+
+const PREV: &str = "correct,bind,BY.PREV,FC,,prev,OTHER,,,\n";
+
+const SUM: &str = "correct,bind,BY.SUM,FC,,sum,OTHER,,,\n";
+
+const EXPORTS: &str = "correct,bind,TWICE,EX,,key,NO,,,\n";
+
+const IMPORTS: &str = "correct,bind,TWICE,IM,,key,NO,,,\n";
+
+const OTHER: &str = "withdraw,line,,OTHER,,,,,,\n";
+
+// Rows, and their refusal; with no text they are accepted.
+type Withdrawal = (&'static [&'static str], &'static str);
+
+// Rows that enter lines, and then rows that withdraw one that others take: the least place is that of the
+// least line, and of its least parameter.
+const WITHDRAWALS: &[(&[&str], &[Withdrawal])] = &[
+    // Four bindings take the line, one less than there are lines.
+    (
+        &[HUB, TAKERS],
+        &[
+            (&[BARE], "10 BadBinding BY.PREV FC"),
+            (&[BARE, BOUND], "10 BadBinding BY.PREV FC"),
+            (&[BARE, BOUND, PREV], "10 BadBinding BY.SUM FC"),
+            (&[BARE, PREV, SUM], "10 BadBinding HUB FM"),
+            (&[BARE, BOUND, PREV, SUM], "10 BadBinding TWICE EX"),
+            (&[BARE, BOUND, PREV, SUM, EXPORTS], "10 BadBinding TWICE IM"),
+            (&[PREV, SUM, EXPORTS, IMPORTS, BARE, BOUND], ""),
+            (&[OTHER], "10 BadBinding BY.PREV FC"),
+        ],
+    ),
+    // Two bindings take it, as many as there are lines.
+    (
+        &[HUB],
+        &[
+            (&[BARE], "10 BadBinding HUB FM"),
+            (&[BARE, BOUND], "10 BadBinding TWICE EX"),
+            (&[BARE, BOUND, EXPORTS], "10 BadBinding TWICE IM"),
+            (&[BARE, BOUND, EXPORTS, IMPORTS], ""),
+        ],
+    ),
+];
+
+// What these rows together say.
+fn read_all(rt: &impl Abort, alloc: Global, pieces: &[&str]) -> Rows
+    ensures { AllByRecursion IsWellFormed result.rows.items }
+{
+    let mut text = Vec::new(alloc);
+    for piece in pieces {
+        let appended = text.extend_from_slice(piece.as_bytes());
+        check(rt, appended.is_ok(), "memory");
+    }
+    read(rt, alloc, word(&text))
+}
+
+// The rule by which an engine refuses rows; no text where they break none.
+fn planned(rt: &impl Abort, alloc: Global, engine: &mut Engine, rows: &[Row]) -> Vec<u8>
+    requires { AllByRecursion IsWellFormed rows.now }
+{
+    let mut text = Vec::new(alloc);
+    match engine.plan(alloc, rows, None, 0) {
+        Ok(edits) => drop(edits),
+        Err(PlanRefusal::Rule(rule)) => check(rt, append_rule(&mut text, &rule).is_ok(), "memory"),
+        Err(PlanRefusal::Memory) => check(rt, false, "memory"),
+    }
+    text
+}
+
+fn check_withdrawal(rt: &impl Abort, alloc: Global, engine: &mut Engine, withdrawal: &Withdrawal) {
+    let (pieces, want) = *withdrawal;
+    let read = read_all(rt, alloc, pieces);
+    let refusal = planned(rt, alloc, engine, &read.rows);
+    check(rt, word(&refusal) == want, want);
+    if want.is_empty() {
+        check(
+            rt,
+            settle(alloc, engine, &read.rows, true).is_ok(),
+            "a withdrawal",
+        );
+    }
+}
+
+fn check_withdrawals(
+    rt: &impl Abort,
+    alloc: Global,
+    engine: &mut Engine,
+    entered: &[&str],
+    withdrawals: &[Withdrawal],
+) {
+    let read = read_all(rt, alloc, entered);
+    check(rt, settle(alloc, engine, &read.rows, true).is_ok(), "lines");
+    for withdrawal in withdrawals {
+        check_withdrawal(rt, alloc, engine, withdrawal);
+    }
+}
+
+#[test]
+fn a_line_that_others_take_stays(rt: HostRuntime) {
+    for (entered, withdrawals) in WITHDRAWALS {
+        check_withdrawals(
+            &rt,
+            rt.alloc(),
+            &mut Engine::new(rt.alloc()),
+            entered,
+            withdrawals,
         );
     }
 }
