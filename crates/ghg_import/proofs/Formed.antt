@@ -56,22 +56,26 @@ use Rattle.ghg_import.proofs.Sums.{sum_formed}
 -- ---- steps
 
 -- what holds of each result of what follows holds of both
-reads : {A B : Type 0} (o : Option A) (f : A → Option B) (P : B → Type 0) → ((a : A) → o ≡ Some a → IfSome (f a) P) → IfSome (option_and_then f o) P
+pub reads : {A B : Type 0} (o : Option A) (f : A → Option B) (P : B → Type 0)
+    → ((a : A) → o ≡ Some a → IfSome (f a) P) → IfSome (option_and_then f o) P
 reads (Some a) f P k = k a refl
 reads None f P k = tt
 
 -- the same of what keeps Q
-keeps : {A B : Type 0} (o : Option A) (Q : A → Type 0) → IfSome o Q → (f : A → Option B) (P : B → Type 0) → ((a : A) → Q a → IfSome (f a) P) → IfSome (option_and_then f o) P
+pub keeps : {A B : Type 0} (o : Option A) (Q : A → Type 0) → IfSome o Q → (f : A → Option B)
+    (P : B → Type 0) → ((a : A) → Q a → IfSome (f a) P) → IfSome (option_and_then f o) P
 keeps (Some a) Q good f P k = k a good
 keeps None Q good f P k = tt
 
 -- of a test
-passes : {A : Type 0} (b : Bool) (x : A) (P : A → Type 0) → (b ≡ true → P x) → IfSome (if b then Some x else None) P
+pub passes : {A : Type 0} (b : Bool) (x : A) (P : A → Type 0) → (b ≡ true → P x)
+    → IfSome (if b then Some x else None) P
 passes true x P k = k refl
 passes false x P k = tt
 
 -- of another value
-mapped : {A B : Type 0} (f : A → B) (o : Option A) (P : B → Type 0) → ((a : A) → o ≡ Some a → P (f a)) → IfSome (option_map f o) P
+pub mapped : {A B : Type 0} (f : A → B) (o : Option A) (P : B → Type 0)
+    → ((a : A) → o ≡ Some a → P (f a)) → IfSome (option_map f o) P
 mapped f (Some a) P k = k a refl
 mapped f None P k = tt
 
@@ -175,7 +179,7 @@ half_life_formed text years e = by (number_in 2 text) e
         let to = (and_parts (nat_le 1 y) (nat_le y longest_half_life) parts.0).1 in
         subst IsHalfLife parts.1 (leb-true _ _ from, leb-true _ _ to)
 
-abbrev says_years : Manner → Bool
+abbrev pub says_years : Manner → Bool
 says_years Withdraws = false
 says_years InYears = true
 says_years Keyed = false
@@ -263,7 +267,7 @@ uncertainties_formed row =
 
 -- ---- forms
 
-abbrev is_away : Manner → Bool
+abbrev pub is_away : Manner → Bool
 is_away Withdraws = true
 is_away InYears = false
 is_away Keyed = false
@@ -283,13 +287,14 @@ stays_in_years true key = refl
 stays_in_years false true = refl
 stays_in_years false false = refl
 
-away : (kind : Kind) (act : Act) (row : Texts) → is_away (manner_of kind act row) ≡ withdraws act
+pub away : (kind : Kind) (act : Act) (row : Texts) → is_away (manner_of kind act row) ≡ withdraws act
 away k Withdraw row = refl
 away k Enter row = stays_here (is_in_years k (unit_in row.unit)) (is_some (key_in row.value))
 away k Correct row = stays_here (is_in_years k (unit_in row.unit)) (is_some (key_in row.value))
 
 -- a row holds a half-life exactly where its kind and unit do, unless it withdraws
-in_years : (kind : Kind) (act : Act) (row : Texts) → is_away (manner_of kind act row) ≡ false → says_years (manner_of kind act row) ≡ is_in_years kind (unit_in row.unit)
+pub in_years : (kind : Kind) (act : Act) (row : Texts) → is_away (manner_of kind act row) ≡ false
+    → says_years (manner_of kind act row) ≡ is_in_years kind (unit_in row.unit)
 in_years k Withdraw row here = absurd (cc)
 in_years k Enter row here = stays_in_years (is_in_years k (unit_in row.unit)) (is_some (key_in row.value))
 in_years k Correct row here = stays_in_years (is_in_years k (unit_in row.unit)) (is_some (key_in row.value))

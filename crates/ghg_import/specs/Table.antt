@@ -143,3 +143,25 @@ wrong_among h c row =
 
 unfoldable pub wrong_column : Kind → Chosen → Texts → Option Fault
 wrong_column kind c row = wrong_among (holdings_of kind c.manner) c row
+
+-- ---- what a row's content does not tell
+
+-- a column is empty if it should be, and a bound does not stand alone
+abbrev pub says_no_more_in : Holding → Texts → List ℕ → Bool
+says_no_more_in Empty row text = length text == 0
+says_no_more_in NoBound row text = length text == 0
+says_no_more_in Bound row text =
+    if length row.low == 0 then length row.high == 0 else not (length row.high == 0)
+says_no_more_in _ row text = true
+
+-- the same of each column that the kind decides
+abbrev pub say_no_more : Holdings → Texts → Bool
+say_no_more h row =
+    says_no_more_in h.subject row row.subject && says_no_more_in h.name row row.name
+    && says_no_more_in h.year row row.year && says_no_more_in h.value row row.value
+    && says_no_more_in h.low row row.low && says_no_more_in h.high row row.high
+    && says_no_more_in h.unit row row.unit
+
+-- the same of a row of a kind
+abbrev pub says_no_more : Kind → Manner → Texts → Bool
+says_no_more kind manner row = say_no_more (holdings_of kind manner) row

@@ -108,10 +108,14 @@ fn field(row: &ByteRecord, place: usize) -> &[u8]
     }
 }
 
-// Whether each field is UTF-8.
+// Whether each field is UTF-8, as it is where the whole record is ASCII.
+#[tactic(auto, using(crate::proofs::Ascii::ascii_is_text))]
 fn is_text(row: &ByteRecord) -> bool
     ensures { result ≡ is_text (fields_of row.now) }
 {
+    if row.as_slice().is_ascii() {
+        return true;
+    }
     for place in 0..row.len() {
         if !is_text_alone(field(row, place)) {
             return false;

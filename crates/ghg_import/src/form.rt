@@ -1,6 +1,7 @@
 //! What a row says, where none of its columns is wrong.
 
 ghost use Rattle.std.specs.Prelude.{◌≡◌, IfOk};
+ghost use Rattle.ghg_units.specs.Units.{unit_in};
 ghost use Rattle.ghg_import.specs.declared.kind.Kind.TheVariants as kinds;
 ghost use Rattle.ghg_import.specs.Content.{amount_in, bound_in, content_of, figure_in, form_in, known_in, line_in, span_in, uncertainties_in, unless_withdrawn};
 ghost use Rattle.ghg_import.specs.Fault.{Gives};
@@ -13,7 +14,7 @@ use crate::columns::Columns;
 use crate::fault::{Fault, ReadError};
 use crate::kind::{BindingForm, Chosen, Kind, Manner, binding_form_named, kind_named};
 use crate::sum::names_named;
-use crate::table::{leaf_named, quantity, wrong_column};
+use crate::table::{leaf_named, quantity, says_no_more, wrong_column};
 use ghg_categories::Category;
 use ghg_equations::{Dim, EqId, eq_named};
 use ghg_units::{
@@ -33,33 +34,36 @@ pub(crate) fn content(alloc: Global, row: Columns<'_>) -> Result<(Act, RowForm),
     Ok((act, form))
 }
 
-// A wrong column, else disorder, else the content.
+// A wrong column, else disorder, else the content. Where the row has a content, no text in a column that
+// should be empty, and no bound alone, no column is wrong, and they are not gone through one by one.
 #[tactic(auto, unfolding(crate::specs::Content::form_of))]
 fn form(alloc: Global, kind: Kind, act: Act, row: Columns<'_>) -> Result<RowForm, ReadError>
     ensures { Gives result (form_in kind act (texts row.entry)) }
 {
     let binding = binding_named(alloc, row)?;
+    let unit = unit_named(row.unit);
     let chosen = Chosen {
-        manner: manner_of(kind, act, row),
-        unit: unit_named(row.unit),
+        manner: manner_of(kind, act, unit, row),
+        unit,
         binds: binding.is_some(),
     };
-    if let Some(fault) = wrong_column(kind, chosen, row) {
-        return Err(ReadError::Fault(fault));
-    }
     match content_of(kind, chosen, row, binding) {
-        Some(form) => Ok(form),
-        None => Err(ReadError::Fault(Fault::Disorder)),
+        Some(form) if says_no_more(kind, chosen.manner, row) => Ok(form),
+        form => match wrong_column(kind, chosen, row) {
+            Some(fault) => Err(ReadError::Fault(fault)),
+            None => form.ok_or(ReadError::Fault(Fault::Disorder)),
+        },
     }
 }
 
 // How a row is filled.
-fn manner_of(kind: Kind, act: Act, row: Columns<'_>) -> Manner
+fn manner_of(kind: Kind, act: Act, unit: Option<Unit>, row: Columns<'_>) -> Manner
+    requires { unit ≡ unit_in (texts row).unit }
     ensures { result ≡ manner_of kind act (texts row.entry) }
 {
     if act == Act::Withdraw {
         Manner::Withdraws
-    } else if is_in_years(kind, unit_named(row.unit)) {
+    } else if is_in_years(kind, unit) {
         Manner::InYears
     } else if key_named(row.value).is_some() {
         Manner::Keyed

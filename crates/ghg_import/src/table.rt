@@ -3,7 +3,7 @@
 ghost use Rattle.std.specs.Prelude.{◌≡◌, find};
 ghost use Rattle.ghg_import.specs.Forms.{leaf_in, quantity_in};
 ghost use Rattle.ghg_import.specs.Shape.{texts};
-ghost use Rattle.ghg_import.specs.Table.{columns_of, decided, holding_at, holdings_of, is_held, is_number, is_quantity, is_wrong_number, is_wrong_word, wrong_among, wrong_column};
+ghost use Rattle.ghg_import.specs.Table.{columns_of, decided, holding_at, holdings_of, is_held, is_number, is_quantity, is_wrong_number, is_wrong_word, says_no_more, says_no_more_in, wrong_among, wrong_column};
 
 use crate::columns::Columns;
 use crate::fault::Fault;
@@ -299,4 +299,30 @@ pub(crate) fn wrong_column(kind: Kind, chosen: Chosen, row: Columns<'_>) -> Opti
             None => None,
         },
     }
+}
+
+// Whether a column is empty if it should be, and a bound does not stand alone. What another column holds, the
+// row's content tells.
+fn says_no_more_in(holding: Holding, row: Columns<'_>, text: &[u8]) -> bool
+    ensures { result ≡ says_no_more_in holding (texts row.entry) text.now }
+{
+    match holding {
+        Holding::Empty | Holding::NoBound => text.is_empty(),
+        Holding::Bound => row.low.is_empty() == row.high.is_empty(),
+        _ => true,
+    }
+}
+
+/// Whether no column that should be empty has a text, and no bound stands alone.
+pub(crate) fn says_no_more(kind: Kind, manner: Manner, row: Columns<'_>) -> bool
+    ensures { result ≡ says_no_more kind manner (texts row.entry) }
+{
+    let holdings = holdings_of(kind, manner);
+    says_no_more_in(holdings.subject, row, row.subject)
+        && says_no_more_in(holdings.name, row, row.name)
+        && says_no_more_in(holdings.year, row, row.year)
+        && says_no_more_in(holdings.value, row, row.value)
+        && says_no_more_in(holdings.low, row, row.low)
+        && says_no_more_in(holdings.high, row, row.high)
+        && says_no_more_in(holdings.unit, row, row.unit)
 }
