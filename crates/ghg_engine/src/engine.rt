@@ -50,7 +50,8 @@ pub struct Engine {
     settled: bool,
     // Some of the cells may be of nodes that there are no more: of years that have left the inventory.
     cells: Cells,
-    // That of the book. None while a proposal has it, or where memory ran out as it grew.
+    // That of the book. None while a proposal has it, after one that was neither accepted nor dismissed, or
+    // where memory ran out as it grew.
     layout: Option<Layout>,
 }
 
