@@ -15,6 +15,7 @@ use ghg_run::run_counted;
 use ghg_session::Stop;
 use std::alloc::{AllocError, Global};
 use std::env::Args;
+use std::hash::RandomState;
 use std::io::{BufReader, ErrorKind};
 use std::marker::Brand;
 use std::process::ExitCode;
@@ -51,8 +52,12 @@ fn main(rt: HostRuntime) -> ExitCode {
     let Ok(reader) = BufReader::new(alloc, rt.reader()) else {
         return ExitCode::from(Stop::Memory.status());
     };
+    let Ok(hasher) = RandomState::new(&rt) else {
+        return ExitCode::from(Stop::Memory.status());
+    };
     let status = run_counted::<_, _, _, _, Brand>(
         alloc,
+        hasher,
         &words,
         &mut InputSource::new(reader),
         &mut OutputSink::new(io::writer(&rt)),

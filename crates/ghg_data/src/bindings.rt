@@ -374,7 +374,7 @@ fn consider_unsettled<T: LineTakers>(
         consider_lines(draft, least, holdings);
         return;
     }
-    let none = Edits::new(alloc);
+    let none = Edits::new(alloc, holdings.hasher());
     let before = Draft::of(holdings, &none);
     let bound = holdings.takers();
     consider_lost(&before, draft, least, bound, edits.series_put());

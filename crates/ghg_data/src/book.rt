@@ -24,6 +24,7 @@ use ghg_definitions::{Record, RecordKey};
 use ghg_interval::Interval;
 use ghg_units::{Name, Row, Rule, Span};
 use std::alloc::{AllocError, Global};
+use std::hash::RandomState;
 use std::marker::Model;
 
 /// The records of a workbook. Contracts see its data, and how many more changes fit without memory.
@@ -94,12 +95,12 @@ impl Records for Book {
 }
 
 impl Book {
-    /// A workbook without records. It takes no memory.
-    pub fn new(alloc: Global) -> Book
+    /// A workbook without records. Its maps hash with `hasher`. It takes no memory.
+    pub fn new(alloc: Global, hasher: RandomState) -> Book
         ensures { result.content ≡ finite.empty }
     {
         Book {
-            holdings: Holdings::new(alloc),
+            holdings: Holdings::new(alloc, hasher),
         }
     }
 

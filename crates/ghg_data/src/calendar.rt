@@ -14,11 +14,12 @@ use crate::year_set::YearSet;
 use ghg_definitions::RecordKey;
 use indexmap::IndexMap;
 use std::alloc::{AllocError, Global};
+use std::hash::RandomState;
 
 /// A column for each series that has any years, and room for more series.
 #[derive(Drop)]
 pub(crate) struct Calendar {
-    columns: IndexMap<Series, Column>,
+    columns: IndexMap<Series, Column, RandomState>,
     slot_room: SlotRoom,
     ghost none_empty: { EachHasAYear columns.entries },
 }
@@ -28,12 +29,12 @@ impl Calendar {
     ghost use Rattle.ghg_data.specs.Calendar.{HasNoNewPlace, HasSameDates, HasYearSet, IsNoted, IsPlaced, has_date, place_of};
 
     /// No years of any series. It takes no memory.
-    pub(crate) fn new(alloc: Global) -> Calendar
+    pub(crate) fn new(alloc: Global, hasher: RandomState) -> Calendar
         ensures dates { (s : Series) (y : ℕ) → has_date result s y ≡ false }
         ensures places { (s : Series) (y : ℕ) → place_of result s y ≡ None }
     {
         Calendar {
-            columns: IndexMap::new(alloc),
+            columns: IndexMap::with_hasher(alloc, hasher),
             slot_room: SlotRoom::new(alloc),
         }
     }

@@ -22,12 +22,13 @@ use ghg_definitions::{Record, RecordKey};
 use ghg_units::Name;
 use indexmap::IndexMap;
 use std::alloc::{AllocError, Global};
+use std::hash::RandomState;
 use std::marker::Model;
 
 /// Keys that are set or removed, each once, and room for them in their book.
 #[derive(Drop)]
 pub struct Edits {
-    changes: IndexMap<RecordKey, Option<Record>>,
+    changes: IndexMap<RecordKey, Option<Record>, RandomState>,
     // The dates that are set, and those that are removed.
     put: Calendar,
     taken: Calendar,
@@ -50,13 +51,13 @@ impl Model for Edits {
 
 impl Edits {
     /// No changes. It takes no memory.
-    pub(crate) fn new(alloc: Global) -> Edits
+    pub(crate) fn new(alloc: Global, hasher: RandomState) -> Edits
         ensures { result ≡ [] }
     {
         Edits {
-            changes: IndexMap::new(alloc),
-            put: Calendar::new(alloc),
-            taken: Calendar::new(alloc),
+            changes: IndexMap::with_hasher(alloc, hasher),
+            put: Calendar::new(alloc, hasher),
+            taken: Calendar::new(alloc, hasher),
         }
     }
 
@@ -170,7 +171,7 @@ impl Edits {
     }
 
     /// The changes themselves.
-    pub(crate) fn into_changes(self) -> IndexMap<RecordKey, Option<Record>>
+    pub(crate) fn into_changes(self) -> IndexMap<RecordKey, Option<Record>, RandomState>
         ensures { result.entries ≡ self }
     {
         let Edits { changes, .. } = self;

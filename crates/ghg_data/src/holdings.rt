@@ -31,13 +31,14 @@ use ghg_interval::Interval;
 use ghg_units::{Name, Span};
 use indexmap::IndexMap;
 use std::alloc::{AllocError, Global};
+use std::hash::RandomState;
 use std::marker::Model;
 
 /// Records by their keys with the names of the lines in order, the years and places of the records of each
 /// activity and factor, the bindings that take it and the brackets of half-lives, and room for more.
 #[derive(Drop)]
 pub(crate) struct Holdings {
-    records: IndexMap<RecordKey, Record>,
+    records: IndexMap<RecordKey, Record, RandomState>,
     lines: Vec<Name>,
     calendar: Calendar,
     takers: Takers,
@@ -71,16 +72,21 @@ impl Model for Holdings {
 
 impl Holdings {
     /// No records. It takes no memory.
-    pub(crate) fn new(alloc: Global) -> Holdings
+    pub(crate) fn new(alloc: Global, hasher: RandomState) -> Holdings
         ensures { result.content ≡ finite.empty }
     {
         Holdings {
-            records: IndexMap::new(alloc),
+            records: IndexMap::with_hasher(alloc, hasher),
             lines: Vec::new(alloc),
-            calendar: Calendar::new(alloc),
-            takers: Takers::new(alloc),
+            calendar: Calendar::new(alloc, hasher),
+            takers: Takers::new(alloc, hasher),
             brackets: Brackets::new(),
         }
+    }
+
+    /// What the maps hash with.
+    pub(crate) fn hasher(&self) -> RandomState {
+        *self.records.hasher()
     }
 
     /// The record under a key.
@@ -176,7 +182,7 @@ impl Holdings {
 // Makes room for the slots of new columns. If there are no slots for the years of the inventory after the
 // edits, all slots are made anew, for its years before and after.
 fn reserve_slots(
-    records: &IndexMap<RecordKey, Record>,
+    records: &IndexMap<RecordKey, Record, RandomState>,
     calendar: &mut Calendar,
     edits: &Edits,
     before: Window,
@@ -208,7 +214,7 @@ fn count_new(calendar: &Calendar, edits: &Edits) -> usize {
 
 // Gives columns slots for the years of a window, with the places of the records.
 fn make_slots(
-    records: &IndexMap<RecordKey, Record>,
+    records: &IndexMap<RecordKey, Record, RandomState>,
     calendar: &mut Calendar,
     window: Window,
 ) -> Result<(), AllocError>
@@ -228,10 +234,10 @@ fn make_slots(
 
 // Makes the changes of records, and notes their years and places and what they take. It takes no memory.
 fn change_records(
-    records: &mut IndexMap<RecordKey, Record>,
+    records: &mut IndexMap<RecordKey, Record, RandomState>,
     calendar: &mut Calendar,
     takers: &mut Takers,
-    mut changes: IndexMap<RecordKey, Option<Record>>,
+    mut changes: IndexMap<RecordKey, Option<Record>, RandomState>,
 )
     requires room { length changes.entries ≤ spare records.old }
     requires years_room { length changes.entries ≤ spare calendar.old.columns }
@@ -264,7 +270,7 @@ fn change_records(
 
 // Gives a key a record. Answers what the one that it had took.
 fn put_record(
-    records: &mut IndexMap<RecordKey, Record>,
+    records: &mut IndexMap<RecordKey, Record, RandomState>,
     calendar: &mut Calendar,
     key: RecordKey,
     entry: Record,
@@ -288,7 +294,7 @@ fn put_record(
 
 // Takes the record of a key. Answers what it took. The last one comes to stand in its place.
 fn take_record(
-    records: &mut IndexMap<RecordKey, Record>,
+    records: &mut IndexMap<RecordKey, Record, RandomState>,
     calendar: &mut Calendar,
     key: &RecordKey,
 ) -> Option<Series>

@@ -19,7 +19,7 @@ use ghg_definitions::{Record, RecordKey};
 use ghg_units::Binding;
 use indexmap::IndexMap;
 use std::alloc::{AllocError, Global};
-use std::hash::Hash;
+use std::hash::{Hash, RandomState};
 
 /// The key of a binding that takes an activity or a factor.
 #[derive(Clone, Copy, PartialEq, Eq, Hash, Drop)]
@@ -61,9 +61,9 @@ impl Numbered {
 /// numbers from zero on.
 #[derive(Drop)]
 pub(crate) struct Takers {
-    keys: IndexMap<Numbered, RecordKey>,
-    numbers: IndexMap<Taker, usize>,
-    counts: IndexMap<Series, usize>,
+    keys: IndexMap<Numbered, RecordKey, RandomState>,
+    numbers: IndexMap<Taker, usize, RandomState>,
+    counts: IndexMap<Series, usize, RandomState>,
     ghost no_gap: { HasNoGap keys.entries counts.entries },
     ghost own_numbers: { HasOwnNumbers keys.entries numbers.entries counts.entries },
 }
@@ -73,13 +73,13 @@ impl Takers {
     ghost use Rattle.ghg_data.specs.Takers.{count_of, key_at, room};
 
     /// No takers. It takes no memory.
-    pub(crate) fn new(alloc: Global) -> Takers
+    pub(crate) fn new(alloc: Global, hasher: RandomState) -> Takers
         ensures { (s : Series) (k : RecordKey) → ¬ IsTaker result s k }
     {
         Takers {
-            keys: IndexMap::new(alloc),
-            numbers: IndexMap::new(alloc),
-            counts: IndexMap::new(alloc),
+            keys: IndexMap::with_hasher(alloc, hasher),
+            numbers: IndexMap::with_hasher(alloc, hasher),
+            counts: IndexMap::with_hasher(alloc, hasher),
         }
     }
 
@@ -188,7 +188,7 @@ impl Takers {
 }
 
 // Writes how many takers a series has. It has some before.
-fn set_count(counts: &mut IndexMap<Series, usize>, series: &Series, count: usize)
+fn set_count(counts: &mut IndexMap<Series, usize, RandomState>, series: &Series, count: usize)
     requires { 0 < counted counts.old.entries series.now }
     ensures counts { (s : Series) → counted counts.new.entries s ≡ cond (same_series series.now s) count
         (counted counts.old.entries s) }
@@ -202,7 +202,7 @@ fn set_count(counts: &mut IndexMap<Series, usize>, series: &Series, count: usize
 }
 
 // Writes the value of a key that is there.
-fn replace<K: Eq + Hash, V: Copy>(map: &mut IndexMap<K, V>, key: &K, value: V)
+fn replace<K: Eq + Hash, V: Copy>(map: &mut IndexMap<K, V, RandomState>, key: &K, value: V)
     ensures values { (q : K) → index.get K.eq map.new q ≡ cond (K.eq key.now q)
         (option_map (λ _. value) (index.get K.eq map.old q)) (index.get K.eq map.old q) }
     ensures room { spare map.old ≤ spare map.new }

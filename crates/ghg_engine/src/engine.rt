@@ -37,6 +37,7 @@ use ghg_graph::{
 use ghg_steps::Steps;
 use ghg_units::{Node, Row, Rule};
 use std::alloc::{AllocError, Global};
+use std::hash::RandomState;
 use std::marker::Model;
 use std::sync::ledger::Ledger;
 
@@ -97,12 +98,12 @@ impl ghg_graph::Cells for Engine {
 }
 
 impl Engine {
-    /// A workbook without records. It takes no memory.
-    pub fn new(alloc: Global) -> Engine
+    /// A workbook without records. Its maps hash with `hasher`. It takes no memory.
+    pub fn new(alloc: Global, hasher: RandomState) -> Engine
         ensures { result.content ≡ finite.empty }
     {
         Engine {
-            book: Book::new(alloc),
+            book: Book::new(alloc, hasher),
             front: Cells::new(alloc),
             settled: true,
             cells: Cells::new(alloc),

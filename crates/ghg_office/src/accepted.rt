@@ -8,6 +8,7 @@ use crate::id::SubmissionId;
 use ghg_units::Text;
 use indexmap::IndexMap;
 use std::alloc::{AllocError, Global};
+use std::hash::RandomState;
 use std::marker::Model;
 
 /// The bodies of the accepted submissions under their ids, in the order in which they were accepted.
@@ -15,7 +16,7 @@ use std::marker::Model;
 /// Contracts see the list of rows, and how many more fit without memory.
 #[derive(Drop)]
 pub(crate) struct Accepted {
-    bodies: IndexMap<SubmissionId, Text>,
+    bodies: IndexMap<SubmissionId, Text, RandomState>,
     // The sum of the lengths of the bodies.
     bytes: u64,
 }
@@ -39,12 +40,12 @@ impl Model for Accepted {
 }
 
 impl Accepted {
-    /// No submission. It takes no memory.
-    pub(crate) fn new(alloc: Global) -> Accepted
+    /// No submission. The map hashes with `hasher`. It takes no memory.
+    pub(crate) fn new(alloc: Global, hasher: RandomState) -> Accepted
         ensures { result.list ≡ [] }
     {
         Accepted {
-            bodies: IndexMap::new(alloc),
+            bodies: IndexMap::with_hasher(alloc, hasher),
             bytes: 0,
         }
     }

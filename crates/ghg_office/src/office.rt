@@ -27,6 +27,7 @@ use ghg_steps::Steps;
 use ghg_tables::{print, table_named};
 use ghg_units::{Rule, Text};
 use std::alloc::Global;
+use std::hash::RandomState;
 use std::marker::Model;
 use std::sync::ledger::Ledger;
 
@@ -49,13 +50,13 @@ impl Model for Office {
 }
 
 impl Office {
-    /// An office with no data and no submissions. It takes no memory.
-    pub fn new(alloc: Global) -> Office
+    /// An office with no data and no submissions. Its maps hash with `hasher`. It takes no memory.
+    pub fn new(alloc: Global, hasher: RandomState) -> Office
         ensures { result ≡ start }
     {
         Office {
-            engine: Engine::new(alloc),
-            accepted: Accepted::new(alloc),
+            engine: Engine::new(alloc, hasher),
+            accepted: Accepted::new(alloc, hasher),
         }
     }
 
@@ -64,6 +65,7 @@ impl Office {
     /// The keeper's rows, and the name in use, are as before with every answer.
     pub fn reopen<K: Keeper, L: Ledger>(
         alloc: Global,
+        hasher: RandomState,
         keeper: &mut K,
         steps: &mut Steps<L>,
     ) -> Result<Office, OpenFault>
@@ -80,7 +82,7 @@ impl Office {
         ensures in_force { IfOk result IsInForce }
     {
         let count = keeper.count()?;
-        let mut office = Office::new(alloc);
+        let mut office = Office::new(alloc, hasher);
         for done in 0..count {
             let row = keeper.row(done + 1)?;
             office.replay(alloc, done + 1, row, steps)?;

@@ -21,6 +21,7 @@ use ghg_session::{answer_script, write_all};
 use ghg_steps::Steps;
 use ghg_words::{Command, Service, StoreName, read_command};
 use std::alloc::Global;
+use std::hash::RandomState;
 use std::sync::ledger::{Blank, Ledger};
 
 /// Does what the words ask for, and answers the status that the program ends with.
@@ -43,6 +44,7 @@ use std::sync::ledger::{Blank, Ledger};
 /// | 9 | a kept submission is refused |
 pub fn run<S: Source, W: Sink, K: Keeper, D: Door, L: Ledger>(
     alloc: Global,
+    hasher: RandomState,
     words: &[String],
     input: &mut S,
     out: &mut W,
@@ -64,9 +66,9 @@ pub fn run<S: Source, W: Sink, K: Keeper, D: Door, L: Ledger>(
 {
     match read_command(words) {
         Some(Command::Compile(settings)) => {
-            compile(alloc, &settings.store, input, out, keeper, steps)
+            compile(alloc, hasher, &settings.store, input, out, keeper, steps)
         }
-        Some(Command::Serve(service)) => serve(alloc, &service, out, keeper, door, steps),
+        Some(Command::Serve(service)) => serve(alloc, hasher, &service, out, keeper, door, steps),
         None => match write_all(out, BAD_COMMAND_LINE) {
             Ok(()) => 2,
             Err(stop) => stop.status(),
@@ -79,6 +81,7 @@ const BAD_COMMAND_LINE: &[u8] = b"bad command line\n";
 /// Does what the words ask for, as [`run`] does, and counts the steps in a new ledger.
 pub fn run_counted<S: Source, W: Sink, K: Keeper, D: Door, L: Ledger>(
     alloc: Global,
+    hasher: RandomState,
     words: &[String],
     input: &mut S,
     out: &mut W,
@@ -99,12 +102,13 @@ pub fn run_counted<S: Source, W: Sink, K: Keeper, D: Door, L: Ledger>(
     ensures unopened { opens_door (asked_for words.now) ≡ false → door.new ≡ door.old }
 {
     let mut steps = Steps::<L>::new(blank);
-    run(alloc, words, input, out, keeper, door, &mut steps)
+    run(alloc, hasher, words, input, out, keeper, door, &mut steps)
 }
 
 // Answers the script that the input holds. With a store, its rows are replayed first.
 fn compile<S: Source, W: Sink, K: Keeper, L: Ledger>(
     alloc: Global,
+    hasher: RandomState,
     store: &Option<StoreName<'_>>,
     input: &mut S,
     out: &mut W,
@@ -123,8 +127,16 @@ fn compile<S: Source, W: Sink, K: Keeper, L: Ledger>(
     ensures unkept { store.now ≡ None → keeper.new ≡ keeper.old }
 {
     match store {
-        None => answer(alloc, input, out, Office::new(alloc), keeper, false, steps),
-        Some(name) => match open_store(alloc, name.as_str(), out, keeper, steps) {
+        None => answer(
+            alloc,
+            input,
+            out,
+            Office::new(alloc, hasher),
+            keeper,
+            false,
+            steps,
+        ),
+        Some(name) => match open_store(alloc, hasher, name.as_str(), out, keeper, steps) {
             Ok(office) => answer(alloc, input, out, office, keeper, true, steps),
             Err(status) => status,
         },
@@ -134,6 +146,7 @@ fn compile<S: Source, W: Sink, K: Keeper, L: Ledger>(
 // Serves as many connections as are asked for. With a store, its rows are replayed first.
 fn serve<W: Sink, K: Keeper, D: Door, L: Ledger>(
     alloc: Global,
+    hasher: RandomState,
     service: &Service<'_>,
     out: &mut W,
     keeper: &mut K,
@@ -157,8 +170,15 @@ fn serve<W: Sink, K: Keeper, D: Door, L: Ledger>(
     ensures unkept { service.now.settings.store ≡ None → keeper.new ≡ keeper.old }
 {
     match &service.settings.store {
-        None => serve_office(alloc, service, Office::new(alloc), keeper, door, steps),
-        Some(name) => match open_store(alloc, name.as_str(), out, keeper, steps) {
+        None => serve_office(
+            alloc,
+            service,
+            Office::new(alloc, hasher),
+            keeper,
+            door,
+            steps,
+        ),
+        Some(name) => match open_store(alloc, hasher, name.as_str(), out, keeper, steps) {
             Ok(office) => serve_office(alloc, service, office, keeper, door, steps),
             Err(status) => status,
         },

@@ -14,6 +14,7 @@ use ghg_outer::Sink;
 use ghg_session::{Stop, write_all};
 use ghg_steps::Steps;
 use std::alloc::{AllocError, Global};
+use std::hash::RandomState;
 use std::sync::ledger::Ledger;
 
 /// Makes the named store the one in use, and replays its rows.
@@ -22,6 +23,7 @@ use std::sync::ledger::Ledger;
 /// which was reported then, and else 5, 6 or 8.
 pub fn open_store<W: Sink, K: Keeper, L: Ledger>(
     alloc: Global,
+    hasher: RandomState,
     name: &str,
     out: &mut W,
     keeper: &mut K,
@@ -43,7 +45,7 @@ pub fn open_store<W: Sink, K: Keeper, L: Ledger>(
         Err(KeepError::Failed) => return Err(Stop::Keeper.status()),
         Err(KeepError::Memory) => return Err(Stop::Memory.status()),
     }
-    match Office::reopen(alloc, keeper, steps) {
+    match Office::reopen(alloc, hasher, keeper, steps) {
         Ok(office) => Ok(office),
         Err(OpenFault::Kept { seq, reply }) => Err(refuse_row(alloc, out, seq, &reply)),
         Err(OpenFault::KeeperFault) => Err(Stop::Keeper.status()),

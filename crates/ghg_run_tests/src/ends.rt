@@ -9,13 +9,16 @@ use ghg_office::Office;
 use ghg_outer::MemoryLink;
 use ghg_steps::Steps;
 use std::alloc::{AllocError, Global};
+use std::hash::RandomState;
 use std::marker::Brand;
 use std::process::Abort;
+use std::random::RandomSource;
 use std::sync::ledger::{Blank, Ledger};
 use std::test::Fail;
 
 fn end_with<L: Ledger>(
     alloc: Global,
+    hasher: RandomState,
     blank: Blank,
     link: &mut MemoryLink,
 ) -> Result<LinkEnd, AllocError>
@@ -24,7 +27,7 @@ fn end_with<L: Ledger>(
     requires some { 0 < blank.parts }
 {
     let router = routes(alloc)?;
-    let mut office = Office::new(alloc);
+    let mut office = Office::new(alloc, hasher);
     let mut keeper = SteadyKeeper::new(alloc);
     let mut steps = Steps::<L>::new(blank);
     Ok(serve_one(
@@ -38,21 +41,25 @@ fn end_with<L: Ledger>(
     ))
 }
 
-fn end_of(alloc: Global, link: &mut MemoryLink) -> Result<LinkEnd, AllocError> {
-    end_with::<Brand>(alloc, Blank::new(1), link)
+fn end_of(
+    alloc: Global,
+    hasher: RandomState,
+    link: &mut MemoryLink,
+) -> Result<LinkEnd, AllocError> {
+    end_with::<Brand>(alloc, hasher, Blank::new(1), link)
 }
 
 // Serves a link with these bytes, on which the call of this number fails, or none where it is 0, and compares
 // its end.
 fn check(
-    rt: &(impl Abort + AllocGlobal),
+    rt: &(impl Abort + AllocGlobal + RandomSource),
     bytes: &str,
     failing: u64,
     end: LinkEnd,
 ) -> Result<(), Fail> {
     let alloc = rt.alloc();
     let mut link = link(alloc, bytes, failing)?;
-    let ended = end_of(alloc, &mut link)?;
+    let ended = end_of(alloc, RandomState::new(rt)?, &mut link)?;
     assert_eq!(rt; ended, end);
     Ok(())
 }

@@ -6,8 +6,10 @@ use ghg_keeper::{Keeper, KeptRow, MemoryKeeper};
 use ghg_outer::{MemoryDoor, MemorySink, MemorySource};
 use ghg_run::run_counted;
 use std::alloc::{AllocError, Global};
+use std::hash::RandomState;
 use std::marker::Brand;
 use std::process::Abort;
+use std::random::RandomSource;
 use std::sync::ledger::Blank;
 use std::test::Fail;
 
@@ -48,7 +50,7 @@ const FIRST: &str = "act,kind,subject,name,year,value,low,high,unit,note\n";
 const SCRIPT: &str =
     "SUBMIT a 52\nact,kind,subject,name,year,value,low,high,unit,note\nSHOW cells 1990\nEND\n";
 
-fn check(rt: &(impl Abort + AllocGlobal), case: &Case) -> Result<(), Fail> {
+fn check(rt: &(impl Abort + AllocGlobal + RandomSource), case: &Case) -> Result<(), Fail> {
     let alloc = rt.alloc();
     let words = words_of(alloc, case.words)?;
     let text = case.input.as_bytes().to_vec(alloc)?;
@@ -59,6 +61,7 @@ fn check(rt: &(impl Abort + AllocGlobal), case: &Case) -> Result<(), Fail> {
     let mut door = MemoryDoor::new(alloc, Vec::new(alloc), Vec::new(alloc));
     let status = run_counted::<_, _, _, _, Brand>(
         alloc,
+        RandomState::new(rt)?,
         &words,
         &mut input,
         &mut out,

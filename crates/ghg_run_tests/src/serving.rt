@@ -9,8 +9,10 @@ use ghg_keeper::{Keeper, SteadyKeeper};
 use ghg_outer::{MemoryDoor, MemoryLink, MemorySink, MemorySource};
 use ghg_run::run_counted;
 use std::alloc::{AllocError, Global};
+use std::hash::RandomState;
 use std::marker::Brand;
 use std::process::Abort;
+use std::random::RandomSource;
 use std::sync::ledger::Blank;
 use std::test::Fail;
 
@@ -39,7 +41,7 @@ pub(crate) fn link(alloc: Global, request: &str, failing: u64) -> Result<MemoryL
 
 // Serves these links, and compares the status and what was written on each link that was taken back.
 fn check<K: Keeper>(
-    rt: &(impl Abort + AllocGlobal),
+    rt: &(impl Abort + AllocGlobal + RandomSource),
     words: &str,
     links: Vec<MemoryLink>,
     keeper: &mut K,
@@ -55,6 +57,7 @@ fn check<K: Keeper>(
     let mut door = MemoryDoor::new(alloc, links, Vec::new(alloc));
     let ended = run_counted::<_, _, _, _, Brand>(
         alloc,
+        RandomState::new(rt)?,
         &words,
         &mut input,
         &mut out,

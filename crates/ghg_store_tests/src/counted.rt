@@ -7,9 +7,12 @@ use ghg_keeper::{Keeper, SteadyKeeper};
 use ghg_office::{Office, Reply};
 use ghg_steps::Steps;
 use std::alloc::{AllocError, Global};
+use std::hash::RandomState;
 use std::marker::Brand;
 use std::process::Abort;
+use std::random::RandomSource;
 use std::sync::ledger::{Blank, Ledger};
+use std::test::Fail;
 
 const HEAD: &[u8] = b"act,kind,subject,name,year,value,low,high,unit,note\n";
 
@@ -260,13 +263,20 @@ fn counts<K: Keeper, L: Ledger>(
 }
 
 // Fails the test where the case does not hold, and shows its rows.
-fn check<K: Keeper>(rt: &(impl Abort + AllocGlobal), keeper: &mut K, case: &Case) {
-    let holds = check_with::<K, Brand>(rt.alloc(), Blank::new(1), keeper, case);
+fn check<K: Keeper>(
+    rt: &(impl Abort + AllocGlobal + RandomSource),
+    keeper: &mut K,
+    case: &Case,
+) -> Result<(), Fail> {
+    let hasher = RandomState::new(rt)?;
+    let holds = check_with::<K, Brand>(rt.alloc(), hasher, Blank::new(1), keeper, case);
     assert!(rt; holds, "{}", case.rows);
+    Ok(())
 }
 
 fn check_with<K: Keeper, L: Ledger>(
     alloc: Global,
+    hasher: RandomState,
     blank: Blank,
     keeper: &mut K,
     case: &Case,
@@ -275,17 +285,18 @@ fn check_with<K: Keeper, L: Ledger>(
     requires parts { blank.parts ≡ L.parts }
     requires some { 0 < blank.parts }
 {
-    let mut office = Office::new(alloc);
+    let mut office = Office::new(alloc, hasher);
     let mut steps = Steps::<L>::new(blank);
     counts(alloc, &mut office, keeper, &mut steps, case)
 }
 
 #[test]
-fn affected_nodes_are_counted(rt: HostRuntime) {
+fn affected_nodes_are_counted(rt: HostRuntime) -> Result<(), Fail> {
     let mut keeper = SteadyKeeper::new(rt.alloc());
     for case in CASES {
-        check(&rt, &mut keeper, case);
+        check(&rt, &mut keeper, case)?;
     }
+    Ok(())
 }
 
 // The reply to a submission. Where it repeats another, no step is spent.
@@ -303,12 +314,17 @@ fn repeat<K: Keeper, L: Ledger>(
 }
 
 // Whether a submission is accepted, and then repeated. The contract of `repeat` says that no step is spent.
-fn is_repeated<K: Keeper, L: Ledger>(alloc: Global, blank: Blank, keeper: &mut K) -> bool
+fn is_repeated<K: Keeper, L: Ledger>(
+    alloc: Global,
+    hasher: RandomState,
+    blank: Blank,
+    keeper: &mut K,
+) -> bool
     requires name { blank.name ≡ L.name }
     requires parts { blank.parts ≡ L.parts }
     requires some { 0 < blank.parts }
 {
-    let mut office = Office::new(alloc);
+    let mut office = Office::new(alloc, hasher);
     let mut steps = Steps::<L>::new(blank);
     let Ok(body) = body_of(alloc, SHARED, 1) else {
         return false;
@@ -321,8 +337,10 @@ fn is_repeated<K: Keeper, L: Ledger>(alloc: Global, blank: Blank, keeper: &mut K
 }
 
 #[test]
-fn a_repeat_spends_no_step(rt: HostRuntime) {
+fn a_repeat_spends_no_step(rt: HostRuntime) -> Result<(), Fail> {
     let mut keeper = SteadyKeeper::new(rt.alloc());
-    let holds = is_repeated::<SteadyKeeper, Brand>(rt.alloc(), Blank::new(1), &mut keeper);
+    let hasher = RandomState::new(&rt)?;
+    let holds = is_repeated::<SteadyKeeper, Brand>(rt.alloc(), hasher, Blank::new(1), &mut keeper);
     assert!(rt; holds);
+    Ok(())
 }

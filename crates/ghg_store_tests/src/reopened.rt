@@ -10,8 +10,10 @@ use ghg_office::{Office, Reply};
 use ghg_steps::Steps;
 use sqlite::{Connection, MemStore};
 use std::alloc::{AllocError, Global};
+use std::hash::RandomState;
 use std::marker::Brand;
 use std::process::Abort;
+use std::random::RandomSource;
 use std::sync::ledger::{Blank, Ledger};
 use std::test::Fail;
 
@@ -24,10 +26,11 @@ const PLANT: &[u8] = b"act,kind,subject,name,year,value,low,high,unit,note\n\
 // The reply to the plant, from the office that the keeper's rows lead to.
 fn submit<K: Keeper, L: Ledger>(
     alloc: Global,
+    hasher: RandomState,
     keeper: &mut K,
     steps: &mut Steps<L>,
 ) -> Option<Reply> {
-    match Office::reopen(alloc, keeper, steps) {
+    match Office::reopen(alloc, hasher, keeper, steps) {
         Ok(mut office) => Some(office.submit(alloc, b"plant", PLANT, keeper, true, steps)),
         Err(_) => None,
     }
@@ -37,32 +40,44 @@ fn submit<K: Keeper, L: Ledger>(
 // end.
 fn keeps_the_plant<K: Keeper, L: Ledger>(
     alloc: Global,
+    hasher: RandomState,
     keeper: &mut K,
     steps: &mut Steps<L>,
 ) -> bool {
     if keeper.attach("s").is_err() {
         return false;
     }
-    let first = submit(alloc, keeper, steps);
-    let again = submit(alloc, keeper, steps);
+    let first = submit(alloc, hasher, keeper, steps);
+    let again = submit(alloc, hasher, keeper, steps);
     matches!(first, Some(Reply::Accepted { seq: 1, cells: 158 }))
         && matches!(again, Some(Reply::Repeated { seq: 1 }))
         && keeper.count() == Ok(1)
 }
 
 // Fails the test where the plant is not kept, and says over which keeper.
-fn check<K: Keeper>(rt: &(impl Abort + AllocGlobal), keeper: &mut K, form: &str) {
-    let kept = check_with::<K, Brand>(rt.alloc(), Blank::new(1), keeper);
+fn check<K: Keeper>(
+    rt: &(impl Abort + AllocGlobal + RandomSource),
+    keeper: &mut K,
+    form: &str,
+) -> Result<(), Fail> {
+    let hasher = RandomState::new(rt)?;
+    let kept = check_with::<K, Brand>(rt.alloc(), hasher, Blank::new(1), keeper);
     assert!(rt; kept, "{form}");
+    Ok(())
 }
 
-fn check_with<K: Keeper, L: Ledger>(alloc: Global, blank: Blank, keeper: &mut K) -> bool
+fn check_with<K: Keeper, L: Ledger>(
+    alloc: Global,
+    hasher: RandomState,
+    blank: Blank,
+    keeper: &mut K,
+) -> bool
     requires name { blank.name ≡ L.name }
     requires parts { blank.parts ≡ L.parts }
     requires some { 0 < blank.parts }
 {
     let mut steps = Steps::<L>::new(blank);
-    keeps_the_plant(alloc, keeper, &mut steps)
+    keeps_the_plant(alloc, hasher, keeper, &mut steps)
 }
 
 // A keeper over a database in memory.
@@ -71,16 +86,15 @@ fn over_memory(alloc: Global) -> Result<SqlKeeper<MemStore>, AllocError> {
 }
 
 #[test]
-fn rows_in_memory(rt: HostRuntime) {
+fn rows_in_memory(rt: HostRuntime) -> Result<(), Fail> {
     let alloc = rt.alloc();
-    check(&rt, &mut SteadyKeeper::new(alloc), "without faults");
+    check(&rt, &mut SteadyKeeper::new(alloc), "without faults")?;
     let mut keeper = MemoryKeeper::new(alloc, Vec::new(alloc), Vec::new(alloc));
-    check(&rt, &mut keeper, "with a list of faults");
+    check(&rt, &mut keeper, "with a list of faults")
 }
 
 #[test]
 fn a_table_in_memory(rt: HostRuntime) -> Result<(), Fail> {
     let mut keeper = over_memory(rt.alloc())?;
-    check(&rt, &mut keeper, "a table");
-    Ok(())
+    check(&rt, &mut keeper, "a table")
 }

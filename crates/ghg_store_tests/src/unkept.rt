@@ -9,8 +9,10 @@ use ghg_keeper::{Keeper, MemoryKeeper};
 use ghg_office::{Office, Reply};
 use ghg_steps::Steps;
 use std::alloc::Global;
+use std::hash::RandomState;
 use std::marker::Brand;
 use std::process::Abort;
+use std::random::RandomSource;
 use std::sync::ledger::{Blank, Ledger};
 use std::test::Fail;
 
@@ -34,8 +36,13 @@ const FUEL: &[u8] = b"act,kind,subject,name,year,value,low,high,unit,note\n\
     correct,activity,,FUEL.T,1990,2000,,,t,\n";
 
 // Whether the replies to these submissions are as they should be, and whether the rows are kept.
-fn comes_again<K: Keeper, L: Ledger>(alloc: Global, keeper: &mut K, steps: &mut Steps<L>) -> bool {
-    let Ok(mut office) = Office::reopen(alloc, keeper, steps) else {
+fn comes_again<K: Keeper, L: Ledger>(
+    alloc: Global,
+    hasher: RandomState,
+    keeper: &mut K,
+    steps: &mut Steps<L>,
+) -> bool {
+    let Ok(mut office) = Office::reopen(alloc, hasher, keeper, steps) else {
         return false;
     };
     let plant = office.submit(alloc, b"plant", PLANT, keeper, true, steps);
@@ -56,18 +63,28 @@ fn comes_again<K: Keeper, L: Ledger>(alloc: Global, keeper: &mut K, steps: &mut 
         && keeper.count() == Ok(4)
 }
 
-fn check_with<K: Keeper, L: Ledger>(alloc: Global, blank: Blank, keeper: &mut K) -> bool
+fn check_with<K: Keeper, L: Ledger>(
+    alloc: Global,
+    hasher: RandomState,
+    blank: Blank,
+    keeper: &mut K,
+) -> bool
     requires name { blank.name ≡ L.name }
     requires parts { blank.parts ≡ L.parts }
     requires some { 0 < blank.parts }
 {
     let mut steps = Steps::<L>::new(blank);
-    comes_again(alloc, keeper, &mut steps)
+    comes_again(alloc, hasher, keeper, &mut steps)
 }
 
-fn check<K: Keeper>(rt: &(impl Abort + AllocGlobal), keeper: &mut K) {
-    let holds = check_with::<K, Brand>(rt.alloc(), Blank::new(1), keeper);
+fn check<K: Keeper>(
+    rt: &(impl Abort + AllocGlobal + RandomSource),
+    keeper: &mut K,
+) -> Result<(), Fail> {
+    let hasher = RandomState::new(rt)?;
+    let holds = check_with::<K, Brand>(rt.alloc(), hasher, Blank::new(1), keeper);
     assert!(rt; holds);
+    Ok(())
 }
 
 // The keeper tells how many rows it has, keeps the plant, and fails at the boiler.
@@ -75,6 +92,5 @@ fn check<K: Keeper>(rt: &(impl Abort + AllocGlobal), keeper: &mut K) {
 fn a_submission_comes_again_after_a_fault(rt: HostRuntime) -> Result<(), Fail> {
     let alloc = rt.alloc();
     let mut keeper = MemoryKeeper::new(alloc, Vec::new(alloc), [3].to_vec(alloc)?);
-    check(&rt, &mut keeper);
-    Ok(())
+    check(&rt, &mut keeper)
 }

@@ -4,12 +4,19 @@ use ghg_cell::Input;
 use ghg_interval::{Interval, LIMIT};
 use ghg_units::read_decimal;
 use std::alloc::Global;
+use std::hash::RandomState;
 use std::process::Abort;
+use std::random::RandomSource;
 use std::str;
 
 /// Fails the test where a case does not hold, and says which.
 pub fn check(rt: &impl Abort, holds: bool, case: &str) {
     assert!(rt; holds, "{case}");
+}
+
+/// What the maps of a workbook hash with.
+pub fn hasher(rt: &(impl Abort + RandomSource)) -> RandomState {
+    RandomState::new(rt).expect(rt, "random bytes")
 }
 
 /// A text that was written.

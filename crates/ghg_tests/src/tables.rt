@@ -4,7 +4,7 @@ ghost use Rattle.std.specs.Prelude.{◌≡◌, true};
 ghost use Rattle.ghg_definitions.specs.Compilation.{is_year_of};
 ghost use Rattle.ghg_definitions.specs.Data.{span};
 
-use crate::cases::{check, word};
+use crate::cases::{check, hasher, word};
 use crate::workbooks::enter;
 use ghg_data::{Book, Records};
 use ghg_engine::Engine;
@@ -239,6 +239,11 @@ fn check_table(rt: &impl Abort, alloc: Global, engine: &mut Engine, case: &Case)
 #[test]
 fn analyses_print_what_was_worked_by_hand(rt: HostRuntime) {
     for case in TABLES {
-        check_table(&rt, rt.alloc(), &mut Engine::new(rt.alloc()), case);
+        check_table(
+            &rt,
+            rt.alloc(),
+            &mut Engine::new(rt.alloc(), hasher(&rt)),
+            case,
+        );
     }
 }

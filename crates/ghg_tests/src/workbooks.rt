@@ -4,7 +4,7 @@ ghost use Rattle.std.specs.Prelude.{◌≡◌, ◌<◌};
 ghost use Rattle.std.specs.List.{AllByRecursion};
 ghost use Rattle.ghg_units.specs.WellFormed.{IsWellFormed};
 
-use crate::cases::{check, input, word};
+use crate::cases::{check, hasher, input, word};
 use ghg_categories::{Category, named};
 use ghg_cell::Input;
 use ghg_data::{Book, PlanRefusal, Records, after, params_of};
@@ -21,6 +21,7 @@ use ghg_units::{Binding, Name, Node, ParamName, Row, append_rule};
 use std::alloc::{AllocError, Global};
 use std::marker::Brand;
 use std::process::Abort;
+use std::random::RandomSource;
 use std::sync::ledger::{Blank, Ledger};
 
 fn name(rt: &impl Abort, text: &str) -> Name {
@@ -63,8 +64,8 @@ fn submit(rt: &impl Abort, alloc: Global, book: &mut Book, rows: &str, kept_byte
 }
 
 // A book of rows that break no rule.
-fn book_of(rt: &impl Abort, alloc: Global, rows: &str) -> Book {
-    let mut book = Book::new(alloc);
+fn book_of(rt: &(impl Abort + RandomSource), alloc: Global, rows: &str) -> Book {
+    let mut book = Book::new(alloc, hasher(rt));
     check(
         rt,
         submit(rt, alloc, &mut book, rows, 0).is_empty(),
@@ -100,7 +101,7 @@ fn rows_are_planned_and_committed(rt: HostRuntime) {
     let line = name(&rt, "ELEC.GAS");
     let gas = RecordKey::Activity(name(&rt, "GAS.TJ"), 1990);
     let Rows { rows, rest } = read(&rt, rt.alloc(), PLANT);
-    let mut book = Book::new(rt.alloc());
+    let mut book = Book::new(rt.alloc(), hasher(&rt));
     // No rule is broken.
     let Ok(edits) = book.plan(rt.alloc(), &rows, rest, 291) else {
         panic!(rt; "refused");
@@ -520,7 +521,7 @@ fn nodes_have_their_values(rt: HostRuntime) {
         check_values(
             &rt,
             rt.alloc(),
-            &mut Engine::new(rt.alloc()),
+            &mut Engine::new(rt.alloc(), hasher(&rt)),
             submissions,
             values,
         );
@@ -574,7 +575,7 @@ fn check_proposals(rt: &impl Abort, alloc: Global, engine: &mut Engine) {
 
 #[test]
 fn a_dismissed_proposal_may_come_again(rt: HostRuntime) {
-    check_proposals(&rt, rt.alloc(), &mut Engine::new(rt.alloc()));
+    check_proposals(&rt, rt.alloc(), &mut Engine::new(rt.alloc(), hasher(&rt)));
 }
 
 // The energy of a mass of fuel, and a balance of energies that takes it by two of its parameters.
@@ -696,7 +697,7 @@ fn a_line_that_others_take_stays(rt: HostRuntime) {
         check_withdrawals(
             &rt,
             rt.alloc(),
-            &mut Engine::new(rt.alloc()),
+            &mut Engine::new(rt.alloc(), hasher(&rt)),
             entered,
             withdrawals,
         );

@@ -15,6 +15,12 @@ returns-in-Err-Failed-clause-opened g c = λ input door.
     (g.K.Keeper.shelf c.args.keeper.now).rows _ (λ t. (c.attach.ensures.rows.told t, refl)) c.attach.ensures.rows refl refl
     (omega arith) (inr (record { kind = inl c.status.ensures; output = refl; used = inl c.in-Err-Failed.ensures.err }))
 
+pub returns-in-Err-Failed-clause-outside : goal.returns-in-Err-Failed-clause-outside
+returns-in-Err-Failed-clause-outside g c = λ input door.
+    quiet_acts _ _ _ refl refl
+    (record { later = c.attach.ensures.faults.later; rose = λ six. c.in-Err-Failed.ensures.faults.rose (ap Err c.in-Err-Failed.field-0-is) }) (omega arith)
+    (inr (inl c.status.ensures))
+
 pub returns-in-Err-Memory-clause-opened : goal.returns-in-Err-Memory-clause-opened
 returns-in-Err-Memory-clause-opened g c = λ input door.
     opens_none c.args.name.now

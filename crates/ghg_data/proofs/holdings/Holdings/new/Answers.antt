@@ -12,8 +12,8 @@ never none some = absurd (cc)
 
 pub invariant_of-result : goal.invariant_of-result
 invariant_of-result c = (
-  c.new-2.ensures.items ∙ sym (ap (λ es. line_names (from_entries {R = key_cmp} es)) c.new.ensures.empty ∙ no_lines),
-  λ s y. c.new-3.ensures.dates s y ∙ sym (ap (λ es. is_year y && is_some (get (from_entries {R = key_cmp} es) (dated s y))) c.new.ensures.empty ∙ no_dates s y),
-  λ s y p e. never (c.new-3.ensures.places s y) e,
-  λ s k. (λ e. never (ap (λ es. series_in (get (from_entries {R = key_cmp} es) k)) c.new.ensures.empty ∙ ap series_in (get-empty key_cmp k)) e, λ taker. absurd (c.new-4.ensures s k taker)),
+  c.new.ensures.items ∙ sym (ap (λ es. line_names (from_entries {R = key_cmp} es)) c.with_hasher.ensures.empty ∙ no_lines),
+  λ s y. c.new-2.ensures.dates s y ∙ sym (ap (λ es. is_year y && is_some (get (from_entries {R = key_cmp} es) (dated s y))) c.with_hasher.ensures.empty ∙ no_dates s y),
+  λ s y p e. never (c.new-2.ensures.places s y) e,
+  λ s k. (λ e. never (ap (λ es. series_in (get (from_entries {R = key_cmp} es) k)) c.with_hasher.ensures.empty ∙ ap series_in (get-empty key_cmp k)) e, λ taker. absurd (c.new-3.ensures s k taker)),
 )
