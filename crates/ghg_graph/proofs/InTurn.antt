@@ -31,7 +31,7 @@ use Rattle.ghg_graph.specs.NodeOrders.{AreInOrder, ListsNodes}
 use Rattle.ghg_graph.specs.Reached.{is_reached}
 use Rattle.ghg_graph.specs.Years.{nodes_by_year, year_nodes}
 use Rattle.ghg_graph.proofs.Marks.{from_reverse, listed_reverse}
-use Rattle.ghg_graph.proofs.Quiet.{input_of}
+use Rattle.ghg_graph.proofs.InputYears.{input_of}
 use Rattle.ghg_graph.proofs.Reaching.{affected_reached, reached_affected}
 use Rattle.ghg_graph.proofs.YearNodes.{of_this_year}
 

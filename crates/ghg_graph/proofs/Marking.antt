@@ -1,30 +1,28 @@
 -- The lines that are reached in a year, gathered in their order.
-use Rattle.std.proofs.Common.{◌≡◌, ◌⊎◌, inl, inr, ℕ, zero, suc, ◌+◌, ◌<◌, Bool, true, false, cond, List, [], ◌∷◌, ◌++◌, length, get_or, map, filter, take, is_some, is_eq, Option, Some, None, refl, sym, ap, ◌∙◌, subst, arith}
+use Rattle.std.proofs.Common.{◌≡◌, ◌⊎◌, inl, inr, ℕ, ◌+◌, ◌<◌, Bool, true, false, cond, List, [], ◌∷◌, ◌++◌, length, get_or, map, filter, take, is_eq, Option, Some, None, refl, sym, ap, ◌∙◌, subst}
 use Rattle.std.proofs.lemmas.List.{append-nil, append_assoc, map-append}
 use Rattle.std.proofs.lemmas.List.Elements.{filter-append, filter_map-append}
 use Rattle.std.proofs.lemmas.Cmp.{tied_itself}
 use Rattle.std.specs.BTreeSet.{BTreeSet, Updates, contains}
 use Rattle.std.specs.Cmp.Lexicographic.{nat_list_cmp_total}
-use Rattle.std.specs.List.{Contains, cons_option, filter_map, list_any}
+use Rattle.std.specs.List.{cons_option, filter_map, list_any}
 use Rattle.std.specs.Option.{option_to_list}
 use Rattle.ghg_categories.specs.declared.category.Category.{Category}
 use Rattle.ghg_units.specs.declared.node.Node.{Node}
 use Rattle.ghg_units.specs.declared.node.Node.TheVariants as node
-use Rattle.ghg_definitions.specs.Compilation.{gas_lines, is_node}
-use Rattle.ghg_definitions.specs.Data.{Data, Name, category, line, name_cmp}
+use Rattle.ghg_definitions.specs.Compilation.{is_node}
+use Rattle.ghg_definitions.specs.Data.{Data, Name, category, name_cmp}
 use Rattle.ghg_definitions.specs.Listed.{IsListed}
-use Rattle.ghg_definitions.specs.Rings.{Takes}
 use Rattle.ghg_definitions.proofs.Alike.{first_so}
 use Rattle.ghg_definitions.proofs.Depth.{or_else}
 use Rattle.ghg_definitions.proofs.Keys.{equal_by, names_same}
-use Rattle.ghg_definitions.proofs.Listed.{contained, from_filter, in_either, listed, listed_filter}
+use Rattle.ghg_definitions.proofs.Listed.{in_either, listed}
 use Rattle.ghg_affected.proofs.Bools.{true_not_false}
-use Rattle.ghg_graph.specs.Ordering.{IsBehind}
+use Rattle.ghg_graph.specs.Ordering.{IsLineOrder}
 use Rattle.ghg_graph.specs.Tops.{AreTops}
 use Rattle.ghg_graph.specs.declared.tops.Tops.{Tops}
 use Rattle.ghg_graph.specs.declared.reached.Lines.TheVariants as year_lines
-use Rattle.ghg_graph.specs.Reached.{HasReached, IsGasWalk, IsWalk, is_reached, reached_categories}
-use Rattle.ghg_graph.proofs.EquationParameters.{at_place}
+use Rattle.ghg_graph.specs.Reached.{HasReached, is_reached, reached_categories}
 use Rattle.ghg_graph.proofs.Numbering.{take_next}
 use Rattle.ghg_graph.proofs.Reaching.{none_reached, same_truth}
 
@@ -96,67 +94,6 @@ module _ (old new : Data) (year : ℕ) where
       (sym (append-nil (reached_categories old new year (take i xs))) ∙ sym (categories_taken xs i x h e false off))
       before
 
--- ---- lines in order
-
--- of those that pass, the one at a place is present, and takes lines before it, or that do not pass
-module _ (m : Data) (test : Name → Bool) where
-  abbrev IsBefore : List Name → List Name → ℕ → Name → Type 0
-  IsBefore done lines i k = IsListed k done ⊎ (IsListed k (take i (filter test lines)) ⊎ (IsListed k lines × (test k ≡ false)))
-
-  passing_at : (done lines : List Name) → IsBehind m done lines → (i : ℕ) (d : Name) → i < length (filter test lines)
-      → (is_some (line m (get_or (filter test lines) i d)) ≡ true)
-      × ((k : Name) → Takes m (get_or (filter test lines) i d) k → IsBefore done lines i k)
-  passing_at done [] behind i d h = absurd (omega arith)
-  passing_at done (n ∷ lines) behind i d h = by (test n) refl i h (λ j g. passing_at (n ∷ done) lines behind.3 j d g)
-    where
-      by : (b : Bool) → test n ≡ b → (i : ℕ) → i < length (cond b (n ∷ filter test lines) (filter test lines))
-          → ((j : ℕ) → j < length (filter test lines)
-          → (is_some (line m (get_or (filter test lines) j d)) ≡ true)
-          × ((k : Name) → Takes m (get_or (filter test lines) j d) k → IsBefore (n ∷ done) lines j k))
-          → (is_some (line m (get_or (cond b (n ∷ filter test lines) (filter test lines)) i d)) ≡ true)
-          × ((k : Name) → Takes m (get_or (cond b (n ∷ filter test lines) (filter test lines)) i d) k
-          → IsListed k done ⊎ (IsListed k (take i (cond b (n ∷ filter test lines) (filter test lines)))
-          ⊎ (IsListed k (n ∷ lines) × (test k ≡ false))))
-      by true is zero h rest = (behind.0, λ k t. inl (listed done k (behind.2 k t)))
-      by true is (suc j) h rest = let at = rest j (omega arith) in (
-        at.0,
-        λ k t. elim (at.1 k t) [
-          | inl i ↦ elim i [ inl e ↦ inr (inl (inl e)) | inr l ↦ inl l ]
-          | inr o ↦ elim o [ inl l ↦ inr (inl (inr l)) | inr l ↦ inr (inr (inr l.0, l.1)) ]
-        ],
-      )
-      by false is i h rest = let at = rest i h in (
-        at.0,
-        λ k t. elim (at.1 k t) [
-          | inl i ↦ elim i [ inl e ↦ inr (inr (inl e, ap test e ∙ is)) | inr l ↦ inl l ]
-          | inr o ↦ elim o [ inl l ↦ inr (inl l) | inr l ↦ inr (inr (inr l.0, l.1)) ]
-        ],
-      )
-
--- no line that is not gone over is reached
-pub line_at : (old new : Data) (names : List Name) → IsWalk old new names → (i : ℕ) (x : Name) → i < length names
-    → x ≡ get_or names i x
-    → (is_some (line new x) ≡ true) × ((k : Name) → Takes new x k
-    → IsListed k (take i names) ⊎ ((year : ℕ) → is_reached old new (node.Line k year) ≡ false))
-line_at old new names walk i x h e =
-    let at = passing_at new walk.test [] walk.lines walk.order.behind i x (subst (λ ns. i < length ns) walk.names_are h) in
-    let same : x ≡ get_or (filter walk.test walk.lines) i x = e ∙ ap (λ ns. get_or ns i x) walk.names_are in (
-      ap (λ y. is_some (line new y)) same ∙ at.0,
-      λ k t. elim (at.1 k (subst (λ y. Takes new y k) same t)) [
-        | inl none ↦ absurd none
-        | inr o ↦ elim o [
-          | inl l ↦ inl (subst (λ ns. IsListed k (take i ns)) (sym walk.names_are) l)
-          | inr off ↦ inr (walk.idle k (contained walk.lines k off.0) off.1)
-        ]
-      ],
-    )
-
-pub emitter_at : (old new : Data) (names : List Name) → IsGasWalk old new names → (i : ℕ) (x : Name) → i < length names
-    → x ≡ get_or names i x → Contains (gas_lines new) x
-emitter_at old new names walk i x h e = contained (gas_lines new) x
-    (from_filter walk.test x (gas_lines new) (subst (IsListed x) walk.names_are
-    (subst (λ y. IsListed y names) (sym e) (at_place names i x h)))).0
-
 -- ---- what is not gone over
 
 module _ (old new : Data) (to : Name → Node) (test : Name → Bool) where
@@ -186,29 +123,6 @@ module _ (old new : Data) (to : Name → Node) (test : Name → Bool) where
       by true is rest = ap (λ ns. cond (is_reached old new (to n)) (n ∷ ns) ns) rest
       by false is rest = rest ∙ sym (ap (λ b. cond b (n ∷ filter (λ name. is_reached old new (to name)) lines) (filter (λ name. is_reached old new (to name)) lines)) (idle n (inl refl) is))
 
-pub lines_same : (old new : Data) (names : List Name) (walk : IsWalk old new names) (year : ℕ)
-    → filter (is_reached old new) (map (λ name. node.Line name year) names)
-    ≡ filter (is_reached old new) (map (λ name. node.Line name year) walk.lines)
-lines_same old new names walk year =
-    ap (λ ns. filter (is_reached old new) (map (λ name. node.Line name year) ns)) walk.names_are
-    ∙ part_same old new (λ name. node.Line name year) walk.test walk.lines
-    (λ name i off. walk.idle name (contained walk.lines name i) off year)
-
-pub equivalents_same : (old new : Data) (names : List Name) → IsGasWalk old new names → (year : ℕ)
-    → filter (is_reached old new) (map (λ name. node.Equiv name year) names)
-    ≡ filter (is_reached old new) (map (λ name. node.Equiv name year) (gas_lines new))
-equivalents_same old new names walk year =
-    ap (λ ns. filter (is_reached old new) (map (λ name. node.Equiv name year) ns)) walk.names_are
-    ∙ part_same old new (λ name. node.Equiv name year) walk.test (gas_lines new)
-    (λ name i off. walk.idle name (contained (gas_lines new) name i) off year)
-
-pub categories_same : (old new : Data) (names : List Name) → IsGasWalk old new names → (year : ℕ)
-    → reached_categories old new year names ≡ reached_categories old new year (gas_lines new)
-categories_same old new names walk year =
-    ap (reached_categories old new year) walk.names_are
-    ∙ ap (filter_map (category new)) (chosen_same old new (λ name. node.Equiv name year) walk.test (gas_lines new)
-    (λ name i off. walk.idle name (contained (gas_lines new) name i) off year))
-
 -- ---- the set of those that are reached
 
 pub names_equal : (x k : Name) → is_eq (name_cmp x k) ≡ true → x ≡ k
@@ -233,11 +147,6 @@ module _ (old new : Data) (year : ℕ) where
   pub so_far_is : (done : List Name) (s : BTreeSet Name) → IsSoFar done s → (k : Name) → IsListed k done
       → contains name_cmp s k ≡ is_reached old new (node.Line k year)
   so_far_is done s so k i = same_truth _ _ (so.sound k) (so.full k i)
-
-  -- what is not reached is not in it
-  pub off_is : (done : List Name) (s : BTreeSet Name) → IsSoFar done s → (k : Name)
-      → is_reached old new (node.Line k year) ≡ false → contains name_cmp s k ≡ is_reached old new (node.Line k year)
-  off_is done s so k off = same_truth _ _ (so.sound k) (λ r. absurd (true_not_false (sym r ∙ off)))
 
   pub with_line : (done : List Name) (s t : BTreeSet Name) (x : Name) → IsSoFar done s
       → is_reached old new (node.Line x year) ≡ true → Updates name_cmp s t x true → IsSoFar (done ++ x ∷ []) t
@@ -271,13 +180,9 @@ module _ (old new : Data) (year : ℕ) where
     ];
   }
 
-  pub all_gathered : (names : List Name) → IsWalk old new names → (s : BTreeSet Name) → IsSoFar names s
+  pub all_gathered : (names : List Name) → IsLineOrder new names → (s : BTreeSet Name) → IsSoFar names s
       → HasReached old new year (year_lines.These s)
-  all_gathered names walk s so k = same_truth _ _ (so.sound k) (λ r. elim (or_else (is_node new (node.Line k year))) [
+  all_gathered names order s so k = same_truth _ _ (so.sound k) (λ r. elim (or_else (is_node new (node.Line k year))) [
     | inr off ↦ absurd (true_not_false (sym r ∙ none_reached old new (node.Line k year) off))
-    | inl is ↦ elim (or_else (walk.test k)) [
-      | inl passes ↦ so.full k (subst (IsListed k) (sym walk.names_are)
-          (listed_filter walk.test k walk.lines (listed walk.lines k (walk.order.complete k (first_so _ _ is))) passes)) r
-      | inr idle ↦ absurd (true_not_false (sym r ∙ walk.idle k (walk.order.complete k (first_so _ _ is)) idle year))
-    ]
+    | inl is ↦ so.full k (listed names k (order.complete k (first_so _ _ is))) r
   ])

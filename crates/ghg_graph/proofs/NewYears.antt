@@ -9,13 +9,13 @@ use Rattle.ghg_definitions.specs.Data.{Data, Name, line, span}
 use Rattle.ghg_definitions.specs.Listed.{IsListed}
 use Rattle.ghg_definitions.proofs.Alike.{both}
 use Rattle.ghg_definitions.proofs.Depth.{or_else}
-use Rattle.ghg_definitions.proofs.Listed.{contained, from_filter, from_map}
+use Rattle.ghg_definitions.proofs.Listed.{contained, from_map}
 use Rattle.ghg_definitions.proofs.NodeLists.{gas_lines_are, tree_is}
 use Rattle.ghg_affected.proofs.Affected.{itself}
 use Rattle.ghg_affected.proofs.Bools.{true_not_false}
 use Rattle.ghg_graph.specs.declared.reached.Lines.TheVariants as year_lines
-use Rattle.ghg_graph.specs.Ordering.{IsBehind}
-use Rattle.ghg_graph.specs.Reached.{HasBefore, IsGasWalk, IsWalk, is_reached}
+use Rattle.ghg_graph.specs.Ordering.{IsBehind, IsLineOrder}
+use Rattle.ghg_graph.specs.Reached.{HasBefore, is_reached}
 use Rattle.ghg_graph.specs.Years.{year_nodes}
 use Rattle.ghg_graph.proofs.Marks.{from_reverse}
 use Rattle.ghg_graph.proofs.Reaching.{affected_reached, none_reached, same_truth}
@@ -51,18 +51,16 @@ module _ (old new : Data) (year : ℕ) (within : is_year_of (span new) year ≡ 
   line_reached : (name : Name) → is_some (line new name) ≡ true → is_reached old new (node.Line name year) ≡ true
   line_reached name is = newly (node.Line name year) (both _ _ is within) (absent_with (is_some (line old name)))
 
-  lines_pass : (names : List Name) → IsWalk old new names
+  lines_pass : (names : List Name) → IsLineOrder new names
       → filter (is_reached old new) (map (λ name. node.Line name year) names) ≡ map (λ name. node.Line name year) names
-  lines_pass names walk = part_passes (is_reached old new) (λ name. node.Line name year) names
-      (λ name i. line_reached name (present_in new [] walk.lines walk.order.behind name
-      (from_filter walk.test name walk.lines (subst (IsListed name) walk.names_are i)).0))
+  lines_pass names order = part_passes (is_reached old new) (λ name. node.Line name year) names
+      (λ name i. line_reached name (present_in new [] names order.behind name i))
 
-  equivalents_pass : (names : List Name) → IsGasWalk old new names
+  equivalents_pass : (names : List Name) → names ≡ gas_lines new
       → filter (is_reached old new) (map (λ name. node.Equiv name year) names) ≡ map (λ name. node.Equiv name year) names
-  equivalents_pass names walk = part_passes (is_reached old new) (λ name. node.Equiv name year) names
+  equivalents_pass names all = part_passes (is_reached old new) (λ name. node.Equiv name year) names
       (λ name i. newly (node.Equiv name year)
-      (both _ _ ((gas_lines_are new name).1 (contained (gas_lines new) name
-      (from_filter walk.test name (gas_lines new) (subst (IsListed name) walk.names_are i)).0)) within)
+      (both _ _ ((gas_lines_are new name).1 (contained (gas_lines new) name (subst (IsListed name) all i))) within)
       (absent_with (emits old name)))
 
   totals_pass : filter (is_reached old new) (map (λ c. node.Total c year) (reverse tree))
@@ -74,15 +72,15 @@ module _ (old new : Data) (year : ℕ) (within : is_year_of (span new) year ≡ 
   gross_passes : filter (is_reached old new) (node.Gross year ∷ []) ≡ node.Gross year ∷ []
   gross_passes = ap (λ b. cond b (node.Gross year ∷ []) []) (newly (node.Gross year) within absent)
 
-  pub year_passes : (names emitters : List Name) → IsWalk old new names → IsGasWalk old new emitters
+  pub year_passes : (names emitters : List Name) → IsLineOrder new names → emitters ≡ gas_lines new
       → filter (is_reached old new) (year_nodes names emitters year) ≡ year_nodes names emitters year
-  year_passes names emitters walk gas =
+  year_passes names emitters order all =
       let p = is_reached old new in
       let totals : List Node = map (λ c. node.Total c year) (reverse tree) in
       filter-append p (map (λ name. node.Line name year) names) _
-      ∙ ap₂ (λ (xs ys : List Node). xs ++ ys) (lines_pass names walk)
+      ∙ ap₂ (λ (xs ys : List Node). xs ++ ys) (lines_pass names order)
       (filter-append p (map (λ name. node.Equiv name year) emitters) (totals ++ node.Gross year ∷ [])
-      ∙ ap₂ (λ (xs ys : List Node). xs ++ ys) (equivalents_pass emitters gas)
+      ∙ ap₂ (λ (xs ys : List Node). xs ++ ys) (equivalents_pass emitters all)
       (filter-append p totals (node.Gross year ∷ [])
       ∙ ap₂ (λ (xs ys : List Node). xs ++ ys) totals_pass gross_passes))
 

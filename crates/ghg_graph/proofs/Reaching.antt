@@ -18,7 +18,7 @@ use Rattle.ghg_units.specs.declared.node.Node.TheVariants as node
 use Rattle.ghg_units.specs.declared.row.Binding.{Binding}
 use Rattle.ghg_definitions.specs.Compilation.{bound_to, counts_in_gross, emits, first_year, formula, gas_lines, gas_lines_at, is_in_tree, is_node, is_year_of, line_formula, line_gas, nodes, potential, sheet_of}
 use Rattle.ghg_definitions.specs.Data.{Data, Name, binding, category, line, name_cmp, span}
-use Rattle.ghg_definitions.specs.Formulas.{Operand, inputs, map_formula, map_operand, nodes_in}
+use Rattle.ghg_definitions.specs.Formulas.{Computed, Operand, Weighted, inputs, map_formula, map_operand, nodes_in}
 use Rattle.ghg_definitions.specs.Lookups.{Source, given}
 use Rattle.ghg_definitions.specs.Trials.{IsInput}
 use Rattle.ghg_definitions.proofs.Alike.{both, first_so, second_so}
@@ -28,7 +28,7 @@ use Rattle.ghg_affected.specs.Affected.{EndsWith, IsAffected, IsChanged, formula
 use Rattle.ghg_affected.specs.Equalities.{same_equation, same_formula, same_input, same_node, same_nodes, same_operand}
 use Rattle.ghg_affected.proofs.Affected.{complete, is_so, itself, so_is, sound, through}
 use Rattle.ghg_affected.proofs.Bools.{either, never_so, or_first, or_second, true_not_false}
-use Rattle.ghg_affected.proofs.Equalities.{node_decides}
+use Rattle.ghg_affected.proofs.Equalities.{formula_decides, node_decides}
 use Rattle.ghg_data.specs.Parameters.{quantity}
 use Rattle.ghg_equations.specs.declared.row.Param.{Param}
 use Rattle.ghg_graph.proofs.EquationParameters.{any_named, at_place}
@@ -176,6 +176,18 @@ no_not false c e = absurd (cc)
 same_id : (d e : EqId) → same_equation d e ≡ true → d ≡ e
 same_id d e h = same_true the_type tt d e h
 
+pub equation_itself : (e : EqId) → same_equation e e ≡ true
+equation_itself e = true_same the_type e e refl
+
+-- an input, and an operand, is the same as itself
+pub input_itself : (x : Input) → same_input x x ≡ true
+unfolding same_formula
+input_itself x = second_so (same_node (node.Gross 0) (node.Gross 0)) _ ((formula_decides (Weighted (node.Gross 0) x) (Weighted (node.Gross 0) x)).1 refl)
+
+pub operand_itself : (e : EqId) (x : Operand Input) → same_operand x x ≡ true
+unfolding same_formula
+operand_itself e x = first_so (same_operand x x) _ (second_so (same_equation e e) _ ((formula_decides (Computed e (x ∷ [])) (Computed e (x ∷ []))).1 refl))
+
 same_names_by : (x y : Name) (year : ℕ)
     → same_node (node.Equiv x year) (node.Equiv y year) ≡ eq_by_cmp name_cmp x y
 same_names_by x y year = same_truth _ _
@@ -317,7 +329,7 @@ module _ (old new : Data) where
       line_by name year e ps at all is ∙ ap₂ (λ (a b : Bool). not a || b) was off
 
   -- a line that is not reached was there, with its equation
-  was_there : (name : Name) (year : ℕ) (e : EqId) → line new name ≡ Some e
+  pub was_there : (name : Name) (year : ℕ) (e : EqId) → line new name ≡ Some e
       → is_node new (node.Line name year) ≡ true → is_reached old new (node.Line name year) ≡ false
       → (line old name ≡ Some e) × (is_year_of (span old) year ≡ true)
   was_there name year e at is off =

@@ -4,26 +4,26 @@ use Rattle.std.proofs.lemmas.Bool.{cases_lt}
 use Rattle.std.proofs.lemmas.Map.Lookups.{exact_bytes}
 use Rattle.std.specs.BTreeSet.{BTreeSet, IsFromIterResult, Updates, contains}
 use Rattle.std.specs.Cmp.Lexicographic.{nat_list_cmp_total}
-use Rattle.std.specs.List.{Contains, filter_map}
+use Rattle.std.specs.List.{Contains, filter_map, list_any}
 use Rattle.ghg_definitions.specs.declared.record.RecordKey.{RecordKey}
 use Rattle.ghg_definitions.specs.declared.record.RecordKey.TheVariants as key
 use Rattle.ghg_definitions.specs.Data.{Data, Name, line, name_cmp}
 use Rattle.ghg_definitions.specs.Listed.{IsListed}
-use Rattle.ghg_definitions.proofs.Listed.{from_filter_map, in_either, listed, listed_filter_map, listed_left, listed_right}
+use Rattle.ghg_definitions.proofs.Listed.{from_filter_map, in_either, listed, listed_any, listed_filter_map, listed_left, listed_right}
 use Rattle.ghg_affected.proofs.Bools.{true_not_false}
 use Rattle.ghg_graph.specs.Numbers.{name_at}
 use Rattle.ghg_graph.specs.Ordering.{IsLineOrder}
-use Rattle.ghg_graph.specs.Selections.{HasChanged, StandsAmong, present_line}
-use Rattle.ghg_graph.specs.Worklists.{AllBelow}
+use Rattle.ghg_graph.specs.Changed.{HasChanged, IsAbout, StandsAmong, is_span, present_line}
+use Rattle.ghg_graph.specs.Candidates.{AllBelow}
+use Rattle.ghg_graph.proofs.Distinct.{behind_at, one_place}
 use Rattle.ghg_graph.proofs.Marking.{equal_itself, names_equal}
 use Rattle.ghg_graph.proofs.Membership.{key_listed, listed_key}
 use Rattle.ghg_graph.proofs.Named.{number_in, number_is}
 
 -- ---- the names of the keys
 
-module _ (m : Data) (keys : List RecordKey) (lines : List Name) (order : IsLineOrder m lines) (names : List Name)
-    (all : names ≡ filter_map (present_line m) keys) (s : BTreeSet Name) (is : IsFromIterResult name_cmp names s) where
-  -- the line of a key is present
+-- the line of a key is present
+module _ (m : Data) where
   named : (other name : Name) → (if is_some (line m other) then Some other else None) ≡ Some name
       → is_some (line m name) ≡ true
   named other name e = by (is_some (line m other)) refl e
@@ -33,24 +33,68 @@ module _ (m : Data) (keys : List RecordKey) (lines : List Name) (order : IsLineO
       by true here e = let same : other ≡ name = cc in subst (λ z. is_some (line m z) ≡ true) same here
       by false off e = absurd (cc)
 
-  present : (k : RecordKey) (name : Name) → present_line m k ≡ Some name → is_some (line m name) ≡ true
-  present (key.Line other) name e = named other name e
-  present (key.Bind other parameter) name e = named other name e
-  present key.Span name e = absurd (cc)
-  present (key.Activity other year) name e = absurd (cc)
-  present (key.Factor other start) name e = absurd (cc)
-  present (key.Uncert other) name e = absurd (cc)
+  pub key_present : (k : RecordKey) (name : Name) → present_line m k ≡ Some name → is_some (line m name) ≡ true
+  key_present (key.Line other) name e = named other name e
+  key_present (key.Bind other parameter) name e = named other name e
+  key_present key.Span name e = absurd (cc)
+  key_present (key.Activity other year) name e = absurd (cc)
+  key_present (key.Factor other start) name e = absurd (cc)
+  key_present (key.Uncert other) name e = absurd (cc)
 
+module _ (m : Data) (keys : List RecordKey) (lines : List Name) (order : IsLineOrder m lines) (names : List Name)
+    (all : names ≡ filter_map (present_line m) keys) (s : BTreeSet Name) (is : IsFromIterResult name_cmp names s) where
   pub are_lines : (name : Name) → contains name_cmp s name ≡ true → Contains lines name
   are_lines name on =
       let from = from_filter_map (present_line m) name keys
       (subst (IsListed name) all (key_listed exact_bytes name names (sym (is.0 name) ∙ on))) in
-      order.complete name (present from.0 name from.2)
+      order.complete name (key_present m from.0 name from.2)
 
-  pub changed : (places : List ℕ) → ((name : Name) → contains name_cmp s name ≡ true → StandsAmong places lines name)
-      → HasChanged m keys lines places
-  changed places stand k name c is_line = stand name (is.0 name ∙ listed_key nat_list_cmp_total name names
-      (subst (IsListed name) (sym all) (listed_filter_map (present_line m) k name keys (listed keys k c) is_line)))
+  -- each is the line of a key or of a binding, where no key is that of the years
+  name_of : list_any is_span keys ≡ false → (k : RecordKey) (name : Name) → Contains keys k → is_some (line m name) ≡ true
+      → IsAbout k name → present_line m k ≡ Some name
+  name_of none key.Span name c here about = absurd (true_not_false (sym (listed_any is_span key.Span keys (listed keys key.Span c) refl) ∙ none))
+  name_of none (key.Line other) name c here about =
+      ap (λ b. if b then Some other else None) (ap (λ z. is_some (line m z)) about ∙ here) ∙ ap Some about
+  name_of none (key.Bind other parameter) name c here about =
+      ap (λ b. if b then Some other else None) (ap (λ z. is_some (line m z)) about ∙ here) ∙ ap Some about
+  name_of none (key.Activity other year) name c here about = absurd about
+  name_of none (key.Factor other start) name c here about = absurd about
+  name_of none (key.Uncert other) name c here about = absurd about
+
+  pub changed : list_any is_span keys ≡ false → (places : List ℕ)
+      → ((name : Name) → contains name_cmp s name ≡ true → StandsAmong places lines name) → HasChanged keys lines places
+  changed none places stand k place c h about =
+      let name : Name = name_at lines place in
+      let here = (behind_at m [] lines order.behind place h).0 in
+      let stands = stand name (is.0 name ∙ listed_key nat_list_cmp_total name names
+      (subst (IsListed name) (sym all) (listed_filter_map (present_line m) k name keys (listed keys k c) (name_of none k name c here about)))) in
+      subst (λ p. IsListed p places) (one_place m lines order.behind stands.place place stands.within h stands.named) stands.among
+
+-- ---- all places
+
+-- the places below the next one, which are below the count
+pub record AreBelow (count next : ℕ) (places : List ℕ) : Type 0 where
+  pub all : (place : ℕ) → place < next → IsListed place places
+  pub within : AllBelow count places
+
+pub none_below : (count : ℕ) → AreBelow count 0 []
+none_below count = record { all = λ place h. absurd (omega (arith, h)); within = λ place i. absurd i }
+
+next_or_before : (place next : ℕ) → place < next + 1 → (place < next) ⊎ (place ≡ next)
+next_or_before place next h = grind (arith, h)
+
+pub one_below : (count next : ℕ) (places more : List ℕ) → next < count → AreBelow count next places
+    → more ≡ places ++ next ∷ [] → AreBelow count (next + 1) more
+one_below count next places more h are pushed = record {
+  all = λ place below. subst (IsListed place) (sym pushed) (elim (next_or_before place next below) [
+    | inl before ↦ listed_left place places (next ∷ []) (are.all place before)
+    | inr same ↦ listed_right place places (next ∷ []) (inl same)
+  ]);
+  within = λ place i. elim (in_either place places (next ∷ []) (subst (IsListed place) pushed i)) [
+    | inl j ↦ are.within place j
+    | inr j ↦ elim j [ inl same ↦ omega (arith, h, same) | inr none ↦ absurd none ]
+  ];
+}
 
 -- ---- from the last line on
 

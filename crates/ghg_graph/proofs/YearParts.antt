@@ -1,7 +1,7 @@
 -- The nodes of a year that are reached, part by part.
 use Rattle.std.proofs.Common.{◌≡◌, inl, inr, ℕ, ◌+◌, ◌-◌, ◌≤◌, Bool, true, false, cond, if◌then◌else◌, not, nat_le, leb-true, ◌||◌, List, [], ◌∷◌, ◌++◌, map, filter, reverse, Option, Some, None, refl, sym, ap, ap₂, ◌∙◌, arith}
 use Rattle.std.proofs.lemmas.Bool.{lt-leb}
-use Rattle.std.proofs.lemmas.List.{append_assoc}
+use Rattle.std.proofs.lemmas.List.{append-nil, append_assoc}
 use Rattle.std.proofs.lemmas.List.Elements.{filter-append}
 use Rattle.std.specs.List.{list_any}
 use Rattle.ghg_categories.specs.declared.category.Category.{Category}
@@ -20,9 +20,10 @@ use Rattle.ghg_graph.specs.Moves.{AreMoved, are_moved}
 use Rattle.ghg_graph.specs.declared.moves.Moved.{Moved}
 use Rattle.ghg_graph.specs.declared.reached.Lines.{Lines}
 use Rattle.ghg_graph.specs.Reached.{HasBefore, HasReached, is_reached, is_total_of, reached_categories}
-use Rattle.ghg_graph.specs.Tops.{AreTops}
+use Rattle.ghg_graph.specs.Tops.{AreTops, has_top}
 use Rattle.ghg_graph.specs.declared.tops.Tops.{Tops}
-use Rattle.ghg_graph.specs.Years.{nodes_by_year, year_nodes}
+use Rattle.ghg_graph.specs.Years.{year_nodes}
+use Rattle.ghg_graph.proofs.YearNodes.{none_pass}
 use Rattle.ghg_graph.proofs.Marks.{from_reverse}
 use Rattle.ghg_graph.proofs.Reaching.{gross_is_reached, same_truth, total_is_reached}
 
@@ -112,37 +113,14 @@ module _ (old new : Data) (year : ℕ) (within : is_year_of (span new) year ≡ 
           ∙ ap (λ ns. filter p ls ++ ns) (filter-append p bs (cs ++ ds)
           ∙ ap (λ ns. filter p bs ++ ns) (filter-append p cs ds))))
 
--- ---- all lines of a year
-
--- the lines that are not gone over add nothing
-pub year_same : (old new : Data) (year : ℕ) (lines emitters walked weighed : List Name)
-    → filter (is_reached old new) (map (λ name. node.Line name year) walked) ≡ filter (is_reached old new) (map (λ name. node.Line name year) lines)
-    → filter (is_reached old new) (map (λ name. node.Equiv name year) weighed) ≡ filter (is_reached old new) (map (λ name. node.Equiv name year) emitters)
-    → filter (is_reached old new) (year_nodes walked weighed year) ≡ filter (is_reached old new) (year_nodes lines emitters year)
-year_same old new year lines emitters walked weighed first second =
-    let p = is_reached old new in
-    let last : List Node = map (λ c. node.Total c year) (reverse tree) ++ node.Gross year ∷ [] in
-    filter-append p (map (λ name. node.Line name year) walked) (map (λ name. node.Equiv name year) weighed ++ last)
-    ∙ ap₂ (λ (xs ys : List Node). xs ++ ys) first
-    (filter-append p (map (λ name. node.Equiv name year) weighed) last
-    ∙ ap (λ xs. xs ++ filter p last) second
-    ∙ sym (filter-append p (map (λ name. node.Equiv name year) emitters) last))
-    ∙ sym (filter-append p (map (λ name. node.Line name year) lines) (map (λ name. node.Equiv name year) emitters ++ last))
-
-module _ (old new : Data) (lines emitters walked weighed : List Name)
-    (same_lines : (year : ℕ) → filter (is_reached old new) (map (λ name. node.Line name year) walked)
-    ≡ filter (is_reached old new) (map (λ name. node.Line name year) lines))
-    (same_equivalents : (year : ℕ) → filter (is_reached old new) (map (λ name. node.Equiv name year) weighed)
-    ≡ filter (is_reached old new) (map (λ name. node.Equiv name year) emitters)) where
-  pub years_same : (years : List ℕ) → filter (is_reached old new) (nodes_by_year walked weighed years)
-      ≡ filter (is_reached old new) (nodes_by_year lines emitters years)
-  years_same [] = refl
-  years_same (year ∷ years) =
-      filter-append (is_reached old new) (year_nodes walked weighed year) (nodes_by_year walked weighed years)
-      ∙ ap₂ (λ (xs ys : List Node). xs ++ ys)
-      (year_same old new year lines emitters walked weighed (same_lines year) (same_equivalents year))
-      (years_same years)
-      ∙ sym (filter-append (is_reached old new) (year_nodes lines emitters year) (nodes_by_year lines emitters years))
+-- where there are no totals, nothing is put behind the others
+pub no_totals : (moved : Moved) (tops : Tops) (year : ℕ) → moved.tops.items ≡ []
+    → ((top : Category) → has_top tops top ≡ false) → (nodes : List Node)
+    → nodes ≡ nodes ++ map (λ c. node.Total c year) (filter (is_total_of moved tops) (reverse tree))
+no_totals moved tops year none off nodes =
+    sym (append-nil nodes)
+    ∙ ap (λ cs. nodes ++ map (λ c. node.Total c year) cs) (sym (none_pass (is_total_of moved tops) (reverse tree)
+    (λ c i. ap₂ (λ (a b : Bool). a || b) (ap (list_any (is_same c)) none) (off c))))
 
 -- ---- the year after
 

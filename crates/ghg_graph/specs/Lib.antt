@@ -15,9 +15,11 @@ pub mod Reached
 pub mod Ascending
 pub mod Takers
 pub mod Index
-pub mod Worklists
-pub mod Selections
+pub mod Candidates
+pub mod Changed
+pub mod Figures
 pub mod Falling
 pub mod Entries
 pub mod Moves
 pub mod Tops
+pub mod Dependencies

@@ -1,27 +1,38 @@
 -- Which nodes edits reach, told year by year.
-use Rattle.std.specs.Prelude.{◌≡◌, ℕ, Bool, true, false, is_some, not, ◌||◌, nat_eq, nat_le, List, filter, length, Option, Some}
+use Rattle.std.specs.Prelude.{◌≡◌, ◌⊎◌, ℕ, ◌<◌, Bool, true, false, is_some, not, ◌||◌, nat_le, List, filter, length, Option, Some}
 use Rattle.std.specs.BTreeSet.{BTreeSet, contains}
+use Rattle.std.specs.FinMap.{get}
 use Rattle.std.specs.List.{Contains, filter_map, list_any}
 use Rattle.ghg_categories.specs.declared.category.Category.{Category}
 use Rattle.ghg_categories.specs.Tree.{is_same}
+use Rattle.ghg_equations.specs.declared.quantity.Gas.{Gas}
+use Rattle.ghg_units.specs.Name.{potential_name}
 use Rattle.ghg_units.specs.declared.node.Node.{Node}
 use Rattle.ghg_units.specs.declared.node.Node.TheVariants as node
 use Rattle.ghg_units.specs.declared.row.Binding.{Binding}
 use Rattle.ghg_units.specs.declared.row.Binding.TheVariants as bound
 use Rattle.ghg_definitions.specs.declared.record.RecordKey.{RecordKey}
-use Rattle.ghg_definitions.specs.declared.record.RecordKey.TheVariants as key
 use Rattle.ghg_definitions.specs.Compilation.{bound_to, first_year, gas_lines, is_year_of, nodes, previous}
 use Rattle.ghg_definitions.specs.Data.{Data, Name, category, line, name_cmp, span}
 use Rattle.ghg_definitions.specs.Formulas.{map_operand, nodes_in}
-use Rattle.ghg_definitions.specs.Lookups.{given}
+use Rattle.ghg_definitions.specs.Listed.{IsListed}
+use Rattle.ghg_definitions.specs.Lookups.{factor_input, given}
+use Rattle.ghg_definitions.specs.Rings.{taken}
 use Rattle.ghg_affected.specs.Affected.{affected_within}
 use Rattle.ghg_affected.specs.Equalities.{same_operand}
-use Rattle.ghg_graph.specs.Ordering.{IsLineOrder}
+use Rattle.ghg_graph.specs.Candidates.{AllBelow, IsIn}
+use Rattle.ghg_graph.specs.Changed.{HasChanged}
+use Rattle.ghg_graph.specs.Figures.{HasFigures}
+use Rattle.ghg_graph.specs.Moves.{AreMoved}
+use Rattle.ghg_graph.specs.Numbers.{name_at}
 use Rattle.ghg_graph.specs.Tops.{has_top}
+use Rattle.ghg_graph.specs.declared.index.LineIndex.{LineIndex}
 use Rattle.ghg_graph.specs.declared.moves.Moved.{Moved}
+use Rattle.ghg_graph.specs.declared.reached.Edited.{Edited}
 use Rattle.ghg_graph.specs.declared.reached.Lines.{Lines}
 use Rattle.ghg_graph.specs.declared.reached.Lines.TheVariants as year_lines
 use Rattle.ghg_graph.specs.declared.reached.Year.{Year}
+use Rattle.ghg_graph.specs.declared.reached.Years.{Years}
 use Rattle.ghg_graph.specs.declared.tops.Tops.{Tops}
 
 -- ---- what is reached
@@ -36,24 +47,6 @@ binding_reached old new year was b =
     not (same_operand (map_operand (given old) (bound_to old (first_year (span old)) year was))
     (map_operand (given new) (bound_to new (first_year (span new)) year b)))
     || list_any (is_reached old new) (nodes_in (bound_to new (first_year (span new)) year b))
-
--- ---- parts of the lines
-
--- the names are those of the lines in an order that pass a test, and no other line is reached in any year
-pub record IsWalk (old new : Data) (names : List Name) : Type 0 where
-  pub lines : List Name
-  pub order : IsLineOrder new lines
-  pub test : Name → Bool
-  pub names_are : names ≡ filter test lines
-  pub idle : (name : Name) → Contains lines name → test name ≡ false → (year : ℕ) →
-      is_reached old new (node.Line name year) ≡ false
-
--- the names are those of the lines that emit a gas and pass a test, and the equivalent of no other is reached
-pub record IsGasWalk (old new : Data) (names : List Name) : Type 0 where
-  pub test : Name → Bool
-  pub names_are : names ≡ filter test (gas_lines new)
-  pub idle : (name : Name) → Contains (gas_lines new) name → test name ≡ false → (year : ℕ) →
-      is_reached old new (node.Equiv name year) ≡ false
 
 -- ---- lines of a year
 
@@ -88,6 +81,47 @@ pub record IsYear (old new : Data) (y : Year) : Type 0 where
   pub first_before : y.first_before ≡ first_year (span old)
   pub first : y.first ≡ first_year (span new)
 
+-- the years of the old data, and the first years of both
+pub record AreYears (old new : Data) (y : Years) : Type 0 where
+  pub before : y.before ≡ span old
+  pub first_before : y.first_before ≡ first_year (span old)
+  pub first : y.first ≡ first_year (span new)
+
+-- ---- what edits are about
+
+-- where edits are kept to the keys: the lines that these are about, the activities and factors of which their
+-- records are read, the totals that add other lines, and the years
+pub record AreEdited (old new : Data) (index : LineIndex) (edited : Edited) : Type 0 where
+  pub keys : List RecordKey
+  pub kept : (k : RecordKey) → (Contains keys k → ⊥) → get old k ≡ get new k
+  pub changed : HasChanged keys index.lines.items edited.changed.items
+  pub within : AllBelow (length index.lines.items) edited.changed.items
+  pub figures : HasFigures old new index.takers.figures keys edited.figures
+  pub moved : AreMoved old new edited.moved
+  pub years : AreYears old new edited.years
+
+-- it takes the value of a line that is reached in the same year
+pub record TakesReached (old new : Data) (year : ℕ) (name : Name) : Type 0 where
+  pub other : Name
+  pub among : IsListed other (taken new name)
+  pub reached : is_reached old new (node.Line other year) ≡ true
+
+-- each line that is reached in the year stands at one of the places, or takes one that is
+pub record AreFirst (old new : Data) (lines : List Name) (year : ℕ) (places : BTreeSet ℕ) : Type 0 where
+  pub within : (place : ℕ) → IsIn places place → place < length lines
+  pub all : (place : ℕ) → place < length lines →
+      is_reached old new (node.Line (name_at lines place) year) ≡ true →
+      IsIn places place ⊎ TakesReached old new year (name_at lines place)
+
+-- the names are those of lines that emit a gas
+abbrev pub AreEmitters : Data → List Name → Type 0
+AreEmitters m names = (name : Name) → IsListed name names → Contains (gas_lines m) name
+
+-- only a warming potential that is among the names differs in the year
+abbrev pub ArePotentials : Data → Data → ℕ → List Name → Type 0
+ArePotentials old new year names = (gas : Gas) → (IsListed (potential_name gas) names → ⊥) →
+    factor_input old (potential_name gas) year ≡ factor_input new (potential_name gas) year
+
 -- ---- categories
 
 -- the categories of the lines whose equivalents are reached in a year
@@ -98,14 +132,3 @@ reached_categories old new year names =
 -- the total adds other lines, or a reached equivalent leads to it
 abbrev pub is_total_of : Moved → Tops → Category → Bool
 is_total_of m t top = list_any (is_same top) m.tops.items || has_top t top
-
--- ---- records
-
--- some node of the year may stand by the record, or read it
-abbrev pub is_read_in : ℕ → RecordKey → Bool
-is_read_in year key.Span = true
-is_read_in year (key.Activity name when) = nat_eq when year
-is_read_in year (key.Factor name start) = nat_le start year
-is_read_in year (key.Line name) = true
-is_read_in year (key.Bind line parameter) = true
-is_read_in year (key.Uncert line) = false

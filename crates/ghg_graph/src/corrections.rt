@@ -1,18 +1,17 @@
 //! The nodes that edits affect.
 
 ghost use Rattle.std.specs.Prelude.{◌≡◌, true, IfOk, None};
-ghost use Rattle.std.specs.List.{list_all, list_any};
+ghost use Rattle.std.specs.List.{list_all};
 ghost use Rattle.ghg_affected.specs.Figures.{is_figure_key};
 ghost use Rattle.ghg_data.specs.Changes.{applied};
 ghost use Rattle.ghg_data.specs.Shelf.{IsPlanned};
 ghost use Rattle.ghg_definitions.specs.Data.{span};
-ghost use Rattle.ghg_graph.specs.Corrections.{ListsAffected, are_of_figures, is_span};
+ghost use Rattle.ghg_graph.specs.Corrections.{ListsAffected, are_of_figures};
 ghost use Rattle.ghg_graph.specs.Index.{IsLineIndex};
 
 use crate::in_order::nodes_in_order;
 use crate::index::LineIndex;
 use crate::reached::reached_nodes;
-use crate::selections::{changed_places, figures_of, select};
 use ghg_data::{Book, Edits, Records, after};
 use ghg_definitions::RecordKey;
 use ghg_units::Node;
@@ -43,8 +42,10 @@ fn is_figure_key(key: &RecordKey) -> bool
 
 /// The nodes that edits affect, each once and behind its inputs: those that are new, those whose formula is
 /// another or takes other figures, and all that these lead to. `index` is that of the lines once the edits
-/// are made. Where there were no years, these are all nodes. Where edits leave the years, the lines that they
-/// are about, those that take a figure of theirs, and those to which these lead are gone over; else all are.
+/// are made. Where there were no years, these are all nodes. Where edits leave the years, only those lines
+/// are looked up in a year that edits are about, that take a figure of theirs, or that take a line that is
+/// affected in this year or the one before; and, where an edited warming potential is read in it, those that
+/// emit a gas. Else all are.
 pub fn affected(
     alloc: Global,
     book: &Book,
@@ -90,33 +91,5 @@ fn changed_nodes(
     ensures { IfOk result (λ nodes. ListsAffected book.now.content
         (applied book.now.content edits.now) nodes.items) }
 {
-    let new = after(book, edits);
-    let keys = edits.keys();
-    if has_span(keys) {
-        return reached_nodes(alloc, book, &new, keys, &index.lines, &index.emitters);
-    }
-    let figures = figures_of(alloc, keys)?;
-    let changed = changed_places(alloc, &new, keys, &index.lines)?;
-    let selection = select(alloc, &new, &figures, &changed, index)?;
-    reached_nodes(
-        alloc,
-        book,
-        &new,
-        keys,
-        &selection.lines,
-        &selection.emitters,
-    )
-}
-
-// Whether one of the keys is that of the years.
-fn has_span(keys: &[RecordKey]) -> bool
-    ensures { result ≡ list_any is_span keys.now }
-{
-    keys.iter().any(|key| is_span(key))
-}
-
-fn is_span(key: &RecordKey) -> bool
-    ensures { result ≡ is_span key.now }
-{
-    matches!(key, RecordKey::Span)
+    reached_nodes(alloc, book, &after(book, edits), edits.keys(), index)
 }

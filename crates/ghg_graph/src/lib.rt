@@ -1,11 +1,15 @@
 //! The nodes of a workbook, what they take, and the order in which each has what it takes before it.
 #![tactic(auto)]
 
+mod candidates;
 mod cells;
+mod changed;
 mod clear;
 mod components;
 mod corrections;
+mod dependencies;
 mod entered;
+mod figures;
 mod gases;
 mod in_order;
 mod index;
@@ -19,15 +23,14 @@ mod ordering;
 mod reached;
 mod rings;
 mod search;
-mod selections;
 mod slots;
 mod takers;
 mod tops;
 mod walk;
-mod worklist;
 
 pub use cells::Cells;
 pub use corrections::{affected, are_of_figures};
+pub use dependencies::check_changed;
 pub use entered::{are_entries, entered_order, put_name, with_entered, without_entered};
 pub use gases::{emitters, lasting_potential, potential};
 pub use in_order::nodes_in_order;

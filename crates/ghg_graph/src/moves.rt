@@ -1,7 +1,7 @@
 //! Lines that come to, leave or change the category at which they emit a gas, and the totals that so add
 //! other lines.
 
-ghost use Rattle.std.specs.Prelude.{◌≡◌, filter, IfOk};
+ghost use Rattle.std.specs.Prelude.{◌≡◌, [], filter, IfOk, IsTrue};
 ghost use Rattle.std.specs.FinMap.{get};
 ghost use Rattle.std.specs.List.{Contains, filter_map, list_any};
 ghost use Rattle.ghg_categories.specs.Tree.{is_same, stands_under, tree};
@@ -116,6 +116,13 @@ fn crosses(scope: &Scope, line: &Move) -> bool
 }
 
 impl Moved {
+    /// Whether no category is one of them.
+    pub(crate) fn are_none(&self) -> bool
+        ensures { IsTrue result → self.now.tops.items ≡ [] }
+    {
+        self.tops.is_empty()
+    }
+
     /// Whether the total of a category adds other lines than it did.
     pub(crate) fn has(&self, top: Category) -> bool
         ensures { result ≡ list_any (is_same top) self.now.tops.items }

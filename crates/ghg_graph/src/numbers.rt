@@ -93,8 +93,8 @@ fn targets_at<R: Records>(
     Ok(targets)
 }
 
-// The lines whose values of the same year a line takes at a parameter.
-fn taken_at<'a, R: Records>(records: &'a R, line: &Name, param: &Param) -> &'a [Name]
+/// The lines whose values of the same year a line takes at a parameter.
+pub(crate) fn taken_at<'a, R: Records>(records: &'a R, line: &Name, param: &Param) -> &'a [Name]
     requires { is_parameter param.now.name.now ≡ true }
     ensures { result.now ≡ taken_by (binding (R.content records.now) line.now param.now.name.now) }
 {

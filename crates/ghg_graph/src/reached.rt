@@ -1,26 +1,34 @@
 //! The nodes that edits reach, year by year.
 
-ghost use Rattle.std.specs.Prelude.{◌≡◌, ◌+◌, ◌∷◌, ◌++◌, ◌||◌, [], List, true, false, filter, is_some, if◌then◌else◌, map, not, option_copied, reverse, IfOk, OnOk};
-ghost use Rattle.std.specs.BTreeSet.{contains};
+ghost use Rattle.std.specs.Prelude.{◌≡◌, ◌+◌, ◌∷◌, ◌++◌, ◌||◌, [], List, Some, true, false, filter, is_some, if◌then◌else◌, map, not, option_copied, reverse, IfOk, OnOk};
+ghost use Rattle.std.specs.BTreeSet.{IsOrdered, contains};
 ghost use Rattle.std.specs.FinMap.{get};
 ghost use Rattle.std.specs.List.{Contains, list_any};
 ghost use Rattle.std.specs.Option.{option_map_or, option_to_list};
 ghost use Rattle.ghg_categories.specs.Tree.{tree};
 ghost use Rattle.ghg_categories.specs.declared.category.Category.{Category};
+ghost use Rattle.ghg_units.specs.Name.{is_potential_name};
+ghost use Rattle.ghg_units.specs.WellFormed.{IsSpan};
 ghost use Rattle.ghg_units.specs.declared.node.Node.TheVariants as node;
 ghost use Rattle.ghg_definitions.specs.declared.record.RecordKey.{RecordKey};
-ghost use Rattle.ghg_definitions.specs.Compilation.{gas_lines, is_year_of, years_of};
+ghost use Rattle.ghg_definitions.specs.Compilation.{emits, gas_lines, is_year_of, years_of};
 ghost use Rattle.ghg_definitions.specs.Data.{Data, Name, category, line, name_cmp, span};
+ghost use Rattle.ghg_definitions.specs.Listed.{IsListed};
 ghost use Rattle.ghg_definitions.specs.Rings.{Takes, TakesBinding};
 ghost use Rattle.ghg_affected.specs.Equalities.{same_equation, same_input};
-ghost use Rattle.ghg_graph.specs.Moves.{AreMoved};
-ghost use Rattle.ghg_graph.specs.Reached.{HasBefore, HasReached, IsGasWalk, IsWalk, IsYear, binding_reached, has_line, is_read_in, is_reached, is_total_of, reached_categories, takes_from};
+ghost use Rattle.ghg_graph.specs.Index.{IsLineIndex};
+ghost use Rattle.ghg_graph.specs.Ordering.{IsLineOrder};
+ghost use Rattle.ghg_graph.specs.Reached.{AreEdited, AreEmitters, AreFirst, ArePotentials, AreYears, HasBefore, HasReached, IsYear, binding_reached, has_line, is_reached, is_total_of, reached_categories, takes_from};
 ghost use Rattle.ghg_graph.specs.declared.reached.Lines.TheVariants as year_lines;
 ghost use Rattle.ghg_graph.specs.Tops.{AreTops};
 ghost use Rattle.ghg_graph.specs.Years.{nodes_by_year, year_nodes};
 
-use crate::gases::potential;
+use crate::candidates::{add_from, first_candidates};
+use crate::changed::changed_places;
+use crate::figures::{Figures, is_potential};
+use crate::gases::{line_gas, potential};
 use crate::in_order;
+use crate::index::LineIndex;
 use crate::moves::{Moved, moved_totals};
 use crate::numbers::equation_of;
 use crate::operands::{self, bound_operand};
@@ -31,7 +39,7 @@ use ghg_cell::Input;
 use ghg_data::{Records, params_of};
 use ghg_definitions::RecordKey;
 use ghg_equations::EqId;
-use ghg_units::{Binding, Name, Node};
+use ghg_units::{Binding, Name, Node, Span};
 use std::alloc::{AllocError, Global};
 use std::collections::BTreeSet;
 
@@ -51,6 +59,24 @@ enum Lines {
     These(BTreeSet<Name>),
 }
 
+// What edits are about: the places of lines, the activities and factors of which edited records are read,
+// the totals that add other lines, and the years.
+#[derive(Drop)]
+struct Edited {
+    changed: Vec<usize>,
+    figures: Figures,
+    moved: Moved,
+    years: Years,
+}
+
+// The years of the old data, and the first years of both.
+#[derive(Clone, Copy, Drop)]
+struct Years {
+    before: Option<Span>,
+    first_before: u32,
+    first: u32,
+}
+
 // A year that the old data have too, and the first years of both.
 #[derive(Clone, Copy, Drop)]
 struct Year {
@@ -60,23 +86,23 @@ struct Year {
 }
 
 /// The nodes that are affected where the records differ at the keys alone: year by year the lines in their
-/// order, the equivalents, the totals, each category behind those under it, and the gross total. Lines and
-/// emitters that are not given are not affected.
+/// order, the equivalents, the totals, each category behind those under it, and the gross total. In a year
+/// that the old data have, only those lines are looked up that edits are about, that take an edited figure or
+/// that take a line that is reached; and, where an edited warming potential is read, those that emit a gas.
 pub(crate) fn reached_nodes<R: Records, S: Records>(
     alloc: Global,
     old: &R,
     new: &S,
     keys: &[RecordKey],
-    lines: &[Name],
-    emitters: &[Name],
+    index: &LineIndex,
 ) -> Result<Vec<Node>, AllocError>
     requires kept { (k : RecordKey) → (Contains keys.now k → ⊥) →
         get (R.content old.now) k ≡ get (S.content new.now) k }
-    requires lines { IsWalk (R.content old.now) (S.content new.now) lines.now }
-    requires emitters { IsGasWalk (R.content old.now) (S.content new.now) emitters.now }
+    requires index { IsLineIndex (S.content new.now) index.now }
     ensures { IfOk result (λ nodes. nodes.items ≡ filter
         (is_reached (R.content old.now) (S.content new.now))
-        (nodes_by_year lines.now emitters.now (years_of (span (S.content new.now))))) }
+        (nodes_by_year index.now.lines.items index.now.emitters.items
+        (years_of (span (S.content new.now))))) }
 {
     let mut reached = Reached {
         nodes: Vec::new(alloc),
@@ -85,39 +111,46 @@ pub(crate) fn reached_nodes<R: Records, S: Records>(
     let Some(span) = new.span() else {
         return Ok(reached.nodes);
     };
-    let moved = moved_totals(alloc, old, new, keys)?;
+    let edited = edited_parts(alloc, old, new, keys, index, span)?;
     for number in span.first..span.last + 1 {
-        if !reached.before.are_none() || is_read(keys, number) {
-            add_year(
-                alloc,
-                old,
-                new,
-                lines,
-                emitters,
-                &moved,
-                &mut reached,
-                number,
-            )?;
-        }
+        add_year(alloc, old, new, index, &edited, &mut reached, number)?;
     }
     Ok(reached.nodes)
 }
 
-// Whether some node of the year may stand by a record of the keys, or read it.
-fn is_read(keys: &[RecordKey], year: u32) -> bool
-    ensures { result ≡ list_any (is_read_in year) keys.now }
+fn edited_parts<R: Records, S: Records>(
+    alloc: Global,
+    old: &R,
+    new: &S,
+    keys: &[RecordKey],
+    index: &LineIndex,
+    years: Span,
+) -> Result<Edited, AllocError>
+    requires kept { (k : RecordKey) → (Contains keys.now k → ⊥) →
+        get (R.content old.now) k ≡ get (S.content new.now) k }
+    requires lines { IsLineOrder (S.content new.now) index.now.lines.items }
+    requires span { span (S.content new.now) ≡ Some years }
+    requires years { IsSpan years }
+    ensures { IfOk result (AreEdited (R.content old.now) (S.content new.now) index.now) }
 {
-    keys.iter().any(|key| is_read_in(key, year))
+    let changed = changed_places(alloc, new, keys, &index.lines)?;
+    let figures = Figures::of(alloc, old, new, keys, &index.takers.figures, years)?;
+    let moved = moved_totals(alloc, old, new, keys)?;
+    Ok(Edited {
+        changed,
+        figures,
+        moved,
+        years: both_years(old, new),
+    })
 }
 
-fn is_read_in(key: &RecordKey, year: u32) -> bool
-    ensures { result ≡ is_read_in year key.now }
+fn both_years<R: Records, S: Records>(old: &R, new: &S) -> Years
+    ensures { AreYears (R.content old.now) (S.content new.now) result }
 {
-    match key {
-        RecordKey::Activity(_, when) => *when == year,
-        RecordKey::Factor(_, start) => *start <= year,
-        RecordKey::Span | RecordKey::Line(_) | RecordKey::Bind(_, _) => true,
-        RecordKey::Uncert(_) => false,
+    Years {
+        before: old.span(),
+        first_before: first_year(old),
+        first: first_year(new),
     }
 }
 
@@ -126,55 +159,49 @@ fn add_year<R: Records, S: Records>(
     alloc: Global,
     old: &R,
     new: &S,
-    lines: &[Name],
-    emitters: &[Name],
-    moved: &Moved,
+    index: &LineIndex,
+    edited: &Edited,
     reached: &mut Reached,
     number: u32,
 ) -> Result<(), AllocError>
-    requires lines { IsWalk (R.content old.now) (S.content new.now) lines.now }
-    requires emitters { IsGasWalk (R.content old.now) (S.content new.now) emitters.now }
-    requires moved { AreMoved (R.content old.now) (S.content new.now) moved.now }
+    requires index { IsLineIndex (S.content new.now) index.now }
+    requires edited { AreEdited (R.content old.now) (S.content new.now) index.now edited.now }
     requires year { is_year_of (span (S.content new.now)) number ≡ true }
     requires before { HasBefore (R.content old.now) (S.content new.now) number reached.old.before }
     ensures nodes { OnOk result (reached.new.nodes.items ≡ reached.old.nodes.items ++ filter
         (is_reached (R.content old.now) (S.content new.now))
-        (year_nodes lines.now emitters.now number)) }
+        (year_nodes index.now.lines.items index.now.emitters.items number)) }
     ensures before { OnOk result (HasBefore (R.content old.now) (S.content new.now)
         (number + 1) reached.new.before) }
 {
-    if !has_year(old, number) {
-        return add_new_year(lines, emitters, reached, number);
+    let years = edited.years;
+    if !has_year(years.before, number) {
+        return add_new_year(index, reached, number);
     }
     let year = Year {
         number,
-        first_before: first_year(old),
-        first: first_year(new),
+        first_before: years.first_before,
+        first: years.first,
     };
-    add_old_year(alloc, old, new, lines, emitters, moved, reached, year)
+    add_old_year(alloc, old, new, index, edited, reached, year)
 }
 
-fn has_year<R: Records>(records: &R, year: u32) -> bool
-    ensures { result ≡ is_year_of (span (R.content records.now)) year }
+fn has_year(span: Option<Span>, year: u32) -> bool
+    ensures { result ≡ is_year_of span year }
 {
-    match records.span() {
+    match span {
         Some(span) => span.first <= year && year <= span.last,
         None => false,
     }
 }
 
 // Adds the nodes of a year that the old data do not have: all of them. Nothing is looked up.
-fn add_new_year(
-    lines: &[Name],
-    emitters: &[Name],
-    reached: &mut Reached,
-    number: u32,
-) -> Result<(), AllocError>
+fn add_new_year(index: &LineIndex, reached: &mut Reached, number: u32) -> Result<(), AllocError>
     ensures nodes { OnOk result (reached.new.nodes.items ≡ reached.old.nodes.items ++
-        year_nodes lines.now emitters.now number) }
+        year_nodes index.now.lines.items index.now.emitters.items number) }
     ensures before { OnOk result (reached.new.before ≡ year_lines.All) }
 {
-    in_order::add_year(&mut reached.nodes, lines, emitters, number)?;
+    in_order::add_year(&mut reached.nodes, &index.lines, &index.emitters, number)?;
     reached.before = Lines::All;
     Ok(())
 }
@@ -184,40 +211,43 @@ fn add_old_year<R: Records, S: Records>(
     alloc: Global,
     old: &R,
     new: &S,
-    lines: &[Name],
-    emitters: &[Name],
-    moved: &Moved,
+    index: &LineIndex,
+    edited: &Edited,
     reached: &mut Reached,
     year: Year,
 ) -> Result<(), AllocError>
-    requires lines { IsWalk (R.content old.now) (S.content new.now) lines.now }
-    requires emitters { IsGasWalk (R.content old.now) (S.content new.now) emitters.now }
-    requires moved { AreMoved (R.content old.now) (S.content new.now) moved.now }
+    requires index { IsLineIndex (S.content new.now) index.now }
+    requires edited { AreEdited (R.content old.now) (S.content new.now) index.now edited.now }
     requires year { IsYear (R.content old.now) (S.content new.now) year }
     requires before { HasBefore (R.content old.now) (S.content new.now) year.number reached.old.before }
     ensures nodes { OnOk result (reached.new.nodes.items ≡ reached.old.nodes.items ++ filter
         (is_reached (R.content old.now) (S.content new.now))
-        (year_nodes lines.now emitters.now year.number)) }
+        (year_nodes index.now.lines.items index.now.emitters.items year.number)) }
     ensures before { OnOk result (HasBefore (R.content old.now) (S.content new.now)
         (year.number + 1) reached.new.before) }
 {
+    let figures = edited.figures.at(year.number);
+    let before = reached.before.names(alloc, &index.lines)?;
+    let first = first_candidates(alloc, index, &edited.changed, figures, &before)?;
     let nodes = &mut reached.nodes;
-    let now = add_lines(alloc, old, new, lines, year, &reached.before, nodes)?;
-    let tops = add_equivalents(old, new, emitters, year.number, &now, nodes)?;
-    add_totals(&tops, moved, year.number, nodes)?;
-    add_gross(&tops, moved, year.number, nodes)?;
+    let now = add_lines(alloc, old, new, index, year, &reached.before, first, nodes)?;
+    let emitters = &index.emitters;
+    let tops = add_weighed(alloc, old, new, emitters, figures, year.number, &now, nodes)?;
+    add_totals(&tops, &edited.moved, year.number, nodes)?;
+    add_gross(&tops, &edited.moved, year.number, nodes)?;
     reached.before = Lines::These(now);
     Ok(())
 }
 
 impl Lines {
-    // Whether it is seen that there are none.
-    fn are_none(&self) -> bool
-        ensures { result ≡ true → (m : Data) (name : Name) → has_line m self.now name ≡ false }
+    // Their names, of lines in an order.
+    fn names(&self, alloc: Global, lines: &[Name]) -> Result<Vec<Name>, AllocError>
+        ensures { IfOk result (λ names. (m : Data) (name : Name) → IsLineOrder m lines.now →
+            has_line m self.now name ≡ true → IsListed name names.items) }
     {
         match self {
-            Lines::All => false,
-            Lines::These(names) => names.is_empty(),
+            Lines::All => Vec::from_slice(alloc, lines),
+            Lines::These(names) => sorted_names(alloc, names),
         }
     }
 
@@ -232,32 +262,48 @@ impl Lines {
     }
 }
 
+fn sorted_names(alloc: Global, names: &BTreeSet<Name>) -> Result<Vec<Name>, AllocError>
+    ensures { IfOk result (λ all. all.items ≡ names.now.keys) }
+{
+    names.iter().copied().collect(alloc)
+}
+
 // ---- lines
 
-// Adds those of the lines that are reached in a year, and gives their names.
+// Adds those of the lines that are reached in a year, and gives their names. They stand at the first places,
+// or take a line that is reached, which stands before them.
 fn add_lines<R: Records, S: Records>(
     alloc: Global,
     old: &R,
     new: &S,
-    lines: &[Name],
+    index: &LineIndex,
     year: Year,
     before: &Lines,
+    first: BTreeSet<usize>,
     nodes: &mut Vec<Node>,
 ) -> Result<BTreeSet<Name>, AllocError>
-    requires lines { IsWalk (R.content old.now) (S.content new.now) lines.now }
+    requires index { IsLineIndex (S.content new.now) index.now }
     requires year { IsYear (R.content old.now) (S.content new.now) year }
     requires before { HasBefore (R.content old.now) (S.content new.now) year.number before.now }
+    requires first { AreFirst (R.content old.now) (S.content new.now) index.now.lines.items
+        year.number first }
     ensures nodes { OnOk result (nodes.new.items ≡ nodes.old.items ++ filter
         (is_reached (R.content old.now) (S.content new.now))
-        (map (λ name. node.Line name year.number) lines.now)) }
+        (map (λ name. node.Line name year.number) index.now.lines.items)) }
     ensures names { IfOk result (λ names. HasReached (R.content old.now) (S.content new.now) year.number
         (year_lines.These names)) }
+    ensures ordered { IfOk result (IsOrdered name_cmp) }
 {
     let mut now = BTreeSet::new(alloc);
-    for line in lines {
+    let mut left = first;
+    let mut from = 0;
+    while let Some(place) = left.pop_first() {
+        from = place + 1;
+        let line = &index.lines[place];
         if line_reached(old, new, line, year, before, &now) {
             nodes.push(Node::Line(*line, year.number))?;
             now.insert(*line)?;
+            add_from(&mut left, index.takers.lines.at(line), from)?;
         }
     }
     Ok(now)
@@ -352,7 +398,60 @@ fn has_any(set: &BTreeSet<Name>, names: &[Name]) -> bool
 
 // ---- equivalents
 
-// Adds the equivalents that are reached in a year, and gives the totals to which these lead.
+// Adds the equivalents that are reached in a year, and gives the totals to which these lead. All emitters are
+// gone over only where an edited warming potential is read; else those of the lines that are reached.
+fn add_weighed<R: Records, S: Records>(
+    alloc: Global,
+    old: &R,
+    new: &S,
+    emitters: &[Name],
+    figures: &[Name],
+    year: u32,
+    now: &BTreeSet<Name>,
+    nodes: &mut Vec<Node>,
+) -> Result<Tops, AllocError>
+    requires emitters { emitters.now ≡ gas_lines (S.content new.now) }
+    requires figures { ArePotentials (R.content old.now) (S.content new.now) year figures.now }
+    requires year { is_year_of (span (S.content new.now)) year ≡ true }
+    requires now { HasReached (R.content old.now) (S.content new.now) year (year_lines.These now.now) }
+    requires ordered { IsOrdered name_cmp now.now }
+    ensures nodes { OnOk result (nodes.new.items ≡ nodes.old.items ++ filter
+        (is_reached (R.content old.now) (S.content new.now))
+        (map (λ name. node.Equiv name year) emitters.now)) }
+    ensures tops { IfOk result (AreTops
+        (reached_categories (R.content old.now) (S.content new.now) year emitters.now)) }
+{
+    if has_potential(figures) {
+        return add_equivalents(old, new, emitters, year, now, nodes);
+    }
+    let emitting = emitting(alloc, new, now)?;
+    add_equivalents(old, new, &emitting, year, now, nodes)
+}
+
+// Whether one of the figures is a warming potential.
+fn has_potential(figures: &[Name]) -> bool
+    ensures { result ≡ list_any is_potential_name figures.now }
+{
+    figures.iter().any(|name| is_potential(name))
+}
+
+// Those of the lines that emit a gas.
+fn emitting<S: Records>(
+    alloc: Global,
+    new: &S,
+    lines: &BTreeSet<Name>,
+) -> Result<Vec<Name>, AllocError>
+    ensures { IfOk result (λ names. names.items ≡ filter (emits (S.content new.now)) lines.now.keys) }
+{
+    lines
+        .iter()
+        .filter(|name| line_gas(new, name).is_some())
+        .copied()
+        .collect(alloc)
+}
+
+// Adds those of the equivalents of some emitters that are reached in a year, and gives the totals to which
+// these lead.
 fn add_equivalents<R: Records, S: Records>(
     old: &R,
     new: &S,
@@ -361,7 +460,7 @@ fn add_equivalents<R: Records, S: Records>(
     now: &BTreeSet<Name>,
     nodes: &mut Vec<Node>,
 ) -> Result<Tops, AllocError>
-    requires emitters { IsGasWalk (R.content old.now) (S.content new.now) emitters.now }
+    requires emitters { AreEmitters (S.content new.now) emitters.now }
     requires year { is_year_of (span (S.content new.now)) year ≡ true }
     requires now { HasReached (R.content old.now) (S.content new.now) year (year_lines.These now.now) }
     ensures nodes { OnOk result (nodes.new.items ≡ nodes.old.items ++ filter
@@ -414,7 +513,8 @@ fn differ(old: Input, new: Input) -> bool
 
 // ---- totals
 
-// Adds the totals of a year that add other lines, and those to which reached equivalents lead.
+// Adds the totals of a year that add other lines, and those to which reached equivalents lead. Where there
+// are none, the categories are not gone over.
 fn add_totals(
     tops: &Tops,
     moved: &Moved,
@@ -424,6 +524,9 @@ fn add_totals(
     ensures { OnOk result (nodes.new.items ≡ nodes.old.items ++ map (λ c. node.Total c year)
         (filter (is_total_of moved.now tops.now) (reverse tree))) }
 {
+    if tops.are_none() && moved.are_none() {
+        return Ok(());
+    }
     for top in ghg_categories::all().iter().rev() {
         if moved.has(*top) || tops.has(*top) {
             nodes.push(Node::Total(*top, year))?;

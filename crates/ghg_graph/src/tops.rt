@@ -1,6 +1,6 @@
 //! The totals to which lines at categories lead.
 
-ghost use Rattle.std.specs.Prelude.{◌≡◌, ◌<◌, ◌||◌, ◌++◌, ◌∷◌, [], List};
+ghost use Rattle.std.specs.Prelude.{◌≡◌, ◌<◌, ◌||◌, ◌++◌, ◌∷◌, [], false, IsTrue, List};
 ghost use Rattle.ghg_categories.specs.Places.{place_of};
 ghost use Rattle.ghg_categories.specs.Tree.{stands_within};
 ghost use Rattle.ghg_categories.specs.declared.category.Category.{Category};
@@ -35,6 +35,13 @@ impl Tops {
         ensures { result ≡ has_top self.now top }
     {
         (self.bits >> place(top)) & 1 == 1
+    }
+
+    /// Whether it is seen that there are none.
+    pub(crate) fn are_none(&self) -> bool
+        ensures { IsTrue result → (top : Category) → has_top self.now top ≡ false }
+    {
+        self.bits == 0
     }
 
     /// Adds a category, and those above it.

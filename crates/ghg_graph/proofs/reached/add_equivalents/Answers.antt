@@ -1,16 +1,18 @@
 use Rattle.std.proofs.Common.{◌∙◌, ◌++◌, ap, subst, sym, filter, map}
 use Rattle.std.proofs.lemmas.List.{take_all}
 use Rattle.ghg_units.specs.declared.node.Node.TheVariants as node
+use Rattle.ghg_definitions.specs.Listed.{IsListed}
 use Rattle.ghg_graph.specs.Reached.{is_reached}
 use Rattle.ghg_graph.specs.Tops.{AreTops}
-use Rattle.ghg_graph.proofs.Marking.{category_left, category_passed, emitter_at, one_left, one_passed}
+use Rattle.ghg_graph.proofs.EquationParameters.{at_place}
+use Rattle.ghg_graph.proofs.Marking.{category_left, category_passed, one_left, one_passed}
 use Rattle.ghg_graph.proofs.reached.add_equivalents.Goals as goal
 use Rattle.ghg_graph.proofs.reached.add_equivalents.Goals.{then-equivalent_reached+in_ok-push, else-equivalent_reached}
 
 pub equivalent_reached-requires-clause-emits : goal.equivalent_reached-requires-clause-emits
-equivalent_reached-requires-clause-emits g c =
-    emitter_at (g.R.Records.content c.args.old.now) (g.S.Records.content c.args.new.now) c.args.emitters.now c.requires.emitters
-    c.loop-name.name-index c.name-item.result c.loop-name-test.true c.name-item.is
+equivalent_reached-requires-clause-emits g c = c.requires.emitters c.name-item.result
+    (subst (λ name. IsListed name c.args.emitters.now) (sym c.name-item.is)
+    (at_place c.args.emitters.now c.loop-name.name-index c.name-item.result c.loop-name-test.true))
 
 pub loop-name-preserved : goal.loop-name-preserved
 loop-name-preserved g c =

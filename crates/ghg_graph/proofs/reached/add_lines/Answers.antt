@@ -1,63 +1,120 @@
-use Rattle.std.proofs.Common.{inl, inr, ◌∙◌, ◌+◌, ◌++◌, ap, subst, sym, filter, map, take}
-use Rattle.std.proofs.lemmas.List.{take_all}
+use Rattle.std.proofs.Common.{◌∙◌, ◌+◌, ◌++◌, ◌∷◌, [], true, ap, arith, is_some, subst, sym}
+use Rattle.std.proofs.lemmas.List.{get_or_default}
+use Rattle.std.specs.BTreeSet.{Updates}
 use Rattle.ghg_units.specs.declared.node.Node.TheVariants as node
+use Rattle.ghg_definitions.specs.Data.{line, name_cmp}
+use Rattle.ghg_definitions.specs.Rings.{Takes}
+use Rattle.ghg_graph.specs.Candidates.{AreAdded}
 use Rattle.ghg_graph.specs.Reached.{is_reached}
-use Rattle.ghg_graph.proofs.Marking.{IsSoFar, all_gathered, line_at, off_is, one_left, one_passed, so_far_is, with_line, without_line}
-use Rattle.ghg_graph.proofs.Numbering.{take_next}
+use Rattle.ghg_graph.specs.Takers.{places_of}
+use Rattle.ghg_graph.proofs.Adding.{no_place}
+use Rattle.ghg_graph.proofs.Gathering.{gathered_all, gathered_at, gathered_last, gathered_none, gathered_one, gathered_other, known, line_there}
 use Rattle.ghg_graph.proofs.reached.add_lines.Goals as goal
-use Rattle.ghg_graph.proofs.reached.add_lines.Goals.{then-line_reached+in_ok-push+in_ok-insert, else-line_reached}
+
+pub loop-place-init : goal.loop-place-init
+loop-place-init g c =
+    let old = g.R.Records.content c.args.old.now in
+    let new = g.S.Records.content c.args.new.now in
+    gathered_none old new c.args.year.number c.args.index.now c.requires.index c.args.first c.requires.first
+    c.args.nodes.now.items c.new-now.result c.new-now.ensures.empty c.new-now.ensures.ordered
+
+pub index-line-requires : goal.index-line-requires
+index-line-requires g c =
+    let within = (c.loop-place.invariant.within c.in-Some.place c.in-Some.ensures.member).1 in
+    grind (arith, within, c.args.index.now.lines.ok)
 
 pub line_reached-requires-clause-line : goal.line_reached-requires-clause-line
 line_reached-requires-clause-line g c =
-    (line_at (g.R.Records.content c.args.old.now) (g.S.Records.content c.args.new.now) c.args.lines.now c.requires.lines c.loop-line.line-index c.line-item.result c.loop-line-test.true c.line-item.is).0
+    let old = g.R.Records.content c.args.old.now in
+    let new = g.S.Records.content c.args.new.now in
+    let place = c.in-Some.place in
+    let range = c.loop-place.invariant.within place c.in-Some.ensures.member in
+    let read = c.index-line.ensures ∙ get_or_default c.args.index.now.lines.items place c.index-line.result.now [] range.1 in
+    let at = gathered_at old new c.args.year.number c.args.index.now c.requires.index c.args.first c.requires.first
+    c.args.nodes.now.items c.loop-place.nodes.items c.loop-place.from c.loop-place.left c.loop-place.now c.loop-place.invariant
+    place c.in-Some.ensures.member c.in-Some.ensures.least in
+    ap (λ n. is_some (line new n)) read
+    ∙ line_there old new c.args.year.number c.args.index.now c.requires.index c.args.first c.requires.first
+    c.args.nodes.now.items c.loop-place.nodes.items place c.loop-place.left c.pop_first.new.self c.loop-place.now at range.1
+    c.in-Some.ensures.updates
 
 pub line_reached-requires-clause-now : goal.line_reached-requires-clause-now
 line_reached-requires-clause-now g c =
     let old = g.R.Records.content c.args.old.now in
     let new = g.S.Records.content c.args.new.now in
-    λ k t. elim ((line_at old new c.args.lines.now c.requires.lines c.loop-line.line-index c.line-item.result c.loop-line-test.true c.line-item.is).1 k t) [
-      | inl i ↦ so_far_is old new c.args.year.number _ c.loop-line.now c.loop-line.invariant.1 k i
-      | inr off ↦ off_is old new c.args.year.number _ c.loop-line.now c.loop-line.invariant.1 k (off c.args.year.number)
-    ]
+    let place = c.in-Some.place in
+    let range = c.loop-place.invariant.within place c.in-Some.ensures.member in
+    let read = c.index-line.ensures ∙ get_or_default c.args.index.now.lines.items place c.index-line.result.now [] range.1 in
+    let at = gathered_at old new c.args.year.number c.args.index.now c.requires.index c.args.first c.requires.first
+    c.args.nodes.now.items c.loop-place.nodes.items c.loop-place.from c.loop-place.left c.loop-place.now c.loop-place.invariant
+    place c.in-Some.ensures.member c.in-Some.ensures.least in
+    λ k takes. known old new c.args.year.number c.args.index.now c.requires.index c.args.first c.requires.first
+    c.args.nodes.now.items c.loop-place.nodes.items place c.loop-place.left c.pop_first.new.self c.loop-place.now at range.1
+    c.in-Some.ensures.updates k (subst (λ n. Takes new n k) read takes)
 
-pub loop-line-preserved : goal.loop-line-preserved
-loop-line-preserved g c =
+pub loop-place-smaller : goal.loop-place-smaller
+loop-place-smaller g c =
+    let range = c.loop-place.invariant.within c.in-Some.place c.in-Some.ensures.member in
+    let low = range.0 in
+    let high = range.1 in
+    omega (arith, low, high)
+
+pub loop-place-preserved-in-Continue-branch-3 : goal.loop-place-preserved-in-Continue-branch-3
+loop-place-preserved-in-Continue-branch-3 g c =
     let old = g.R.Records.content c.args.old.now in
     let new = g.S.Records.content c.args.new.now in
-    let lines = c.args.lines.now in
-    let i = c.loop-line.line-index in
-    let name = c.line-item.result in
-    elim c.if-line_reached.branch [
-      | then-line_reached+in_ok-push+in_ok-insert w ↦
-          let is = sym c.line_reached.ensures ∙ w.if-line_reached.true in (
-            one_passed (is_reached old new) (λ k. node.Line k c.args.year.number) lines i name c.loop-line-test.true c.line-item.is is
-                c.args.nodes.now.items c.loop-line.nodes.items _ c.loop-line.invariant.0
-                (ap (λ v. v.items) w.nodes-is ∙ w.in_ok-push.ensures.items),
-            subst (λ s. IsSoFar old new c.args.year.number (take (i + 1) lines) s) (sym w.now-is)
-                (subst (λ xs. IsSoFar old new c.args.year.number xs w.insert.new.self) (sym (take_next lines i name c.loop-line-test.true c.line-item.is))
-                (with_line old new c.args.year.number (take i lines) c.loop-line.now w.insert.new.self name c.loop-line.invariant.1 is
-                w.in_ok-insert.ensures.updates)),
-          )
-      | else-line_reached w ↦
-          let off = sym c.line_reached.ensures ∙ w.if-line_reached.false in (
-            ap (λ v. v.items) w.nodes-is
-                ∙ one_left (is_reached old new) (λ k. node.Line k c.args.year.number) lines i name c.loop-line-test.true c.line-item.is off
-                c.args.nodes.now.items c.loop-line.nodes.items c.loop-line.invariant.0,
-            subst (λ s. IsSoFar old new c.args.year.number (take (i + 1) lines) s) (sym w.now-is)
-                (subst (λ xs. IsSoFar old new c.args.year.number xs c.loop-line.now) (sym (take_next lines i name c.loop-line-test.true c.line-item.is))
-                (without_line old new c.args.year.number (take i lines) c.loop-line.now name c.loop-line.invariant.1 off)),
-          )
-    ]
+    let place = c.in-Some.place in
+    let year = c.args.year.number in
+    let range = c.loop-place.invariant.within place c.in-Some.ensures.member in
+    let read = c.index-line.ensures ∙ get_or_default c.args.index.now.lines.items place c.index-line.result.now [] range.1 in
+    let at = gathered_at old new year c.args.index.now c.requires.index c.args.first c.requires.first
+    c.args.nodes.now.items c.loop-place.nodes.items c.loop-place.from c.loop-place.left c.loop-place.now c.loop-place.invariant
+    place c.in-Some.ensures.member c.in-Some.ensures.least in
+    gathered_one old new year c.args.index.now c.requires.index c.args.first c.requires.first
+    c.args.nodes.now.items c.loop-place.nodes.items place c.loop-place.left c.pop_first.new.self c.loop-place.now at range.1
+    c.in-Some.ensures.updates c.push.new.self.items c.insert.new.self c.add_from.new.places
+    (ap (λ n. is_reached old new (node.Line n year)) (sym read) ∙ sym c.line_reached.ensures ∙ c.if-line_reached.true)
+    (c.in_ok-push.ensures.items ∙ ap (λ n. c.loop-place.nodes.items ++ node.Line n year ∷ []) read)
+    (subst (λ n. Updates name_cmp c.loop-place.now c.insert.new.self n true) read c.in_ok-insert.ensures.updates)
+    c.in_ok-insert.ensures.ordered
+    (subst (λ n. AreAdded (place + 1) (places_of c.args.index.now.takers.lines n) c.pop_first.new.self c.add_from.new.places) read
+    (subst (λ ps. AreAdded (place + 1) ps c.pop_first.new.self c.add_from.new.places) c.at.ensures c.in_ok-add_from.ensures))
+
+pub loop-place-preserved : goal.loop-place-preserved
+loop-place-preserved g c =
+    let old = g.R.Records.content c.args.old.now in
+    let new = g.S.Records.content c.args.new.now in
+    let place = c.in-Some.place in
+    let year = c.args.year.number in
+    let range = c.loop-place.invariant.within place c.in-Some.ensures.member in
+    let read = c.index-line.ensures ∙ get_or_default c.args.index.now.lines.items place c.index-line.result.now [] range.1 in
+    let at = gathered_at old new year c.args.index.now c.requires.index c.args.first c.requires.first
+    c.args.nodes.now.items c.loop-place.nodes.items c.loop-place.from c.loop-place.left c.loop-place.now c.loop-place.invariant
+    place c.in-Some.ensures.member c.in-Some.ensures.least in
+    gathered_other old new year c.args.index.now c.requires.index c.args.first c.requires.first
+    c.args.nodes.now.items c.loop-place.nodes.items place c.loop-place.left c.pop_first.new.self c.loop-place.now at range.1
+    c.in-Some.ensures.updates
+    (ap (λ n. is_reached old new (node.Line n year)) (sym read) ∙ sym c.line_reached.ensures ∙ c.if-line_reached.false)
 
 pub returns-clause-nodes : goal.returns-clause-nodes
 returns-clause-nodes g c =
-    c.loop-line.invariant.0
-    ∙ ap (λ xs. c.args.nodes.now.items ++ filter (is_reached (g.R.Records.content c.args.old.now) (g.S.Records.content c.args.new.now)) (map (λ name. node.Line name c.args.year.number) xs))
-    (take_all c.loop-line.line-index c.args.lines.now c.loop-line-test.false)
+    let old = g.R.Records.content c.args.old.now in
+    let new = g.S.Records.content c.args.new.now in
+    (gathered_all old new c.args.year.number c.args.index.now c.requires.index c.args.first c.requires.first
+    c.args.nodes.now.items c.loop-place.nodes.items c.loop-place.left c.loop-place.now
+    (gathered_last old new c.args.year.number c.args.index.now c.requires.index c.args.first c.requires.first
+    c.args.nodes.now.items c.loop-place.nodes.items c.loop-place.from c.loop-place.left c.loop-place.now c.loop-place.invariant
+    (no_place c.loop-place.left c.pop_first.result c.in_default.not-Some c.pop_first.ensures.variant))).0
 
 pub returns-clause-names : goal.returns-clause-names
 returns-clause-names g c =
     let old = g.R.Records.content c.args.old.now in
     let new = g.S.Records.content c.args.new.now in
-    all_gathered old new c.args.year.number c.args.lines.now c.requires.lines c.loop-line.now
-    (subst (λ xs. IsSoFar old new c.args.year.number xs c.loop-line.now) (take_all c.loop-line.line-index c.args.lines.now c.loop-line-test.false) c.loop-line.invariant.1)
+    (gathered_all old new c.args.year.number c.args.index.now c.requires.index c.args.first c.requires.first
+    c.args.nodes.now.items c.loop-place.nodes.items c.loop-place.left c.loop-place.now
+    (gathered_last old new c.args.year.number c.args.index.now c.requires.index c.args.first c.requires.first
+    c.args.nodes.now.items c.loop-place.nodes.items c.loop-place.from c.loop-place.left c.loop-place.now c.loop-place.invariant
+    (no_place c.loop-place.left c.pop_first.result c.in_default.not-Some c.pop_first.ensures.variant))).1
+
+pub returns-clause-ordered : goal.returns-clause-ordered
+returns-clause-ordered g c = c.loop-place.invariant.ordered

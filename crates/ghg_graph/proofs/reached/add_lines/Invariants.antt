@@ -1,10 +1,11 @@
-use Rattle.std.proofs.Common.{◌≡◌, ◌++◌, filter, map, take}
-use Rattle.ghg_units.specs.declared.node.Node.TheVariants as node
-use Rattle.ghg_graph.specs.Reached.{is_reached}
-use Rattle.ghg_graph.proofs.Marking.{IsSoFar}
+use Rattle.std.proofs.Common.{◌-◌, length}
+use Rattle.ghg_graph.proofs.Gathering.{IsGathered}
 use Rattle.ghg_graph.proofs.reached.add_lines.Given as goal
 
-abbrev pub invariant-loop-line : goal.invariant-loop-line
-invariant-loop-line g l =
-    (l.nodes.items ≡ l.initial.nodes.items ++ filter (is_reached (g.R.Records.content l.old) (g.S.Records.content l.new)) (map (λ name. node.Line name l.year.number) (take l.line-index l.lines)))
-    × IsSoFar (g.R.Records.content l.old) (g.S.Records.content l.new) l.year.number (take l.line-index l.lines) l.now
+abbrev pub invariant-loop-place : goal.invariant-loop-place
+invariant-loop-place g l =
+    IsGathered (g.R.Records.content l.old) (g.S.Records.content l.new) l.year.number l.index l.fn.first
+    l.initial.nodes.items l.nodes.items l.from l.left l.now
+
+abbrev pub decreases-loop-place : goal.decreases-loop-place
+decreases-loop-place g l = length l.index.lines.items - l.from
