@@ -32,10 +32,10 @@ added_elsewhere (y ∷ ys) (suc j) x apart = added_elsewhere ys j x (λ e. apart
 
 -- ---- years
 
-pub value_within : (first year : ℕ) (xs : List Input) → first ≤ year → value_in (record { first = first; values = xs }) year ≡ slice_get xs (year - first)
+pub value_within : (first year : ℕ) (xs : List Input) → first ≤ year → value_in (record { first = first; values = xs; spare = 0 }) year ≡ slice_get xs (year - first)
 value_within first year xs le = ap (λ b. cond b (slice_get xs (year - first)) None) (le-leb first year le)
 
-pub value_before : (first year : ℕ) (xs : List Input) → (first ≤ year → ⊥) → value_in (record { first = first; values = xs }) year ≡ None
+pub value_before : (first year : ℕ) (xs : List Input) → (first ≤ year → ⊥) → value_in (record { first = first; values = xs; spare = 0 }) year ≡ None
 value_before first year xs before = ap (λ b. cond b (slice_get xs (year - first)) None) (lt-leb first year (omega (arith, before)))
 
 -- where there is no place there is no value
@@ -54,7 +54,7 @@ no_place run year none = by (nat_le run.first year) none
     by false e = refl
 
 -- a year that has a value is one of the run's
-pub is_within : (first year : ℕ) (xs : List Input) → is_some (value_in (record { first = first; values = xs }) year) ≡ true → (first ≤ year) × (year - first < length xs)
+pub is_within : (first year : ℕ) (xs : List Input) → is_some (value_in (record { first = first; values = xs; spare = 0 }) year) ≡ true → (first ≤ year) × (year - first < length xs)
 is_within first year xs there = by (nat_le first year) refl there
   where
     some : (o : Option Input) → slice_get xs (year - first) ≡ o → is_some o ≡ true → year - first < length xs
@@ -66,7 +66,7 @@ is_within first year xs there = by (nat_le first year) refl there
     by false gt t = absurd (cc)
 
 module _ (first : ℕ) (xs ys : List Input) (i : ℕ) (value : Option Input) (here : slice_get ys i ≡ value) (elsewhere : (j : ℕ) → j ≢ i → slice_get ys j ≡ slice_get xs j) where
-  changed : (year : ℕ) → first ≤ year → i ≡ year - first → HasIn (record { first = first; values = xs }) (record { first = first; values = ys }) year value
+  changed : (year : ℕ) → first ≤ year → i ≡ year - first → HasIn (record { first = first; values = xs; spare = 0 }) (record { first = first; values = ys; spare = 0 }) year value
   changed year le at y = by (nat_le first y) refl (y == year) refl
     where
       by : (a : Bool) → nat_le first y ≡ a → (b : Bool) → (y == year) ≡ b → cond a (slice_get ys (y - first)) None ≡ cond b value (cond a (slice_get xs (y - first)) None)
@@ -81,16 +81,16 @@ module _ (first : ℕ) (xs ys : List Input) (i : ℕ) (value : Option Input) (he
           before l e = omega (arith, l, e, le)
       by false high false other = refl
 
-pub has_written : (first year : ℕ) (xs : List Input) (x : Input) → first ≤ year → year - first < length xs → HasIn (record { first = first; values = xs }) (record { first = first; values = set xs (year - first) x }) year (Some x)
+pub has_written : (first year : ℕ) (xs : List Input) (x : Input) → first ≤ year → year - first < length xs → HasIn (record { first = first; values = xs; spare = 0 }) (record { first = first; values = set xs (year - first) x; spare = 0 }) year (Some x)
 has_written first year xs x le l = changed first xs (set xs (year - first) x) (year - first) (Some x) (set_there xs (year - first) x l) (λ j. set_elsewhere xs (year - first) j x) year le refl
 
-pub has_added : (first year : ℕ) (xs : List Input) (x : Input) → first ≤ year → year - first ≡ length xs → HasIn (record { first = first; values = xs }) (record { first = first; values = xs ++ x ∷ [] }) year (Some x)
+pub has_added : (first year : ℕ) (xs : List Input) (x : Input) → first ≤ year → year - first ≡ length xs → HasIn (record { first = first; values = xs; spare = 0 }) (record { first = first; values = xs ++ x ∷ []; spare = 0 }) year (Some x)
 has_added first year xs x le at = changed first xs (xs ++ x ∷ []) (length xs) (Some x) (added_there xs x) (λ j. added_elsewhere xs j x) year le (sym at)
 
-pub lacks_last : (first year : ℕ) (xs : List Input) (x : Input) → year ≡ first + length xs → HasIn (record { first = first; values = xs ++ x ∷ [] }) (record { first = first; values = xs }) year None
+pub lacks_last : (first year : ℕ) (xs : List Input) (x : Input) → year ≡ first + length xs → HasIn (record { first = first; values = xs ++ x ∷ []; spare = 0 }) (record { first = first; values = xs; spare = 0 }) year None
 lacks_last first year xs x at = changed first (xs ++ x ∷ []) xs (length xs) None (slice_get_past xs (length xs) (omega arith)) (λ j apart. sym (added_elsewhere xs j x apart)) year (omega (arith, at)) (omega (arith, at))
 
-pub has_last : (first year : ℕ) (xs : List Input) (x : Input) → year ≡ first + length xs → value_in (record { first = first; values = xs ++ x ∷ [] }) year ≡ Some x
+pub has_last : (first year : ℕ) (xs : List Input) (x : Input) → year ≡ first + length xs → value_in (record { first = first; values = xs ++ x ∷ []; spare = 0 }) year ≡ Some x
 has_last first year xs x at =
     value_within first year (xs ++ x ∷ []) (omega (arith, at)) ∙ ap (slice_get (xs ++ x ∷ [])) (offset first year at) ∙ added_there xs x
   where

@@ -1,5 +1,5 @@
 -- What holds of outcomes that are a compilation at its nodes.
-use Rattle.std.proofs.Common.{◌≡◌, ℕ, Bool, true, false, if◌then◌else◌, None, refl, sym, ap, ◌∙◌, subst, arith}
+use Rattle.std.proofs.Common.{◌≡◌, true, None, sym, ap, ◌∙◌, subst}
 use Rattle.std.specs.FinMap.{empty}
 use Rattle.ghg_units.specs.declared.node.Node.{Node}
 use Rattle.ghg_definitions.specs.declared.record.Record.{Record}
@@ -11,7 +11,7 @@ use Rattle.ghg_definitions.specs.Trials.{Outcomes}
 use Rattle.ghg_definitions.proofs.Exactness.{compilations_contain}
 use Rattle.ghg_definitions.proofs.OneTrial.{overflows_break}
 use Rattle.ghg_data.proofs.Empty.{is_acyclic, is_workbook}
-use Rattle.ghg_engine.specs.Cells.{found_in, no_outcomes}
+use Rattle.ghg_engine.specs.Cells.{no_outcomes}
 use Rattle.ghg_engine.specs.Compiled.{IsCompiled}
 use Rattle.ghg_engine.proofs.Nothing.{nothing_found, nothing_over}
 
@@ -28,11 +28,6 @@ pub nothing_compiled : (m : Data) (cells : Outcomes) → m ≡ empty → cells �
 nothing_compiled m cells e f =
     subst (λ x. IsCompiled x cells) (sym e)
     (is_compiled (empty {X = Record} {R = key_cmp}) is_workbook is_acyclic nothing_over cells (λ n node. ap (λ (c : Outcomes). c n) f ∙ sym (nothing_found n)))
-
--- where nothing stands in front, what stands behind is compiled
-pub settled_compiled : (m : Data) (front kept : Outcomes) (settled : Bool) → ◌≡◌ {A = ℕ} (if settled then 1 else 0) 1 → (settled ≡ true → front ≡ no_outcomes) → IsCompiled m (found_in front kept) → IsCompiled m kept
-settled_compiled m front kept true room none is = subst (λ f. IsCompiled m (found_in f kept)) (none refl) is
-settled_compiled m front kept false room none is = absurd (omega (arith, room))
 
 -- what else stands at the nodes is compiled too
 pub compiled_alike : (m : Data) (outcomes others : Outcomes) → ((n : Node) → is_node m n ≡ true → others n ≡ outcomes n) → IsCompiled m outcomes → IsCompiled m others

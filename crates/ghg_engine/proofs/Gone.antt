@@ -22,8 +22,8 @@ use Rattle.ghg_data.proofs.Covered.{changed_or_kept}
 use Rattle.ghg_graph.proofs.Corrected.{among}
 use Rattle.ghg_engine.specs.declared.series.Series.{Series}
 use Rattle.ghg_engine.specs.declared.series.Series.TheVariants as series
-use Rattle.ghg_engine.specs.Cells.{AreWithin, found_in, no_outcomes, series_of, series_order, without_series}
-use Rattle.ghg_engine.specs.Compiled.{AreOfLines, has_series, without_missing}
+use Rattle.ghg_engine.specs.Cells.{found_in, has_value, no_outcomes, series_of, series_order, without_series}
+use Rattle.ghg_engine.specs.Compiled.{AreOfEither, AreOfLines, has_series, without_missing}
 use Rattle.ghg_engine.proofs.Places.{series_itself, series_same}
 use Rattle.ghg_engine.proofs.Removed.{elsewhere}
 
@@ -36,24 +36,21 @@ node_has_series m (node.Total c year) is = refl
 node_has_series m (node.Gross year) is = refl
 
 pub none_of_lines : (m : Data) (outcomes : Outcomes) → outcomes ≡ no_outcomes → AreOfLines m outcomes
-none_of_lines m outcomes none = record { present = λ n there. absurd (true_not_false (sym there ∙ ap (λ (o : Outcomes). is_some (o n)) none)) }
+none_of_lines m outcomes none = record { present = λ n there. absurd (true_not_false (sym there ∙ ap (λ (o : Outcomes). has_value (o n)) none)) }
 
--- those in front, and those behind
-pub both_of_lines : (m : Data) (front back : Outcomes) → AreOfLines m front → AreOfLines m back → AreOfLines m (found_in front back)
-both_of_lines m front back first second = record { present = λ n there. by n (front n) refl there }
+-- those of the new data in front of those of the old
+pub both_of_either : (old new : Data) (front back : Outcomes) → AreOfLines new front → AreOfLines old back → AreOfEither old new (found_in front back)
+both_of_either old new front back first second = record { present = λ n there. by n (front n) refl there }
   where
-    by : (n : Node) (o : Option Outcome) → front n ≡ o → is_some (option_or o (back n)) ≡ true → has_series m (series_of n) ≡ true
-    by n None e there = second.present n there
-    by n (Some x) e there = first.present n (ap is_some e)
-
-pub behind_of_lines : (m : Data) (front back : Outcomes) → AreOfLines m (found_in front back) → AreOfLines m back
-behind_of_lines m front back are = record { present = λ n there. are.present n (some_behind (front n) (back n) there) }
-  where
-    some_behind : (o p : Option Outcome) → is_some p ≡ true → is_some (option_or o p) ≡ true
-    some_behind None p there = there
-    some_behind (Some x) p there = refl
+    by : (n : Node) (o : Option Outcome) → front n ≡ o → has_value (option_or o (back n)) ≡ true → (has_series old (series_of n) ≡ true) ⊎ (has_series new (series_of n) ≡ true)
+    by n None e there = inl (second.present n there)
+    by n (Some x) e there = inr (first.present n (ap has_value e ∙ there))
 
 -- ---- without a series that the data do not have
+
+-- each node with a value in the first has one in the second
+abbrev pub HaveFewer : Outcomes → Outcomes → Type 0
+HaveFewer after before = (n : Node) → has_value (after n) ≡ true → has_value (before n) ≡ true
 
 module _ (m : Data) (outcomes : Outcomes) (s : Series) where
   -- the nodes keep their outcomes
@@ -68,24 +65,24 @@ module _ (m : Data) (outcomes : Outcomes) (s : Series) where
           apart true same = absurd (true_not_false (sym (ap (has_series m) (series_same s (series_of n) same) ∙ node_has_series m n is) ∙ missing))
           apart false other = refl
 
-  pub fewer : AreWithin (without_missing m outcomes s) outcomes
+  pub fewer : HaveFewer (without_missing m outcomes s) outcomes
   fewer n there = by (has_series m s) there
     where
-      one : (b : Bool) → is_some (cond b None (outcomes n)) ≡ true → is_some (outcomes n) ≡ true
+      one : (b : Bool) → has_value (cond b None (outcomes n)) ≡ true → has_value (outcomes n) ≡ true
       one true there = absurd (true_not_false (sym there))
       one false there = there
 
-      by : (b : Bool) → is_some ((cond b outcomes (without_series outcomes s)) n) ≡ true → is_some (outcomes n) ≡ true
+      by : (b : Bool) → has_value ((cond b outcomes (without_series outcomes s)) n) ≡ true → has_value (outcomes n) ≡ true
       by true there = there
       by false there = one (is_at (series_order s) (series_of n)) there
 
-  pub series_left : (n : Node) → series_of n ≡ s → is_some (without_missing m outcomes s n) ≡ true → has_series m (series_of n) ≡ true
+  pub series_left : (n : Node) → series_of n ≡ s → has_value (without_missing m outcomes s n) ≡ true → has_series m (series_of n) ≡ true
   series_left n of_series there = ap (has_series m) of_series ∙ by (has_series m s) there
     where
-      by : (b : Bool) → is_some ((cond b outcomes (without_series outcomes s)) n) ≡ true → b ≡ true
+      by : (b : Bool) → has_value ((cond b outcomes (without_series outcomes s)) n) ≡ true → b ≡ true
       by true there = refl
       by false there = absurd (true_not_false (sym there
-          ∙ ap (λ a. is_some (cond a None (outcomes n))) (ap (is_at (series_order s)) of_series ∙ series_itself s)))
+          ∙ ap (λ a. has_value (cond a None (outcomes n))) (ap (is_at (series_order s)) of_series ∙ series_itself s)))
 
 -- ---- line by line
 
@@ -95,12 +92,12 @@ IsOf name s = (s ≡ series.Line name) ⊎ (s ≡ series.Equivalent name)
 
 -- of the lines whose records the keys are of, those outcomes are left whose series the data have
 abbrev pub AreDropped : Data → List RecordKey → Outcomes → Type 0
-AreDropped m ks outcomes = (name : Name) → IsListed (key.Line name) ks → (n : Node) → IsOf name (series_of n) → is_some (outcomes n) ≡ true → has_series m (series_of n) ≡ true
+AreDropped m ks outcomes = (name : Name) → IsListed (key.Line name) ks → (n : Node) → IsOf name (series_of n) → has_value (outcomes n) ≡ true → has_series m (series_of n) ≡ true
 
 -- so far: the nodes keep their outcomes, and there are no others
 pub record AreDroppedSoFar (m : Data) (ks : List RecordKey) (before after : Outcomes) : Type 0 where
   pub nodes_kept : (n : Node) → is_node m n ≡ true → after n ≡ before n
-  pub within : AreWithin after before
+  pub within : HaveFewer after before
   pub dropped : AreDropped m ks after
 
 pub none_dropped : (m : Data) (outcomes : Outcomes) → AreDroppedSoFar m [] outcomes outcomes
@@ -129,34 +126,37 @@ module _ (m : Data) (ks : List RecordKey) (before outcomes : Outcomes) (so_far :
     ];
   }
     where
-      from_after : (n : Node) → is_some (after n) ≡ true → is_some (middle n) ≡ true
-      from_after n there = fewer m middle (series.Equivalent name) n (sym (ap (λ (o : Outcomes). is_some (o n)) f) ∙ there)
+      from_after : (n : Node) → has_value (after n) ≡ true → has_value (middle n) ≡ true
+      from_after n there = fewer m middle (series.Equivalent name) n (sym (ap (λ (o : Outcomes). has_value (o n)) f) ∙ there)
 
-      left : (n : Node) → is_some (middle n) ≡ true → is_some (outcomes n) ≡ true
-      left n there = fewer m outcomes (series.Line name) n (sym (ap (λ (o : Outcomes). is_some (o n)) e) ∙ there)
+      left : (n : Node) → has_value (middle n) ≡ true → has_value (outcomes n) ≡ true
+      left n there = fewer m outcomes (series.Line name) n (sym (ap (λ (o : Outcomes). has_value (o n)) e) ∙ there)
 
-      here : (other : Name) → ◌≡◌ {A = RecordKey} (key.Line other) (key.Line name) → (n : Node) → IsOf other (series_of n) → is_some (after n) ≡ true → has_series m (series_of n) ≡ true
+      here : (other : Name) → ◌≡◌ {A = RecordKey} (key.Line other) (key.Line name) → (n : Node) → IsOf other (series_of n) → has_value (after n) ≡ true → has_series m (series_of n) ≡ true
       here other same n (inl of_line) there =
           let names : other ≡ name = cc in
-          series_left m outcomes (series.Line name) n (of_line ∙ ap series.Line names) (sym (ap (λ (o : Outcomes). is_some (o n)) e) ∙ from_after n there)
+          series_left m outcomes (series.Line name) n (of_line ∙ ap series.Line names) (sym (ap (λ (o : Outcomes). has_value (o n)) e) ∙ from_after n there)
       here other same n (inr of_line) there =
           let names : other ≡ name = cc in
-          series_left m middle (series.Equivalent name) n (of_line ∙ ap series.Equivalent names) (sym (ap (λ (o : Outcomes). is_some (o n)) f) ∙ there)
+          series_left m middle (series.Equivalent name) n (of_line ∙ ap series.Equivalent names) (sym (ap (λ (o : Outcomes). has_value (o n)) f) ∙ there)
 
 -- ---- all lines
 
 -- where the old outcomes are of lines that are there, those that are left are too
-pub left_of_lines : (m : Data) (cs : List Change) (before after : Outcomes) → AreOfLines m before → AreDroppedSoFar (applied m cs) (map (λ c. c.0) cs) before after → AreOfLines (applied m cs) after
+pub left_of_lines : (m : Data) (cs : List Change) (before after : Outcomes) → AreOfEither m (applied m cs) before → AreDroppedSoFar (applied m cs) (map (λ c. c.0) cs) before after → AreOfLines (applied m cs) after
 left_of_lines m cs before after are all = record { present = by }
   where
     -- a line's record is changed, and then its series are dropped, or it is as it was
-    of_line : (name : Name) (n : Node) → IsOf name (series_of n) → (get (applied m cs) (key.Line name) ≡ get m (key.Line name) → has_series (applied m cs) (series_of n) ≡ has_series m (series_of n)) → is_some (after n) ≡ true → has_series (applied m cs) (series_of n) ≡ true
+    of_line : (name : Name) (n : Node) → IsOf name (series_of n) → (get (applied m cs) (key.Line name) ≡ get m (key.Line name) → has_series (applied m cs) (series_of n) ≡ has_series m (series_of n)) → has_value (after n) ≡ true → has_series (applied m cs) (series_of n) ≡ true
     of_line name n is same there = elim (changed_or_kept m cs (key.Line name)) [
       | inl changed ↦ all.dropped name (among (key.Line name) _ changed) n is there
-      | inr kept ↦ same kept ∙ are.present n (all.within n there)
+      | inr kept ↦ elim (are.present n (all.within n there)) [
+        | inl was ↦ same kept ∙ was
+        | inr is ↦ is
+      ]
     ]
 
-    by : (n : Node) → is_some (after n) ≡ true → has_series (applied m cs) (series_of n) ≡ true
+    by : (n : Node) → has_value (after n) ≡ true → has_series (applied m cs) (series_of n) ≡ true
     by (node.Line name year) there = of_line name (node.Line name year) (inl refl) (λ kept. ap (λ r. is_some (as_line r)) kept) there
     by (node.Equiv name year) there = of_line name (node.Equiv name year) (inr refl) (λ kept. ap (λ r. is_some (option_and_then (λ e. gas_of (output e)) (as_line r))) kept) there
     by (node.Total c year) there = refl

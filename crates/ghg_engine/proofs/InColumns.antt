@@ -81,26 +81,26 @@ module _ (old : Series → Option Run) (s : Series) where
           by k true same = ap (option_map Ok) (has (year_in k)) ∙ in_years k (year_in k == year) ∙ ap (λ o. cond (year_in k == year) (Some (Ok x)) o) (sym (there k same ∙ was k))
           by k false apart = refl
 
-      pub column_as_it_was : after ≡ before → in_runs new ≡ in_runs old
+      pub column_as_it_was : ((k : Node) → in_year_of k after ≡ in_year_of k before) → in_runs new ≡ in_runs old
       column_as_it_was is = fun_ext (λ k. updated new (Some after) updates k ∙ by k (is_at (series_order s) (series_of k)) refl)
         where
           by : (k : Node) (a : Bool) → is_at (series_order s) (series_of k) ≡ a → cond a (in_year_of k after) (in_runs old k) ≡ in_runs old k
-          by k true same = ap (in_year_of k) is ∙ sym (there k same ∙ was k)
+          by k true same = is k ∙ sym (there k same ∙ was k)
           by k false apart = refl
 
       pub column_put : (year : ℕ) (n : Node) → series_of n ≡ s → year_in n ≡ year → (x : Input) (r : Option Input) → IsPutIn before after year x r → IsPut (in_runs old) (in_runs new) n x r
       column_put year n of_series in_year x None has = column_with year n of_series in_year x has
       column_put year n of_series in_year x (Some rest) back = (
         there n (ap (is_at (series_order s)) of_series ∙ series_itself s) ∙ was n ∙ ap (λ y. option_map Ok (value_in before y)) in_year ∙ ap (option_map Ok) (no_place before year back.0),
-        column_as_it_was back.1,
+        column_as_it_was (λ k. ap (in_year_of k) back.1),
         back.2,
       )
 
   pub was_there : (before : Run) → old s ≡ Some before → (k : Node) → option_and_then (in_year_of k) (old s) ≡ in_year_of k before
   was_there before is k = ap (option_and_then (in_year_of k)) is
 
-  pub was_absent : (year : ℕ) → old s ≡ None → (k : Node) → option_and_then (in_year_of k) (old s) ≡ in_year_of k (record { first = year; values = [] })
-  was_absent year is k = ap (option_and_then (in_year_of k)) is ∙ sym (no_values (record { first = year; values = [] }) refl k)
+  pub was_absent : (year : ℕ) → old s ≡ None → (k : Node) → option_and_then (in_year_of k) (old s) ≡ in_year_of k (record { first = year; values = []; spare = 0 })
+  was_absent year is k = ap (option_and_then (in_year_of k)) is ∙ sym (no_values (record { first = year; values = []; spare = 0 }) refl k)
 
   -- the column is taken out
   module _ (run : Run) (found : old s ≡ Some run) where

@@ -6,12 +6,15 @@ pub mod Turns
 pub mod Columns
 pub mod Written
 pub mod InColumns
+pub mod Takes
 pub mod UnderNumbers
 pub mod Removed
 pub mod Taken
 pub mod Gone
 pub mod Nothing
 pub mod Compiled
+pub mod Grown
+pub mod Moved
 pub mod Arranged
 pub mod Gathered
 pub mod Passing

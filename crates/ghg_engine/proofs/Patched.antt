@@ -1,6 +1,7 @@
 -- Cells of affected nodes in front of those that the data had.
-use Rattle.std.proofs.Common.{◌≡◌, ◌≤◌, inl, inr, true, is_some, List, length, Option, Some, None, refl, sym, ap, ◌∙◌, arith}
+use Rattle.std.proofs.Common.{◌≡◌, ◌≤◌, inl, inr, true, false, List, length, Option, Some, None, Ok, Err, refl, sym, ap, ◌∙◌, arith}
 use Rattle.std.specs.Option.{option_or}
+use Rattle.ghg_interval.specs.declared.Over.{Over}
 use Rattle.ghg_units.specs.declared.node.Node.{Node}
 use Rattle.ghg_affected.specs.Affected.{affected_nodes}
 use Rattle.ghg_affected.specs.Patches.{least_break}
@@ -8,16 +9,16 @@ use Rattle.ghg_affected.proofs.Affected.{affected_is_node, affected_nodes_are_li
 use Rattle.ghg_affected.proofs.Bools.{true_not_false}
 use Rattle.ghg_affected.proofs.Kept.{overflows_are_in_patches, unaffected_keep}
 use Rattle.ghg_affected.proofs.Once.{affected_nodes_stand_once}
-use Rattle.ghg_definitions.specs.Compilation.{compilation, is_node, overflow}
+use Rattle.ghg_definitions.specs.Compilation.{compilation, is_node, overflow, sheet_of}
 use Rattle.ghg_definitions.specs.Data.{Data}
 use Rattle.ghg_definitions.specs.Formulas.{Outcome}
 use Rattle.ghg_definitions.specs.Rings.{IsAcyclic}
 use Rattle.ghg_definitions.specs.Sound.{IsWorkbook}
-use Rattle.ghg_definitions.specs.Trials.{Outcomes}
+use Rattle.ghg_definitions.specs.Trials.{IsCompilation, Outcomes, is_over}
 use Rattle.ghg_definitions.proofs.Depth.{or_else}
 use Rattle.ghg_definitions.proofs.Listed.{contained, listed}
 use Rattle.ghg_definitions.proofs.OneTrial.{compilation_trial}
-use Rattle.ghg_engine.specs.Cells.{found_in}
+use Rattle.ghg_engine.specs.Cells.{NoneOver, found_in, has_value}
 use Rattle.ghg_engine.specs.Compiled.{AreOfLines, IsCompiled}
 use Rattle.ghg_engine.specs.Evaluation.{AreEvaluated, AreKept}
 use Rattle.ghg_engine.proofs.Compiled.{is_compiled}
@@ -42,9 +43,24 @@ module _ (old new : Data) where
       | inl is ↦ node_has_series new n is
       | inr none ↦
           let off = evaluated.no_others n (λ i. true_not_false (sym (affected_is_node old new n (lists.sound n i)) ∙ none)) in
-          absurd (true_not_false (sym there ∙ ap is_some off))
+          absurd (true_not_false (sym there ∙ ap has_value off))
     ];
   }
+
+  -- what is evaluated is not over
+  pub fresh_fits : IsCompilation (sheet_of new) (compilation new) → (ns : List Node) → ListsAffected old new ns → (fresh : Outcomes) → AreEvaluated new ns fresh → NoneOver fresh
+  fresh_fits whole ns lists fresh evaluated n = by (fresh n) refl
+    where
+      clash : (over : Over) → ◌≡◌ {A = Option Outcome} (Some (Err over)) None → ⊥
+      clash over e = cc
+
+      by : (o : Option Outcome) → fresh n ≡ o → is_over o ≡ false
+      by None e = refl
+      by (Some (Ok x)) e = refl
+      by (Some (Err over)) e = elim (affected_or_not old new n) [
+        | inl a ↦ absurd (whole.fits n over (sym (evaluated.outcomes_are n (lists.complete n a)) ∙ e))
+        | inr free ↦ absurd (clash over (sym e ∙ evaluated.no_others n (λ i. free (lists.sound n i))))
+      ]
 
   module _ (workbook : IsWorkbook new) (after : IsAcyclic new) (outcomes : Outcomes) (is : IsCompiled old outcomes) where
     module _ (ns : List Node) (lists : ListsAffected old new ns) where

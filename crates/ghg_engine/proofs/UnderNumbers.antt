@@ -26,7 +26,7 @@ one_number columns numbers are s i j at_i at_j = same_Some i j (sym ((are s i).1
 others_too : (c : SeriesColumn) (columns : List SeriesColumn) → HaveOneNumber (c ∷ columns) → HaveOneNumber columns
 others_too c columns once s i j at_i at_j = let next : suc i ≡ suc j = once s (suc i) (suc j) at_i at_j in omega (arith, next)
 
-other_series : (s t : Series) → (s ≡ t → ⊥) → is_at (series_order s) t ≡ false
+pub other_series : (s t : Series) → (s ≡ t → ⊥) → is_at (series_order s) t ≡ false
 other_series s t apart = by (is_at (series_order s) t) refl
   where
     by : (b : Bool) → is_at (series_order s) t ≡ b → b ≡ false

@@ -58,7 +58,7 @@ module _ (old new : Outcomes) (n : Node) where
 
 -- ---- a part of the fresh outcomes is moved over those that are kept
 
-some_behind : {A : Type 0} (o p : Option A) → is_some p ≡ true → is_some (option_or o p) ≡ true
+pub some_behind : {A : Type 0} (o p : Option A) → is_some p ≡ true → is_some (option_or o p) ≡ true
 some_behind None p t = t
 some_behind (Some y) p t = refl
 

@@ -1,5 +1,5 @@
 -- The outcomes of nodes, and where they are kept.
-use Rattle.std.specs.Prelude.{◌≡◌, Bool, true, false, IfSome, IsSome, if◌then◌else◌, is_some, Option, Some, None, Result, Ok, Err}
+use Rattle.std.specs.Prelude.{◌≡◌, ◌⊎◌, Bool, true, false, if◌then◌else◌, is_some, Option, Some, None, Result, Ok, Err}
 use Rattle.std.specs.Option.{option_and_then, option_map, option_or}
 use Rattle.std.specs.Borrow.{Bor}
 use Rattle.std.specs.BTreeMap.{BTreeMap, get, is_at}
@@ -12,12 +12,12 @@ use Rattle.ghg_units.specs.contracts.node.NodeOrd.TheImpl as derived_of_nodes
 use Rattle.ghg_affected.specs.Equalities.{same_node}
 use Rattle.ghg_definitions.specs.Formulas.{Outcome}
 use Rattle.ghg_definitions.specs.Nodes.{year_in}
-use Rattle.ghg_definitions.specs.Trials.{Outcomes, or_blank}
+use Rattle.ghg_definitions.specs.Trials.{Outcomes, is_over, or_blank}
 use Rattle.ghg_engine.specs.declared.cells.Cells.{Cells}
 use Rattle.ghg_engine.specs.declared.series.Series.{Series}
 use Rattle.ghg_engine.specs.declared.series.Series.TheVariants as series
 use Rattle.ghg_engine.specs.contracts.series.SeriesOrd.TheImpl as derived_of_series
-use Rattle.ghg_engine.specs.Columns.{Covers, Run, value_in}
+use Rattle.ghg_engine.specs.Columns.{Run, takes_in, value_in}
 
 -- ---- outcomes
 
@@ -41,6 +41,16 @@ with_outcome outcomes n outcome k = if same_node k n then Some outcome else outc
 abbrev pub outcome_behind : Result (Bor Input) Over → Outcome
 outcome_behind (Ok value) = Ok value.now
 outcome_behind (Err over) = Err over
+
+-- whether it is a value, and neither over nor missing
+abbrev pub has_value : Option Outcome → Bool
+has_value None = false
+has_value (Some (Ok value)) = true
+has_value (Some (Err over)) = false
+
+-- no outcome is over
+abbrev pub NoneOver : Outcomes → Type 0
+NoneOver outcomes = (n : Node) → is_over (outcomes n) ≡ false
 
 -- each node with an outcome in the first has one in the second
 abbrev pub AreWithin : Outcomes → Outcomes → Type 0
@@ -96,9 +106,31 @@ without_series outcomes s n = if is_at (series_order s) (series_of n) then None 
 abbrev pub cell_at : Cells → Outcomes
 cell_at cells n = option_or (get node_order cells.aside n) (in_columns cells.columns n)
 
--- a column can be taken over without memory: as a whole, where its series has a column that it covers, and
--- none of its nodes has an outcome aside; else value by value, where each of its nodes has a cell
-abbrev pub IsPrepared : Cells → Series → Run → Bool → Type 0
-IsPrepared cells s run true = IfSome (get series_order cells.columns s) (Covers run)
-    × IsSome (get series_order cells.columns s) × AreApart (in_series s run) (get node_order cells.aside)
-IsPrepared cells s run false = AreWithin (in_series s run) (cell_at cells)
+-- ---- room for more
+
+-- whether the column of a series, if it has one, can take over the values without memory
+abbrev pub has_room : Option Run → Run → Bool
+has_room None run = false
+has_room (Some column) run = takes_in column run
+
+abbrev pub room_at : Cells → Series → Run → Bool
+room_at cells s run = has_room (get series_order cells.columns s) run
+
+-- the values of the series can be taken over without memory: by its column, or since each has a cell
+abbrev pub IsReadyFor : Cells → Series → Run → Type 0
+IsReadyFor cells s run = (room_at cells s run ≡ true) ⊎ AreWithin (in_series s run) (cell_at cells)
+
+-- each outcome stays, no node has a value that had none, and there is no less room
+pub record HasGrown (old new : Cells) : Type 0 where
+  pub outcomes : (n : Node) → is_some (cell_at old n) ≡ true → cell_at new n ≡ cell_at old n
+  pub values : (n : Node) → has_value (cell_at new n) ≡ true → cell_at new n ≡ cell_at old n
+  pub room : (s : Series) (run : Run) → room_at old s run ≡ true → room_at new s run ≡ true
+
+-- the columns have as much room as before
+abbrev pub KeepsRoom : Cells → Cells → Type 0
+KeepsRoom old new = (s : Series) (run : Run) → room_at new s run ≡ room_at old s run
+
+-- those of other series have
+abbrev pub KeepsOtherRoom : Series → Cells → Cells → Type 0
+KeepsOtherRoom series old new =
+    (s : Series) (run : Run) → is_at (series_order series) s ≡ false → room_at new s run ≡ room_at old s run

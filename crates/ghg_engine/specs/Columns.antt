@@ -1,20 +1,18 @@
 -- The values of consecutive years.
-use Rattle.std.specs.Prelude.{◌≡◌, ℕ, ◌-◌, ◌==◌, ◌&&◌, Bool, false, if◌then◌else◌, nat_le, List, length, Option, Some, None}
+use Rattle.std.specs.Prelude.{◌≡◌, ℕ, ◌+◌, ◌-◌, ◌==◌, ◌&&◌, ◌||◌, Bool, false, if◌then◌else◌, nat_le, List, length, Option, Some, None}
 use Rattle.std.specs.List.{slice_get}
+use Rattle.std.specs.Option.{option_or}
 use Rattle.ghg_cell.specs.declared.input.Input.{Input}
 
--- a year, and the values from that year on
+-- a year, the values from that year on, and for how many more there is room without memory
 pub record Run : Type 0 where
   pub first : ℕ
   pub values : List Input
+  pub spare : ℕ
 
 -- the value of a year, where it has one
 abbrev pub value_in : Run → ℕ → Option Input
 value_in run year = if nat_le run.first year then slice_get run.values (year - run.first) else None
-
--- the second has no value in a year in which the first has none
-abbrev pub Covers : Run → Run → Type 0
-Covers run other = (year : ℕ) → value_in run year ≡ None → value_in other year ≡ None
 
 -- the run with that value in the year
 abbrev pub HasIn : Run → Run → ℕ → Option Input → Type 0
@@ -28,3 +26,33 @@ has_place run year = nat_le run.first year && nat_le (year - run.first) (length 
 abbrev pub IsPutIn : Run → Run → ℕ → Input → Option Input → Type 0
 IsPutIn old new year value None = HasIn old new year (Some value)
 IsPutIn old new year value (Some rest) = (has_place old year ≡ false) × (new ≡ old) × (rest ≡ value)
+
+-- ---- one run is taken over by another
+
+-- the year behind the last
+abbrev pub end_of : Run → ℕ
+end_of run = run.first + length run.values
+
+-- the first has each year that the second has
+abbrev pub covers : Run → Run → Bool
+covers run other = length other.values == 0
+    || (nat_le run.first other.first && nat_le (end_of other) (end_of run))
+
+-- the second begins behind the last year of the first, which has room for its values there
+abbrev pub goes_behind : Run → Run → Bool
+goes_behind run next = next.first == end_of run && nat_le (length next.values) run.spare
+
+-- the first can take over the values of the second without memory: in place of its own, over its own, or
+-- behind them
+abbrev pub takes_in : Run → Run → Bool
+takes_in run next = covers next run || (covers run next || goes_behind run next)
+
+-- each year has the value of the fresh run, else that of the old one
+abbrev pub IsOver : Run → Run → Run → Type 0
+IsOver fresh old new = (year : ℕ) → value_in new year ≡ option_or (value_in fresh year) (value_in old year)
+
+-- they begin with the same year, and have as many values and as much room
+pub record HasShapeOf (old new : Run) : Type 0 where
+  pub first : new.first ≡ old.first
+  pub count : length new.values ≡ length old.values
+  pub spare : new.spare ≡ old.spare

@@ -1,5 +1,5 @@
 -- What is compiled.
-use Rattle.std.specs.Prelude.{◌≡◌, Bool, true, if◌then◌else◌, is_some, None}
+use Rattle.std.specs.Prelude.{◌≡◌, ◌⊎◌, Bool, true, if◌then◌else◌, is_some, None}
 use Rattle.ghg_units.specs.declared.node.Node.{Node}
 use Rattle.ghg_definitions.specs.Compilation.{compilation, emits, is_node, overflow, sheet_of}
 use Rattle.ghg_definitions.specs.Containment.{HoldsExactValues}
@@ -8,7 +8,7 @@ use Rattle.ghg_definitions.specs.Rings.{IsAcyclic}
 use Rattle.ghg_definitions.specs.Trials.{IsCompilation, Outcomes}
 use Rattle.ghg_engine.specs.declared.series.Series.{Series}
 use Rattle.ghg_engine.specs.declared.series.Series.TheVariants as series
-use Rattle.ghg_engine.specs.Cells.{series_of, without_series}
+use Rattle.ghg_engine.specs.Cells.{has_value, series_of, without_series}
 
 -- the outcomes at the nodes of the data are its compilation, in which nothing is over and each known node
 -- holds its exact value
@@ -31,7 +31,11 @@ has_series m series.Gross = true
 abbrev pub without_missing : Data → Outcomes → Series → Outcomes
 without_missing m outcomes s = if has_series m s then outcomes else without_series outcomes s
 
--- each outcome of a line's value is of a line that is present, and each of an equivalent of one that emits a
--- gas
+-- each value of a line is of a line that is present, and each equivalent of one that emits a gas
 pub record AreOfLines (m : Data) (outcomes : Outcomes) : Type 0 where
-  pub present : (n : Node) → is_some (outcomes n) ≡ true → has_series m (series_of n) ≡ true
+  pub present : (n : Node) → has_value (outcomes n) ≡ true → has_series m (series_of n) ≡ true
+
+-- each value is of a series that the old data have, or that the new ones have
+pub record AreOfEither (old new : Data) (outcomes : Outcomes) : Type 0 where
+  pub present : (n : Node) → has_value (outcomes n) ≡ true
+      → (has_series old (series_of n) ≡ true) ⊎ (has_series new (series_of n) ≡ true)

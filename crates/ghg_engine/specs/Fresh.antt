@@ -1,9 +1,35 @@
 -- Cells of nodes that are evaluated anew.
-use Rattle.ghg_definitions.specs.Trials.{Outcomes}
+use Rattle.std.specs.Prelude.{◌≡◌, ℕ, if◌then◌else◌, List, None, Some, Ok, Err}
+use Rattle.std.specs.BTreeMap.{get}
+use Rattle.std.specs.List.{slice_get}
+use Rattle.ghg_units.specs.declared.node.Node.{Node}
+use Rattle.ghg_definitions.specs.Formulas.{Outcome}
+use Rattle.ghg_definitions.specs.Trials.{Outcomes, is_over}
+use Rattle.ghg_engine.specs.declared.cells.Cells.{Cells}
 use Rattle.ghg_engine.specs.declared.fresh.FreshCells.{FreshCells}
-use Rattle.ghg_engine.specs.Cells.{cell_at, found_in}
+use Rattle.ghg_engine.specs.declared.numbered.SeriesColumn.{SeriesColumn}
+use Rattle.ghg_engine.specs.Cells.{AreWithin, IsReadyFor, cell_at, found_in, node_order, with_outcome}
 use Rattle.ghg_engine.specs.Numbered.{in_numbered}
 
--- the outcome of a node that has a fresh cell: the one in its column, else the one among the others
+-- the outcome of a node that has a fresh cell: the one in its column, else the one that stands aside
 abbrev pub fresh_at : FreshCells → Outcomes
-fresh_at cells = found_in (in_numbered cells.columns) (cell_at cells.others)
+fresh_at fresh = found_in (in_numbered fresh.columns) (get node_order fresh.aside)
+
+-- each of the columns can be taken over without memory
+abbrev pub AreReady : Cells → List SeriesColumn → Type 0
+AreReady cells columns =
+    (i : ℕ) (c : SeriesColumn) → slice_get columns i ≡ Some c → IsReadyFor cells c.series c.column
+
+-- the fresh cells can be taken over without memory
+pub record HasRoomFor (cells : Cells) (fresh : FreshCells) : Type 0 where
+  pub columns : AreReady cells fresh.columns
+  pub aside : AreWithin (get node_order fresh.aside) (cell_at cells)
+
+-- the outcomes that are not over
+abbrev pub fitting : Outcomes → Outcomes
+fitting outcomes n = if is_over (outcomes n) then None else outcomes n
+
+-- the outcomes with this one at the node, unless it is over
+abbrev pub with_value : Outcomes → Node → Outcome → Outcomes
+with_value outcomes n (Ok value) = with_outcome outcomes n (Ok value)
+with_value outcomes n (Err over) = outcomes

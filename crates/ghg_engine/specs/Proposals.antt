@@ -12,8 +12,9 @@ use Rattle.ghg_engine.specs.declared.proposal.Fresh.{Fresh}
 use Rattle.ghg_engine.specs.declared.proposal.Proposal.{Proposal}
 use Rattle.ghg_engine.specs.declared.refusal.EngineRefusal.{EngineRefusal}
 use Rattle.ghg_engine.specs.declared.refusal.EngineRefusal.TheVariants as refusal
-use Rattle.ghg_engine.specs.Cells.{cell_at, found_in}
+use Rattle.ghg_engine.specs.Cells.{NoneOver, found_in}
 use Rattle.ghg_engine.specs.Compiled.{AreOfLines, IsCompiled}
+use Rattle.ghg_engine.specs.Fresh.{HasRoomFor, fresh_at}
 use Rattle.ghg_engine.specs.Layouts.{IsChangedLayout}
 
 -- the edits were planned on the book as it stands, and leave no ring
@@ -21,24 +22,26 @@ pub record IsArranged (engine : EngineView) (edits : List Change) : Type 0 where
   pub planned : IsPlanned (shelf_of engine) edits
   pub acyclic : IsAcyclic (applied engine.content edits)
 
--- over the compilation of the old data the cells are the compilation of the new, none of them is of a line
--- that the new data do not have, and as many nodes are affected
+-- over the compilation of the old data the cells are the compilation of the new, none of them is over or of a
+-- line that the new data do not have, and as many nodes are affected
 pub record IsFresh (old new : Data) (fresh : Fresh) : Type 0 where
-  pub compiled : IsCompiled new (found_in (cell_at fresh.cells) (compilation old))
-  pub of_lines : AreOfLines new (cell_at fresh.cells)
+  pub compiled : IsCompiled new (found_in (fresh_at fresh.cells) (compilation old))
+  pub none_over : NoneOver (fresh_at fresh.cells)
+  pub of_lines : AreOfLines new (fresh_at fresh.cells)
   pub count : fresh.count ≡ length (affected_nodes old new)
 
 -- the edits were planned on the book as it stands, the cells and the layout are those that they lead to, none
--- of the cells is of a line that is not there then, as many nodes are affected, and the engine has room for
--- the cells
+-- of the cells is over or of a line that is not there then, as many nodes are affected, and the cells of the
+-- engine have room for them
 pub record IsProposed (engine : EngineView) (proposal : Proposal) : Type 0 where
   pub planned : IsPlanned (shelf_of engine) proposal.edits
   pub compiled : IsCompiled (applied engine.content proposal.edits)
-      (found_in (cell_at proposal.fresh) (compilation engine.content))
-  pub of_lines : AreOfLines (applied engine.content proposal.edits) (cell_at proposal.fresh)
+      (found_in (fresh_at proposal.fresh) (compilation engine.content))
+  pub none_over : NoneOver (fresh_at proposal.fresh)
+  pub of_lines : AreOfLines (applied engine.content proposal.edits) (fresh_at proposal.fresh)
   pub laid : IsChangedLayout engine.content proposal.edits proposal.changed
   pub cells : proposal.cells ≡ length (affected_nodes engine.content (applied engine.content proposal.edits))
-  pub room : engine.room ≡ 1
+  pub room : HasRoomFor engine.cells proposal.fresh
 
 -- P of the node that is over, if one is
 abbrev pub IfOverflow : (Node → Type 0) → EngineRefusal → Type 0

@@ -6,18 +6,18 @@ use Rattle.ghg_definitions.specs.declared.record.Record.{Record}
 use Rattle.ghg_definitions.specs.declared.record.RecordKey.{RecordKey}
 use Rattle.ghg_definitions.specs.Data.{Data}
 use Rattle.ghg_data.specs.Shelf.{Shelf}
+use Rattle.ghg_engine.specs.declared.cells.Cells.{Cells}
 
--- its data, how many more changes of them fit without memory, and for the cells of how many proposals there
--- is room: of one, or of none
+-- its data, how many more changes of them fit without memory, and its cells
 pub record EngineView : Type 0 where
   pub content : Data
   pub spare : ℕ
-  pub room : ℕ
+  pub cells : Cells
 
-abbrev pub engine_code : Coded RecordKey → Coded Record → Coded EngineView
-engine_code key entry =
-    code_by (Data × (ℕ × ℕ)) (coded× (code key entry) (coded× coded_ℕ coded_ℕ))
-    (λ e. (e.content, (e.spare, e.room))) (λ p. record { content = p.0; spare = p.1.0; room = p.1.1 })
+abbrev pub engine_code : Coded RecordKey → Coded Record → Coded Cells → Coded EngineView
+engine_code key entry cells =
+    code_by (Data × (ℕ × Cells)) (coded× (code key entry) (coded× coded_ℕ cells))
+    (λ e. (e.content, (e.spare, e.cells))) (λ p. record { content = p.0; spare = p.1.0; cells = p.1.1 })
     (λ _. refl)
 
 -- what contracts see of its book

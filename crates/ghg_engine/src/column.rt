@@ -1,7 +1,7 @@
 //! The values of a series, year by year.
 
-ghost use Rattle.std.specs.Prelude.{◌≡◌, ◌<◌, ◌≤◌, ◌+◌, ◌-◌, ℕ, [], ◌∷◌, ◌++◌, true, None, Some, is_ok, is_some, length, if◌then◌else◌, IfNone, IfOk, IfSome, IsTrue, OnSome, SomeIff, ◌↔◌, option_copied};
-ghost use Rattle.ghg_engine.specs.Columns.{Covers, HasIn, IsPutIn, value_in};
+ghost use Rattle.std.specs.Prelude.{◌≡◌, ◌<◌, ◌≤◌, ◌+◌, ◌-◌, ◌==◌, [], ◌∷◌, ◌++◌, true, None, Some, is_ok, is_some, length, if◌then◌else◌, IfNone, IfOk, IfSome, OnSome, SomeIff, option_copied};
+ghost use Rattle.ghg_engine.specs.Columns.{HasIn, HasShapeOf, IsOver, IsPutIn, covers, end_of, goes_behind, takes_in, value_in};
 
 use ghg_cell::Value;
 use std::alloc::{AllocError, Global};
@@ -17,7 +17,8 @@ const MORE_YEARS: usize = 8;
 /// For how many years behind its first a new column makes room at most: those of the longest inventory.
 const MOST_YEARS_BEHIND: u32 = 150;
 
-/// Values of consecutive years. Contracts see the first of these years, and the values from that year on.
+/// Values of consecutive years. Contracts see the first of these years, the values from that year on, and for
+/// how many more there is room without memory.
 #[derive(Drop)]
 pub(crate) struct Column {
     first: u32,
@@ -25,12 +26,16 @@ pub(crate) struct Column {
 }
 
 impl Model for Column {
-    ghost use Rattle.std.specs.Prelude.{◌+◌, ◌≤◌, ◌^◌, length};
+    ghost use Rattle.std.specs.Prelude.{◌+◌, ◌-◌, ◌≤◌, ◌^◌, length, vec_capacity, vec_len};
     ghost use Rattle.ghg_engine.specs.Columns.{Run};
 
     ghost Value = { Run };
 
-    ghost view = { λ c. record { first = c.first; values = c.values.items } };
+    ghost view = { λ c. record {
+      first = c.first;
+      values = c.values.items;
+      spare = vec_capacity c.values - vec_len c.values;
+    } };
 
     ghost invariant = { λ c. c.first + length c.values.items ≤ 2 ^ 32 };
 }
@@ -53,7 +58,8 @@ impl Column {
         value: Value,
         last: u32,
     ) -> Result<Column, AllocError>
-        ensures { IfOk result (λ column. column ≡ record { first = year; values = value ∷ [] }) }
+        ensures first { IfOk result (λ column. column.first ≡ year) }
+        ensures values { IfOk result (λ column. column.values ≡ value ∷ []) }
     {
         let more = last.saturating_sub(year).min(MOST_YEARS_BEHIND) as usize;
         let mut values = Vec::with_capacity(alloc, 1 + more)?;
@@ -108,44 +114,97 @@ impl Column {
     /// Gives a year that has a value another one. It takes no memory.
     pub(crate) fn overwrite(&mut self, year: u32, value: Value)
         requires { is_some (value_in self.old year) ≡ true }
-        ensures { HasIn self.old self.new year (Some value) }
+        ensures value { HasIn self.old self.new year (Some value) }
+        ensures shape { HasShapeOf self.old self.new }
     {
         let offset = (year - self.first) as usize;
         self.values[offset] = value;
     }
 
-    /// Whether another column begins with the year behind the last.
-    pub(crate) fn ends_before(&self, next: &Column) -> bool
-        ensures { IsTrue result ↔ (next.now.first ≡ self.now.first + length self.now.values) }
+    // ---- the values of another column
+
+    /// Makes room for the values of another column, if they come behind the last year. It answers whether
+    /// this one can take them in.
+    pub(crate) fn widen(&mut self, next: &Column) -> Result<bool, AllocError>
+        ensures first { self.new.first ≡ self.old.first }
+        ensures values { self.new.values ≡ self.old.values }
+        ensures spare { self.old.spare ≤ self.new.spare }
+        ensures fits { IfOk result (λ fits. fits ≡ takes_in self.new next.now) }
+    {
+        if self.ends_before(next) {
+            self.values.reserve_exact(next.values.len())?;
+        }
+        Ok(self.takes_in(next))
+    }
+
+    /// Whether it can take over the values of another column without memory: in place of its own, over its
+    /// own, or behind them.
+    pub(crate) fn takes_in(&self, next: &Column) -> bool
+        ensures { result ≡ takes_in self.now next.now }
+    {
+        next.covers(self) || self.covers(next) || self.has_room_behind(next)
+    }
+
+    /// Takes over the values of another column. It takes no memory.
+    pub(crate) fn take_in(&mut self, next: Column)
+        requires { takes_in self.old next ≡ true }
+        ensures { IsOver next self.old self.new }
+    {
+        if next.covers(self) {
+            *self = next;
+        } else if self.covers(&next) {
+            self.overwrite_years(next);
+        } else {
+            self.append(next);
+        }
+    }
+
+    // Writes the values of another column over those of the same years.
+    fn overwrite_years(&mut self, next: Column)
+        requires { covers self.old next ≡ true }
+        ensures { IsOver next self.old self.new }
+    {
+        let mut next = next;
+        while let Some((year, value)) = next.pop() {
+            self.overwrite(year, value);
+        }
+    }
+
+    // Takes over the values of a column that begins behind the last year, for which there is room.
+    fn append(&mut self, next: Column)
+        requires { goes_behind self.old next ≡ true }
+        ensures { IsOver next self.old self.new }
+    {
+        let mut next = next;
+        self.values.append(&mut next.values).unwrap();
+    }
+
+    // Whether another column begins behind the last year, and there is room for its values.
+    fn has_room_behind(&self, next: &Column) -> bool
+        ensures { result ≡ goes_behind self.now next.now }
+    {
+        self.ends_before(next) && next.values.len() <= self.values.capacity() - self.values.len()
+    }
+
+    // Whether another column begins with the year behind the last.
+    fn ends_before(&self, next: &Column) -> bool
+        ensures { result ≡ (next.now.first == end_of self.now) }
     {
         next.first as u64 == self.end()
     }
 
-    /// Whether it has each year that another column has.
-    pub(crate) fn covers(&self, other: &Column) -> bool
-        ensures { result ≡ true → Covers self.now other.now }
+    // Whether it has each year that another column has.
+    fn covers(&self, other: &Column) -> bool
+        ensures { result ≡ covers self.now other.now }
     {
-        self.first <= other.first && other.end() <= self.end()
+        other.values.len() == 0 || self.first <= other.first && other.end() <= self.end()
     }
 
     // The year behind the last.
     fn end(&self) -> u64
-        ensures { result ≡ self.now.first + length self.now.values }
+        ensures { result ≡ end_of self.now }
     {
         self.first as u64 + self.values.len() as u64
-    }
-
-    /// Takes over the values of a column that begins with the year behind the last.
-    pub(crate) fn append(&mut self, next: &mut Column) -> Result<(), AllocError>
-        requires { next.old.first ≡ self.old.first + length self.old.values }
-        ensures first { self.new.first ≡ self.old.first }
-        ensures values { self.new.values ≡ (if is_ok result then self.old.values ++ next.old.values else
-            self.old.values) }
-        ensures next_first { next.new.first ≡ next.old.first }
-        ensures next_values { next.new.values ≡ (if is_ok result then [] else next.old.values) }
-    {
-        self.values.reserve_exact(next.values.len())?;
-        self.values.append(&mut next.values)
     }
 
     /// Takes out the value of the last year.

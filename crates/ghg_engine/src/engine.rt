@@ -1,6 +1,6 @@
 //! A book with its cells.
 
-ghost use Rattle.std.specs.Prelude.{◌≡◌, ◌≤◌, ◌+◌, length, Ok, Err, Some, IfOk, MatchResult, OnOk, IfSome, option_copied, true};
+ghost use Rattle.std.specs.Prelude.{◌≡◌, ◌≤◌, ◌+◌, length, Ok, Err, Some, IfOk, MatchResult, IfSome, true};
 ghost use Rattle.std.specs.FinMap as finite;
 ghost use Rattle.std.specs.List.{AllByRecursion};
 ghost use Rattle.ghg_units.specs.WellFormed.{IsWellFormed};
@@ -16,6 +16,7 @@ ghost use Rattle.ghg_definitions.specs.Rings.{IsAcyclic};
 ghost use Rattle.ghg_affected.specs.Affected.{affected_nodes};
 ghost use Rattle.ghg_graph.specs.Entries.{are_entries};
 ghost use Rattle.ghg_graph.specs.Refusal.{IfRing, IsLeastRingOf};
+ghost use Rattle.ghg_engine.specs.Fresh.{HasRoomFor};
 ghost use Rattle.ghg_engine.specs.Layouts.{IsChangedLayout, IsLayout};
 ghost use Rattle.ghg_engine.specs.Proposals.{IfOverflow, IsArranged, IsFresh, IsProposed};
 ghost use Rattle.ghg_engine.specs.Views.{shelf_of};
@@ -24,14 +25,13 @@ use crate::cells::Cells;
 use crate::evaluation::evaluate_all;
 use crate::layout::{ChangedLayout, Layout, acyclic_entered};
 use crate::nodes::is_node;
-use crate::overlay::found;
 use crate::proposal::{Fresh, Proposal};
 use crate::refusal::EngineRefusal;
 use crate::withdrawn::drop_withdrawn;
 use ghg_cell::{Value, take};
 use ghg_data::{Book, Edits, PlanRefusal, after};
 use ghg_graph::{
-    CycleRefusal, affected, are_entries, are_of_figures, check_acyclic, entered_order,
+    CycleRefusal, affected, are_entries, are_of_figures, check_changed, entered_order,
     indexes_have_takers,
 };
 use ghg_steps::Steps;
@@ -42,14 +42,12 @@ use std::marker::Model;
 use std::sync::ledger::Ledger;
 
 /// The records of a workbook and their compilation, in which nothing is over. Contracts see what they see of
-/// its book, and whether there is room for the cells of a proposal.
+/// its book, and the cells.
 #[derive(Drop)]
 pub struct Engine {
     book: Book,
-    // The cells of the proposal that was accepted last stand in front of the others, until the next is made.
-    front: Cells,
-    settled: bool,
-    // Some of the cells may be of nodes that there are no more: of years that have left the inventory.
+    // Some of the cells may be of nodes that there are no more: of years that have left the inventory. Others
+    // are places for a proposal.
     cells: Cells,
     // That of the book. None while a proposal has it, after one that was neither accepted nor dismissed, or
     // where memory ran out as it grew.
@@ -57,26 +55,26 @@ pub struct Engine {
 }
 
 impl Model for Engine {
-    ghost use Rattle.std.specs.Prelude.{◌≡◌, true, if◌then◌else◌, IfSome};
+    ghost use Rattle.std.specs.Prelude.{IfSome};
     ghost use Rattle.std.specs.Coded.{codes};
-    ghost use Rattle.ghg_engine.specs.Cells.{cell_at, found_in, no_outcomes};
+    ghost use Rattle.ghg_engine.specs.contracts.cells.Cells as kept;
+    ghost use Rattle.ghg_engine.specs.Cells.{cell_at};
     ghost use Rattle.ghg_engine.specs.Compiled.{AreOfLines, IsCompiled};
     ghost use Rattle.ghg_engine.specs.Layouts.{IsLayout};
     ghost use Rattle.ghg_engine.specs.Views.{EngineView, engine_code};
 
     ghost Value = { EngineView };
 
-    ghost coded = { engine_code (Prim.hlevel codes) (Prim.hlevel codes) };
+    ghost coded = { engine_code (Prim.hlevel codes) (Prim.hlevel codes) kept.the_row.coded };
 
     ghost view = { λ e. record {
       content = e.book.content;
       spare = e.book.spare;
-      room = if e.settled then 1 else 0;
+      cells = e.cells;
     } };
 
-    ghost invariant = { λ e. IsCompiled e.book.content (found_in (cell_at e.front) (cell_at e.cells))
-        × IfSome e.layout (IsLayout e.book.content) × (e.settled ≡ true → cell_at e.front ≡ no_outcomes)
-        × AreOfLines e.book.content (found_in (cell_at e.front) (cell_at e.cells)) };
+    ghost invariant = { λ e. IsCompiled e.book.content (cell_at e.cells)
+        × IfSome e.layout (IsLayout e.book.content) × AreOfLines e.book.content (cell_at e.cells) };
 }
 
 impl ghg_graph::Cells for Engine {
@@ -90,7 +88,7 @@ impl ghg_graph::Cells for Engine {
         if !is_node(&self.book, node) {
             return None;
         }
-        match found(&self.front, &self.cells, node) {
+        match self.cells.get(node) {
             Some(Ok(value)) => Some(value),
             _ => None,
         }
@@ -104,8 +102,6 @@ impl Engine {
     {
         Engine {
             book: Book::new(alloc, hasher),
-            front: Cells::new(alloc),
-            settled: true,
             cells: Cells::new(alloc),
             layout: Some(Layout::new(alloc)),
         }
@@ -119,7 +115,8 @@ impl Engine {
     /// breaks one on units or presence, `rest`, the least unsound binding, the first limit, and the least
     /// line on a ring. Each key of the edits is that of some row, and there are no more edits than rows. The
     /// records stay with every answer. Edits of figures alone make no ring, so for them none is searched;
-    /// where lines are entered and all others stay, it is searched among the entered ones.
+    /// where lines are entered and all others stay, it is searched among the entered ones; else among the
+    /// lines that the edits are about, those that they take, and so on.
     pub fn plan(
         &mut self,
         alloc: Global,
@@ -171,9 +168,8 @@ impl Engine {
             (IfOverflow (λ n. overflow (applied self.old.content edits) ≡ Some n)) }
         ensures contained { IfOk result (λ p. HoldsExactValues (applied self.old.content p.edits)) }
     {
-        self.settle()?;
         let changed = self.changed_layout(alloc, &edits)?;
-        match self.evaluated(alloc, &edits, &changed.layout, steps) {
+        match self.evaluated_with_room(alloc, &edits, &changed.layout, steps) {
             Ok(Fresh { cells, count }) => Ok(Proposal {
                 edits,
                 fresh: cells,
@@ -185,20 +181,6 @@ impl Engine {
                 Err(refusal)
             }
         }
-    }
-
-    // Makes room for the cells of a proposal: those of the one before join the others. The outcomes of the
-    // nodes stay with any answer.
-    fn settle(&mut self) -> Result<(), AllocError>
-        ensures shelf { shelf_of self.new ≡ shelf_of self.old }
-        ensures room { OnOk result (self.new.room ≡ 1) }
-    {
-        if self.settled {
-            return Ok(());
-        }
-        self.cells.take_over(&mut self.front)?;
-        self.settled = true;
-        Ok(())
     }
 
     // The layout of the data that edits lead to. Where they leave all lines, it is that of the book, which is
@@ -242,6 +224,29 @@ impl Engine {
         }
     }
 
+    // The cells of the nodes that edits affect, with room for them among the others. The outcomes of the
+    // nodes stay with any answer.
+    fn evaluated_with_room<L: Ledger>(
+        &mut self,
+        alloc: Global,
+        edits: &Edits,
+        layout: &Layout,
+        steps: &mut Steps<L>,
+    ) -> Result<Fresh, EngineRefusal>
+        requires arranged { IsArranged self.old edits.now }
+        requires layout { IsLayout (applied self.old.content edits.now) layout.now }
+        ensures shelf { shelf_of self.new ≡ shelf_of self.old }
+        ensures steps { steps.new ≤ steps.old + length
+            (affected_nodes self.old.content (applied self.old.content edits.now)) }
+        ensures fresh { MatchResult result (IsFresh self.old.content (applied self.old.content edits.now))
+            (IfOverflow (λ n. overflow (applied self.old.content edits.now) ≡ Some n)) }
+        ensures room { IfOk result (λ fresh. HasRoomFor self.new.cells fresh.cells) }
+    {
+        let fresh = self.evaluated(alloc, edits, layout, steps)?;
+        fresh.cells.make_room(&mut self.cells)?;
+        Ok(fresh)
+    }
+
     // The cells of the nodes that edits affect, evaluated over the others.
     fn evaluated<L: Ledger>(
         &self,
@@ -251,7 +256,6 @@ impl Engine {
         steps: &mut Steps<L>,
     ) -> Result<Fresh, EngineRefusal>
         requires arranged { IsArranged self.now edits.now }
-        requires room { self.now.room ≡ 1 }
         requires layout { IsLayout (applied self.now.content edits.now) layout.now }
         ensures steps { steps.new ≤ steps.old + length
             (affected_nodes self.now.content (applied self.now.content edits.now)) }
@@ -288,7 +292,8 @@ impl Engine {
         }
     }
 
-    /// Makes the edits of a proposal that was made on this engine as it stands. It has no error to answer.
+    /// Makes the edits of a proposal that was made on this engine as it stands. It takes no memory, and has
+    /// no error to answer.
     pub fn accept(&mut self, proposal: Proposal)
         requires { IsProposed self.old proposal }
         ensures made { self.new.content ≡ applied self.old.content proposal.edits }
@@ -300,10 +305,9 @@ impl Engine {
             changed,
             ..
         } = proposal;
+        fresh.move_to(&mut self.cells);
         drop_withdrawn(&mut self.cells, &self.book, &edits);
         self.book.commit(edits);
-        self.front = fresh;
-        self.settled = false;
         self.layout = Some(changed.layout);
     }
 
@@ -356,5 +360,5 @@ fn check_edits(alloc: Global, book: &Book, edits: &Edits) -> Result<(), CycleRef
         entered_order(alloc, book, edits)?;
         return Ok(());
     }
-    check_acyclic(alloc, &after(book, edits))
+    check_changed(alloc, book, edits)
 }

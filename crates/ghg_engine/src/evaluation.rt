@@ -27,6 +27,7 @@ use crate::cells::Cells;
 use crate::changes::{ChangedLines, Changes};
 use crate::evaluated::Evaluated;
 use crate::factors::Factors;
+use crate::fresh::FreshCells;
 use crate::groups::Groups;
 use crate::known::{Known, KnownLine, Turn, line_at};
 use crate::layout::Layout;
@@ -56,7 +57,7 @@ pub(crate) fn evaluate_all<R: Records, C: ghg_graph::Cells>(
     kept: &Cells,
     nodes: &[Node],
     permits: Permits,
-) -> Result<Cells, EngineRefusal>
+) -> Result<FreshCells, EngineRefusal>
     requires workbook { IsWorkbook (R.content records.now) }
     requires acyclic { IsAcyclic (R.content records.now) }
     requires layout { IsLayout (R.content records.now) layout.now }
@@ -65,7 +66,7 @@ pub(crate) fn evaluate_all<R: Records, C: ghg_graph::Cells>(
     requires kept { AreKept (R.content records.now) nodes.now (cell_at kept.now) }
     requires paid { permits ≡ length nodes.now }
     ensures { MatchResult result
-        (λ fresh. AreEvaluated (R.content records.now) nodes.now (cell_at fresh))
+        (λ fresh. AreEvaluated (R.content records.now) nodes.now (fresh_at fresh))
         (IfOverflow (λ n. least_break (R.content records.now) nodes.now ≡ Some n)) }
 {
     let first = first_year(records);
@@ -93,7 +94,7 @@ pub(crate) fn evaluate_all<R: Records, C: ghg_graph::Cells>(
         cells.insert(node, evaluated.outcome)?;
     }
     match least {
-        None => Ok(cells.into_fresh()?),
+        None => Ok(cells.into_fresh()),
         Some(node) => Err(EngineRefusal::Overflow(node)),
     }
 }

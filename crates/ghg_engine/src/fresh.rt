@@ -1,9 +1,10 @@
 //! Cells of nodes that are evaluated anew.
 
-ghost use Rattle.std.specs.Prelude.{◌≡◌, IfOk, None, OnOk};
+ghost use Rattle.std.specs.Prelude.{◌≡◌, is_some, true, None, OnOk};
+ghost use Rattle.std.specs.BTreeMap as tree;
 ghost use Rattle.std.specs.Option.{option_map};
-ghost use Rattle.ghg_engine.specs.Cells.{cell_at, found_in, in_series, no_outcomes, outcome_behind, with_outcome};
-ghost use Rattle.ghg_engine.specs.Fresh.{fresh_at};
+ghost use Rattle.ghg_engine.specs.Cells.{AreWithin, HasGrown, KeepsRoom, NoneOver, cell_at, found_in, no_outcomes, node_order, outcome_behind, with_outcome};
+ghost use Rattle.ghg_engine.specs.Fresh.{AreReady, HasRoomFor, fitting, fresh_at, with_value};
 ghost use Rattle.ghg_engine.specs.Numbered.{in_numbered};
 
 use crate::cells::Cells;
@@ -12,13 +13,14 @@ use ghg_cell::Value;
 use ghg_interval::Over;
 use ghg_units::Node;
 use std::alloc::{AllocError, Global};
+use std::collections::BTreeMap;
 
 /// The outcomes of nodes, each of which is evaluated once, mostly year by year. What is over stands aside,
-/// among the others, and so does a value for which its column has no place.
+/// and so does a value for which its column has no place.
 #[derive(Drop)]
 pub(crate) struct FreshCells {
     columns: NumberedColumns,
-    others: Cells,
+    aside: BTreeMap<Node, Result<Value, Over>>,
 }
 
 impl FreshCells {
@@ -28,7 +30,7 @@ impl FreshCells {
     {
         FreshCells {
             columns: NumberedColumns::new(alloc, room),
-            others: Cells::new(alloc),
+            aside: BTreeMap::new(alloc),
         }
     }
 
@@ -36,9 +38,13 @@ impl FreshCells {
     pub(crate) fn get(&self, node: &Node, guess: &mut usize) -> Option<Result<&Value, Over>>
         ensures { option_map outcome_behind result ≡ fresh_at self.now node.now }
     {
-        match self.columns.get(node, guess) {
-            Some(value) => Some(Ok(value)),
-            None => self.others.get(node),
+        if let Some(value) = self.columns.get(node, guess) {
+            return Some(Ok(value));
+        }
+        match self.aside.get(node) {
+            Some(Ok(value)) => Some(Ok(value)),
+            Some(Err(Over)) => Some(Err(Over)),
+            None => None,
         }
     }
 
@@ -54,22 +60,99 @@ impl FreshCells {
         match outcome {
             Ok(value) => match self.columns.put(node, value)? {
                 None => Ok(()),
-                Some(value) => self.others.put_aside(node, Ok(value)),
+                Some(value) => put_aside(&mut self.aside, node, Ok(value)),
             },
-            Err(Over) => self.others.put_aside(node, Err(Over)),
+            Err(Over) => put_aside(&mut self.aside, node, Err(Over)),
         }
     }
 
-    /// The same cells, in the order of their series.
-    pub(crate) fn into_cells(self) -> Result<Cells, AllocError>
-        ensures { IfOk result (λ cells. cell_at cells ≡ fresh_at self) }
+    /// Makes room for the cells among others, as far as there is memory.
+    pub(crate) fn make_room(&self, cells: &mut Cells) -> Result<(), AllocError>
+        ensures grown { HasGrown cells.old cells.new }
+        ensures room { OnOk result (HasRoomFor cells.new self.now) }
     {
-        let FreshCells { columns, others } = self;
-        let mut cells = others;
-        let mut columns = columns.into_columns();
-        while let Some(SeriesColumn { series, column }) = columns.pop() {
-            cells.put_column(series, column)?;
-        }
-        Ok(cells)
+        make_columns(&self.columns, cells)?;
+        make_places(&self.aside, cells)
+    }
+
+    /// Moves the cells to others, in place of those of the same nodes. It takes no memory.
+    pub(crate) fn move_to(self, cells: &mut Cells)
+        requires room { HasRoomFor cells.old self }
+        requires none_over { NoneOver (fresh_at self) }
+        ensures { cell_at cells.new ≡ found_in (fresh_at self) (cell_at cells.old) }
+    {
+        let FreshCells { columns, aside } = self;
+        write_aside(aside, cells);
+        move_columns(columns, cells);
+    }
+}
+
+// Gives a node its outcome aside of the columns.
+fn put_aside(
+    aside: &mut BTreeMap<Node, Result<Value, Over>>,
+    node: &Node,
+    outcome: Result<Value, Over>,
+) -> Result<(), AllocError>
+    ensures { OnOk result (tree.get node_order aside.new ≡ with_outcome
+        (tree.get node_order aside.old) node.now outcome) }
+{
+    aside.insert(*node, outcome)?;
+    Ok(())
+}
+
+fn make_columns(columns: &NumberedColumns, cells: &mut Cells) -> Result<(), AllocError>
+    ensures grown { HasGrown cells.old cells.new }
+    ensures ready { OnOk result (AreReady cells.new columns.now) }
+{
+    for number in 0..columns.len() {
+        let held = columns.at(number);
+        cells.make_room(&held.series, &held.column)?;
+    }
+    Ok(())
+}
+
+fn make_places(
+    aside: &BTreeMap<Node, Result<Value, Over>>,
+    cells: &mut Cells,
+) -> Result<(), AllocError>
+    ensures grown { HasGrown cells.old cells.new }
+    ensures within { OnOk result (AreWithin (tree.get node_order aside.now) (cell_at cells.new)) }
+{
+    for node in aside.keys() {
+        cells.make_place(node)?;
+    }
+    Ok(())
+}
+
+fn move_columns(columns: NumberedColumns, cells: &mut Cells)
+    requires { AreReady cells.old columns }
+    ensures { cell_at cells.new ≡ found_in (in_numbered columns) (cell_at cells.old) }
+{
+    let mut columns = columns.into_columns();
+    while let Some(SeriesColumn { series, column }) = columns.pop() {
+        cells.take_column(series, column);
+    }
+}
+
+// Writes the values among outcomes that stand aside.
+fn write_aside(aside: BTreeMap<Node, Result<Value, Over>>, cells: &mut Cells)
+    requires { AreWithin (tree.get node_order aside) (cell_at cells.old) }
+    ensures cells { cell_at cells.new ≡ found_in (fitting (tree.get node_order aside)) (cell_at cells.old) }
+    ensures room { KeepsRoom cells.old cells.new }
+{
+    let mut aside = aside;
+    while let Some((node, outcome)) = aside.pop_first() {
+        write_value(&node, outcome, cells);
+    }
+}
+
+// Writes the outcome of a node that has a cell, if it is a value.
+fn write_value(node: &Node, outcome: Result<Value, Over>, cells: &mut Cells)
+    requires { is_some (cell_at cells.old node.now) ≡ true }
+    ensures cells { cell_at cells.new ≡ with_value (cell_at cells.old) node.now outcome }
+    ensures room { KeepsRoom cells.old cells.new }
+{
+    if let Ok(value) = outcome {
+        cells.write(node, value);
     }
 }

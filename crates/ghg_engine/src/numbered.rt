@@ -1,6 +1,7 @@
 //! Columns of series that have numbers.
 
-ghost use Rattle.std.specs.Prelude.{◌≡◌, ◌++◌, ◌∷◌, [], None, IfNone, IfOk, IfSome, Ok, OnOk, Some};
+ghost use Rattle.std.specs.Prelude.{◌≡◌, ◌<◌, ◌++◌, ◌∷◌, [], length, None, IfNone, IfOk, IfSome, Ok, OnOk, Some};
+ghost use Rattle.std.specs.List.{slice_get};
 ghost use Rattle.ghg_engine.specs.Cells.{IsPut};
 ghost use Rattle.ghg_engine.specs.Numbered.{HaveOneNumber, in_numbered, run_of, series_at};
 
@@ -89,11 +90,28 @@ impl NumberedColumns {
     {
         let series = Series::of(node);
         let Some(number) = self.number(&series, self.next) else {
-            self.add(&series, year_of(node), value)?;
+            let year = year_of(node);
+            let column = Column::of(self.alloc, year, value, self.room.last_from(year))?;
+            self.add(&series, column)?;
             return Ok(None);
         };
         self.begin_behind(number);
         self.columns[number].column.put(year_of(node), value)
+    }
+
+    /// How many series have numbers.
+    pub(crate) fn len(&self) -> usize
+        ensures { result ≡ length self.now }
+    {
+        self.columns.len()
+    }
+
+    /// The series with a number, and its column.
+    pub(crate) fn at(&self, number: usize) -> &SeriesColumn
+        requires { number < length self.now }
+        ensures { slice_get self.now number ≡ Some result.now }
+    {
+        &self.columns[number]
     }
 
     /// The columns, in the order of their numbers.
@@ -123,15 +141,14 @@ impl NumberedColumns {
         self.next = if next < self.columns.len() { next } else { 0 };
     }
 
-    // Gives a series without a number the next one, and a value of one year.
-    fn add(&mut self, series: &Series, year: u32, value: Value) -> Result<(), AllocError>
+    // Gives a series without a number the next one, and a column.
+    fn add(&mut self, series: &Series, column: Column) -> Result<(), AllocError>
         requires { run_of self.old series.now ≡ None }
         ensures { OnOk result (self.new ≡ self.old ++ record {
           series = series.now;
-          column = record { first = year; values = value ∷ [] };
+          column = column;
         } ∷ []) }
     {
-        let column = Column::of(self.alloc, year, value, self.room.last_from(year))?;
         let number = self.columns.len();
         self.columns.push(SeriesColumn {
             series: *series,

@@ -1,8 +1,8 @@
 //! Fresh cells over cells that are kept.
 
-ghost use Rattle.std.specs.Prelude.{◌≡◌, IfOk, None, OnOk};
+ghost use Rattle.std.specs.Prelude.{◌≡◌, None, OnOk};
 ghost use Rattle.std.specs.Option.{option_map};
-ghost use Rattle.ghg_engine.specs.Cells.{cell_at, found_in, no_outcomes, outcome_behind, outcome_in, with_outcome};
+ghost use Rattle.ghg_engine.specs.Cells.{no_outcomes, outcome_behind, outcome_in, with_outcome};
 ghost use Rattle.ghg_engine.specs.Fresh.{fresh_at};
 ghost use Rattle.ghg_engine.specs.Overlays.{outcomes_of};
 
@@ -83,23 +83,9 @@ impl<'a> Overlay<'a> {
     }
 
     /// The fresh cells.
-    pub(crate) fn into_fresh(self) -> Result<Cells, AllocError>
-        ensures { IfOk result (λ cells. cell_at cells ≡ fresh_at self.entry.fresh) }
+    pub(crate) fn into_fresh(self) -> FreshCells
+        ensures { result ≡ self.entry.fresh }
     {
-        self.fresh.into_cells()
-    }
-}
-
-/// The outcome of a node in fresh cells, else in those that are kept.
-pub(crate) fn found<'a>(
-    fresh: &'a Cells,
-    kept: &'a Cells,
-    node: &Node,
-) -> Option<Result<&'a Value, Over>>
-    ensures { option_map outcome_behind result ≡ found_in (cell_at fresh.now) (cell_at kept.now) node.now }
-{
-    match fresh.get(node) {
-        Some(outcome) => Some(outcome),
-        None => kept.get(node),
+        self.fresh
     }
 }

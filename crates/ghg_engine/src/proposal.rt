@@ -2,7 +2,7 @@
 
 ghost use Rattle.std.specs.Prelude.{◌≡◌};
 
-use crate::cells::Cells;
+use crate::fresh::FreshCells;
 use crate::layout::ChangedLayout;
 use ghg_data::Edits;
 
@@ -10,7 +10,7 @@ use ghg_data::Edits;
 #[derive(Drop)]
 pub struct Proposal {
     pub(crate) edits: Edits,
-    pub(crate) fresh: Cells,
+    pub(crate) fresh: FreshCells,
     pub(crate) changed: ChangedLayout,
     pub(crate) cells: u64,
 }
@@ -27,6 +27,6 @@ impl Proposal {
 /// The cells of the nodes that edits affect, and how many these are.
 #[derive(Drop)]
 pub(crate) struct Fresh {
-    pub(crate) cells: Cells,
+    pub(crate) cells: FreshCells,
     pub(crate) count: u64,
 }

@@ -6,7 +6,7 @@ ghost use Rattle.ghg_definitions.specs.Compilation.{is_node};
 ghost use Rattle.ghg_data.specs.Changes.{applied};
 ghost use Rattle.ghg_data.specs.Shelf.{IsPlanned};
 ghost use Rattle.ghg_engine.specs.Cells.{cell_at};
-ghost use Rattle.ghg_engine.specs.Compiled.{AreOfLines, without_missing};
+ghost use Rattle.ghg_engine.specs.Compiled.{AreOfEither, AreOfLines, without_missing};
 
 use crate::cells::Cells;
 use crate::nodes::{emits, is_line};
@@ -18,7 +18,8 @@ use ghg_units::Name;
 /// Drops the cells of lines that edits withdraw, and the equivalents of those that emit no gas with them.
 pub(crate) fn drop_withdrawn(cells: &mut Cells, book: &Book, edits: &Edits)
     requires planned { IsPlanned book.now edits.now }
-    requires of_lines { AreOfLines book.now.content (cell_at cells.old) }
+    requires of_lines { AreOfEither book.now.content (applied book.now.content edits.now)
+        (cell_at cells.old) }
     ensures kept { (n : Node) → is_node (applied book.now.content edits.now) n ≡ true → cell_at cells.new n ≡
         cell_at cells.old n }
     ensures of_lines { AreOfLines (applied book.now.content edits.now) (cell_at cells.new) }

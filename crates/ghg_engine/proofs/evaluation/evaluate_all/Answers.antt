@@ -90,7 +90,7 @@ loop-node-preserved g c =
 
 pub returns-in-None : goal.returns-in-None
 returns-in-None g c = ends_evaluated (g.R.Records.content c.args.records.now) c.args.nodes.now c.loop-node.node-index c.loop-node-test.false
-    (outcomes_of c.loop-node.cells) (fresh_at c.loop-node.cells.fresh) c.loop-node.least c.loop-node.invariant.0 (cell_at c.in_ok-into_fresh-in-None.field-0) c.in_ok-into_fresh-in-None.ensures c.in-None.is
+    (outcomes_of c.loop-node.cells) (fresh_at c.loop-node.cells.fresh) c.loop-node.least c.loop-node.invariant.0 (fresh_at c.into_fresh.result) (ap fresh_at c.into_fresh.ensures) c.in-None.is
 
 pub returns : goal.returns
 returns g c = ends_over (g.R.Records.content c.args.records.now) c.args.nodes.now c.loop-node.node-index c.loop-node-test.false

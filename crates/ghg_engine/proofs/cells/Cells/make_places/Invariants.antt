@@ -1,9 +1,7 @@
 use Rattle.std.proofs.Common.{◌≡◌, is_some, true}
-use Rattle.ghg_engine.specs.Cells.{cell_at, found_in, in_series}
+use Rattle.ghg_engine.specs.Cells.{HasGrown, cell_at}
 use Rattle.ghg_engine.proofs.Taken.{AreDone}
 use Rattle.ghg_engine.proofs.cells.Cells.make_places.Given as goal
 
 abbrev pub invariant-loop-offset : goal.invariant-loop-offset
-invariant-loop-offset l =
-    (found_in (in_series l.series l.column) (cell_at l.self) ≡ found_in (in_series l.series l.column) (cell_at l.fn.self))
-    × AreDone l.series l.column l.offset (λ k. is_some (cell_at l.self k) ≡ true)
+invariant-loop-offset l = HasGrown l.fn.self l.self × AreDone l.series l.column l.offset (λ k. is_some (cell_at l.self k) ≡ true)

@@ -17,11 +17,11 @@ returns c y =
       | then-offset-len-2+in_ok-append w ↦
           let at : year - first ≡ length values = omega (arith, c.in-Some.ensures, at_first, w.if-offset-len-2.true, c.len-2.ensures) in
           ap (λ (r : Run). value_in r y) w.self-is
-          ∙ ap (λ xs. value_in (record { first = first; values = xs }) y) (w.append.ensures ∙ ap (λ r. cond (is_ok r) (values ++ x ∷ []) values) w.in_ok-append.was)
+          ∙ ap (λ xs. value_in (record { first = first; values = xs; spare = 0 }) y) (w.append.ensures ∙ ap (λ r. cond (is_ok r) (values ++ x ∷ []) values) w.in_ok-append.was)
           ∙ has_added first year values x starts at y ∙ was
       | else-offset-len-2 w ↦
           let within : year - first < length values = omega (arith, c.in-Some.ensures, at_first, w.if-offset-len-2.false, c.if-offset-len.false, c.len.ensures, c.len-2.ensures) in
           let offset : c.in-Some.offset ≡ year - first = omega (arith, c.in-Some.ensures, at_first) in
-          ap (λ (r : Run). value_in r y) w.self-is ∙ ap (λ i. value_in (record { first = first; values = set values i x }) y) offset
+          ap (λ (r : Run). value_in r y) w.self-is ∙ ap (λ i. value_in (record { first = first; values = set values i x; spare = 0 }) y) offset
           ∙ has_written first year values x starts within y ∙ was
     ]

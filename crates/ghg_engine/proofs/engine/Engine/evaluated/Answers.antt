@@ -10,14 +10,14 @@ use Rattle.ghg_graph.specs.NodeOrders.{AreInOrder}
 use Rattle.ghg_engine.specs.Cells.{cell_at, found_in}
 use Rattle.ghg_engine.specs.Compiled.{AreOfLines, IsCompiled}
 use Rattle.ghg_engine.specs.Evaluation.{AreEvaluated, AreKept}
+use Rattle.ghg_engine.specs.Fresh.{fresh_at}
 use Rattle.ghg_engine.specs.Proposals.{IfOverflow}
 use Rattle.ghg_engine.specs.Changes.{IsBefore}
 use Rattle.ghg_engine.specs.Views.{EngineView}
 use Rattle.ghg_graph.specs.Entries.{are_entries}
 use Rattle.ghg_engine.proofs.Answered.{if_over}
 use Rattle.ghg_engine.proofs.Next.{if_some, is_before}
-use Rattle.ghg_engine.proofs.Compiled.{settled_compiled}
-use Rattle.ghg_engine.proofs.Patched.{all_affected, fresh_compiled, fresh_of_lines, fresh_over, unaffected_kept}
+use Rattle.ghg_engine.proofs.Patched.{all_affected, fresh_compiled, fresh_fits, fresh_of_lines, fresh_over, unaffected_kept}
 use Rattle.ghg_engine.proofs.engine.Engine.evaluated.Goals as goal
 
 pub evaluate_all-requires-clause-order : goal.evaluate_all-requires-clause-order
@@ -34,7 +34,7 @@ evaluate_all-requires-clause-kept g c =
     let cells = cell_at c.self.inside.cells in
     let workbook = subst (λ m. IsWorkbook (applied m edits)) (sym is) c.requires.arranged.planned.workbook in
     let after = subst (λ m. IsAcyclic (applied m edits)) (sym is) c.requires.arranged.acyclic in
-    let kept = settled_compiled old (cell_at c.self.inside.front) cells c.self.inside.settled (ap (λ s. s.room) c.self.view_is ∙ c.requires.room) c.self.invariant.2 c.self.invariant.0 in
+    let kept = c.self.invariant.0 in
     let lists = subst (ListsAffected old new) (sym c.deref.ensures.value) c.in_ok-nodes.ensures in
     subst (λ m. AreKept m c.deref.result.now cells) (sym c.after-records.ensures)
     (unaffected_kept old new workbook after cells kept c.deref.result.now lists)
@@ -49,7 +49,7 @@ evaluate_all-requires-clause-before g c =
     let ns = c.deref.result.now in
     let workbook = subst (λ m. IsWorkbook (applied m edits)) (sym is) c.requires.arranged.planned.workbook in
     let after = subst (λ m. IsAcyclic (applied m edits)) (sym is) c.requires.arranged.acyclic in
-    let kept = settled_compiled old (cell_at c.self.inside.front) cells c.self.inside.settled (ap (λ s. s.room) c.self.view_is ∙ c.requires.room) c.self.invariant.2 c.self.invariant.0 in
+    let kept = c.self.invariant.0 in
     let lists = subst (ListsAffected old new) (sym c.deref.ensures.value) c.in_ok-nodes.ensures in
     if_some c.before-before.result c.before-before.ensures (λ b h. subst (λ m. IsBefore b.now.content m ns) (sym c.after-records.ensures)
     (subst (λ m. IsBefore m new ns) (is ∙ sym (ap (λ (e : EngineView). e.content) h.0))
@@ -84,19 +84,20 @@ returns-in-Ok-clause-fresh g c =
     let is = ap (λ s. s.content) c.self.view_is in
     let cells = cell_at c.self.inside.cells in
     let ns = c.deref.result.now in
-    let fresh = cell_at c.in-Ok.cells in
+    let fresh = fresh_at c.in-Ok.cells in
     let workbook = subst (λ m. IsWorkbook (applied m edits)) (sym is) c.requires.arranged.planned.workbook in
     let after = subst (λ m. IsAcyclic (applied m edits)) (sym is) c.requires.arranged.acyclic in
-    let kept = settled_compiled old (cell_at c.self.inside.front) cells c.self.inside.settled (ap (λ s. s.room) c.self.view_is ∙ c.requires.room) c.self.invariant.2 c.self.invariant.0 in
+    let kept = c.self.invariant.0 in
     let lists = subst (ListsAffected old new) (sym c.deref.ensures.value) c.in_ok-nodes.ensures in
     let evaluated = subst (λ m. AreEvaluated m ns fresh) c.after-records.ensures c.in-Ok.ensures in
     let items = c.in_ok-nodes.nodes.items in
     let told = subst (λ m. ListsAffected m (applied m edits) items) is c.in_ok-nodes.ensures in
     let all : length items ≡ length (affected_nodes c.args.self.now.content (applied c.args.self.now.content edits)) =
     all_affected c.args.self.now.content (applied c.args.self.now.content edits) items told in
+    let compiled = fresh_compiled old new workbook after cells kept ns lists fresh evaluated in
     record {
-      compiled = subst (λ m. IsCompiled (applied m edits) (found_in fresh (compilation m))) is
-          (fresh_compiled old new workbook after cells kept ns lists fresh evaluated);
+      compiled = subst (λ m. IsCompiled (applied m edits) (found_in fresh (compilation m))) is compiled;
+      none_over = fresh_fits old new compiled.fits ns lists fresh evaluated;
       of_lines = subst (λ m. AreOfLines (applied m edits) fresh) is (fresh_of_lines old new ns lists fresh evaluated);
       count = grind (arith, all, c.len-count.ensures, c.in_ok-nodes.nodes.ok);
     }
@@ -111,7 +112,7 @@ returns-clause-fresh g c =
     let ns = c.deref.result.now in
     let workbook = subst (λ m. IsWorkbook (applied m edits)) (sym is) c.requires.arranged.planned.workbook in
     let after = subst (λ m. IsAcyclic (applied m edits)) (sym is) c.requires.arranged.acyclic in
-    let kept = settled_compiled old (cell_at c.self.inside.front) cells c.self.inside.settled (ap (λ s. s.room) c.self.view_is ∙ c.requires.room) c.self.invariant.2 c.self.invariant.0 in
+    let kept = c.self.invariant.0 in
     let lists = subst (ListsAffected old new) (sym c.deref.ensures.value) c.in_ok-nodes.ensures in
     let over = subst (λ m. IfOverflow (λ n. least_break m ns ≡ Some n) c.in-Err.refusal) c.after-records.ensures c.in-Err.ensures in
     subst (λ m. IfOverflow (λ n. overflow (applied m edits) ≡ Some n) c.in-Err.refusal) is

@@ -1,7 +1,8 @@
 use Rattle.std.proofs.Common.{◌≡◌, Err, None, Ok, Option, Some, refl, sym, ap, ap₂, ◌∙◌}
+use Rattle.std.specs.BTreeMap.{get}
 use Rattle.std.specs.Option.{option_or}
 use Rattle.ghg_definitions.specs.Formulas.{Outcome}
-use Rattle.ghg_engine.specs.Cells.{cell_at, found_in, with_outcome}
+use Rattle.ghg_engine.specs.Cells.{found_in, node_order, with_outcome}
 use Rattle.ghg_engine.specs.Numbered.{in_numbered}
 use Rattle.ghg_engine.proofs.Grouped.{on_ok}
 use Rattle.ghg_engine.proofs.Written.{put_in_front, put_through}
@@ -14,26 +15,26 @@ none_in_front (Some x) p e = absurd (cc)
 pub returns-in-None : goal.returns-in-None
 returns-in-None c =
     let columns = in_numbered c.args.self.now.columns in
-    let others = cell_at c.args.self.now.others in
+    let aside = get node_order c.args.self.now.aside in
     let n = c.args.node.now in
     let x : Outcome = Ok c.in-Ok.value in
     let put = rw c.in-None.is at c.in_ok-put-in-Ok.ensures in
-    ap (λ front. found_in front others) put ∙ put_in_front columns others n x ∙ ap (with_outcome (found_in columns others) n) (sym c.in-Ok.is)
+    ap (λ front. found_in front aside) put ∙ put_in_front columns aside n x ∙ ap (with_outcome (found_in columns aside) n) (sym c.in-Ok.is)
 
 pub returns-in-Some : goal.returns-in-Some
 returns-in-Some c =
     let columns = in_numbered c.args.self.now.columns in
-    let others = cell_at c.args.self.now.others in
+    let aside = get node_order c.args.self.now.aside in
     let n = c.args.node.now in
     let x : Outcome = Ok c.in-Some.value in
     let back = rw c.in-Some.is at c.in_ok-put-in-Ok.ensures in
-    on_ok c.put_aside.result (λ e. ap₂ found_in back.1 e ∙ put_through columns others n x back.0 ∙ ap (with_outcome (found_in columns others) n) (ap Ok back.2 ∙ sym c.in-Ok.is)) c.put_aside.ensures.ok
+    on_ok c.put_aside.result (λ e. ap₂ found_in back.1 e ∙ put_through columns aside n x back.0 ∙ ap (with_outcome (found_in columns aside) n) (ap Ok back.2 ∙ sym c.in-Ok.is)) c.put_aside.ensures
 
 pub returns-in-Err : goal.returns-in-Err
 returns-in-Err c =
     let columns = in_numbered c.args.self.now.columns in
-    let others = cell_at c.args.self.now.others in
+    let aside = get node_order c.args.self.now.aside in
     let n = c.args.node.now in
     let x : Outcome = Err (record {}) in
-    on_ok c.put_aside-in-Err.result (λ e. ap (found_in columns) e ∙ put_through columns others n x (none_in_front (columns n) (others n) c.requires)
-    ∙ ap (with_outcome (found_in columns others) n) (sym c.in-Err.is)) c.put_aside-in-Err.ensures.ok
+    on_ok c.put_aside-in-Err.result (λ e. ap (found_in columns) e ∙ put_through columns aside n x (none_in_front (columns n) (aside n) c.requires)
+    ∙ ap (with_outcome (found_in columns aside) n) (sym c.in-Err.is)) c.put_aside-in-Err.ensures

@@ -12,5 +12,5 @@ invariant_of-self-in-Ok c =
     let none = ap (λ cs. run_of cs s) c.self.view_is ∙ c.requires in
     let count : c.len-number.result ≡ length columns = grind (arith, c.len-number.ensures) in
     subst (λ cs. AreNumbered cs c.insert.new.self) (sym c.in_ok-push.ensures.items)
-    (numbered_added columns c.self.inside.numbers c.insert.new.self c.self.invariant s c.in_ok-column.column none
+    (numbered_added columns c.self.inside.numbers c.insert.new.self c.self.invariant s c.args.column none
     (λ q. c.in-Ok.ensures.updates.0 q ∙ ap (λ i. cond (is_at (series_order s) q) (Some i) (get series_order c.self.inside.numbers q)) count))

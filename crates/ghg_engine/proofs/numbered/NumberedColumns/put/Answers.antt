@@ -1,9 +1,10 @@
-use Rattle.std.proofs.Common.{◌∷◌, [], set, Some, ap, sym, subst, arith, ◌∙◌}
+use Rattle.std.proofs.Common.{ℕ, List, [], set, Some, ap, ap₂, sym, subst, arith, ◌∙◌}
 use Rattle.std.specs.Option.{option_map}
 use Rattle.std.proofs.lemmas.Option.{same_Some, slice_get-get_or}
 use Rattle.std.proofs.lemmas.Result.{IfOk-weaker}
+use Rattle.ghg_cell.specs.declared.input.Input.{Input}
 use Rattle.ghg_engine.specs.Cells.{IsPut}
-use Rattle.ghg_engine.specs.Columns.{IsPutIn, Run}
+use Rattle.ghg_engine.specs.Columns.{IsPutIn, value_in}
 use Rattle.ghg_engine.specs.declared.numbered.SeriesColumn.{SeriesColumn}
 use Rattle.ghg_engine.specs.Numbered.{in_numbered, run_of, series_at}
 use Rattle.ghg_engine.proofs.Columns.{has_added}
@@ -15,12 +16,14 @@ pub returns-in_default : goal.returns-in_default
 returns-in_default c =
     let old = c.args.self.now in
     let s = c.of-series.result in
-    let year = c.year_of.result in
+    let year = c.year_of-year.result in
     let x = c.args.value in
-    let after : Run = record { first = year; values = x ∷ [] } in
+    let after = c.in_ok-column.column in
     let none = c.in_default.ensures.none in
-    column_with (run_of old) s (run_of c.add.new.self) (record { first = year; values = [] }) after (λ q. ap (λ columns. run_of columns q) c.in_ok-add.ensures ∙ run_added s after old none q)
-    (was_absent (run_of old) s year none) year c.args.node.now (sym c.of-series.ensures) (sym c.year_of.ensures) x (has_added year year [] x (omega arith) (omega arith))
+    let has = λ (y : ℕ). ap₂ (λ (f : ℕ) (xs : List Input). value_in (record { first = f; values = xs; spare = 0 }) y) c.in_ok-column.ensures.first c.in_ok-column.ensures.values
+    ∙ has_added year year [] x (omega arith) (omega arith) y in
+    column_with (run_of old) s (run_of c.add.new.self) (record { first = year; values = []; spare = 0 }) after (λ q. ap (λ columns. run_of columns q) c.in_ok-add.ensures ∙ run_added s after old none q)
+    (was_absent (run_of old) s year none) year c.args.node.now (sym c.of-series.ensures) (sym c.year_of-year.ensures) x has
 
 pub index_mut-requires : goal.index_mut-requires
 index_mut-requires c =
@@ -43,7 +46,7 @@ returns c =
     let old = c.args.self.now in
     let s = c.of-series.result in
     let i = c.in-Some.number in
-    let year = c.year_of-2.result in
+    let year = c.year_of.result in
     let x = c.args.value in
     let n = c.args.node.now in
     let held = c.index_mut.result.now in
@@ -58,5 +61,5 @@ returns c =
     (λ rest put. subst (λ cs. IsPut (in_numbered cs) (in_numbered (set columns i (record { series = held.series; column = c.put.new.self }))) n x rest) here
     (column_put (run_of columns) held.series (run_of (set columns i (record { series = held.series; column = c.put.new.self }))) held.column c.put.new.self
     (run_changed held.series c.put.new.self columns once i at) (was_there (run_of columns) held.series held.column there)
-    year n (sym c.of-series.ensures ∙ sym same) (sym c.year_of-2.ensures) x rest put))
+    year n (sym c.of-series.ensures ∙ sym same) (sym c.year_of.ensures) x rest put))
     c.put.ensures

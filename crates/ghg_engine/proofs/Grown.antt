@@ -1,0 +1,109 @@
+-- Cells that have grown by room for others.
+use Rattle.std.proofs.Common.{rules, ◌≡◌, inl, inr, Bool, true, false, cond, is_some, IsSome, MutBor, Option, Some, None, Err, refl, sym, ap, ◌∙◌}
+use Rattle.std.specs.BTreeMap.{BTreeMap, get, is_at}
+use Rattle.std.specs.Option.{option_copied_mut}
+use Rattle.ghg_units.specs.declared.node.Node.{Node}
+use Rattle.ghg_affected.specs.Equalities.{same_node}
+use Rattle.ghg_affected.proofs.Bools.{true_not_false}
+use Rattle.ghg_definitions.specs.Data.{Data}
+use Rattle.ghg_definitions.specs.Formulas.{Outcome}
+use Rattle.ghg_definitions.specs.Trials.{Outcomes}
+use Rattle.ghg_definitions.proofs.OneTrial.{compilation_trial}
+use Rattle.ghg_engine.specs.declared.cells.Cells.{Cells}
+use Rattle.ghg_engine.specs.declared.series.Series.{Series}
+use Rattle.ghg_engine.specs.Cells.{AreWithin, HasGrown, IsReadyFor, cell_at, has_room, has_value, room_at, series_order, with_outcome}
+use Rattle.ghg_engine.specs.Columns.{Run, takes_in}
+use Rattle.ghg_engine.specs.Compiled.{AreOfLines, IsCompiled}
+use Rattle.ghg_engine.proofs.Compiled.{compiled_alike}
+use Rattle.ghg_engine.proofs.Places.{node_same, series_same}
+
+-- ---- one step after another
+
+pub grown_alike : (old new : Cells) → cell_at new ≡ cell_at old → ((s : Series) (run : Run) → room_at old s run ≡ true → room_at new s run ≡ true) → HasGrown old new
+grown_alike old new same room = record {
+  outcomes = λ n there. ap (λ (f : Outcomes). f n) same;
+  values = λ n there. ap (λ (f : Outcomes). f n) same;
+  room = room;
+}
+
+pub not_grown : (cells : Cells) → HasGrown cells cells
+not_grown cells = grown_alike cells cells refl (λ s run has. has)
+
+module _ (first second third : Cells) (begins : HasGrown first second) (goes_on : HasGrown second third) where
+  pub grown_further : HasGrown first third
+  grown_further = record {
+    outcomes = λ n there. goes_on.outcomes n (ap is_some (begins.outcomes n there) ∙ there) ∙ begins.outcomes n there;
+    values = λ n has. goes_on.values n has ∙ begins.values n (sym (ap has_value (goes_on.values n has)) ∙ has);
+    room = λ s run has. goes_on.room s run (begins.room s run has);
+  }
+
+-- ---- what stays
+
+module _ (old new : Cells) (grown : HasGrown old new) where
+  pub within_still : (outcomes : Outcomes) → AreWithin outcomes (cell_at old) → AreWithin outcomes (cell_at new)
+  within_still outcomes within n there = ap is_some (grown.outcomes n (within n there)) ∙ within n there
+
+  pub ready_still : (s : Series) (run : Run) → IsReadyFor old s run → IsReadyFor new s run
+  ready_still s run (inl has) = inl (grown.room s run has)
+  ready_still s run (inr within) = inr (within_still _ within)
+
+  pub of_lines_still : (m : Data) → AreOfLines m (cell_at old) → AreOfLines m (cell_at new)
+  of_lines_still m are = record { present = λ n has. are.present n (sym (ap has_value (grown.values n has)) ∙ has) }
+
+  pub compiled_still : (m : Data) → IsCompiled m (cell_at old) → IsCompiled m (cell_at new)
+  compiled_still m is = compiled_alike m (cell_at old) (cell_at new) (λ n node. grown.outcomes n
+      (ap is_some (is.outcomes_are n node ∙ (compilation_trial m is.acyclic).by_formula n node))) is
+
+-- ---- a place for one more
+
+abbrev placed : Option Outcome
+placed = Some (Err (record {}))
+
+pub one_place : (old new : Cells) (n : Node) → cell_at old n ≡ None → cell_at new ≡ with_outcome (cell_at old) n (Err (record {})) → new.columns ≡ old.columns → HasGrown old new
+one_place old new n none put columns = record {
+  outcomes = λ k there. ap (λ (f : Outcomes). f k) put ∙ kept k there (same_node k n) refl;
+  values = λ k has. ap (λ (f : Outcomes). f k) put ∙ stays k (same_node k n) (sym (ap (λ (f : Outcomes). has_value (f k)) put) ∙ has);
+  room = λ s run has. ap (λ cs. has_room (get series_order cs s) run) columns ∙ has;
+}
+  where
+    kept : (k : Node) → is_some (cell_at old k) ≡ true → (b : Bool) → same_node k n ≡ b → cond b placed (cell_at old k) ≡ cell_at old k
+    kept k there true same = absurd (true_not_false (sym there ∙ ap (λ j. is_some (cell_at old j)) (node_same k n same) ∙ ap is_some none))
+    kept k there false apart = refl
+
+    stays : (k : Node) (b : Bool) → has_value (cond b placed (cell_at old k)) ≡ true → cond b placed (cell_at old k) ≡ cell_at old k
+    stays k true has = absurd (true_not_false (sym has))
+    stays k false has = refl
+
+-- ---- room in columns
+
+-- where there is room, there is a column
+pub lent_some : (o : Option (MutBor Run)) (p : Option Run) (run : Run) → option_copied_mut o ≡ p → has_room p run ≡ true → IsSome o
+lent_some None p run is has = absurd (true_not_false (sym has ∙ ap (λ q. has_room q run) (sym is)))
+lent_some (Some b) p run is has = search rules
+
+module _ (s : Series) (after : Run) (old new : BTreeMap Series Run) (updates : (q : Series) → get series_order new q ≡ cond (is_at (series_order s) q) (Some after) (get series_order old q)) where
+  pub others_room : (q : Series) (run : Run) → is_at (series_order s) q ≡ false → has_room (get series_order new q) run ≡ has_room (get series_order old q) run
+  others_room q run apart = ap (λ o. has_room o run) (updates q ∙ ap (λ b. cond b (Some after) (get series_order old q)) apart)
+
+  pub room_stays : (before : Run) → get series_order old s ≡ Some before → ((run : Run) → takes_in after run ≡ takes_in before run) → (q : Series) (run : Run) → has_room (get series_order new q) run ≡ has_room (get series_order old q) run
+  room_stays before found same q run = by (is_at (series_order s) q) refl
+    where
+      by : (b : Bool) → is_at (series_order s) q ≡ b → has_room (get series_order new q) run ≡ has_room (get series_order old q) run
+      by true at = ap (λ o. has_room o run) (updates q ∙ ap (λ b. cond b (Some after) (get series_order old q)) at) ∙ same run
+          ∙ ap (λ o. has_room o run) (sym (ap (get series_order old) (sym (series_same s q at)) ∙ found))
+      by false apart = others_room q run apart
+
+  pub room_grows : (before : Run) → get series_order old s ≡ Some before → ((run : Run) → takes_in before run ≡ true → takes_in after run ≡ true) → (q : Series) (run : Run) → has_room (get series_order old q) run ≡ true → has_room (get series_order new q) run ≡ true
+  room_grows before found more q run has = by (is_at (series_order s) q) refl
+    where
+      by : (b : Bool) → is_at (series_order s) q ≡ b → has_room (get series_order new q) run ≡ true
+      by true at = ap (λ o. has_room o run) (updates q ∙ ap (λ b. cond b (Some after) (get series_order old q)) at)
+          ∙ more run (sym (ap (λ o. has_room o run) (ap (get series_order old) (sym (series_same s q at)) ∙ found)) ∙ has)
+      by false apart = others_room q run apart ∙ has
+
+  pub room_added : get series_order old s ≡ None → (q : Series) (run : Run) → has_room (get series_order old q) run ≡ true → has_room (get series_order new q) run ≡ true
+  room_added absent q run has = by (is_at (series_order s) q) refl
+    where
+      by : (b : Bool) → is_at (series_order s) q ≡ b → has_room (get series_order new q) run ≡ true
+      by true at = absurd (true_not_false (sym has ∙ ap (λ o. has_room o run) (ap (get series_order old) (sym (series_same s q at)) ∙ absent)))
+      by false apart = others_room q run apart ∙ has

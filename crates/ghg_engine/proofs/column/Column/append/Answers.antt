@@ -1,0 +1,12 @@
+use Rattle.std.proofs.Common.{◌++◌, cond, is_ok, ap, ap₂, ◌∙◌}
+use Rattle.ghg_engine.specs.Columns.{Run}
+use Rattle.ghg_engine.proofs.Takes.{over_appended}
+use Rattle.ghg_engine.proofs.column.Column.append.Goals as goal
+
+pub returns : goal.returns
+returns c y =
+    let own = c.self.inside.values.items in
+    let more = c.next.inside.values.items in
+    over_appended c.args.self.now c.args.next (record { first = c.self.inside.first; values = c.append.new.self.items; spare = 0 }) c.requires (ap (λ (r : Run). r.first) c.self.view_is)
+    (c.append.ensures.items ∙ ap (λ r. cond (is_ok r) (own ++ more) own) c.unwrap.ensures
+    ∙ ap₂ (λ xs ys. xs ++ ys) (ap (λ (r : Run). r.values) c.self.view_is) (ap (λ (r : Run). r.values) c.next.view_is)) y

@@ -1,0 +1,27 @@
+use Rattle.std.proofs.Common.{refl, sym, ap, ◌∙◌}
+use Rattle.std.specs.Option.{option_or}
+use Rattle.ghg_engine.specs.Columns.{value_in}
+use Rattle.ghg_engine.proofs.InColumns.{no_value}
+use Rattle.ghg_engine.proofs.Takes.{covers_years, one_over, still_covered, value_covered}
+use Rattle.ghg_engine.proofs.column.Column.overwrite_years.Goals as goal
+
+pub loop-year-init : goal.loop-year-init
+loop-year-init c = (covers_years c.args.self.now c.args.next c.requires, λ y. refl)
+
+pub overwrite-requires : goal.overwrite-requires
+overwrite-requires c = value_covered c.loop-year.next c.loop-year.self c.in-Some.year c.in-Some.value c.in-Some.ensures.value c.loop-year.invariant.0
+
+pub loop-year-preserved : goal.loop-year-preserved
+loop-year-preserved c =
+    let next = c.loop-year.next in
+    let rest = c.pop.new.self in
+    let before = c.loop-year.self in
+    let after = c.overwrite.new.self in
+    let year = c.in-Some.year in
+    let x = c.in-Some.value in (
+      still_covered next rest before after year x c.in-Some.ensures.value c.in-Some.ensures.rest c.overwrite.ensures.value c.loop-year.invariant.0,
+      λ y. one_over next rest before after year x c.in-Some.ensures.value c.in-Some.ensures.rest c.overwrite.ensures.value y ∙ c.loop-year.invariant.1 y,
+    )
+
+pub returns : goal.returns
+returns c y = ap (λ o. option_or o (value_in c.loop-year.self y)) (sym (no_value c.loop-year.next c.in_default.ensures.none y)) ∙ c.loop-year.invariant.1 y
