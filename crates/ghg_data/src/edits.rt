@@ -1,6 +1,6 @@
 //! Edits of a book.
 
-ghost use Rattle.std.specs.Prelude.{◌≡◌, ℕ, ◌^◌, ◌<◌, ◌&&◌, true, [], Some, length, map, slice_get, option_copied, OnOk, OnErr};
+ghost use Rattle.std.specs.Prelude.{◌≡◌, ℕ, ◌^◌, ◌<◌, ◌&&◌, true, [], Some, length, map, slice_get, option_copied, IfOk, OnOk, OnErr};
 ghost use Rattle.std.specs.FinMap.{find};
 ghost use Rattle.std.specs.List.{IsDistinct};
 ghost use Rattle.std.specs.Ordering.{eq_by_cmp};
@@ -59,6 +59,21 @@ impl Edits {
             put: Calendar::new(alloc, hasher),
             taken: Calendar::new(alloc, hasher),
         }
+    }
+
+    /// No changes, and room for so many.
+    pub(crate) fn with_capacity(
+        alloc: Global,
+        hasher: RandomState,
+        count: usize,
+    ) -> Result<Edits, AllocError>
+        ensures { IfOk result (λ edits. edits ≡ []) }
+    {
+        Ok(Edits {
+            changes: IndexMap::with_capacity_and_hasher(alloc, count, hasher)?,
+            put: Calendar::new(alloc, hasher),
+            taken: Calendar::new(alloc, hasher),
+        })
     }
 
     /// The keys that are set or removed, each once.

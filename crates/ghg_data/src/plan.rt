@@ -73,7 +73,7 @@ fn progress_of(alloc: Global, holdings: &Holdings, rows: &[Row]) -> Result<Progr
     ensures lines { IfOk result (λ p. p.lines ≡ length (line_names (applied holdings.now.content p.edits))) }
 {
     let mut progress = Progress {
-        edits: Edits::new(alloc, holdings.hasher()),
+        edits: Edits::with_capacity(alloc, holdings.hasher(), rows.len())?,
         records: holdings.len(),
         lines: holdings.lines().len(),
     };

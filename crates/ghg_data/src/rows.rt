@@ -1,7 +1,8 @@
 //! Rows: the record that a row changes, and the rules on units and presence.
 
-ghost use Rattle.std.specs.Prelude.{◌≡◌, false, IfOk};
+ghost use Rattle.std.specs.Prelude.{◌≡◌, false, not, IfOk};
 ghost use Rattle.std.specs.Option.{option_map_or};
+ghost use Rattle.ghg_equations.specs.Quantity.{same_dim};
 ghost use Rattle.ghg_units.specs.Units.{dim_of};
 ghost use Rattle.ghg_definitions.specs.Data.{as_figure};
 ghost use Rattle.ghg_definitions.specs.Rows.{key_of, record_of};
@@ -10,7 +11,7 @@ ghost use Rattle.ghg_definitions.specs.Rules.{breaks_activity, breaks_potential,
 use crate::draft::Draft;
 use ghg_definitions::{Record, RecordKey};
 use ghg_equations::Dim;
-use ghg_units::{Act, Binding, Names, Row, RowForm, Rule, is_potential_name};
+use ghg_units::{Act, Binding, Names, Row, RowForm, Rule, Unit, is_potential_name};
 use std::alloc::{AllocError, Global};
 
 /// The key of the record that a row is about.
@@ -112,20 +113,27 @@ fn meets_other_figure(draft: &Draft<'_>, form: &RowForm) -> bool
 {
     match form {
         RowForm::Activity(_, _, Some(figure)) | RowForm::Factor(_, _, Some(figure)) => {
-            meets_other_dimension(draft, &key_of(form), ghg_units::dim(figure.unit))
+            meets_other_dimension(draft, &key_of(form), figure.unit)
         }
         _ => false,
     }
 }
 
-// Whether a record of the same kind and name for another year has another dimension.
-fn meets_other_dimension(draft: &Draft<'_>, key: &RecordKey, dim: Dim) -> bool
-    ensures { result ≡ meets_other_dimension draft.now key.now dim }
+// Whether a record of the same kind and name for another year has a unit of another dimension.
+fn meets_other_dimension(draft: &Draft<'_>, key: &RecordKey, unit: Unit) -> bool
+    ensures { result ≡ meets_other_dimension draft.now key.now (dim_of unit) }
 {
     match draft.other_year(key) {
-        Some(other) => dim != ghg_units::dim(other.unit),
+        Some(other) => differ(unit, other.unit),
         None => false,
     }
+}
+
+// Whether units are of two dimensions. Two that are the same are not looked up in their table.
+fn differ(unit: Unit, other: Unit) -> bool
+    ensures { result ≡ not (same_dim (dim_of unit) (dim_of other)) }
+{
+    unit != other && ghg_units::dim(unit) != ghg_units::dim(other)
 }
 
 // A record is entered where there is none, and corrected or withdrawn where there is one.

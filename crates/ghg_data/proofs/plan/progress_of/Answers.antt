@@ -20,7 +20,7 @@ returns-in_err-add_row-clause-applied c =
     let i = c.loop-row.row-index in
     let row = c.row-item.result in
     let so_far = c.loop-row.invariant.6 ∙ ap (rows_applied n) (drop_row rows i row c.loop-row-test.true c.row-item.is) in
-    on_err c.from_residual.result _ _ _ c.from_residual.ensures.1
+    on_err c.from_residual-in_err-add_row.result _ _ _ c.from_residual-in_err-add_row.ensures.1
     (λ x e. rule_first m n rows row (drop (suc i) rows) so_far x (subst (λ y. IfRule (λ rule. row_fault n row ≡ Some rule) y) (sym e) c.in_err-add_row.ensures.fault))
 
 pub loop-row-preserved : goal.loop-row-preserved
