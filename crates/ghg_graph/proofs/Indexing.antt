@@ -1,7 +1,6 @@
 -- Indexes of the lines of data.
-use Rattle.std.proofs.Common.{◌≡◌, true, is_some, List, [], filter, Option, arith, sym, ap, ◌∙◌, subst}
+use Rattle.std.proofs.Common.{◌≡◌, true, is_some, List, [], filter, arith, sym, ap, ◌∙◌, subst}
 use Rattle.std.specs.FinMap.{empty, get-empty}
-use Rattle.ghg_units.specs.declared.row.Binding.{Binding}
 use Rattle.ghg_definitions.specs.declared.record.Record.{Record}
 use Rattle.ghg_definitions.specs.declared.record.RecordKey.TheVariants as key
 use Rattle.ghg_definitions.specs.Compilation.{emits, gas_lines}
@@ -11,8 +10,7 @@ use Rattle.ghg_affected.proofs.Bools.{true_not_false}
 use Rattle.ghg_data.proofs.Empty.{no_lines}
 use Rattle.ghg_graph.specs.Index.{IsLineIndex}
 use Rattle.ghg_graph.specs.Ordering.{IsLineOrder}
-use Rattle.ghg_data.specs.Taken.{figures_taken, lines_taken}
-use Rattle.ghg_graph.specs.Takers.{AreTakers, IsIndex, places_of}
+use Rattle.ghg_graph.specs.Takers.{AreTakers, IsIndex, figures_of, lines_of, places_of, potentials_of}
 use Rattle.ghg_graph.specs.declared.index.LineIndex.{LineIndex}
 use Rattle.ghg_graph.specs.declared.takers.Places.{Places}
 use Rattle.ghg_graph.specs.declared.takers.Takers.{Takers}
@@ -31,21 +29,24 @@ no_order = record { behind = tt; complete = λ name e. absurd (no_line name e) }
 abbrev IsEmpty : Places → Type 0
 IsEmpty places = (name : Name) → places_of places name ≡ []
 
-no_index : (names : Option Binding → List Name) (m : Data) (places : Places) → IsEmpty places → IsIndex names m [] places
+no_index : (names : Data → Name → List Name) (m : Data) (places : Places) → IsEmpty places → IsIndex names m [] places
 no_index names m places none = λ name place.
     (λ i. absurd (subst (IsListed place) (none name) i), λ h. absurd (omega (arith, h.0)))
 
-no_takers : (m : Data) (takers : Takers) → IsEmpty takers.figures → IsEmpty takers.lines → AreTakers m [] takers
-no_takers m takers figures lines = record {
-  of_figures = no_index figures_taken m takers.figures figures;
-  of_lines = no_index lines_taken m takers.lines lines;
+no_takers : (m : Data) (takers : Takers) → IsEmpty takers.figures → IsEmpty takers.lines → IsEmpty takers.potentials
+    → AreTakers m [] takers
+no_takers m takers figures lines potentials = record {
+  of_figures = no_index figures_of m takers.figures figures;
+  of_lines = no_index lines_of m takers.lines lines;
+  of_potentials = no_index potentials_of m takers.potentials potentials;
 }
 
 pub nothing_in_index : (index : LineIndex) → index.lines.items ≡ [] → index.emitters.items ≡ []
-    → IsEmpty index.takers.figures → IsEmpty index.takers.lines → IsLineIndex (empty {X = Record} {R = key_cmp}) index
-nothing_in_index index lines emitters of_figures of_lines = record {
+    → IsEmpty index.takers.figures → IsEmpty index.takers.lines → IsEmpty index.takers.potentials
+    → IsLineIndex (empty {X = Record} {R = key_cmp}) index
+nothing_in_index index lines emitters of_figures of_lines of_potentials = record {
   lines = subst (IsLineOrder (empty {X = Record} {R = key_cmp})) (sym lines) no_order;
   emitters = emitters ∙ sym no_emitters;
   takers = subst (λ ns. AreTakers (empty {X = Record} {R = key_cmp}) ns index.takers) (sym lines)
-      (no_takers (empty {X = Record} {R = key_cmp}) index.takers of_figures of_lines);
+      (no_takers (empty {X = Record} {R = key_cmp}) index.takers of_figures of_lines of_potentials);
 }

@@ -1,5 +1,5 @@
 -- Places under the names of what lines take.
-use Rattle.std.proofs.Common.{◌≡◌, ◌⊎◌, inl, inr, ℕ, ◌+◌, ◌<◌, ◌≤◌, Bool, true, false, cond, if◌then◌else◌, List, [], ◌∷◌, ◌++◌, length, get_or, map, filter, flat_map, drop, take, is_eq, Option, Some, None, Vec, Global, refl, sym, ap, ap₂, ◌∙◌, subst, arith, length-append}
+use Rattle.std.proofs.Common.{◌≡◌, ◌⊎◌, inl, inr, ℕ, ◌+◌, ◌<◌, ◌≤◌, Bool, true, false, cond, if◌then◌else◌, List, [], ◌∷◌, ◌++◌, length, get_or, map, filter, flat_map, drop, take, is_eq, Option, Some, None, is_some, option_and_then, Vec, Global, refl, sym, ap, ap₂, ◌∙◌, subst, arith, length-append}
 use Rattle.std.specs.Prelude.{◌↔◌}
 use native.Mathlib.Decide.{ℕ_discrete}
 use Prim.{yes, no}
@@ -9,10 +9,12 @@ use Rattle.std.proofs.lemmas.List.Concat.{flat_map-append}
 use Rattle.std.proofs.Math.Dec.{ltb}
 use Rattle.std.specs.FinMap.{get}
 use Rattle.std.specs.List.{AllByRecursion}
-use Rattle.std.specs.Option.{option_map_or}
+use Rattle.std.specs.Option.{MatchOption, option_map, option_map_or, option_to_list}
 use Rattle.ghg_equations.specs.declared.eq_id.EqId.{EqId}
 use Rattle.ghg_equations.specs.declared.row.Param.{Param}
-use Rattle.ghg_equations.specs.Table.{Quantity, parameters}
+use Rattle.ghg_equations.specs.Quantity.{gas_of}
+use Rattle.ghg_equations.specs.Table.{Quantity, output, parameters}
+use Rattle.ghg_units.specs.Name.{potential_name}
 use Rattle.ghg_units.specs.declared.row.Binding.{Binding}
 use Rattle.ghg_definitions.specs.declared.record.RecordKey.TheVariants as key
 use Rattle.ghg_definitions.specs.Data.{Data, Name, as_binding, as_line, binding, line, name_cmp}
@@ -22,7 +24,7 @@ use Rattle.ghg_data.specs.Parameters.{quantity}
 use Rattle.ghg_graph.specs.Numbers.{name_at}
 use Rattle.ghg_graph.specs.Ordering.{IsLineOrder}
 use Rattle.ghg_data.specs.Taken.{figures_taken, lines_taken, named_by}
-use Rattle.ghg_graph.specs.Takers.{AreTakers, AreTakersBefore, AreTakersWith, AreUpTo, IsCut, IsIndex, IsIndexWith, IsNamedFrom, IsPut, places_of}
+use Rattle.ghg_graph.specs.Takers.{AreTakers, AreTakersBefore, AreTakersWith, AreUpTo, IsCut, IsIndex, IsIndexWith, IsNamedFrom, IsPut, figures_of, lines_of, places_of, potentials_of}
 use Rattle.ghg_graph.specs.declared.takers.Places.{Places}
 use Rattle.ghg_graph.specs.declared.takers.Takers.{Takers}
 use Rattle.ghg_graph.proofs.EquationParameters.{flat_named}
@@ -136,42 +138,48 @@ named_at names m l ps id at all =
     ∙ ap (flat_map (λ (q : Quantity). names (binding m l q.name))) all
     ∙ ap (λ o. option_map_or (λ e. flat_map (λ q. names (binding m l q.name)) (parameters e)) o []) at
 
+-- the name that there is, or none
+pub names_there : (o : Option Name) (names : List Name) → MatchOption o (names ≡ []) (λ name. names ≡ name ∷ [])
+    → names ≡ option_to_list o
+names_there None names is = is
+names_there (Some name) names is = is
+
 -- ---- the lines from one place up to another
 
 -- beside the places that stood there
-abbrev pub IsIndexUpTo : ℕ → ℕ → (Option Binding → List Name) → Data → List Name → Places → Places → Type 0
+abbrev pub IsIndexUpTo : ℕ → ℕ → (Data → Name → List Name) → Data → List Name → Places → Places → Type 0
 IsIndexUpTo first count names m lines old new = (name : Name) (place : ℕ) → IsListed place (places_of new name) ↔
     (IsListed place (places_of old name) ⊎
-    ((first ≤ place) × (place < count) × IsListed name (named_by names m (name_at lines place))))
+    ((first ≤ place) × (place < count) × IsListed name (names m (name_at lines place))))
 
-pub nothing_indexed : (names : Option Binding → List Name) (m : Data) (lines : List Name) (first : ℕ) (places : Places)
+pub nothing_indexed : (names : Data → Name → List Name) (m : Data) (lines : List Name) (first : ℕ) (places : Places)
     → IsIndexUpTo first first names m lines places places
 nothing_indexed names m lines first places = λ name place.
     (λ i. inl i, λ i. elim i [ inl j ↦ j | inr none ↦ absurd (omega (arith, none.0, none.1)) ])
 
-pub line_indexed : (names : Option Binding → List Name) (m : Data) (lines : List Name) (first n : ℕ) (l : Name)
+pub line_indexed : (names : Data → Name → List Name) (m : Data) (lines : List Name) (first n : ℕ) (l : Name)
     (start old new : Places) → first ≤ n → l ≡ name_at lines n → IsIndexUpTo first n names m lines start old
-    → IsPut (named_by names m l) n old new → IsIndexUpTo first (n + 1) names m lines start new
+    → IsPut (names m l) n old new → IsIndexUpTo first (n + 1) names m lines start new
 line_indexed names m lines first n l start old new low is before put = λ name place. (
   λ i. elim ((put name place).0 i) [
     | inl j ↦ elim ((before name place).0 j) [ inl was ↦ inl was | inr h ↦ inr (h.0, omega (arith, h.1), h.2) ]
     | inr j ↦ inr (
       omega (arith, j.0, low),
       omega (arith, j.0),
-      subst (λ k. IsListed name (named_by names m k)) (is ∙ ap (name_at lines) (sym j.0)) j.1,
+      subst (λ k. IsListed name (names m k)) (is ∙ ap (name_at lines) (sym j.0)) j.1,
     )
   ],
   λ i. (put name place).1 (elim i [
     | inl was ↦ inl ((before name place).1 (inl was))
     | inr h ↦ elim (ℕ_discrete place n) [
-      | yes same ↦ inr (same, subst (λ k. IsListed name (named_by names m k)) (ap (name_at lines) same ∙ sym is) h.2)
+      | yes same ↦ inr (same, subst (λ k. IsListed name (names m k)) (ap (name_at lines) same ∙ sym is) h.2)
       | no other ↦ inl ((before name place).1 (inr (h.0, omega (arith, h.1), h.2)))
     ]
   ]),
 )
 
 -- so no place is behind the next one
-pub indexed_up_to : (names : Option Binding → List Name) (m : Data) (lines : List Name) (first n : ℕ) (old new : Places)
+pub indexed_up_to : (names : Data → Name → List Name) (m : Data) (lines : List Name) (first n : ℕ) (old new : Places)
     → first ≤ n → AreUpTo first old → IsIndexUpTo first n names m lines old new → AreUpTo n new
 indexed_up_to names m lines first n old new low high is = λ name place i. elim ((is name place).0 i) [
   | inl was ↦ let below = high name place was in omega (arith, below, low)
@@ -179,7 +187,7 @@ indexed_up_to names m lines first n old new low high is = λ name place i. elim 
 ]
 
 -- no place is left
-pub all_indexed : (names : Option Binding → List Name) (m : Data) (lines : List Name) (first n : ℕ) (old new : Places)
+pub all_indexed : (names : Data → Name → List Name) (m : Data) (lines : List Name) (first n : ℕ) (old new : Places)
     → n ≤ length lines → length lines ≤ n → IsIndexUpTo first n names m lines old new
     → IsIndexWith first names m lines old new
 all_indexed names m lines first n old new high low is = λ name place. (
@@ -188,12 +196,12 @@ all_indexed names m lines first n old new high low is = λ name place. (
 )
 
 -- no place in an index is behind the lines
-pub index_up_to : (names : Option Binding → List Name) (m : Data) (lines : List Name) (n : ℕ) (places : Places)
+pub index_up_to : (names : Data → Name → List Name) (m : Data) (lines : List Name) (n : ℕ) (places : Places)
     → length lines ≤ n → IsIndex names m lines places → AreUpTo n places
 index_up_to names m lines n places low is = λ name place i. let h = (is name place).0 i in omega (arith, h.0, low)
 
 -- all lines, where no place stood
-pub index_of_all : (names : Option Binding → List Name) (m : Data) (lines : List Name) (old new : Places)
+pub index_of_all : (names : Data → Name → List Name) (m : Data) (lines : List Name) (old new : Places)
     → ((name : Name) → places_of old name ≡ []) → IsIndexWith 0 names m lines old new → IsIndex names m lines new
 index_of_all names m lines old new none is = λ name place. (
   λ i. elim ((is name place).0 i) [ inl was ↦ absurd (subst (IsListed place) (none name) was) | inr h ↦ (h.1, h.2) ],
@@ -312,29 +320,29 @@ binding_cut names m l ps i d first start old new b given h bound is before more 
     f q = names (binding m l q.name.now)
 
 -- a line from the first place on, and below the number, names it
-abbrev pub IsNamedUpTo : ℕ → ℕ → (Option Binding → List Name) → Data → List Name → Name → Type 0
+abbrev pub IsNamedUpTo : ℕ → ℕ → (Data → Name → List Name) → Data → List Name → Name → Type 0
 IsNamedUpTo first count names m lines name =
-    (place : ℕ) × (first ≤ place) × (place < count) × IsListed name (named_by names m (name_at lines place))
+    (place : ℕ) × (first ≤ place) × (place < count) × IsListed name (names m (name_at lines place))
 
-pub nothing_cut : (names : Option Binding → List Name) (m : Data) (lines : List Name) (first : ℕ) (places : Places)
+pub nothing_cut : (names : Data → Name → List Name) (m : Data) (lines : List Name) (first : ℕ) (places : Places)
     → IsCut (IsNamedUpTo first first names m lines) first places places
 nothing_cut names m lines first places =
     cut_none (IsNamedUpTo first first names m lines) first places (λ name h. omega (arith, h.1, h.2))
 
-pub line_cut : (names : Option Binding → List Name) (m : Data) (lines : List Name) (first n : ℕ) (l : Name)
+pub line_cut : (names : Data → Name → List Name) (m : Data) (lines : List Name) (first n : ℕ) (l : Name)
     (start old new : Places) → l ≡ name_at lines n → IsCut (IsNamedUpTo first n names m lines) first start old
-    → IsCut (λ k. IsListed k (named_by names m l)) first old new
+    → IsCut (λ k. IsListed k (names m l)) first old new
     → IsCut (IsNamedUpTo first (n + 1) names m lines) first start new
 line_cut names m lines first n l start old new is before cut =
-    cut_more (IsNamedUpTo first n names m lines) (λ k. IsListed k (named_by names m l))
+    cut_more (IsNamedUpTo first n names m lines) (λ k. IsListed k (names m l))
     (IsNamedUpTo first (n + 1) names m lines) first start old new
     (λ k h. elim (ℕ_discrete h.0 n) [
-      | yes same ↦ inr (subst (λ j. IsListed k (named_by names m j)) (ap (name_at lines) same ∙ sym is) h.3)
+      | yes same ↦ inr (subst (λ j. IsListed k (names m j)) (ap (name_at lines) same ∙ sym is) h.3)
       | no other ↦ inl (h.0, h.1, omega (arith, h.2), h.3)
     ]) before cut
 
 -- no place is left
-pub all_cut : (names : Option Binding → List Name) (m : Data) (lines : List Name) (first n : ℕ) (old new : Places)
+pub all_cut : (names : Data → Name → List Name) (m : Data) (lines : List Name) (first n : ℕ) (old new : Places)
     → length lines ≤ n → IsCut (IsNamedUpTo first n names m lines) first old new
     → IsCut (IsNamedFrom first names m lines) first old new
 all_cut names m lines first n old new low cut =
@@ -363,56 +371,71 @@ module _ (old new : Data) (names : Option Binding → List Name) (l : Name)
 -- ---- where lines are kept, and more come behind them
 
 module _ (old new : Data) (kept : KeepsLines old new) (lines more : List Name) (order : IsLineOrder old lines) where
-  named_still : (names : Option Binding → List Name) (place : ℕ) → place < length lines
-      → named_by names old (name_at lines place) ≡ named_by names new (name_at (lines ++ more) place)
-  named_still names place h =
-      let l = name_at lines place in
-      let present = present_in old [] lines order.behind l (at_name lines place h) in
-      same_named old new names l (λ q. sym (kept.bindings l q present)) (sym (kept.lines l present))
-      ∙ ap (named_by names new) (sym (get_or_append_left lines more [] place h))
+  -- a line of before names the same
+  abbrev NamesStill : (Data → Name → List Name) → Type 0
+  NamesStill names = (l : Name) → is_some (line old l) ≡ true → names old l ≡ names new l
 
-  index_joined : (names : Option Binding → List Name) (was is : Places) → IsIndex names old lines was
-      → IsIndexWith (length lines) names new (lines ++ more) was is → IsIndex names new (lines ++ more) is
-  index_joined names was is before after = λ name place. (
-    λ i. elim ((after name place).0 i) [
-      | inl j ↦ let h = (before name place).0 j in (
-        omega (arith, h.0, length-append lines more),
-        subst (IsListed name) (named_still names place h.0) h.1,
-      )
-      | inr h ↦ (h.1, h.2)
-    ],
-    λ h. (after name place).1 (elim (less_or_not place (length lines)) [
-      | inl low ↦ inl ((before name place).1 (low, subst (IsListed name) (sym (named_still names place low)) h.1))
-      | inr high ↦ inr (elim high [ inl e ↦ omega (arith, e) | inr g ↦ omega (arith, g) ], h.0, h.1)
-    ]),
-  )
+  bound_still : (names : Option Binding → List Name) → NamesStill (named_by names)
+  bound_still names l present =
+      same_named old new names l (λ q. sym (kept.bindings l q present)) (sym (kept.lines l present))
+
+  potential_still : NamesStill potentials_of
+  potential_still l present =
+      ap (λ r. option_to_list (option_map potential_name (option_and_then (λ e. gas_of (output e)) (as_line r))))
+      (sym (kept.lines l present))
+
+  module _ (names : Data → Name → List Name) (still : NamesStill names) where
+    named_still : (place : ℕ) → place < length lines
+        → names old (name_at lines place) ≡ names new (name_at (lines ++ more) place)
+    named_still place h =
+        let l = name_at lines place in
+        still l (present_in old [] lines order.behind l (at_name lines place h))
+        ∙ ap (names new) (sym (get_or_append_left lines more [] place h))
+
+    index_joined : (was is : Places) → IsIndex names old lines was
+        → IsIndexWith (length lines) names new (lines ++ more) was is → IsIndex names new (lines ++ more) is
+    index_joined was is before after = λ name place. (
+      λ i. elim ((after name place).0 i) [
+        | inl j ↦ let h = (before name place).0 j in (
+          omega (arith, h.0, length-append lines more),
+          subst (IsListed name) (named_still place h.0) h.1,
+        )
+        | inr h ↦ (h.1, h.2)
+      ],
+      λ h. (after name place).1 (elim (less_or_not place (length lines)) [
+        | inl low ↦ inl ((before name place).1 (low, subst (IsListed name) (sym (named_still place low)) h.1))
+        | inr high ↦ inr (elim high [ inl e ↦ omega (arith, e) | inr g ↦ omega (arith, g) ], h.0, h.1)
+      ]),
+    )
+
+    index_cut : (was is : Places) → IsIndex names new (lines ++ more) was
+        → IsCut (IsNamedFrom (length lines) names new (lines ++ more)) (length lines) was is → IsIndex names old lines is
+    index_cut was is before cut = λ name place. (
+      λ i.
+          let h = (before name place).0 (cut.only name place i) in
+          elim (less_or_not place (length lines)) [
+            | inl low ↦ (low, subst (IsListed name) (sym (named_still place low)) h.1)
+            | inr high ↦
+                let up : length lines ≤ place = elim high [ inl e ↦ omega (arith, e) | inr g ↦ omega (arith, g) ] in
+                let low = cut.below name place (place, (up, h.0, h.1)) i in
+                absurd (omega (arith, up, low))
+          ],
+      λ h. cut.kept name place h.0
+          ((before name place).1 (omega (arith, h.0, length-append lines more), subst (IsListed name) (named_still place h.0) h.1)),
+    )
 
   pub takers_joined : (was is : Takers) → AreTakers old lines was → AreTakersWith (length lines) new (lines ++ more) was is
       → AreTakers new (lines ++ more) is
   takers_joined was is before after = record {
-    of_figures = index_joined figures_taken was.figures is.figures before.of_figures after.of_figures;
-    of_lines = index_joined lines_taken was.lines is.lines before.of_lines after.of_lines;
+    of_figures = index_joined figures_of (bound_still figures_taken) was.figures is.figures before.of_figures after.of_figures;
+    of_lines = index_joined lines_of (bound_still lines_taken) was.lines is.lines before.of_lines after.of_lines;
+    of_potentials = index_joined potentials_of potential_still was.potentials is.potentials before.of_potentials after.of_potentials;
   }
-
-  index_cut : (names : Option Binding → List Name) (was is : Places) → IsIndex names new (lines ++ more) was
-      → IsCut (IsNamedFrom (length lines) names new (lines ++ more)) (length lines) was is → IsIndex names old lines is
-  index_cut names was is before cut = λ name place. (
-    λ i.
-        let h = (before name place).0 (cut.only name place i) in
-        elim (less_or_not place (length lines)) [
-          | inl low ↦ (low, subst (IsListed name) (sym (named_still names place low)) h.1)
-          | inr high ↦
-              let up : length lines ≤ place = elim high [ inl e ↦ omega (arith, e) | inr g ↦ omega (arith, g) ] in
-              let low = cut.below name place (place, (up, h.0, h.1)) i in
-              absurd (omega (arith, up, low))
-        ],
-    λ h. cut.kept name place h.0
-        ((before name place).1 (omega (arith, h.0, length-append lines more), subst (IsListed name) (named_still names place h.0) h.1)),
-  )
 
   pub takers_cut : (was is : Takers) → AreTakers new (lines ++ more) was
       → AreTakersBefore (length lines) new (lines ++ more) was is → AreTakers old lines is
   takers_cut was is before cut = record {
-    of_figures = index_cut figures_taken was.figures is.figures before.of_figures cut.of_figures;
-    of_lines = index_cut lines_taken was.lines is.lines before.of_lines cut.of_lines;
+    of_figures = index_cut figures_of (bound_still figures_taken) was.figures is.figures before.of_figures cut.of_figures;
+    of_lines = index_cut lines_of (bound_still lines_taken) was.lines is.lines before.of_lines cut.of_lines;
+    of_potentials = index_cut potentials_of potential_still was.potentials is.potentials before.of_potentials cut.of_potentials;
   }

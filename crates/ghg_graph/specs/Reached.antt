@@ -20,7 +20,7 @@ use Rattle.ghg_definitions.specs.Lookups.{factor_input, given}
 use Rattle.ghg_definitions.specs.Rings.{taken}
 use Rattle.ghg_affected.specs.Affected.{affected_within}
 use Rattle.ghg_affected.specs.Equalities.{same_operand}
-use Rattle.ghg_graph.specs.Candidates.{AllBelow, IsIn}
+use Rattle.ghg_graph.specs.Candidates.{AllBelow, IsIn, IsTaker}
 use Rattle.ghg_graph.specs.Changed.{HasChanged}
 use Rattle.ghg_graph.specs.Figures.{HasFigures}
 use Rattle.ghg_graph.specs.Moves.{AreMoved}
@@ -113,6 +113,8 @@ pub record AreFirst (old new : Data) (lines : List Name) (year : ℕ) (places : 
       is_reached old new (node.Line (name_at lines place) year) ≡ true →
       IsIn places place ⊎ TakesReached old new year (name_at lines place)
 
+-- ---- equivalents
+
 -- the names are those of lines that emit a gas
 abbrev pub AreEmitters : Data → List Name → Type 0
 AreEmitters m names = (name : Name) → IsListed name names → Contains (gas_lines m) name
@@ -121,6 +123,22 @@ AreEmitters m names = (name : Name) → IsListed name names → Contains (gas_li
 abbrev pub ArePotentials : Data → Data → ℕ → List Name → Type 0
 ArePotentials old new year names = (gas : Gas) → (IsListed (potential_name gas) names → ⊥) →
     factor_input old (potential_name gas) year ≡ factor_input new (potential_name gas) year
+
+-- each line whose equivalent is reached in the year is one of them
+abbrev pub HasWeighed : Data → Data → ℕ → BTreeSet Name → Type 0
+HasWeighed old new year lines = (name : Name) → Contains (gas_lines new) name →
+    is_reached old new (node.Equiv name year) ≡ true → contains name_cmp lines name ≡ true
+
+-- they have the lines of a set, and those that emit a gas whose warming potential is one of the figures
+pub record AreWeighed (index : LineIndex) (figures : List Name) (now lines : BTreeSet Name) : Type 0 where
+  pub reached : (name : Name) → contains name_cmp now name ≡ true → contains name_cmp lines name ≡ true
+  pub emitting : (place : ℕ) → IsTaker index.takers.potentials figures place →
+      contains name_cmp lines (name_at index.lines.items place) ≡ true
+
+-- the lines at the places are added
+pub record AreLinesAdded (all : List Name) (places : List ℕ) (old new : BTreeSet Name) : Type 0 where
+  pub kept : (name : Name) → contains name_cmp old name ≡ true → contains name_cmp new name ≡ true
+  pub added : (place : ℕ) → IsListed place places → contains name_cmp new (name_at all place) ≡ true
 
 -- ---- categories
 

@@ -45,7 +45,7 @@ fn is_figure_key(key: &RecordKey) -> bool
 /// are made. Where there were no years, these are all nodes. Where edits leave the years, only those lines
 /// are looked up in a year that edits are about, that take a figure of theirs, or that take a line that is
 /// affected in this year or the one before; and, where an edited warming potential is read in it, those that
-/// emit a gas. Else all are.
+/// emit its gas. Else all are.
 pub fn affected(
     alloc: Global,
     book: &Book,

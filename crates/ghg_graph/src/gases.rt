@@ -1,6 +1,8 @@
 //! Gases of lines, and their global warming potentials.
 
 ghost use Rattle.std.specs.Prelude.{◌≡◌, IfOk};
+ghost use Rattle.std.specs.Option.{option_map};
+ghost use Rattle.ghg_units.specs.Name.{potential_name};
 ghost use Rattle.ghg_definitions.specs.Compilation.{gas_lines, line_gas, potential};
 ghost use Rattle.ghg_definitions.specs.Data.{line_names};
 ghost use Rattle.ghg_definitions.specs.Lookups.{given};
@@ -52,6 +54,14 @@ pub fn lasting_potential<R: Records>(records: &R, line: &Name, year: u32) -> Las
         Some(gas) => records.lasting_factor(&Name::potential(gas), year),
         None => Lasting::blank(),
     }
+}
+
+/// The factor that holds the global warming potential of a line's gas; nothing where it emits none.
+pub(crate) fn potential_name<R: Records>(records: &R, line: &Name) -> Option<Name>
+    ensures { result ≡ option_map potential_name (line_gas (R.content records.now) line.now) }
+{
+    let gas = line_gas(records, line)?;
+    Some(Name::potential(gas))
 }
 
 /// The gas that a line emits; nothing exactly where it is not present, or gives something else.

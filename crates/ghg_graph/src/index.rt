@@ -14,7 +14,8 @@ use ghg_units::Name;
 use std::alloc::{AllocError, Global};
 
 /// The lines of a workbook in an order, each behind those that it takes; those that emit a gas, by name; and
-/// which of them take an activity, a factor or a line. They change with the lines and their bindings alone.
+/// which of them take an activity, a factor or a line, or emit each gas. They change with the lines and their
+/// bindings alone.
 #[derive(Drop)]
 pub struct LineIndex {
     pub lines: Vec<Name>,

@@ -1,6 +1,6 @@
 //! The nodes that edits reach, year by year.
 
-ghost use Rattle.std.specs.Prelude.{◌≡◌, ◌+◌, ◌∷◌, ◌++◌, ◌||◌, [], List, Some, true, false, filter, is_some, if◌then◌else◌, map, not, option_copied, reverse, IfOk, OnOk};
+ghost use Rattle.std.specs.Prelude.{◌≡◌, ◌+◌, ◌∷◌, ◌++◌, ◌||◌, [], List, length, Some, true, false, filter, is_some, if◌then◌else◌, map, not, option_copied, reverse, IfOk, OnOk};
 ghost use Rattle.std.specs.BTreeSet.{IsOrdered, contains};
 ghost use Rattle.std.specs.FinMap.{get};
 ghost use Rattle.std.specs.List.{Contains, list_any};
@@ -16,9 +16,10 @@ ghost use Rattle.ghg_definitions.specs.Data.{Data, Name, category, line, name_cm
 ghost use Rattle.ghg_definitions.specs.Listed.{IsListed};
 ghost use Rattle.ghg_definitions.specs.Rings.{Takes, TakesBinding};
 ghost use Rattle.ghg_affected.specs.Equalities.{same_equation, same_input};
+ghost use Rattle.ghg_graph.specs.Candidates.{AllBelow, AreWithin};
 ghost use Rattle.ghg_graph.specs.Index.{IsLineIndex};
 ghost use Rattle.ghg_graph.specs.Ordering.{IsLineOrder};
-ghost use Rattle.ghg_graph.specs.Reached.{AreEdited, AreEmitters, AreFirst, ArePotentials, AreYears, HasBefore, HasReached, IsYear, binding_reached, has_line, is_reached, is_total_of, reached_categories, takes_from};
+ghost use Rattle.ghg_graph.specs.Reached.{AreEdited, AreEmitters, AreFirst, AreLinesAdded, ArePotentials, AreWeighed, AreYears, HasBefore, HasReached, HasWeighed, IsYear, binding_reached, has_line, is_reached, is_total_of, reached_categories, takes_from};
 ghost use Rattle.ghg_graph.specs.declared.reached.Lines.TheVariants as year_lines;
 ghost use Rattle.ghg_graph.specs.Tops.{AreTops};
 ghost use Rattle.ghg_graph.specs.Years.{nodes_by_year, year_nodes};
@@ -88,7 +89,7 @@ struct Year {
 /// The nodes that are affected where the records differ at the keys alone: year by year the lines in their
 /// order, the equivalents, the totals, each category behind those under it, and the gross total. In a year
 /// that the old data have, only those lines are looked up that edits are about, that take an edited figure or
-/// that take a line that is reached; and, where an edited warming potential is read, those that emit a gas.
+/// that take a line that is reached; and, where an edited warming potential is read, those that emit its gas.
 pub(crate) fn reached_nodes<R: Records, S: Records>(
     alloc: Global,
     old: &R,
@@ -231,8 +232,7 @@ fn add_old_year<R: Records, S: Records>(
     let first = first_candidates(alloc, index, &edited.changed, figures, &before)?;
     let nodes = &mut reached.nodes;
     let now = add_lines(alloc, old, new, index, year, &reached.before, first, nodes)?;
-    let emitters = &index.emitters;
-    let tops = add_weighed(alloc, old, new, emitters, figures, year.number, &now, nodes)?;
+    let tops = add_weighed(alloc, old, new, index, figures, year.number, &now, nodes)?;
     add_totals(&tops, &edited.moved, year.number, nodes)?;
     add_gross(&tops, &edited.moved, year.number, nodes)?;
     reached.before = Lines::These(now);
@@ -398,34 +398,97 @@ fn has_any(set: &BTreeSet<Name>, names: &[Name]) -> bool
 
 // ---- equivalents
 
-// Adds the equivalents that are reached in a year, and gives the totals to which these lead. All emitters are
-// gone over only where an edited warming potential is read; else those of the lines that are reached.
+// Adds the equivalents that are reached in a year, and gives the totals to which these lead. They are of
+// lines that are reached, or that emit a gas whose edited warming potential is read.
 fn add_weighed<R: Records, S: Records>(
     alloc: Global,
     old: &R,
     new: &S,
-    emitters: &[Name],
+    index: &LineIndex,
     figures: &[Name],
     year: u32,
     now: &BTreeSet<Name>,
     nodes: &mut Vec<Node>,
 ) -> Result<Tops, AllocError>
-    requires emitters { emitters.now ≡ gas_lines (S.content new.now) }
+    requires index { IsLineIndex (S.content new.now) index.now }
     requires figures { ArePotentials (R.content old.now) (S.content new.now) year figures.now }
     requires year { is_year_of (span (S.content new.now)) year ≡ true }
     requires now { HasReached (R.content old.now) (S.content new.now) year (year_lines.These now.now) }
     requires ordered { IsOrdered name_cmp now.now }
     ensures nodes { OnOk result (nodes.new.items ≡ nodes.old.items ++ filter
         (is_reached (R.content old.now) (S.content new.now))
-        (map (λ name. node.Equiv name year) emitters.now)) }
-    ensures tops { IfOk result (AreTops
-        (reached_categories (R.content old.now) (S.content new.now) year emitters.now)) }
+        (map (λ name. node.Equiv name year) (gas_lines (S.content new.now)))) }
+    ensures tops { IfOk result (AreTops (reached_categories (R.content old.now) (S.content new.now) year
+        (gas_lines (S.content new.now)))) }
 {
-    if has_potential(figures) {
-        return add_equivalents(old, new, emitters, year, now, nodes);
+    if !has_potential(figures) {
+        return add_emitting(alloc, old, new, now, year, now, nodes);
     }
-    let emitting = emitting(alloc, new, now)?;
+    let weighed = weighed_lines(alloc, index, figures, now)?;
+    add_emitting(alloc, old, new, &weighed, year, now, nodes)
+}
+
+// Adds those equivalents of lines that are reached in a year, and gives the totals to which these lead. No
+// other equivalent is reached.
+fn add_emitting<R: Records, S: Records>(
+    alloc: Global,
+    old: &R,
+    new: &S,
+    lines: &BTreeSet<Name>,
+    year: u32,
+    now: &BTreeSet<Name>,
+    nodes: &mut Vec<Node>,
+) -> Result<Tops, AllocError>
+    requires lines { HasWeighed (R.content old.now) (S.content new.now) year lines.now }
+    requires year { is_year_of (span (S.content new.now)) year ≡ true }
+    requires now { HasReached (R.content old.now) (S.content new.now) year (year_lines.These now.now) }
+    requires ordered { IsOrdered name_cmp lines.now }
+    ensures nodes { OnOk result (nodes.new.items ≡ nodes.old.items ++ filter
+        (is_reached (R.content old.now) (S.content new.now))
+        (map (λ name. node.Equiv name year) (gas_lines (S.content new.now)))) }
+    ensures tops { IfOk result (AreTops (reached_categories (R.content old.now) (S.content new.now) year
+        (gas_lines (S.content new.now)))) }
+{
+    let emitting = emitting(alloc, new, lines)?;
     add_equivalents(old, new, &emitting, year, now, nodes)
+}
+
+// Lines that are reached, and those that emit a gas whose warming potential is one of the figures.
+fn weighed_lines(
+    alloc: Global,
+    index: &LineIndex,
+    figures: &[Name],
+    now: &BTreeSet<Name>,
+) -> Result<BTreeSet<Name>, AllocError>
+    requires { AreWithin (length index.now.lines.items) index.now.takers.potentials }
+    ensures weighed { IfOk result (AreWeighed index.now figures.now now.now) }
+    ensures ordered { IfOk result (IsOrdered name_cmp) }
+{
+    let mut lines = copied(alloc, now)?;
+    for figure in figures {
+        add_at(&mut lines, &index.lines, index.takers.potentials.at(figure))?;
+    }
+    Ok(lines)
+}
+
+fn copied(alloc: Global, names: &BTreeSet<Name>) -> Result<BTreeSet<Name>, AllocError>
+    ensures same { IfOk result (λ copy. (name : Name) →
+        contains name_cmp copy name ≡ contains name_cmp names.now name) }
+    ensures ordered { IfOk result (IsOrdered name_cmp) }
+{
+    names.iter().copied().collect(alloc)
+}
+
+// Adds the lines at some places.
+fn add_at(lines: &mut BTreeSet<Name>, all: &[Name], places: &[usize]) -> Result<(), AllocError>
+    requires { AllBelow (length all.now) places.now }
+    ensures added { OnOk result (AreLinesAdded all.now places.now lines.old lines.new) }
+    ensures ordered { IsOrdered name_cmp lines.old → IsOrdered name_cmp lines.new }
+{
+    for place in places {
+        lines.insert(all[*place])?;
+    }
+    Ok(())
 }
 
 // Whether one of the figures is a warming potential.

@@ -1,13 +1,14 @@
-//! Which lines take an activity, a factor or a line.
+//! Which lines take an activity, a factor or a line, or emit a gas.
 
 ghost use Rattle.std.specs.Prelude.{◌≡◌, ◌<◌, ◌≤◌, ◌++◌, ◌∷◌, [], if◌then◌else◌, length, option_copied, OnOk, IfOk};
 ghost use Rattle.std.specs.List.Sorted.{IsPartitionPoint};
 ghost use Rattle.std.specs.Ordering.{is_eq};
 ghost use Rattle.ghg_definitions.specs.Data.{Name, name_cmp};
 ghost use Rattle.ghg_definitions.specs.Listed.{IsListed};
-ghost use Rattle.ghg_data.specs.Taken.{figures_taken, lines_taken, named_by};
+ghost use Rattle.ghg_data.specs.Taken.{figures_taken};
 ghost use Rattle.ghg_graph.specs.Ascending.{AreAscending, IsAscending};
 
+use crate::gases::potential_name;
 use crate::numbers::equation_of;
 use ghg_data::{Records, lines_taken, params_of};
 use ghg_units::{Binding, Name};
@@ -99,24 +100,27 @@ fn count_below(places: &[usize], number: usize) -> usize
 }
 
 /// For each activity or factor, and for each line, the places of the lines that take it, in the same year or,
-/// of a line, in the year after.
+/// of a line, in the year after; and for each warming potential, those of the lines that emit its gas.
 #[derive(Drop)]
 pub(crate) struct Takers {
     pub(crate) figures: Places,
     pub(crate) lines: Places,
+    pub(crate) potentials: Places,
 }
 
 impl Takers {
-    ghost use Rattle.ghg_graph.specs.Takers.{AreTakers, AreTakersBefore, AreTakersWith, AreUpTo, IsCut, IsPut, places_of};
+    ghost use Rattle.ghg_graph.specs.Takers.{AreTakers, AreTakersBefore, AreTakersWith, AreUpTo, IsCut, IsPut, figures_of, lines_of, places_of, potentials_of};
 
     /// No takers. It takes no memory.
     pub(crate) fn new(alloc: Global) -> Takers
         ensures figures { (name : Name) → places_of result.figures name ≡ [] }
         ensures lines { (name : Name) → places_of result.lines name ≡ [] }
+        ensures potentials { (name : Name) → places_of result.potentials name ≡ [] }
     {
         Takers {
             figures: Places::new(alloc),
             lines: Places::new(alloc),
+            potentials: Places::new(alloc),
         }
     }
 
@@ -143,6 +147,7 @@ impl Takers {
         requires first { first ≤ length lines.now }
         requires figures { AreUpTo first self.old.figures }
         requires lines { AreUpTo first self.old.lines }
+        requires potentials { AreUpTo first self.old.potentials }
         ensures { OnOk result (AreTakersWith first (R.content records.now) lines.now self.old self.new) }
     {
         for place in first..lines.len() {
@@ -162,14 +167,28 @@ impl Takers {
         }
     }
 
-    // Removes the places from one on under all that a line takes.
+    // Removes the places from one on under all that a line takes, and under the potential of its gas.
     fn cut_line<R: Records>(&mut self, records: &R, line: &Name, first: usize)
-        ensures figures { IsCut
-            (λ name. IsListed name (named_by figures_taken (R.content records.now) line.now)) first
+        ensures figures { IsCut (λ name. IsListed name (figures_of (R.content records.now) line.now)) first
             self.old.figures self.new.figures }
-        ensures lines { IsCut
-            (λ name. IsListed name (named_by lines_taken (R.content records.now) line.now)) first
+        ensures lines { IsCut (λ name. IsListed name (lines_of (R.content records.now) line.now)) first
             self.old.lines self.new.lines }
+        ensures potentials { IsCut
+            (λ name. IsListed name (potentials_of (R.content records.now) line.now)) first
+            self.old.potentials self.new.potentials }
+    {
+        let potential = potential_name(records, line);
+        self.potentials.cut_all(potential.as_slice(), first);
+        self.cut_bound(records, line, first);
+    }
+
+    // Removes the places from one on under all that a line takes.
+    fn cut_bound<R: Records>(&mut self, records: &R, line: &Name, first: usize)
+        ensures figures { IsCut (λ name. IsListed name (figures_of (R.content records.now) line.now)) first
+            self.old.figures self.new.figures }
+        ensures lines { IsCut (λ name. IsListed name (lines_of (R.content records.now) line.now)) first
+            self.old.lines self.new.lines }
+        ensures potentials { self.new.potentials ≡ self.old.potentials }
     {
         let Some(id) = equation_of(records, line) else {
             return;
@@ -181,7 +200,8 @@ impl Takers {
         }
     }
 
-    // Puts the place of a line under all that it takes. No other place is behind it.
+    // Puts the place of a line under all that it takes, and under the potential of its gas. No other place is
+    // behind it.
     fn put_line<R: Records>(
         &mut self,
         records: &R,
@@ -190,10 +210,33 @@ impl Takers {
     ) -> Result<(), AllocError>
         requires figures { AreUpTo place self.old.figures }
         requires lines { AreUpTo place self.old.lines }
-        ensures figures { OnOk result (IsPut (named_by figures_taken (R.content records.now) line.now) place
+        requires potentials { AreUpTo place self.old.potentials }
+        ensures figures { OnOk result (IsPut (figures_of (R.content records.now) line.now) place
             self.old.figures self.new.figures) }
-        ensures lines { OnOk result (IsPut (named_by lines_taken (R.content records.now) line.now) place
+        ensures lines { OnOk result (IsPut (lines_of (R.content records.now) line.now) place
             self.old.lines self.new.lines) }
+        ensures potentials { OnOk result (IsPut (potentials_of (R.content records.now) line.now) place
+            self.old.potentials self.new.potentials) }
+    {
+        let potential = potential_name(records, line);
+        self.potentials.put_all(potential.as_slice(), place)?;
+        self.put_bound(records, line, place)
+    }
+
+    // Puts the place of a line under all that it takes. No other place is behind it.
+    fn put_bound<R: Records>(
+        &mut self,
+        records: &R,
+        line: &Name,
+        place: usize,
+    ) -> Result<(), AllocError>
+        requires figures { AreUpTo place self.old.figures }
+        requires lines { AreUpTo place self.old.lines }
+        ensures figures { OnOk result (IsPut (figures_of (R.content records.now) line.now) place
+            self.old.figures self.new.figures) }
+        ensures lines { OnOk result (IsPut (lines_of (R.content records.now) line.now) place
+            self.old.lines self.new.lines) }
+        ensures potentials { self.new.potentials ≡ self.old.potentials }
     {
         let Some(id) = equation_of(records, line) else {
             return Ok(());

@@ -3,8 +3,7 @@ use Rattle.std.specs.List.Sorted.{IsStrictlySortedBy}
 use Rattle.ghg_definitions.specs.Data.{name_cmp}
 use Rattle.ghg_data.specs.Changes.{applied}
 use Rattle.ghg_graph.specs.Entries.{AreEmittersWith}
-use Rattle.ghg_data.specs.Taken.{figures_taken, lines_taken}
-use Rattle.ghg_graph.specs.Takers.{AreTakersWith}
+use Rattle.ghg_graph.specs.Takers.{AreTakersWith, figures_of, lines_of, potentials_of}
 use Rattle.ghg_graph.proofs.Emitting.{emitters_sorted, index_joined}
 use Rattle.ghg_graph.proofs.Entering.{keeps_lines}
 use Rattle.ghg_graph.proofs.Taking.{index_up_to}
@@ -18,13 +17,19 @@ pub add-requires-clause-figures : goal.add-requires-clause-figures
 add-requires-clause-figures c =
     let index = c.args.index in
     let size : length index.lines.items ≤ c.len-first.result = grind (arith, c.len-first.ensures, index.lines.ok) in
-    index_up_to figures_taken c.args.book.now.content index.lines.items c.len-first.result index.takers.figures size c.requires.index.takers.of_figures
+    index_up_to figures_of c.args.book.now.content index.lines.items c.len-first.result index.takers.figures size c.requires.index.takers.of_figures
 
 pub add-requires-clause-lines : goal.add-requires-clause-lines
 add-requires-clause-lines c =
     let index = c.args.index in
     let size : length index.lines.items ≤ c.len-first.result = grind (arith, c.len-first.ensures, index.lines.ok) in
-    index_up_to lines_taken c.args.book.now.content index.lines.items c.len-first.result index.takers.lines size c.requires.index.takers.of_lines
+    index_up_to lines_of c.args.book.now.content index.lines.items c.len-first.result index.takers.lines size c.requires.index.takers.of_lines
+
+pub add-requires-clause-potentials : goal.add-requires-clause-potentials
+add-requires-clause-potentials c =
+    let index = c.args.index in
+    let size : length index.lines.items ≤ c.len-first.result = grind (arith, c.len-first.ensures, index.lines.ok) in
+    index_up_to potentials_of c.args.book.now.content index.lines.items c.len-first.result index.takers.potentials size c.requires.index.takers.of_potentials
 
 pub returns : goal.returns
 returns c =

@@ -3,8 +3,7 @@ use Rattle.ghg_units.specs.declared.node.Node.TheVariants as node
 use Rattle.ghg_graph.specs.Candidates.{AllBelow, AreCandidates}
 use Rattle.ghg_graph.specs.Figures.{names_at}
 use Rattle.ghg_graph.specs.Ordering.{IsLineOrder}
-use Rattle.ghg_graph.specs.Reached.{ArePotentials, is_reached, reached_categories}
-use Rattle.ghg_graph.specs.Tops.{AreTops}
+use Rattle.ghg_graph.specs.Reached.{ArePotentials, is_reached}
 use Rattle.ghg_graph.specs.declared.reached.Lines.TheVariants as year_lines
 use Rattle.ghg_graph.proofs.Starting.{are_first, potentials_are}
 use Rattle.ghg_graph.proofs.YearParts.{year_added, year_turned}
@@ -52,17 +51,15 @@ returns-clause-nodes g c =
     let old = g.R.Records.content c.args.old.now in
     let new = g.S.Records.content c.args.new.now in
     let year = c.args.year in
-    let emitters = c.deref-4.ensures.value in
+    let emitters = c.requires.index.emitters in
     year_added old new year.number c.requires.year.within c.requires.year.was c.args.edited.now.moved c.requires.edited.moved
-    c.in_ok-tops.tops
-    (subst (λ es. AreTops (reached_categories old new year.number es) c.in_ok-tops.tops)
-    (emitters ∙ c.requires.index.emitters) c.in_ok-tops.ensures.tops)
+    c.in_ok-tops.tops c.in_ok-tops.ensures.tops
     c.args.index.now.lines.items c.args.index.now.emitters.items
     c.args.reached.now.nodes.items c.add_lines.new.nodes.items c.add_weighed.new.nodes.items
     c.add_totals.new.nodes.items c.add_gross.new.nodes.items
     c.in_ok-now.ensures.nodes
     (c.in_ok-tops.ensures.nodes ∙ ap (λ es. c.add_lines.new.nodes.items
-    ++ filter (is_reached old new) (map (λ name. node.Equiv name year.number) es)) emitters)
+    ++ filter (is_reached old new) (map (λ name. node.Equiv name year.number) es)) (sym emitters))
     c.in_ok-add_totals.ensures c.in_ok-add_gross.ensures
 
 pub returns-clause-before : goal.returns-clause-before

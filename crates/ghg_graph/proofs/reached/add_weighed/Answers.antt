@@ -1,32 +1,20 @@
-use Rattle.std.proofs.Common.{◌∙◌, ◌++◌, ap, subst, sym}
-use Rattle.std.proofs.lemmas.Result.{IfOk-weaker, on_ok_weaker}
-use Rattle.ghg_graph.specs.Tops.{AreTops}
-use Rattle.ghg_graph.proofs.Weighing.{all_emitters, categories_same, equivalents_same, some_emitters}
+use Rattle.std.proofs.Common.{◌∙◌, sym}
+use Rattle.ghg_graph.proofs.Weighing.{lines_weighed, reached_weighed}
 use Rattle.ghg_graph.proofs.reached.add_weighed.Goals as goal
 
-pub add_equivalents-requires-clause-emitters : goal.add_equivalents-requires-clause-emitters
-add_equivalents-requires-clause-emitters g c =
-    all_emitters (g.S.Records.content c.args.new.now) c.args.emitters.now c.requires.emitters
-
-pub add_equivalents-requires-2-clause-emitters : goal.add_equivalents-requires-2-clause-emitters
-add_equivalents-requires-2-clause-emitters g c =
-    some_emitters (g.S.Records.content c.args.new.now) c.args.now.now.keys c.deref.result.now
-    (c.deref.ensures.value ∙ c.in_ok-emitting.ensures)
-
-pub returns-clause-nodes : goal.returns-clause-nodes
-returns-clause-nodes g c =
+pub add_emitting-requires-clause-lines : goal.add_emitting-requires-clause-lines
+add_emitting-requires-clause-lines g c =
     let old = g.R.Records.content c.args.old.now in
     let new = g.S.Records.content c.args.new.now in
-    on_ok_weaker c.add_equivalents-2.result (λ added. added ∙ ap (λ ns. c.args.nodes.now.items ++ ns)
-    (equivalents_same old new c.args.year c.requires.year c.args.now.now c.requires.now c.args.figures.now c.requires.figures
-    (sym c.has_potential.ensures ∙ c.if-has_potential.false) c.requires.ordered c.deref.result.now c.args.emitters.now
-    (c.deref.ensures.value ∙ c.in_ok-emitting.ensures) c.requires.emitters)) c.add_equivalents-2.ensures.nodes
+    reached_weighed old new c.args.year c.requires.year c.args.now.now c.requires.now c.args.figures.now c.requires.figures
+    (sym c.has_potential.ensures ∙ c.if-not-has_potential.true)
 
-pub returns-clause-tops : goal.returns-clause-tops
-returns-clause-tops g c =
+pub weighed_lines-requires : goal.weighed_lines-requires
+weighed_lines-requires g c = λ name place i. ((c.requires.index.takers.of_potentials name place).0 i).0
+
+pub add_emitting-requires-2-clause-lines : goal.add_emitting-requires-2-clause-lines
+add_emitting-requires-2-clause-lines g c =
     let old = g.R.Records.content c.args.old.now in
     let new = g.S.Records.content c.args.new.now in
-    IfOk-weaker c.add_equivalents-2.result _ _ (λ tops are. subst (λ cs. AreTops cs tops)
-    (categories_same old new c.args.year c.requires.year c.args.now.now c.requires.now c.args.figures.now c.requires.figures
-    (sym c.has_potential.ensures ∙ c.if-has_potential.false) c.requires.ordered c.deref.result.now c.args.emitters.now
-    (c.deref.ensures.value ∙ c.in_ok-emitting.ensures) c.requires.emitters) are) c.add_equivalents-2.ensures.tops
+    lines_weighed old new c.args.year c.requires.year c.args.now.now c.requires.now c.args.figures.now c.requires.figures
+    c.args.index.now c.requires.index c.in_ok-weighed.weighed c.in_ok-weighed.ensures.weighed

@@ -1,4 +1,4 @@
-use Rattle.ghg_data.specs.Taken.{figures_taken, lines_taken}
+use Rattle.ghg_graph.specs.Takers.{figures_of, lines_of, potentials_of}
 use Rattle.ghg_graph.proofs.Taking.{IsIndexUpTo}
 use Rattle.ghg_graph.proofs.takers.Takers.add.Given as goal
 
@@ -6,6 +6,7 @@ abbrev pub invariant-loop-place : goal.invariant-loop-place
 invariant-loop-place g l =
     let m = g.R.Records.content l.records in
     record {
-      of_figures : IsIndexUpTo l.first l.place figures_taken m l.lines l.fn.self.figures l.self.figures;
-      of_lines : IsIndexUpTo l.first l.place lines_taken m l.lines l.fn.self.lines l.self.lines;
+      of_figures : IsIndexUpTo l.first l.place figures_of m l.lines l.fn.self.figures l.self.figures;
+      of_lines : IsIndexUpTo l.first l.place lines_of m l.lines l.fn.self.lines l.self.lines;
+      of_potentials : IsIndexUpTo l.first l.place potentials_of m l.lines l.fn.self.potentials l.self.potentials;
     }

@@ -1,4 +1,4 @@
-use Rattle.ghg_data.specs.Taken.{figures_taken, lines_taken}
+use Rattle.ghg_graph.specs.Takers.{figures_of, lines_of, potentials_of}
 use Rattle.ghg_graph.proofs.Taking.{index_of_all}
 use Rattle.ghg_graph.proofs.takers.Takers.of.Goals as goal
 
@@ -8,6 +8,7 @@ returns g c =
     let none = c.new-takers.result in
     let takers = c.add.new.self in
     record {
-      of_figures = index_of_all figures_taken m c.args.lines.now none.figures takers.figures c.new-takers.ensures.figures c.in_ok-add.ensures.of_figures;
-      of_lines = index_of_all lines_taken m c.args.lines.now none.lines takers.lines c.new-takers.ensures.lines c.in_ok-add.ensures.of_lines;
+      of_figures = index_of_all figures_of m c.args.lines.now none.figures takers.figures c.new-takers.ensures.figures c.in_ok-add.ensures.of_figures;
+      of_lines = index_of_all lines_of m c.args.lines.now none.lines takers.lines c.new-takers.ensures.lines c.in_ok-add.ensures.of_lines;
+      of_potentials = index_of_all potentials_of m c.args.lines.now none.potentials takers.potentials c.new-takers.ensures.potentials c.in_ok-add.ensures.of_potentials;
     }
