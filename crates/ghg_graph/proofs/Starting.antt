@@ -14,6 +14,7 @@ use Rattle.ghg_units.specs.declared.row.Binding.{Binding}
 use Rattle.ghg_units.specs.declared.row.Binding.TheVariants as bound
 use Rattle.ghg_units.specs.declared.row.NotationKey.{NotationKey}
 use Rattle.ghg_units.specs.declared.row.NotationKey.TheVariants.{No, Na, Ie, Ne}
+use Rattle.ghg_definitions.specs.declared.record.Record.{Record}
 use Rattle.ghg_definitions.specs.declared.record.RecordKey.{RecordKey}
 use Rattle.ghg_definitions.specs.declared.record.RecordKey.TheVariants as key
 use Rattle.ghg_definitions.specs.Compilation.{bound_to, first_year, is_year_of, previous}
@@ -30,7 +31,7 @@ use Rattle.ghg_affected.specs.Equalities.{same_equation, same_operand}
 use Rattle.ghg_affected.proofs.Bools.{true_not_false}
 use Rattle.ghg_graph.specs.Candidates.{AreCandidates, IsIn}
 use Rattle.ghg_graph.specs.Changed.{IsAbout}
-use Rattle.ghg_graph.specs.Figures.{IsReadIn, is_taken, is_used, names_at}
+use Rattle.ghg_graph.specs.Figures.{IsReadIn, is_taken, is_there, is_used, names_at}
 use Rattle.ghg_graph.specs.Index.{IsLineIndex}
 use Rattle.ghg_graph.specs.Numbers.{name_at}
 use Rattle.ghg_graph.specs.Reached.{AreEdited, AreFirst, ArePotentials, HasBefore, TakesReached, binding_reached, has_line, is_reached}
@@ -98,16 +99,25 @@ read_is_used old new year takers (key.Line other) name reads taken = absurd read
 read_is_used old new year takers (key.Bind other parameter) name reads taken = absurd reads
 read_is_used old new year takers (key.Uncert other) name reads taken = absurd reads
 
+-- a key that has no record in either data has the same in both
+there_or_same : (old new : Data) (k : RecordKey) → (is_there old new k ≡ true → get old k ≡ get new k) → get old k ≡ get new k
+there_or_same old new k there = by (get old k) (get new k) there
+  where
+    by : (was is : Option Record) → (is_some was || is_some is ≡ true → was ≡ is) → was ≡ is
+    by None None f = refl
+    by None (Some r) f = f refl
+    by (Some r) is f = f refl
+
 -- ---- warming potentials
 
 pub potentials_are : (old new : Data) (index : LineIndex) (edited : Edited) → AreEdited old new index edited
     → (year : ℕ) → is_year_of (span new) year ≡ true → ArePotentials old new year (names_at edited.figures year)
 potentials_are old new index edited are year within gas off =
     factor_same old new (potential_name gas) year (λ start h was between. ap as_figure
-    (are.kept (key.Factor (potential_name gas) start)
+    (there_or_same old new (key.Factor (potential_name gas) start) (λ there. are.kept (key.Factor (potential_name gas) start)
     (λ c. off (are.figures (key.Factor (potential_name gas) start) c
-    (or_right (is_taken index.takers.figures (potential_name gas)) _ (is_potential gas)) year (potential_name gas) within
-    (refl, h, was, between)))))
+    (or_right (is_taken index.takers.figures (potential_name gas)) _ (is_potential gas)) there year (potential_name gas)
+    within (refl, h, was, between))))))
 
 -- ---- lines
 
@@ -148,12 +158,12 @@ module _ (old new : Data) (year : ℕ) (within : is_year_of (span new) year ≡ 
         → get old k ≡ get new k
     unread q i figure j k reads =
         let under = (is.takers.of_figures figure place).1 (h, named_in figures_taken new name e at q i figure j) in
-        are.kept k (λ c. not_in (candidates.by_figure place (record {
+        there_or_same old new k (λ there. are.kept k (λ c. not_in (candidates.by_figure place (record {
           name = figure;
           among = are.figures k c (read_is_used old new year index.takers.figures k figure reads
-              (taken_at_place place _ under)) year figure within reads;
+              (taken_at_place place _ under)) there year figure within reads;
           under = under;
-        })))
+        }))))
 
     factor_kept : (q : Quantity) → IsListed q (parameters e) → (figure : Name)
         → IsListed figure (figures_taken (binding new name q.name)) → AreSame old new figure year

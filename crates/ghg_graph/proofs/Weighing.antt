@@ -1,5 +1,5 @@
 -- Lines among which are all whose equivalents are reached in a year.
-use Rattle.std.proofs.Common.{◌≡◌, ℕ, ◌+◌, ◌<◌, Bool, true, false, cond, not, List, [], filter, get_or, is_eq, length, map, option_and_then, is_some, take, Option, Some, None, inl, inr, refl, sym, ap, ◌∙◌, subst}
+use Rattle.std.proofs.Common.{◌≡◌, ℕ, ◌+◌, ◌<◌, Bool, true, false, cond, not, List, filter, get_or, is_eq, length, map, option_and_then, is_some, take, Option, Some, None, inl, inr, refl, sym, ap, ◌∙◌, subst}
 use Rattle.std.proofs.lemmas.List.Kept.{IsStrictlySortedBy-filter}
 use Rattle.std.proofs.lemmas.Map.Lookups.{btree_set_from_contains, exact_bytes}
 use Rattle.std.specs.BTreeSet.{BTreeSet, IsOrdered, Updates, contains}
@@ -48,9 +48,6 @@ some_emitters m lines names are name i =
 
 -- ---- lines that are added
 
-pub lines_none : (all : List Name) (s : BTreeSet Name) → AreLinesAdded all [] s s
-lines_none all s = record { kept = λ name on. on; added = λ place none. absurd none }
-
 pub lines_one : (all : List Name) (places : List ℕ) (i x : ℕ) (old s t : BTreeSet Name) → i < length places
     → x ≡ get_or places i x → AreLinesAdded all (take i places) old s → Updates name_cmp s t (name_at all x) true
     → AreLinesAdded all (take (i + 1) places) old t
@@ -71,13 +68,6 @@ lines_one all places i x old s t h e before updates = record {
 
     comes : contains name_cmp t (name_at all x) ≡ true
     comes = updates.0 (name_at all x) ∙ ap (λ b. cond b true (contains name_cmp s (name_at all x))) (equal_itself (name_at all x))
-
-pub weighed_none : (index : LineIndex) (now lines : BTreeSet Name)
-    → ((name : Name) → contains name_cmp lines name ≡ contains name_cmp now name) → AreWeighed index [] now lines
-weighed_none index now lines same = record {
-  reached = λ name on. same name ∙ on;
-  emitting = λ place taker. absurd taker.among;
-}
 
 pub weighed_one : (index : LineIndex) (figures : List Name) (i : ℕ) (x : Name) (now s t : BTreeSet Name)
     → i < length figures → x ≡ get_or figures i x → AreWeighed index (take i figures) now s

@@ -1,6 +1,7 @@
 -- The activities and factors of which edited records are read, year by year.
-use Rattle.std.specs.Prelude.{◌≡◌, ◌≤◌, ◌+◌, ◌||◌, ℕ, Bool, true, false, nat_lt, List, [], length}
+use Rattle.std.specs.Prelude.{◌≡◌, ◌≤◌, ◌+◌, ◌||◌, ℕ, Bool, true, false, is_some, nat_lt, List, [], length}
 use Rattle.std.specs.BTreeMap.{get}
+use Rattle.std.specs.FinMap as finite
 use Rattle.std.specs.List.{Contains}
 use Rattle.std.specs.Option.{option_map_or}
 use Rattle.std.specs.Ordering.{nat_cmp}
@@ -42,10 +43,14 @@ is_used takers (key.Activity name when) = is_taken takers name
 is_used takers (key.Factor name start) = is_taken takers name || is_potential_name name
 is_used takers _ = false
 
--- so it is with each key whose activity or factor is used
+-- the key has a record in the old data or the new
+abbrev pub is_there : Data → Data → RecordKey → Bool
+is_there old new k = is_some (finite.get old k) || is_some (finite.get new k)
+
+-- so it is with each key that has a record, and whose activity or factor is used
 abbrev pub HasFigures : Data → Data → Places → List RecordKey → Figures → Type 0
-HasFigures old new takers keys figures =
-    (k : RecordKey) → Contains keys k → is_used takers k ≡ true → HasFigure old new k figures
+HasFigures old new takers keys figures = (k : RecordKey) → Contains keys k → is_used takers k ≡ true →
+    is_there old new k ≡ true → HasFigure old new k figures
 
 -- what stands under a year stays there
 abbrev pub KeepsFigures : Figures → Figures → Type 0

@@ -7,7 +7,7 @@ use Rattle.ghg_graph.specs.declared.index.LineIndex.{LineIndex}
 use Rattle.ghg_graph.specs.Ordering.{IsLineOrder}
 use Rattle.ghg_graph.specs.Takers.{AreTakers, places_of}
 
--- the lines in an order, those that emit a gas, and which of them take what
+-- the lines in an order, those that emit a gas, and which of them take and emit what
 pub record IsLineIndex (m : Data) (index : LineIndex) : Type 0 where
   pub lines : IsLineOrder m index.lines.items
   pub emitters : index.emitters.items ≡ gas_lines m

@@ -7,7 +7,7 @@ ghost use Rattle.ghg_units.specs.WellFormed.{IsSpan};
 ghost use Rattle.ghg_definitions.specs.Data.{span};
 ghost use Rattle.ghg_definitions.specs.Listed.{IsListed};
 ghost use Rattle.ghg_data.specs.Lasting.{NoneStartsBetween};
-ghost use Rattle.ghg_graph.specs.Figures.{is_taken, is_used};
+ghost use Rattle.ghg_graph.specs.Figures.{is_taken, is_there, is_used};
 
 use crate::takers::Places;
 use ghg_data::Records;
@@ -58,7 +58,7 @@ impl Figures {
     }
 
     // Adds the activity or factor of a key, if it is used, for each year of the span in which its record is
-    // read.
+    // read. A key that has no record, in the old data or the new, is of none that is read.
     fn add<R: Records, S: Records>(
         &mut self,
         old: &R,
@@ -70,17 +70,18 @@ impl Figures {
         requires span { span (S.content new.now) ≡ Some years }
         requires years { IsSpan years }
         ensures kept { OnOk result (KeepsFigures self.old self.new) }
-        ensures added { OnOk result (is_used takers.now key.now ≡ true → HasFigure (R.content old.now)
-            (S.content new.now) key.now self.new) }
+        ensures added { OnOk result (is_used takers.now key.now ≡ true → is_there (R.content old.now)
+            (S.content new.now) key.now ≡ true → HasFigure (R.content old.now) (S.content new.now) key.now
+            self.new) }
     {
-        if is_used(takers, key) {
+        if is_used(takers, key) && is_there(old, new, key) {
             self.add_read(old, new, key, years)
         } else {
             Ok(())
         }
     }
 
-    // The same, whether or not it is used.
+    // The same, whether or not it is used and there.
     fn add_read<R: Records, S: Records>(
         &mut self,
         old: &R,
@@ -127,7 +128,14 @@ impl Figures {
     }
 }
 
-// Whether a line takes the activity or the factor of a key, or the equivalents of a gas do.
+// Whether a key has a record in the old data or the new.
+fn is_there<R: Records, S: Records>(old: &R, new: &S, key: &RecordKey) -> bool
+    ensures { result ≡ is_there (R.content old.now) (S.content new.now) key.now }
+{
+    old.get(key).is_some() || new.get(key).is_some()
+}
+
+// Whether a line takes the activity or the factor of a key, or the factor is a warming potential.
 fn is_used(takers: &Places, key: &RecordKey) -> bool
     ensures { result ≡ is_used takers.now key.now }
 {

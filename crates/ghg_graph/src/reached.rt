@@ -428,8 +428,8 @@ fn add_weighed<R: Records, S: Records>(
     add_emitting(alloc, old, new, &weighed, year, now, nodes)
 }
 
-// Adds those equivalents of lines that are reached in a year, and gives the totals to which these lead. No
-// other equivalent is reached.
+// Adds the equivalents that are reached in a year, all of which are of some of the lines that are given, and
+// gives the totals to which these lead.
 fn add_emitting<R: Records, S: Records>(
     alloc: Global,
     old: &R,

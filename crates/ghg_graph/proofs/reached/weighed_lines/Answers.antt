@@ -1,4 +1,4 @@
-use Rattle.std.proofs.Common.{subst, sym, length, List}
+use Rattle.std.proofs.Common.{List, length, subst, sym}
 use Rattle.ghg_definitions.specs.Data.{Name}
 use Rattle.ghg_graph.specs.Candidates.{AllBelow}
 use Rattle.ghg_graph.specs.Reached.{AreLinesAdded}
