@@ -31,7 +31,7 @@ use Rattle.ghg_affected.specs.Equalities.{same_equation, same_operand}
 use Rattle.ghg_affected.proofs.Bools.{true_not_false}
 use Rattle.ghg_graph.specs.Candidates.{AreCandidates, IsIn}
 use Rattle.ghg_graph.specs.Changed.{IsAbout}
-use Rattle.ghg_graph.specs.Figures.{IsReadIn, is_taken, is_there, is_used, names_at}
+use Rattle.ghg_graph.specs.Figures.{IsReadIn, has_record, is_taken, is_used, names_at}
 use Rattle.ghg_graph.specs.Index.{IsLineIndex}
 use Rattle.ghg_graph.specs.Numbers.{name_at}
 use Rattle.ghg_graph.specs.Reached.{AreEdited, AreFirst, ArePotentials, HasBefore, TakesReached, binding_reached, has_line, is_reached}
@@ -100,8 +100,8 @@ read_is_used old new year takers (key.Bind other parameter) name reads taken = a
 read_is_used old new year takers (key.Uncert other) name reads taken = absurd reads
 
 -- a key that has no record in either data has the same in both
-there_or_same : (old new : Data) (k : RecordKey) → (is_there old new k ≡ true → get old k ≡ get new k) → get old k ≡ get new k
-there_or_same old new k there = by (get old k) (get new k) there
+record_or_same : (old new : Data) (k : RecordKey) → (has_record old new k ≡ true → get old k ≡ get new k) → get old k ≡ get new k
+record_or_same old new k there = by (get old k) (get new k) there
   where
     by : (was is : Option Record) → (is_some was || is_some is ≡ true → was ≡ is) → was ≡ is
     by None None f = refl
@@ -114,7 +114,7 @@ pub potentials_are : (old new : Data) (index : LineIndex) (edited : Edited) → 
     → (year : ℕ) → is_year_of (span new) year ≡ true → ArePotentials old new year (names_at edited.figures year)
 potentials_are old new index edited are year within gas off =
     factor_same old new (potential_name gas) year (λ start h was between. ap as_figure
-    (there_or_same old new (key.Factor (potential_name gas) start) (λ there. are.kept (key.Factor (potential_name gas) start)
+    (record_or_same old new (key.Factor (potential_name gas) start) (λ there. are.kept (key.Factor (potential_name gas) start)
     (λ c. off (are.figures (key.Factor (potential_name gas) start) c
     (or_right (is_taken index.takers.figures (potential_name gas)) _ (is_potential gas)) there year (potential_name gas)
     within (refl, h, was, between))))))
@@ -158,7 +158,7 @@ module _ (old new : Data) (year : ℕ) (within : is_year_of (span new) year ≡ 
         → get old k ≡ get new k
     unread q i figure j k reads =
         let under = (is.takers.of_figures figure place).1 (h, named_in figures_taken new name e at q i figure j) in
-        there_or_same old new k (λ there. are.kept k (λ c. not_in (candidates.by_figure place (record {
+        record_or_same old new k (λ there. are.kept k (λ c. not_in (candidates.by_figure place (record {
           name = figure;
           among = are.figures k c (read_is_used old new year index.takers.figures k figure reads
               (taken_at_place place _ under)) there year figure within reads;

@@ -44,13 +44,13 @@ is_used takers (key.Factor name start) = is_taken takers name || is_potential_na
 is_used takers _ = false
 
 -- the key has a record in the old data or the new
-abbrev pub is_there : Data → Data → RecordKey → Bool
-is_there old new k = is_some (finite.get old k) || is_some (finite.get new k)
+abbrev pub has_record : Data → Data → RecordKey → Bool
+has_record old new k = is_some (finite.get old k) || is_some (finite.get new k)
 
 -- so it is with each key that has a record, and whose activity or factor is used
 abbrev pub HasFigures : Data → Data → Places → List RecordKey → Figures → Type 0
 HasFigures old new takers keys figures = (k : RecordKey) → Contains keys k → is_used takers k ≡ true →
-    is_there old new k ≡ true → HasFigure old new k figures
+    has_record old new k ≡ true → HasFigure old new k figures
 
 -- what stands under a year stays there
 abbrev pub KeepsFigures : Figures → Figures → Type 0

@@ -1,13 +1,13 @@
 //! The activities and factors of which edited records are read, year by year.
 
-ghost use Rattle.std.specs.Prelude.{◌≡◌, ◌≤◌, ◌<◌, ◌+◌, ◌++◌, ◌∷◌, ℕ, [], true, Some, if◌then◌else◌, IfOk, OnOk};
+ghost use Rattle.std.specs.Prelude.{◌≡◌, ◌≤◌, ◌<◌, ◌+◌, ◌++◌, ◌∷◌, ◌&&◌, ℕ, [], true, false, Some, if◌then◌else◌, IfOk, OnOk};
 ghost use Rattle.std.specs.Ordering.{is_eq, nat_cmp};
 ghost use Rattle.ghg_units.specs.Name.{is_potential_name};
 ghost use Rattle.ghg_units.specs.WellFormed.{IsSpan};
 ghost use Rattle.ghg_definitions.specs.Data.{span};
 ghost use Rattle.ghg_definitions.specs.Listed.{IsListed};
 ghost use Rattle.ghg_data.specs.Lasting.{NoneStartsBetween};
-ghost use Rattle.ghg_graph.specs.Figures.{is_taken, is_there, is_used};
+ghost use Rattle.ghg_graph.specs.Figures.{has_record, is_taken, is_used};
 
 use crate::takers::Places;
 use ghg_data::Records;
@@ -58,7 +58,7 @@ impl Figures {
     }
 
     // Adds the activity or factor of a key, if it is used, for each year of the span in which its record is
-    // read. A key that has no record, in the old data or the new, is of none that is read.
+    // read. For a key without a record, in the old data and in the new, nothing is added.
     fn add<R: Records, S: Records>(
         &mut self,
         old: &R,
@@ -70,18 +70,20 @@ impl Figures {
         requires span { span (S.content new.now) ≡ Some years }
         requires years { IsSpan years }
         ensures kept { OnOk result (KeepsFigures self.old self.new) }
-        ensures added { OnOk result (is_used takers.now key.now ≡ true → is_there (R.content old.now)
+        ensures added { OnOk result (is_used takers.now key.now ≡ true → has_record (R.content old.now)
             (S.content new.now) key.now ≡ true → HasFigure (R.content old.now) (S.content new.now) key.now
             self.new) }
+        ensures others { OnOk result ((is_used takers.now key.now && has_record (R.content old.now)
+            (S.content new.now) key.now) ≡ false → self.new ≡ self.old) }
     {
-        if is_used(takers, key) && is_there(old, new, key) {
+        if is_used(takers, key) && has_record(old, new, key) {
             self.add_read(old, new, key, years)
         } else {
             Ok(())
         }
     }
 
-    // The same, whether or not it is used and there.
+    // The same, also for a key that is not used or has no record.
     fn add_read<R: Records, S: Records>(
         &mut self,
         old: &R,
@@ -129,8 +131,8 @@ impl Figures {
 }
 
 // Whether a key has a record in the old data or the new.
-fn is_there<R: Records, S: Records>(old: &R, new: &S, key: &RecordKey) -> bool
-    ensures { result ≡ is_there (R.content old.now) (S.content new.now) key.now }
+fn has_record<R: Records, S: Records>(old: &R, new: &S, key: &RecordKey) -> bool
+    ensures { result ≡ has_record (R.content old.now) (S.content new.now) key.now }
 {
     old.get(key).is_some() || new.get(key).is_some()
 }

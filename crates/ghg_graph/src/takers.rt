@@ -16,8 +16,8 @@ use std::alloc::{AllocError, Global};
 use std::collections::BTreeMap;
 use std::slice;
 
-/// For names that lines take, or that are of the potentials of their gases, the places of the lines of each,
-/// in order.
+/// Under each name that lines take, or of a warming potential whose gas lines emit, the places of these
+/// lines, in order.
 #[derive(Drop)]
 pub(crate) struct Places {
     by_name: BTreeMap<Name, Vec<usize>>,
