@@ -17,7 +17,7 @@ pub mod Membership
 pub mod Pushed
 pub mod Ascending
 pub mod Taking
-pub mod Weighing
+pub mod Equivalents
 pub mod Indexing
 pub mod Falling
 pub mod Moving

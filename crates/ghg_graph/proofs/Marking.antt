@@ -1,17 +1,14 @@
 -- The lines that are reached in a year, gathered in their order.
-use Rattle.std.proofs.Common.{◌≡◌, ◌⊎◌, inl, inr, ℕ, ◌+◌, ◌<◌, Bool, true, false, cond, List, [], ◌∷◌, ◌++◌, length, get_or, map, filter, take, is_eq, Option, Some, None, refl, sym, ap, ◌∙◌, subst}
+use Rattle.std.proofs.Common.{◌≡◌, ◌⊎◌, inl, inr, ℕ, ◌+◌, ◌<◌, Bool, true, false, cond, List, [], ◌∷◌, ◌++◌, length, get_or, map, filter, take, is_eq, refl, sym, ap, ◌∙◌}
 use Rattle.std.proofs.lemmas.List.{append-nil, append_assoc, map-append}
-use Rattle.std.proofs.lemmas.List.Elements.{filter-append, filter_map-append}
+use Rattle.std.proofs.lemmas.List.Elements.{filter-append}
 use Rattle.std.proofs.lemmas.Cmp.{tied_itself}
 use Rattle.std.specs.BTreeSet.{BTreeSet, Updates, contains}
 use Rattle.std.specs.Cmp.Lexicographic.{nat_list_cmp_total}
-use Rattle.std.specs.List.{cons_option, filter_map, list_any}
-use Rattle.std.specs.Option.{option_to_list}
-use Rattle.ghg_categories.specs.declared.category.Category.{Category}
-use Rattle.ghg_units.specs.declared.node.Node.{Node}
+use Rattle.std.specs.List.{list_any}
 use Rattle.ghg_units.specs.declared.node.Node.TheVariants as node
 use Rattle.ghg_definitions.specs.Compilation.{is_node}
-use Rattle.ghg_definitions.specs.Data.{Data, Name, category, name_cmp}
+use Rattle.ghg_definitions.specs.Data.{Data, Name, name_cmp}
 use Rattle.ghg_definitions.specs.Listed.{IsListed}
 use Rattle.ghg_definitions.proofs.Alike.{first_so}
 use Rattle.ghg_definitions.proofs.Depth.{or_else}
@@ -19,10 +16,8 @@ use Rattle.ghg_definitions.proofs.Keys.{equal_by, names_same}
 use Rattle.ghg_definitions.proofs.Listed.{in_either, listed}
 use Rattle.ghg_affected.proofs.Bools.{true_not_false}
 use Rattle.ghg_graph.specs.Ordering.{IsLineOrder}
-use Rattle.ghg_graph.specs.Tops.{AreTops}
-use Rattle.ghg_graph.specs.declared.tops.Tops.{Tops}
 use Rattle.ghg_graph.specs.declared.reached.Lines.TheVariants as year_lines
-use Rattle.ghg_graph.specs.Reached.{HasReached, is_reached, reached_categories}
+use Rattle.ghg_graph.specs.Reached.{HasReached, is_reached}
 use Rattle.ghg_graph.proofs.Numbering.{take_next}
 use Rattle.ghg_graph.proofs.Reaching.{none_reached, same_truth}
 
@@ -55,73 +50,6 @@ module _ {A B : Type 0} (p : B → Bool) (f : A → B) where
       → old ≡ front ++ filter p (map f (take (i + 1) xs))
   one_left xs i x h e is front old was =
       was ∙ ap (λ ys. front ++ ys) (sym (append-nil (filter p (map f (take i xs)))) ∙ sym (one_taken xs i x h e false is))
-
-module _ (old new : Data) (year : ℕ) where
-  categories_one : (x : Name) (b : Bool) → is_reached old new (node.Equiv x year) ≡ b
-      → reached_categories old new year (x ∷ []) ≡ cond b (option_to_list (category new x)) []
-  categories_one x true e = ap (λ b. filter_map (category new) (cond b (x ∷ []) [])) e ∙ listed_option (category new x)
-    where
-      listed_option : (o : Option Category) → cons_option o [] ≡ option_to_list o
-      listed_option None = refl
-      listed_option (Some c) = refl
-  categories_one x false e = ap (λ b. filter_map (category new) (cond b (x ∷ []) [])) e
-
-  categories_taken : (xs : List Name) (i : ℕ) (x : Name) → i < length xs → x ≡ get_or xs i x
-      → (b : Bool) → is_reached old new (node.Equiv x year) ≡ b
-      → reached_categories old new year (take (i + 1) xs)
-      ≡ reached_categories old new year (take i xs) ++ cond b (option_to_list (category new x)) []
-  categories_taken xs i x h e b is =
-      ap (reached_categories old new year) (take_next xs i x h e)
-      ∙ ap (filter_map (category new)) (filter-append (λ name. is_reached old new (node.Equiv name year)) (take i xs) (x ∷ []))
-      ∙ filter_map-append (category new) (filter (λ name. is_reached old new (node.Equiv name year)) (take i xs)) _
-      ∙ ap (λ cs. reached_categories old new year (take i xs) ++ cs) (categories_one x b is)
-
-  pub category_passed : (xs : List Name) (i : ℕ) (x : Name) → i < length xs → x ≡ get_or xs i x
-      → is_reached old new (node.Equiv x year) ≡ true → (was now : Tops)
-      → AreTops (reached_categories old new year (take i xs)) was
-      → ((cs : List Category) → AreTops cs was → AreTops (cs ++ option_to_list (category new x)) now)
-      → AreTops (reached_categories old new year (take (i + 1) xs)) now
-  category_passed xs i x h e is was now before after =
-      subst (λ cs. AreTops cs now) (sym (categories_taken xs i x h e true is))
-      (after (reached_categories old new year (take i xs)) before)
-
-  pub category_left : (xs : List Name) (i : ℕ) (x : Name) → i < length xs → x ≡ get_or xs i x
-      → is_reached old new (node.Equiv x year) ≡ false → (was : Tops)
-      → AreTops (reached_categories old new year (take i xs)) was
-      → AreTops (reached_categories old new year (take (i + 1) xs)) was
-  category_left xs i x h e off was before =
-      subst (λ cs. AreTops cs was)
-      (sym (append-nil (reached_categories old new year (take i xs))) ∙ sym (categories_taken xs i x h e false off))
-      before
-
--- ---- what is not gone over
-
-module _ (old new : Data) (to : Name → Node) (test : Name → Bool) where
-  pub part_same : (lines : List Name)
-      → ((name : Name) → IsListed name lines → test name ≡ false → is_reached old new (to name) ≡ false)
-      → filter (is_reached old new) (map to (filter test lines)) ≡ filter (is_reached old new) (map to lines)
-  part_same [] idle = refl
-  part_same (n ∷ lines) idle = by (test n) refl (part_same lines (λ k i. idle k (inr i)))
-    where
-      by : (b : Bool) → test n ≡ b
-          → filter (is_reached old new) (map to (filter test lines)) ≡ filter (is_reached old new) (map to lines)
-          → filter (is_reached old new) (map to (cond b (n ∷ filter test lines) (filter test lines)))
-          ≡ filter (is_reached old new) (map to (n ∷ lines))
-      by true is rest = ap (λ ns. cond (is_reached old new (to n)) (to n ∷ ns) ns) rest
-      by false is rest = rest ∙ sym (ap (λ b. cond b (to n ∷ filter (is_reached old new) (map to lines)) (filter (is_reached old new) (map to lines))) (idle n (inl refl) is))
-
-  pub chosen_same : (lines : List Name)
-      → ((name : Name) → IsListed name lines → test name ≡ false → is_reached old new (to name) ≡ false)
-      → filter (λ name. is_reached old new (to name)) (filter test lines) ≡ filter (λ name. is_reached old new (to name)) lines
-  chosen_same [] idle = refl
-  chosen_same (n ∷ lines) idle = by (test n) refl (chosen_same lines (λ k i. idle k (inr i)))
-    where
-      by : (b : Bool) → test n ≡ b
-          → filter (λ name. is_reached old new (to name)) (filter test lines) ≡ filter (λ name. is_reached old new (to name)) lines
-          → filter (λ name. is_reached old new (to name)) (cond b (n ∷ filter test lines) (filter test lines))
-          ≡ filter (λ name. is_reached old new (to name)) (n ∷ lines)
-      by true is rest = ap (λ ns. cond (is_reached old new (to n)) (n ∷ ns) ns) rest
-      by false is rest = rest ∙ sym (ap (λ b. cond b (n ∷ filter (λ name. is_reached old new (to name)) lines) (filter (λ name. is_reached old new (to name)) lines)) (idle n (inl refl) is))
 
 -- ---- the set of those that are reached
 

@@ -40,9 +40,9 @@ use Rattle.ghg_graph.specs.declared.reached.Edited.{Edited}
 use Rattle.ghg_graph.specs.declared.reached.Lines.{Lines}
 use Rattle.ghg_graph.specs.declared.takers.Places.{Places}
 use Rattle.ghg_graph.proofs.Distinct.{behind_at}
+use Rattle.ghg_graph.proofs.Equivalents.{is_potential}
 use Rattle.ghg_graph.proofs.FactorYears.{AreSame, decay_same, factor_same}
 use Rattle.ghg_graph.proofs.Reaching.{equation_itself, line_is_reached, operand_itself, was_line}
-use Rattle.ghg_graph.proofs.Weighing.{is_potential}
 
 -- what a binding of a parameter names
 named_in : (names : Option Binding → List Name) (m : Data) (name : Name) (e : EqId) → line m name ≡ Some e

@@ -1,27 +1,27 @@
 -- Which nodes edits reach, told year by year.
-use Rattle.std.specs.Prelude.{◌≡◌, ◌⊎◌, ℕ, ◌<◌, Bool, true, false, is_some, not, ◌||◌, nat_le, List, filter, length, Option, Some}
+use Rattle.std.specs.Prelude.{◌≡◌, ◌⊎◌, ◌↔◌, ℕ, ◌<◌, Bool, true, false, is_some, not, ◌&&◌, ◌||◌, nat_le, List, filter, length, Option, Some}
 use Rattle.std.specs.BTreeSet.{BTreeSet, contains}
 use Rattle.std.specs.FinMap.{get}
 use Rattle.std.specs.List.{Contains, filter_map, list_any}
 use Rattle.ghg_categories.specs.declared.category.Category.{Category}
 use Rattle.ghg_categories.specs.Tree.{is_same}
 use Rattle.ghg_equations.specs.declared.quantity.Gas.{Gas}
-use Rattle.ghg_units.specs.Name.{potential_name}
+use Rattle.ghg_units.specs.Name.{is_potential_name, potential_name}
 use Rattle.ghg_units.specs.declared.node.Node.{Node}
 use Rattle.ghg_units.specs.declared.node.Node.TheVariants as node
 use Rattle.ghg_units.specs.declared.row.Binding.{Binding}
 use Rattle.ghg_units.specs.declared.row.Binding.TheVariants as bound
 use Rattle.ghg_definitions.specs.declared.record.RecordKey.{RecordKey}
-use Rattle.ghg_definitions.specs.Compilation.{bound_to, first_year, gas_lines, is_year_of, nodes, previous}
+use Rattle.ghg_definitions.specs.Compilation.{bound_to, first_year, is_year_of, nodes, previous}
 use Rattle.ghg_definitions.specs.Data.{Data, Name, category, line, name_cmp, span}
 use Rattle.ghg_definitions.specs.Formulas.{map_operand, nodes_in}
 use Rattle.ghg_definitions.specs.Listed.{IsListed}
 use Rattle.ghg_definitions.specs.Lookups.{factor_input, given}
 use Rattle.ghg_definitions.specs.Rings.{taken}
 use Rattle.ghg_affected.specs.Affected.{affected_within}
-use Rattle.ghg_affected.specs.Equalities.{same_operand}
+use Rattle.ghg_affected.specs.Equalities.{same_input, same_operand}
 use Rattle.ghg_graph.specs.Candidates.{AllBelow, IsIn, IsTaker}
-use Rattle.ghg_graph.specs.Changed.{HasChanged}
+use Rattle.ghg_graph.specs.Changed.{HasChanged, StandsAmong}
 use Rattle.ghg_graph.specs.Figures.{HasFigures}
 use Rattle.ghg_graph.specs.Moves.{AreMoved}
 use Rattle.ghg_graph.specs.Numbers.{name_at}
@@ -115,30 +115,31 @@ pub record AreFirst (old new : Data) (lines : List Name) (year : ℕ) (places : 
 
 -- ---- equivalents
 
--- the names are those of lines that emit a gas
-abbrev pub AreEmitters : Data → List Name → Type 0
-AreEmitters m names = (name : Name) → IsListed name names → Contains (gas_lines m) name
-
 -- only a warming potential that is among the names differs in the year
 abbrev pub ArePotentials : Data → Data → ℕ → List Name → Type 0
 ArePotentials old new year names = (gas : Gas) → (IsListed (potential_name gas) names → ⊥) →
     factor_input old (potential_name gas) year ≡ factor_input new (potential_name gas) year
 
--- each line whose equivalent is reached in the year is one of them
-abbrev pub HasWeighed : Data → Data → ℕ → BTreeSet Name → Type 0
-HasWeighed old new year lines = (name : Name) → Contains (gas_lines new) name →
-    is_reached old new (node.Equiv name year) ≡ true → contains name_cmp lines name ≡ true
+-- the figure is a warming potential that differs in the year
+abbrev pub is_differing : Data → Data → ℕ → Name → Bool
+is_differing old new year name = is_potential_name name
+    && not (same_input (factor_input old name year) (factor_input new name year))
 
--- they have the lines of a set, and those that emit a gas whose warming potential is one of the figures
-pub record AreWeighed (index : LineIndex) (figures : List Name) (now lines : BTreeSet Name) : Type 0 where
-  pub reached : (name : Name) → contains name_cmp now name ≡ true → contains name_cmp lines name ≡ true
-  pub emitting : (place : ℕ) → IsTaker index.takers.potentials figures place →
-      contains name_cmp lines (name_at index.lines.items place) ≡ true
+-- the line stands in the index under one of the warming potentials
+pub record StandsUnder (index : LineIndex) (potentials : List Name) (name : Name) : Type 0 where
+  pub place : ℕ
+  pub under : IsTaker index.takers.potentials potentials place
+  pub named : name_at index.lines.items place ≡ name
+
+-- they are the lines of a set, and those that stand in the index under one of the warming potentials
+abbrev pub AreWithEmitters : LineIndex → List Name → BTreeSet Name → BTreeSet Name → Type 0
+AreWithEmitters index potentials lines all = (name : Name) → (contains name_cmp all name ≡ true) ↔
+    ((contains name_cmp lines name ≡ true) ⊎ StandsUnder index potentials name)
 
 -- the lines at the places are added
-pub record AreLinesAdded (all : List Name) (places : List ℕ) (old new : BTreeSet Name) : Type 0 where
-  pub kept : (name : Name) → contains name_cmp old name ≡ true → contains name_cmp new name ≡ true
-  pub added : (place : ℕ) → IsListed place places → contains name_cmp new (name_at all place) ≡ true
+abbrev pub AreLinesAdded : List Name → List ℕ → BTreeSet Name → BTreeSet Name → Type 0
+AreLinesAdded all places old new = (name : Name) → (contains name_cmp new name ≡ true) ↔
+    ((contains name_cmp old name ≡ true) ⊎ StandsAmong places all name)
 
 -- ---- categories
 

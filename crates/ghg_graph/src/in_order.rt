@@ -60,7 +60,12 @@ fn add_lines(nodes: &mut Vec<Node>, names: &[Name], year: u32) -> Result<(), All
     Ok(())
 }
 
-fn add_equivalents(nodes: &mut Vec<Node>, names: &[Name], year: u32) -> Result<(), AllocError>
+/// Adds the equivalents of some lines in a year.
+pub(crate) fn add_equivalents(
+    nodes: &mut Vec<Node>,
+    names: &[Name],
+    year: u32,
+) -> Result<(), AllocError>
     ensures { OnOk result (nodes.new.items ≡ nodes.old.items ++ map
         (λ name. Node.Equiv name year) names.now) }
 {

@@ -3,11 +3,10 @@
 ghost use Rattle.std.specs.Prelude.{◌≡◌, ◌+◌, ◌∷◌, ◌++◌, ◌||◌, [], List, length, Some, true, false, filter, is_some, if◌then◌else◌, map, not, option_copied, reverse, IfOk, OnOk};
 ghost use Rattle.std.specs.BTreeSet.{IsOrdered, contains};
 ghost use Rattle.std.specs.FinMap.{get};
-ghost use Rattle.std.specs.List.{Contains, list_any};
+ghost use Rattle.std.specs.List.{Contains, filter_map, list_any};
 ghost use Rattle.std.specs.Option.{option_map_or, option_to_list};
 ghost use Rattle.ghg_categories.specs.Tree.{tree};
 ghost use Rattle.ghg_categories.specs.declared.category.Category.{Category};
-ghost use Rattle.ghg_units.specs.Name.{is_potential_name};
 ghost use Rattle.ghg_units.specs.WellFormed.{IsSpan};
 ghost use Rattle.ghg_units.specs.declared.node.Node.TheVariants as node;
 ghost use Rattle.ghg_definitions.specs.declared.record.RecordKey.{RecordKey};
@@ -19,7 +18,7 @@ ghost use Rattle.ghg_affected.specs.Equalities.{same_equation, same_input};
 ghost use Rattle.ghg_graph.specs.Candidates.{AllBelow, AreWithin};
 ghost use Rattle.ghg_graph.specs.Index.{IsLineIndex};
 ghost use Rattle.ghg_graph.specs.Ordering.{IsLineOrder};
-ghost use Rattle.ghg_graph.specs.Reached.{AreEdited, AreEmitters, AreFirst, AreLinesAdded, ArePotentials, AreWeighed, AreYears, HasBefore, HasReached, HasWeighed, IsYear, binding_reached, has_line, is_reached, is_total_of, reached_categories, takes_from};
+ghost use Rattle.ghg_graph.specs.Reached.{AreEdited, AreFirst, AreLinesAdded, ArePotentials, AreWithEmitters, AreYears, HasBefore, HasReached, IsYear, binding_reached, has_line, is_differing, is_reached, is_total_of, reached_categories, takes_from};
 ghost use Rattle.ghg_graph.specs.declared.reached.Lines.TheVariants as year_lines;
 ghost use Rattle.ghg_graph.specs.Tops.{AreTops};
 ghost use Rattle.ghg_graph.specs.Years.{nodes_by_year, year_nodes};
@@ -27,7 +26,7 @@ ghost use Rattle.ghg_graph.specs.Years.{nodes_by_year, year_nodes};
 use crate::candidates::{add_from, first_candidates};
 use crate::changed::changed_places;
 use crate::figures::{Figures, is_potential};
-use crate::gases::{line_gas, potential};
+use crate::gases::line_gas;
 use crate::in_order;
 use crate::index::LineIndex;
 use crate::moves::{Moved, moved_totals};
@@ -89,7 +88,7 @@ struct Year {
 /// The nodes that are affected where the records differ at the keys alone: year by year the lines in their
 /// order, the equivalents, the totals, each category behind those under it, and the gross total. In a year
 /// that the old data have, only those lines are looked up that edits are about, that take an edited figure or
-/// that take a line that is reached; and, where an edited warming potential is read, those that emit its gas.
+/// that take a line that is reached; and, where an edited warming potential differs, those that emit its gas.
 pub(crate) fn reached_nodes<R: Records, S: Records>(
     alloc: Global,
     old: &R,
@@ -232,7 +231,7 @@ fn add_old_year<R: Records, S: Records>(
     let first = first_candidates(alloc, index, &edited.changed, figures, &before)?;
     let nodes = &mut reached.nodes;
     let now = add_lines(alloc, old, new, index, year, &reached.before, first, nodes)?;
-    let tops = add_weighed(alloc, old, new, index, figures, year.number, &now, nodes)?;
+    let tops = add_equivalents(alloc, old, new, index, figures, year.number, &now, nodes)?;
     add_totals(&tops, &edited.moved, year.number, nodes)?;
     add_gross(&tops, &edited.moved, year.number, nodes)?;
     reached.before = Lines::These(now);
@@ -399,8 +398,8 @@ fn has_any(set: &BTreeSet<Name>, names: &[Name]) -> bool
 // ---- equivalents
 
 // Adds the equivalents that are reached in a year, and gives the totals to which these lead. They are of
-// lines that are reached, or that emit a gas whose edited warming potential is read.
-fn add_weighed<R: Records, S: Records>(
+// lines that are reached, and of lines that emit a gas whose warming potential differs.
+fn add_equivalents<R: Records, S: Records>(
     alloc: Global,
     old: &R,
     new: &S,
@@ -421,54 +420,67 @@ fn add_weighed<R: Records, S: Records>(
     ensures tops { IfOk result (AreTops (reached_categories (R.content old.now) (S.content new.now) year
         (gas_lines (S.content new.now)))) }
 {
-    if !has_potential(figures) {
-        return add_emitting(alloc, old, new, now, year, now, nodes);
+    let differing = differing_potentials(alloc, old, new, figures, year)?;
+    if differing.is_empty() {
+        // The set is not copied.
+        return add_emitting(alloc, new, now, year, nodes);
     }
-    let weighed = weighed_lines(alloc, index, figures, now)?;
-    add_emitting(alloc, old, new, &weighed, year, now, nodes)
+    let lines = with_emitters(alloc, index, &differing, now)?;
+    add_emitting(alloc, new, &lines, year, nodes)
 }
 
-// Adds the equivalents that are reached in a year, all of which are of some of the lines that are given, and
-// gives the totals to which these lead.
-fn add_emitting<R: Records, S: Records>(
+// Those of the figures that are warming potentials and differ in a year.
+fn differing_potentials<R: Records, S: Records>(
     alloc: Global,
     old: &R,
     new: &S,
-    lines: &BTreeSet<Name>,
+    figures: &[Name],
     year: u32,
-    now: &BTreeSet<Name>,
-    nodes: &mut Vec<Node>,
-) -> Result<Tops, AllocError>
-    requires lines { HasWeighed (R.content old.now) (S.content new.now) year lines.now }
-    requires year { is_year_of (span (S.content new.now)) year ≡ true }
-    requires now { HasReached (R.content old.now) (S.content new.now) year (year_lines.These now.now) }
-    requires ordered { IsOrdered name_cmp lines.now }
-    ensures nodes { OnOk result (nodes.new.items ≡ nodes.old.items ++ filter
-        (is_reached (R.content old.now) (S.content new.now))
-        (map (λ name. node.Equiv name year) (gas_lines (S.content new.now)))) }
-    ensures tops { IfOk result (AreTops (reached_categories (R.content old.now) (S.content new.now) year
-        (gas_lines (S.content new.now)))) }
+) -> Result<Vec<Name>, AllocError>
+    ensures { IfOk result (λ names. names.items ≡ filter
+        (is_differing (R.content old.now) (S.content new.now) year) figures.now) }
 {
-    let emitting = emitting(alloc, new, lines)?;
-    add_equivalents(old, new, &emitting, year, now, nodes)
+    figures
+        .iter()
+        .filter(|name| is_differing(old, new, name, year))
+        .copied()
+        .collect(alloc)
 }
 
-// Lines that are reached, and those that emit a gas whose warming potential is one of the figures.
-fn weighed_lines(
+// Whether a figure is a warming potential that differs in a year.
+fn is_differing<R: Records, S: Records>(old: &R, new: &S, name: &Name, year: u32) -> bool
+    ensures { result ≡ is_differing (R.content old.now) (S.content new.now) year name.now }
+{
+    is_potential(name) && differ(old.factor(name, year), new.factor(name, year))
+}
+
+fn differ(old: Input, new: Input) -> bool
+    ensures { result ≡ not (same_input old new) }
+{
+    old != new
+}
+
+// The lines of a set, and those that emit the gas of one of the warming potentials: the index has them under
+// these.
+fn with_emitters(
     alloc: Global,
     index: &LineIndex,
-    figures: &[Name],
-    now: &BTreeSet<Name>,
+    potentials: &[Name],
+    lines: &BTreeSet<Name>,
 ) -> Result<BTreeSet<Name>, AllocError>
     requires { AreWithin (length index.now.lines.items) index.now.takers.potentials }
-    ensures weighed { IfOk result (AreWeighed index.now figures.now now.now) }
+    ensures all { IfOk result (AreWithEmitters index.now potentials.now lines.now) }
     ensures ordered { IfOk result (IsOrdered name_cmp) }
 {
-    let mut lines = copied(alloc, now)?;
-    for figure in figures {
-        add_at(&mut lines, &index.lines, index.takers.potentials.at(figure))?;
+    let mut all = copied(alloc, lines)?;
+    for potential in potentials {
+        add_at(
+            &mut all,
+            &index.lines,
+            index.takers.potentials.at(potential),
+        )?;
     }
-    Ok(lines)
+    Ok(all)
 }
 
 fn copied(alloc: Global, names: &BTreeSet<Name>) -> Result<BTreeSet<Name>, AllocError>
@@ -491,11 +503,22 @@ fn add_at(lines: &mut BTreeSet<Name>, all: &[Name], places: &[usize]) -> Result<
     Ok(())
 }
 
-// Whether one of the figures is a warming potential.
-fn has_potential(figures: &[Name]) -> bool
-    ensures { result ≡ list_any is_potential_name figures.now }
+// Adds the equivalents of those of the lines that emit a gas, and gives the totals to which these lead.
+fn add_emitting<S: Records>(
+    alloc: Global,
+    new: &S,
+    lines: &BTreeSet<Name>,
+    year: u32,
+    nodes: &mut Vec<Node>,
+) -> Result<Tops, AllocError>
+    ensures nodes { OnOk result (nodes.new.items ≡ nodes.old.items ++ map
+        (λ name. node.Equiv name year) (filter (emits (S.content new.now)) lines.now.keys)) }
+    ensures tops { IfOk result (AreTops (filter_map (category (S.content new.now))
+        (filter (emits (S.content new.now)) lines.now.keys))) }
 {
-    figures.iter().any(|name| is_potential(name))
+    let emitting = emitting(alloc, new, lines)?;
+    in_order::add_equivalents(nodes, &emitting, year)?;
+    Ok(tops_of(new, &emitting))
 }
 
 // Those of the lines that emit a gas.
@@ -513,33 +536,15 @@ fn emitting<S: Records>(
         .collect(alloc)
 }
 
-// Adds those of the equivalents of some emitters that are reached in a year, and gives the totals to which
-// these lead.
-fn add_equivalents<R: Records, S: Records>(
-    old: &R,
-    new: &S,
-    emitters: &[Name],
-    year: u32,
-    now: &BTreeSet<Name>,
-    nodes: &mut Vec<Node>,
-) -> Result<Tops, AllocError>
-    requires emitters { AreEmitters (S.content new.now) emitters.now }
-    requires year { is_year_of (span (S.content new.now)) year ≡ true }
-    requires now { HasReached (R.content old.now) (S.content new.now) year (year_lines.These now.now) }
-    ensures nodes { OnOk result (nodes.new.items ≡ nodes.old.items ++ filter
-        (is_reached (R.content old.now) (S.content new.now))
-        (map (λ name. node.Equiv name year) emitters.now)) }
-    ensures tops { IfOk result (AreTops
-        (reached_categories (R.content old.now) (S.content new.now) year emitters.now)) }
+// The totals to which lines lead.
+fn tops_of<S: Records>(new: &S, lines: &[Name]) -> Tops
+    ensures { AreTops (filter_map (category (S.content new.now)) lines.now) result }
 {
     let mut tops = Tops::none();
-    for name in emitters {
-        if equivalent_reached(old, new, name, year, now) {
-            nodes.push(Node::Equiv(*name, year))?;
-            add_category(new, name, &mut tops);
-        }
+    for name in lines {
+        add_category(new, name, &mut tops);
     }
-    Ok(tops)
+    tops
 }
 
 // Adds the category at which a line stands, and those above it.
@@ -550,28 +555,6 @@ fn add_category<S: Records>(new: &S, name: &Name, tops: &mut Tops)
     if let Some((category, _)) = new.line(name) {
         tops.add(category);
     }
-}
-
-// Whether the line is reached, or the warming potential of its gas differs.
-fn equivalent_reached<R: Records, S: Records>(
-    old: &R,
-    new: &S,
-    name: &Name,
-    year: u32,
-    now: &BTreeSet<Name>,
-) -> bool
-    requires emits { Contains (gas_lines (S.content new.now)) name.now }
-    requires year { is_year_of (span (S.content new.now)) year ≡ true }
-    requires now { HasReached (R.content old.now) (S.content new.now) year (year_lines.These now.now) }
-    ensures { result ≡ is_reached (R.content old.now) (S.content new.now) (node.Equiv name.now year) }
-{
-    now.contains(name) || differ(potential(old, name, year), potential(new, name, year))
-}
-
-fn differ(old: Input, new: Input) -> bool
-    ensures { result ≡ not (same_input old new) }
-{
-    old != new
 }
 
 // ---- totals

@@ -3,7 +3,7 @@ use Rattle.std.proofs.lemmas.List.{get_or_default}
 use Rattle.std.specs.BTreeSet.{Updates}
 use Rattle.ghg_definitions.specs.Data.{name_cmp}
 use Rattle.ghg_graph.proofs.EquationParameters.{at_place}
-use Rattle.ghg_graph.proofs.Weighing.{lines_one}
+use Rattle.ghg_graph.proofs.Equivalents.{lines_one}
 use Rattle.ghg_graph.proofs.reached.add_at.Goals as goal
 
 pub offset_bounds-all-place : goal.offset_bounds-all-place
@@ -27,7 +27,7 @@ loop-place-preserved c =
     let name = c.index-all-place.result in
     record {
       added = lines_one all places i place c.args.lines.now c.loop-place.lines c.insert.new.self c.loop-place-test.true
-          (get_or_default places i 0 place c.loop-place-test.true) c.loop-place.invariant.added
+          (get_or_default places i 0 place c.loop-place-test.true) low c.loop-place.invariant.added
           (subst (λ n. Updates name_cmp c.loop-place.lines c.insert.new.self n true)
           (c.index-all-place.is ∙ get_or_default all place name [] low) c.in_ok-insert.ensures.updates);
       ordered = λ up. c.in_ok-insert.ensures.ordered;

@@ -1,49 +1,56 @@
-use Rattle.std.proofs.Common.{◌∙◌, ◌++◌, ap, subst, sym, filter, map}
-use Rattle.std.proofs.lemmas.List.{take_all}
-use Rattle.ghg_units.specs.declared.node.Node.TheVariants as node
-use Rattle.ghg_definitions.specs.Listed.{IsListed}
-use Rattle.ghg_graph.specs.Reached.{is_reached}
+use Rattle.std.proofs.Common.{◌≡◌, ◌++◌, ◌∙◌, [], ap, arith, filter, length, subst, sym}
+use Rattle.std.proofs.lemmas.List.{nil_from_length}
+use Rattle.std.proofs.lemmas.Result.{IfOk-weaker, on_ok_weaker}
+use Rattle.ghg_graph.specs.Reached.{AreWithEmitters, is_differing}
 use Rattle.ghg_graph.specs.Tops.{AreTops}
-use Rattle.ghg_graph.proofs.EquationParameters.{at_place}
-use Rattle.ghg_graph.proofs.Marking.{category_left, category_passed, one_left, one_passed}
+use Rattle.ghg_graph.proofs.Equivalents.{categories_are, equivalents_are, with_emitters, without_emitters}
 use Rattle.ghg_graph.proofs.reached.add_equivalents.Goals as goal
-use Rattle.ghg_graph.proofs.reached.add_equivalents.Goals.{then-equivalent_reached+in_ok-push, else-equivalent_reached}
 
-pub equivalent_reached-requires-clause-emits : goal.equivalent_reached-requires-clause-emits
-equivalent_reached-requires-clause-emits g c = c.requires.emitters c.name-item.result
-    (subst (λ name. IsListed name c.args.emitters.now) (sym c.name-item.is)
-    (at_place c.args.emitters.now c.loop-name.name-index c.name-item.result c.loop-name-test.true))
-
-pub loop-name-preserved : goal.loop-name-preserved
-loop-name-preserved g c =
+pub returns-then-is_empty-clause-nodes : goal.returns-then-is_empty-clause-nodes
+returns-then-is_empty-clause-nodes g c =
     let old = g.R.Records.content c.args.old.now in
     let new = g.S.Records.content c.args.new.now in
-    let names = c.args.emitters.now in
-    let i = c.loop-name.name-index in
-    let name = c.name-item.result in
-    elim c.if-equivalent_reached.branch [
-      | then-equivalent_reached+in_ok-push w ↦
-          let is = sym c.equivalent_reached.ensures ∙ w.if-equivalent_reached.true in (
-            one_passed (is_reached old new) (λ k. node.Equiv k c.args.year) names i name c.loop-name-test.true c.name-item.is is
-                c.args.nodes.now.items c.loop-name.nodes.items _ c.loop-name.invariant.0
-                (ap (λ v. v.items) w.nodes-is ∙ w.in_ok-push.ensures.items),
-            category_passed old new c.args.year names i name c.loop-name-test.true c.name-item.is is
-                c.loop-name.tops _ c.loop-name.invariant.1
-                (λ cs are. subst (AreTops _) (sym w.tops-is) (w.add_category.ensures cs are)),
-          )
-      | else-equivalent_reached w ↦
-          let off = sym c.equivalent_reached.ensures ∙ w.if-equivalent_reached.false in (
-            ap (λ v. v.items) w.nodes-is
-                ∙ one_left (is_reached old new) (λ k. node.Equiv k c.args.year) names i name c.loop-name-test.true c.name-item.is off
-                c.args.nodes.now.items c.loop-name.nodes.items c.loop-name.invariant.0,
-            subst (AreTops _) (sym w.tops-is)
-                (category_left old new c.args.year names i name c.loop-name-test.true c.name-item.is off
-                c.loop-name.tops c.loop-name.invariant.1),
-          )
-    ]
+    let len : length c.in_ok-differing.differing.items ≡ 0 = grind (arith, c.if-is_empty.ensures, c.in_ok-differing.differing.ok) in
+    let none : filter (is_differing old new c.args.year) c.args.figures.now ≡ [] =
+    sym c.in_ok-differing.ensures ∙ nil_from_length c.in_ok-differing.differing.items len in
+    let has = without_emitters old new c.args.year c.requires.year c.args.now.now c.requires.now c.args.figures.now c.requires.figures none in
+    on_ok_weaker c.add_emitting.result (λ added. added ∙ ap (λ ns. c.args.nodes.now.items ++ ns)
+    (equivalents_are old new c.args.year c.args.now.now has c.requires.ordered)) c.add_emitting.ensures.nodes
+
+pub returns-then-is_empty-clause-tops : goal.returns-then-is_empty-clause-tops
+returns-then-is_empty-clause-tops g c =
+    let old = g.R.Records.content c.args.old.now in
+    let new = g.S.Records.content c.args.new.now in
+    let len : length c.in_ok-differing.differing.items ≡ 0 = grind (arith, c.if-is_empty.ensures, c.in_ok-differing.differing.ok) in
+    let none : filter (is_differing old new c.args.year) c.args.figures.now ≡ [] =
+    sym c.in_ok-differing.ensures ∙ nil_from_length c.in_ok-differing.differing.items len in
+    let has = without_emitters old new c.args.year c.requires.year c.args.now.now c.requires.now c.args.figures.now c.requires.figures none in
+    IfOk-weaker c.add_emitting.result _ _ (λ tops are. subst (λ cs. AreTops cs tops)
+    (categories_are old new c.args.year c.args.now.now has c.requires.ordered) are) c.add_emitting.ensures.tops
+
+pub with_emitters-requires : goal.with_emitters-requires
+with_emitters-requires g c = λ name place i. ((c.requires.index.takers.of_potentials name place).0 i).0
 
 pub returns-clause-nodes : goal.returns-clause-nodes
 returns-clause-nodes g c =
-    c.loop-name.invariant.0
-    ∙ ap (λ xs. c.args.nodes.now.items ++ filter (is_reached (g.R.Records.content c.args.old.now) (g.S.Records.content c.args.new.now)) (map (λ name. node.Equiv name c.args.year) xs))
-    (take_all c.loop-name.name-index c.args.emitters.now c.loop-name-test.false)
+    let old = g.R.Records.content c.args.old.now in
+    let new = g.S.Records.content c.args.new.now in
+    let lines = c.in_ok-lines.lines in
+    let all : AreWithEmitters c.args.index.now (filter (is_differing old new c.args.year) c.args.figures.now) c.args.now.now lines =
+    subst (λ ps. AreWithEmitters c.args.index.now ps c.args.now.now lines) (c.deref.ensures.value ∙ c.in_ok-differing.ensures) c.in_ok-lines.ensures.all in
+    let has = with_emitters old new c.args.year c.requires.year c.args.now.now c.requires.now c.args.figures.now c.requires.figures
+    c.args.index.now c.requires.index lines all in
+    on_ok_weaker c.add_emitting-2.result (λ added. added ∙ ap (λ ns. c.args.nodes.now.items ++ ns)
+    (equivalents_are old new c.args.year lines has c.in_ok-lines.ensures.ordered)) c.add_emitting-2.ensures.nodes
+
+pub returns-clause-tops : goal.returns-clause-tops
+returns-clause-tops g c =
+    let old = g.R.Records.content c.args.old.now in
+    let new = g.S.Records.content c.args.new.now in
+    let lines = c.in_ok-lines.lines in
+    let all : AreWithEmitters c.args.index.now (filter (is_differing old new c.args.year) c.args.figures.now) c.args.now.now lines =
+    subst (λ ps. AreWithEmitters c.args.index.now ps c.args.now.now lines) (c.deref.ensures.value ∙ c.in_ok-differing.ensures) c.in_ok-lines.ensures.all in
+    let has = with_emitters old new c.args.year c.requires.year c.args.now.now c.requires.now c.args.figures.now c.requires.figures
+    c.args.index.now c.requires.index lines all in
+    IfOk-weaker c.add_emitting-2.result _ _ (λ tops are. subst (λ cs. AreTops cs tops)
+    (categories_are old new c.args.year lines has c.in_ok-lines.ensures.ordered) are) c.add_emitting-2.ensures.tops

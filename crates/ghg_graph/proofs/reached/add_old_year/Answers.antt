@@ -38,8 +38,8 @@ add_lines-requires-clause-first g c =
     (subst (λ ps. AreCandidates index ps c.at-figures.result.now c.deref-3.result.now places) c.deref-2.ensures.value
     c.in_ok-first.ensures)))
 
-pub add_weighed-requires-clause-figures : goal.add_weighed-requires-clause-figures
-add_weighed-requires-clause-figures g c =
+pub add_equivalents-requires-clause-figures : goal.add_equivalents-requires-clause-figures
+add_equivalents-requires-clause-figures g c =
     let old = g.R.Records.content c.args.old.now in
     let new = g.S.Records.content c.args.new.now in
     let year = c.args.year.number in
@@ -55,7 +55,7 @@ returns-clause-nodes g c =
     year_added old new year.number c.requires.year.within c.requires.year.was c.args.edited.now.moved c.requires.edited.moved
     c.in_ok-tops.tops c.in_ok-tops.ensures.tops
     c.args.index.now.lines.items c.args.index.now.emitters.items
-    c.args.reached.now.nodes.items c.add_lines.new.nodes.items c.add_weighed.new.nodes.items
+    c.args.reached.now.nodes.items c.add_lines.new.nodes.items c.add_equivalents.new.nodes.items
     c.add_totals.new.nodes.items c.add_gross.new.nodes.items
     c.in_ok-now.ensures.nodes
     (c.in_ok-tops.ensures.nodes ∙ ap (λ es. c.add_lines.new.nodes.items
