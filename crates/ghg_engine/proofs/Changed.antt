@@ -1,14 +1,14 @@
 -- What is gathered of the changes in totals.
-use Rattle.std.proofs.Common.{◌≡◌, ℕ, ◌+◌, ◌<◌, Bool, true, false, cond, ◌||◌, is_some, List, [], ◌∷◌, ◌++◌, length, get_or, take, map, Some, None, Ok, refl, sym, ap, ap₂, ◌∙◌, subst}
+use Rattle.std.proofs.Common.{◌≡◌, ℕ, ◌+◌, ◌<◌, Bool, ◌||◌, List, [], ◌∷◌, ◌++◌, length, get_or, take, map, refl, sym, ap, ap₂, ◌∙◌, subst}
 use Rattle.std.proofs.lemmas.List.{append-nil, append_assoc, get_or_default, map-append}
 use Rattle.std.proofs.lemmas.List.Elements.{filter-append}
 use Rattle.std.proofs.lemmas.List.Folds.{list_any-append}
 use Rattle.ghg_cell.specs.declared.input.Input.{Input}
 use Rattle.ghg_units.specs.declared.node.Node.{Node}
-use Rattle.ghg_definitions.specs.Trials.{Outcomes, is_over, value_of}
+use Rattle.ghg_definitions.specs.Trials.{Outcomes, is_over}
 use Rattle.ghg_graph.proofs.Numbering.{take_next}
 use Rattle.ghg_engine.specs.declared.changes.Changes.{Changes}
-use Rattle.ghg_engine.specs.Changes.{AreChanges, HasMoreChanges, changed_inputs, has_outcome, input_at, or_nothing}
+use Rattle.ghg_engine.specs.Changes.{AreChanges, HasMoreChanges, changed_inputs, has_outcome, input_at}
 
 module _ (fresh : Outcomes) where
   inputs_append : (outcomes : Outcomes) (ns ms : List Node) → changed_inputs fresh outcomes (ns ++ ms) ≡ changed_inputs fresh outcomes ns ++ changed_inputs fresh outcomes ms
@@ -19,13 +19,6 @@ module _ (fresh : Outcomes) where
       two ∙ ap (λ ls. ls ++ changed_inputs fresh outcomes ms) one
       ∙ append_assoc xs (changed_inputs fresh outcomes ns) (changed_inputs fresh outcomes ms)
       ∙ ap (λ ls. xs ++ ls) (sym (inputs_append outcomes ns ms))
-
-  one_input : (outcomes : Outcomes) (n : Node) (b : Bool) → has_outcome fresh n ≡ b → changed_inputs fresh outcomes (n ∷ []) ≡ cond b (input_at outcomes n ∷ []) []
-  one_input outcomes n b e = by (has_outcome fresh n) ∙ ap (λ t. cond t (input_at outcomes n ∷ []) []) e
-    where
-      by : (t : Bool) → map (input_at outcomes) (cond t (n ∷ []) []) ≡ cond t (input_at outcomes n ∷ []) []
-      by true = refl
-      by false = refl
 
   module _ (before : Outcomes) where
     pub nothing_more : (x : Changes) → HasMoreChanges fresh before [] x x
@@ -43,20 +36,6 @@ module _ (fresh : Outcomes) where
       gone = more.gone ∙ ap (λ ls. ls ++ changed_inputs fresh before ns) gone;
       come = more.come ∙ ap (λ ls. ls ++ changed_inputs fresh fresh ns) come;
       none_over = more.none_over;
-    }
-
-    pub one_unchanged : (n : Node) (x : Changes) → fresh n ≡ None → HasMoreChanges fresh before (n ∷ []) x x
-    one_unchanged n x none = record {
-      gone = sym (ap (λ ls. x.gone.items ++ ls) (one_input before n false (ap is_some none)) ∙ append-nil x.gone.items);
-      come = sym (ap (λ ls. x.come.items ++ ls) (one_input fresh n false (ap is_some none)) ∙ append-nil x.come.items);
-      none_over = ap (λ o. is_over o || false) none;
-    }
-
-    pub one_changed : (n : Node) (i : Input) (x y : Changes) → fresh n ≡ Some (Ok i) → y.gone.items ≡ x.gone.items ++ input_at before n ∷ [] → y.come.items ≡ x.come.items ++ i ∷ [] → HasMoreChanges fresh before (n ∷ []) x y
-    one_changed n i x y some gone come = record {
-      gone = gone ∙ ap (λ ls. x.gone.items ++ ls) (sym (one_input before n true (ap is_some some)));
-      come = come ∙ ap (λ (j : Input). x.come.items ++ j ∷ []) (sym (ap (λ o. or_nothing (value_of o)) some)) ∙ ap (λ ls. x.come.items ++ ls) (sym (one_input fresh n true (ap is_some some)));
-      none_over = ap (λ o. is_over o || false) some;
     }
 
     pub next_change : {A : Type 0} (to : A → Node) (xs : List A) (i : ℕ) (x : A) → i < length xs → x ≡ get_or xs i x → (first between last : Changes)

@@ -1,7 +1,7 @@
 -- Runs of values in which that of one year is changed.
 use Rattle.std.proofs.Common.{◌≡◌, ◌≢◌, ℕ, zero, suc, ◌+◌, ◌-◌, ◌<◌, ◌≤◌, ◌==◌, ◌&&◌, Bool, true, false, cond, nat_le, leb-false, leb-true, le-leb, eqb-true, List, [], ◌∷◌, ◌++◌, length, set, is_some, Option, Some, None, refl, sym, ap, ◌∙◌, arith}
 use Rattle.std.specs.List.{slice_get}
-use Rattle.std.proofs.lemmas.Bool.{eqb-false, lt-leb}
+use Rattle.std.proofs.lemmas.Bool.{eqb-false}
 use Rattle.std.proofs.lemmas.Option.{slice_get_past, slice_get_within}
 use Rattle.ghg_cell.specs.declared.input.Input.{Input}
 use Rattle.ghg_engine.specs.Columns.{HasIn, Run, has_place, value_in}
@@ -34,9 +34,6 @@ added_elsewhere (y ∷ ys) (suc j) x apart = added_elsewhere ys j x (λ e. apart
 
 pub value_within : (first year : ℕ) (xs : List Input) → first ≤ year → value_in (record { first = first; values = xs; spare = 0 }) year ≡ slice_get xs (year - first)
 value_within first year xs le = ap (λ b. cond b (slice_get xs (year - first)) None) (le-leb first year le)
-
-pub value_before : (first year : ℕ) (xs : List Input) → (first ≤ year → ⊥) → value_in (record { first = first; values = xs; spare = 0 }) year ≡ None
-value_before first year xs before = ap (λ b. cond b (slice_get xs (year - first)) None) (lt-leb first year (omega (arith, before)))
 
 -- where there is no place there is no value
 pub no_place : (run : Run) (year : ℕ) → has_place run year ≡ false → value_in run year ≡ None
@@ -86,13 +83,3 @@ has_written first year xs x le l = changed first xs (set xs (year - first) x) (y
 
 pub has_added : (first year : ℕ) (xs : List Input) (x : Input) → first ≤ year → year - first ≡ length xs → HasIn (record { first = first; values = xs; spare = 0 }) (record { first = first; values = xs ++ x ∷ []; spare = 0 }) year (Some x)
 has_added first year xs x le at = changed first xs (xs ++ x ∷ []) (length xs) (Some x) (added_there xs x) (λ j. added_elsewhere xs j x) year le (sym at)
-
-pub lacks_last : (first year : ℕ) (xs : List Input) (x : Input) → year ≡ first + length xs → HasIn (record { first = first; values = xs ++ x ∷ []; spare = 0 }) (record { first = first; values = xs; spare = 0 }) year None
-lacks_last first year xs x at = changed first (xs ++ x ∷ []) xs (length xs) None (slice_get_past xs (length xs) (omega arith)) (λ j apart. sym (added_elsewhere xs j x apart)) year (omega (arith, at)) (omega (arith, at))
-
-pub has_last : (first year : ℕ) (xs : List Input) (x : Input) → year ≡ first + length xs → value_in (record { first = first; values = xs ++ x ∷ []; spare = 0 }) year ≡ Some x
-has_last first year xs x at =
-    value_within first year (xs ++ x ∷ []) (omega (arith, at)) ∙ ap (slice_get (xs ++ x ∷ [])) (offset first year at) ∙ added_there xs x
-  where
-    offset : (first year : ℕ) → year ≡ first + length xs → year - first ≡ length xs
-    offset first year at = omega (arith, at)

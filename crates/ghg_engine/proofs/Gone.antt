@@ -100,9 +100,6 @@ pub record AreDroppedSoFar (m : Data) (ks : List RecordKey) (before after : Outc
   pub within : HaveFewer after before
   pub dropped : AreDropped m ks after
 
-pub none_dropped : (m : Data) (outcomes : Outcomes) → AreDroppedSoFar m [] outcomes outcomes
-none_dropped m outcomes = record { nodes_kept = λ n is. refl; within = λ n there. there; dropped = λ name listed. absurd listed }
-
 module _ (m : Data) (ks : List RecordKey) (before outcomes : Outcomes) (so_far : AreDroppedSoFar m ks before outcomes) where
   -- a key of no line
   pub passed_over : (k : RecordKey) → ((name : Name) → k ≡ key.Line name → ⊥) → AreDroppedSoFar m (ks ++ k ∷ []) before outcomes

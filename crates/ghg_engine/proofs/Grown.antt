@@ -5,16 +5,12 @@ use Rattle.std.specs.Option.{option_copied_mut}
 use Rattle.ghg_units.specs.declared.node.Node.{Node}
 use Rattle.ghg_affected.specs.Equalities.{same_node}
 use Rattle.ghg_affected.proofs.Bools.{true_not_false}
-use Rattle.ghg_definitions.specs.Data.{Data}
 use Rattle.ghg_definitions.specs.Formulas.{Outcome}
 use Rattle.ghg_definitions.specs.Trials.{Outcomes}
-use Rattle.ghg_definitions.proofs.OneTrial.{compilation_trial}
 use Rattle.ghg_engine.specs.declared.cells.Cells.{Cells}
 use Rattle.ghg_engine.specs.declared.series.Series.{Series}
 use Rattle.ghg_engine.specs.Cells.{AreWithin, HasGrown, IsReadyFor, cell_at, has_room, has_value, room_at, series_order, with_outcome}
 use Rattle.ghg_engine.specs.Columns.{Run, takes_in}
-use Rattle.ghg_engine.specs.Compiled.{AreOfLines, IsCompiled}
-use Rattle.ghg_engine.proofs.Compiled.{compiled_alike}
 use Rattle.ghg_engine.proofs.Places.{node_same, series_same}
 
 -- ---- one step after another
@@ -46,13 +42,6 @@ module _ (old new : Cells) (grown : HasGrown old new) where
   pub ready_still : (s : Series) (run : Run) → IsReadyFor old s run → IsReadyFor new s run
   ready_still s run (inl has) = inl (grown.room s run has)
   ready_still s run (inr within) = inr (within_still _ within)
-
-  pub of_lines_still : (m : Data) → AreOfLines m (cell_at old) → AreOfLines m (cell_at new)
-  of_lines_still m are = record { present = λ n has. are.present n (sym (ap has_value (grown.values n has)) ∙ has) }
-
-  pub compiled_still : (m : Data) → IsCompiled m (cell_at old) → IsCompiled m (cell_at new)
-  compiled_still m is = compiled_alike m (cell_at old) (cell_at new) (λ n node. grown.outcomes n
-      (ap is_some (is.outcomes_are n node ∙ (compilation_trial m is.acyclic).by_formula n node))) is
 
 -- ---- a place for one more
 

@@ -1,16 +1,15 @@
 -- What columns have once one of them is changed or taken out.
 use Rattle.std.proofs.Common.{◌≡◌, ℕ, ◌-◌, ◌&&◌, ◌==◌, Bool, true, false, cond, nat_le, [], Option, Some, None, Ok, refl, sym, ap, ◌∙◌}
 use Rattle.std.proofs.Math.Path.{fun_ext}
-use Rattle.std.specs.BTreeMap.{BTreeMap, is_at}
+use Rattle.std.specs.BTreeMap.{is_at}
 use Rattle.std.specs.List.{slice_get}
-use Rattle.std.specs.Map.{lookup}
 use Rattle.std.specs.Option.{option_and_then, option_map}
 use Rattle.ghg_cell.specs.declared.input.Input.{Input}
 use Rattle.ghg_units.specs.declared.node.Node.{Node}
 use Rattle.ghg_definitions.specs.Formulas.{Outcome}
 use Rattle.ghg_definitions.specs.Nodes.{year_in}
 use Rattle.ghg_engine.specs.declared.series.Series.{Series}
-use Rattle.ghg_engine.specs.Cells.{IsPut, in_columns, in_runs, in_series, in_year_of, no_outcomes, series_of, series_order, with_outcome}
+use Rattle.ghg_engine.specs.Cells.{IsPut, in_runs, in_series, in_year_of, no_outcomes, series_of, series_order, with_outcome}
 use Rattle.ghg_engine.specs.Columns.{HasIn, IsPutIn, Run, value_in}
 use Rattle.ghg_engine.proofs.Columns.{no_place}
 use Rattle.ghg_engine.proofs.Places.{same_place, series_itself, series_same}
@@ -102,22 +101,10 @@ module _ (old : Series → Option Run) (s : Series) where
   pub was_absent : (year : ℕ) → old s ≡ None → (k : Node) → option_and_then (in_year_of k) (old s) ≡ in_year_of k (record { first = year; values = []; spare = 0 })
   was_absent year is k = ap (option_and_then (in_year_of k)) is ∙ sym (no_values (record { first = year; values = []; spare = 0 }) refl k)
 
-  -- the column is taken out
-  module _ (run : Run) (found : old s ≡ Some run) where
-    pub column_out : (k : Node) → in_series s run k ≡ cond (is_at (series_order s) (series_of k)) (in_runs old k) None
-    column_out k = by (is_at (series_order s) (series_of k)) refl
-      where
-        by : (b : Bool) → is_at (series_order s) (series_of k) ≡ b → cond b (in_year_of k run) None ≡ cond b (in_runs old k) None
-        by true same = sym (there k same ∙ ap (option_and_then (in_year_of k)) found)
-        by false apart = refl
-
   pub columns_left : (new : Series → Option Run) → ((q : Series) → new q ≡ cond (is_at (series_order s) q) None (old q)) → (k : Node) → in_runs new k ≡ cond (is_at (series_order s) (series_of k)) None (in_runs old k)
   columns_left new updates k = updated new None updates k
 
 -- ---- none
-
-pub no_columns : (columns : BTreeMap Series Run) → columns.entries ≡ [] → in_columns columns ≡ no_outcomes
-no_columns columns e = fun_ext (λ k. ap (λ es. option_and_then (in_year_of k) (lookup (is_at (series_order (series_of k))) es)) e)
 
 pub no_series : (s : Series) (run : Run) → run.values ≡ [] → in_series s run ≡ no_outcomes
 no_series s run e = fun_ext (λ k. ap (λ o. cond (is_at (series_order s) (series_of k)) o None) (no_values run e k) ∙ either_none (is_at (series_order s) (series_of k)))

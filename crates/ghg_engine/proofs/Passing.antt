@@ -1,6 +1,6 @@
 -- Of a list those that pass a test are added to a sum.
 use Rattle.std.proofs.Common.{◌≡◌, ℕ, ◌+◌, ◌<◌, Bool, true, false, List, [], ◌∷◌, ◌++◌, filter, if◌then◌else◌, length, get_or, take, drop, map, sym, ap, ◌∙◌, subst}
-use Rattle.std.proofs.lemmas.List.{append-nil, map-append, take-append-drop, take_more}
+use Rattle.std.proofs.lemmas.List.{map-append, take-append-drop, take_more}
 use Rattle.std.proofs.lemmas.List.Elements.{filter-append}
 use Rattle.ghg_cell.specs.declared.input.Input.{Input}
 use Rattle.ghg_units.specs.declared.node.Node.{Node}
@@ -30,18 +30,6 @@ module _ {A : Type 0} (to : A → Node) (p : A → Bool) where
 
     next_passes : p x ≡ true → passing (take (i + 1) xs) ≡ passing (take i xs) ++ to x ∷ []
     next_passes e = next ∙ ap (λ ns. passing (take i xs) ++ ns) (one_passes x e)
-
-    pub passed_by : p x ≡ false → (now : List Input) → AreAdded cells (passing (take i xs)) before now true
-        → AreAdded cells (passing (take (i + 1) xs)) before now true
-    passed_by e now so_far =
-        subst (λ ns. AreAdded cells ns before now true)
-        (sym (next ∙ ap (λ ns. passing (take i xs) ++ ns) (none_passes x e) ∙ append-nil (passing (take i xs)))) so_far
-
-    pub passing_added : p x ≡ true → (between after : List Input) → AreAdded cells (passing (take i xs)) before between true
-        → AreAdded cells (to x ∷ []) between after true → AreAdded cells (passing (take (i + 1) xs)) before after true
-    passing_added e between after so_far one =
-        subst (λ ns. AreAdded cells ns before after true) (sym (next_passes e))
-        (more_added cells (passing (take i xs)) (to x ∷ []) before between after true so_far one)
 
     pub passing_over : p x ≡ true → (between after : List Input) → AreAdded cells (passing (take i xs)) before between true
         → AreAdded cells (to x ∷ []) between after false → AreAdded cells (passing xs) before after false

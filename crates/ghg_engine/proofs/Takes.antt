@@ -51,13 +51,6 @@ covers_years run other c y none = by (value_in other y) refl
 
 -- ---- in place of the own values
 
-pub over_replaced : (run next : Run) → covers next run ≡ true → IsOver next run next
-over_replaced run next c y = by (value_in next y) refl
-  where
-    by : (o : Option Input) → value_in next y ≡ o → o ≡ option_or o (value_in run y)
-    by None e = sym (covers_years next run c y e)
-    by (Some x) e = refl
-
 -- ---- over the own values
 
 module _ (next rest before after : Run) (year : ℕ) (x : Input) (there : value_in next year ≡ Some x) (out : HasIn next rest year None) (put : HasIn before after year (Some x)) where

@@ -1,6 +1,6 @@
 -- Outcomes in which one node's is written or taken out.
 use Rattle.std.proofs.Common.{rules, ◌≡◌, ◌<◌, Bool, true, false, cond, if◌then◌else◌, is_some, IsSome, List, [], ◌∷◌, length, Option, Some, None, Result, Ok, Err, refl, sym, ap, ap₂, subst, ◌∙◌, arith}
-use Rattle.std.specs.Prelude.{IfSome, OnErr, OnOk, is_err}
+use Rattle.std.specs.Prelude.{IfSome, OnOk, is_err}
 use Rattle.std.proofs.Math.Path.{fun_ext}
 use Rattle.std.specs.BTreeMap.{BTreeMap, get, is_at}
 use Rattle.std.specs.Cmp.{eq_by_cmp_equiv}
@@ -26,13 +26,6 @@ module _ (front back : Outcomes) (n : Node) (x : Outcome) where
   put_in_front = fun_ext (λ k. by k (same_node k n))
     where
       by : (k : Node) (b : Bool) → option_or (cond b (Some x) (front k)) (back k) ≡ cond b (Some x) (option_or (front k) (back k))
-      by k true = refl
-      by k false = refl
-
-  pub put_behind : found_in (without front n) (with_outcome back n x) ≡ with_outcome (found_in front back) n x
-  put_behind = fun_ext (λ k. by k (same_node k n))
-    where
-      by : (k : Node) (b : Bool) → option_or (cond b None (front k)) (cond b (Some x) (back k)) ≡ cond b (Some x) (option_or (front k) (back k))
       by k true = refl
       by k false = refl
 
@@ -116,16 +109,6 @@ none_left (x ∷ xs) h = absurd (clash (h (omega arith)))
 pub no_entries : (map : BTreeMap Node Outcome) → map.entries ≡ [] → get node_order map ≡ no_outcomes
 no_entries map e = fun_ext (λ k. ap (lookup (is_at (node_order k))) e)
 
--- ---- what stands behind is moved first, and then what stands in front
-
-module _ (front back kept : Outcomes) where
-  pub back_then_front : found_in front (found_in back kept) ≡ found_in (found_in front back) kept
-  back_then_front = fun_ext (λ n. by n (front n))
-    where
-      by : (n : Node) (o : Option Outcome) → option_or o (option_or (back n) (kept n)) ≡ option_or (option_or o (back n)) (kept n)
-      by n None = refl
-      by n (Some x) = refl
-
 pub some_is : {A : Type 0} (o : Option A) (x : A) → o ≡ Some x → IsSome o
 some_is None x is = absurd (cc)
 some_is (Some y) x is = search rules
@@ -143,20 +126,8 @@ hidden_behind front before after n there others = fun_ext (λ k. by k (same_node
     by k true same = hidden (front k) (after k) (before k) (ap (λ j. is_some (front j)) (node_same k n same) ∙ there)
     by k false apart = ap (option_or (front k)) (others k apart)
 
--- what a part of the front hides, the front hides
-pub part_hides : (front part before after : Outcomes) (is_part : Node → Bool) → ((k : Node) → part k ≡ cond (is_part k) (front k) None) → found_in part after ≡ found_in part before → found_in front after ≡ found_in front before
-part_hides front part before after is_part part_is e = fun_ext (λ k. by k (is_part k) (subst (λ o. option_or o (after k) ≡ option_or o (before k)) (part_is k) (ap (λ (f : Outcomes). f k) e)))
-  where
-    by : (k : Node) (b : Bool) → option_or (cond b (front k) None) (after k) ≡ option_or (cond b (front k) None) (before k) → option_or (front k) (after k) ≡ option_or (front k) (before k)
-    by k true h = h
-    by k false h = ap (option_or (front k)) h
-
 -- an outcome is put at the node, or all is as it was
 module _ {A E : Type 0} (old new : Outcomes) (n : Node) (x : Outcome) where
-  pub put_elsewhere : (r : Result A E) → OnOk r (new ≡ with_outcome old n x) → OnErr r (new ≡ old) → (k : Node) → same_node k n ≡ false → new k ≡ old k
-  put_elsewhere (Ok y) put kept k apart = ap (λ (f : Outcomes). f k) put ∙ ap (λ b. cond b (Some x) (old k)) apart
-  put_elsewhere (Err e) put kept k apart = ap (λ (f : Outcomes). f k) kept
-
   pub put_there : (r : Result A E) → OnOk r (new ≡ with_outcome old n x) → OnOk r (is_some (new n) ≡ true)
   put_there (Ok y) put = ap (λ (f : Outcomes). is_some (f n)) put ∙ ap (λ b. is_some (cond b (Some x) (old n))) (node_itself n)
   put_there (Err e) put = put

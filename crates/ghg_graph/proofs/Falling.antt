@@ -1,5 +1,5 @@
 -- Where numbers do not rise along the links, a line from which they all fall is on no ring.
-use Rattle.std.proofs.Common.{◌≡◌, ℕ, ◌+◌, ◌≤◌, ◌<◌, Bool, true, false, List, [], ◌∷◌, get_or, length, nat_le, nat_lt, set, length-set, get_or-set_other, inl, inr, sym, ◌∙◌, subst, arith}
+use Rattle.std.proofs.Common.{◌≡◌, ℕ, ◌+◌, ◌≤◌, ◌<◌, Bool, true, false, List, [], ◌∷◌, get_or, nat_le, nat_lt, set, length-set, get_or-set_other, inl, inr, sym, ◌∙◌, subst, arith}
 use Rattle.std.specs.List.{list_all}
 use native.Mathlib.Decide.{ℕ_discrete}
 use Prim.{yes, no}
@@ -10,7 +10,6 @@ use Rattle.ghg_definitions.proofs.Chains.{turned}
 use Rattle.ghg_graph.specs.Falling.{IsFalling}
 use Rattle.ghg_graph.specs.Links.{IsLink, IsOnNoRing, Links, targets_of}
 use Rattle.ghg_graph.specs.Stops.{AreClear}
-use Rattle.ghg_graph.proofs.Marks.{link_inside}
 
 -- what holds of all holds of each
 pub each_so : (p : ℕ → Bool) (xs : List ℕ) → list_all p xs ≡ true → (x : ℕ) → IsListed x xs → p x ≡ true
@@ -57,9 +56,6 @@ module _ (links : Links) (numbers : List ℕ) where
     | yes is ↦ subst (λ k. number target ≤ number k) (sym is) (never_rises n e target (subst (λ k. IsLink links k target) is i))
     | no other ↦ before line target (omega arith) i
   ]
-
-  pub falls_all : FallsTo (length links) → IsFalling links numbers
-  falls_all to line target i = to line target (link_inside links line target i) i
 
 -- one line more is marked
 pub clear_more : (links : Links) (marks : List Bool) (line : ℕ) → AreClear links marks → IsOnNoRing links line → AreClear links (set marks line true)

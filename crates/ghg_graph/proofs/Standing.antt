@@ -184,15 +184,6 @@ module _ (lines : List Name) (names old new : BTreeSet Name) (places : List ℕ)
     ahead = still_ahead;
   }
 
--- all lines are left
-pub found_nothing : (lines : List Name) (names : BTreeSet Name) → IsFinding lines names names [] (length lines)
-found_nothing lines names = record {
-  within = omega arith;
-  below = λ place i. absurd i;
-  stand = λ name on. inr on;
-  ahead = λ name on place within named. within;
-}
-
 -- no line is left
 pub found_all : (lines : List Name) (names left : BTreeSet Name) (places : List ℕ) (from : ℕ)
     → IsFinding lines names left places from → ((name : Name) → contains name_cmp names name ≡ true → Contains lines name)
