@@ -25,7 +25,7 @@ use Rattle.ghg_definitions.specs.Lookups.{by_key, given, input_of_figure}
 use Rattle.ghg_definitions.specs.Rings.{taken, taken_by}
 use Rattle.ghg_definitions.proofs.Alike.{both}
 use Rattle.ghg_definitions.proofs.Depth.{or_else}
-use Rattle.ghg_definitions.proofs.Listed.{from_any, from_flat, from_map, listed_flat}
+use Rattle.ghg_definitions.proofs.Listed.{from_any, from_flat, from_map, listed, listed_flat}
 use Rattle.ghg_data.specs.Taken.{figures_taken, lines_taken, named_by}
 use Rattle.ghg_affected.specs.Equalities.{same_equation, same_operand}
 use Rattle.ghg_affected.proofs.Bools.{true_not_false}
@@ -115,9 +115,13 @@ pub potentials_are : (old new : Data) (index : LineIndex) (edited : Edited) → 
 potentials_are old new index edited are year within gas off =
     factor_same old new (potential_name gas) year (λ start h was between. ap as_figure
     (record_or_same old new (key.Factor (potential_name gas) start) (λ there. are.kept (key.Factor (potential_name gas) start)
-    (λ c. off (are.figures (key.Factor (potential_name gas) start) c
-    (or_right (is_taken index.takers.figures (potential_name gas)) _ (is_potential gas)) there year (potential_name gas)
-    within (refl, h, was, between))))))
+    (λ c. off ((are.figures year (potential_name gas) within).1 (record {
+      key = key.Factor (potential_name gas) start;
+      among = listed are.keys (key.Factor (potential_name gas) start) c;
+      used = or_right (is_taken index.takers.figures (potential_name gas)) _ (is_potential gas);
+      there = there;
+      reads = (refl, h, was, between);
+    }))))))
 
 -- ---- lines
 
@@ -160,8 +164,13 @@ module _ (old new : Data) (year : ℕ) (within : is_year_of (span new) year ≡ 
         let under = (is.takers.of_figures figure place).1 (h, named_in figures_taken new name e at q i figure j) in
         record_or_same old new k (λ there. are.kept k (λ c. not_in (candidates.by_figure place (record {
           name = figure;
-          among = are.figures k c (read_is_used old new year index.takers.figures k figure reads
-              (taken_at_place place _ under)) there year figure within reads;
+          among = (are.figures year figure within).1 (record {
+            key = k;
+            among = listed are.keys k c;
+            used = read_is_used old new year index.takers.figures k figure reads (taken_at_place place _ under);
+            there = there;
+            reads = reads;
+          });
           under = under;
         }))))
 

@@ -1,8 +1,7 @@
 -- The activities and factors of which edited records are read, year by year.
-use Rattle.std.specs.Prelude.{◌≡◌, ◌≤◌, ◌+◌, ◌||◌, ℕ, Bool, true, false, is_some, nat_lt, List, [], length}
+use Rattle.std.specs.Prelude.{◌≡◌, ◌≤◌, ◌<◌, ◌+◌, ◌||◌, ◌⊎◌, ◌↔◌, ℕ, Bool, true, false, is_some, nat_lt, List, [], length}
 use Rattle.std.specs.BTreeMap.{get}
 use Rattle.std.specs.FinMap as finite
-use Rattle.std.specs.List.{Contains}
 use Rattle.std.specs.Option.{option_map_or}
 use Rattle.std.specs.Ordering.{nat_cmp}
 use Rattle.ghg_units.specs.Name.{is_potential_name}
@@ -28,10 +27,16 @@ IsReadIn old new year _ figure = ⊥
 abbrev pub names_at : Figures → ℕ → List Name
 names_at figures year = option_map_or (λ v. v.items) (get nat_cmp figures.by_year year) []
 
--- the activity or factor of the key stands under each year of the new data in which its record is read
-abbrev pub HasFigure : Data → Data → RecordKey → Figures → Type 0
-HasFigure old new k figures = (year : ℕ) (name : Name) → is_year_of (span new) year ≡ true →
-    IsReadIn old new year k name → IsListed name (names_at figures year)
+-- the name is put under the years from the first on, up to the end
+abbrev pub IsPutFrom : Name → ℕ → ℕ → Figures → Figures → Type 0
+IsPutFrom name first end old new = (year : ℕ) (other : Name) → IsListed other (names_at new year) ↔
+    (IsListed other (names_at old year) ⊎ ((name ≡ other) × (first ≤ year) × (year < end)))
+
+-- the activity or factor of the key is put under the years of the new data in which its record is read
+abbrev pub AddsFigure : Data → Data → RecordKey → Figures → Figures → Type 0
+AddsFigure old new k before after = (year : ℕ) (name : Name) → is_year_of (span new) year ≡ true →
+    IsListed name (names_at after year) ↔
+    (IsListed name (names_at before year) ⊎ IsReadIn old new year k name)
 
 -- a line takes it
 abbrev pub is_taken : Places → Name → Bool
@@ -47,12 +52,16 @@ is_used takers _ = false
 abbrev pub has_record : Data → Data → RecordKey → Bool
 has_record old new k = is_some (finite.get old k) || is_some (finite.get new k)
 
--- so it is with each key that has a record, and whose activity or factor is used
-abbrev pub HasFigures : Data → Data → Places → List RecordKey → Figures → Type 0
-HasFigures old new takers keys figures = (k : RecordKey) → Contains keys k → is_used takers k ≡ true →
-    has_record old new k ≡ true → HasFigure old new k figures
+-- in the year a record of it is read, of one of the keys, where it is used
+pub record IsReadOf (old new : Data) (takers : Places) (keys : List RecordKey) (year : ℕ) (name : Name)
+    : Type 0 where
+  pub key : RecordKey
+  pub among : IsListed key keys
+  pub used : is_used takers key ≡ true
+  pub there : has_record old new key ≡ true
+  pub reads : IsReadIn old new year key name
 
--- what stands under a year stays there
-abbrev pub KeepsFigures : Figures → Figures → Type 0
-KeepsFigures old new = (year : ℕ) (name : Name) → IsListed name (names_at old year) →
-    IsListed name (names_at new year)
+-- under each year of the new data stand those of which a record is so read, and no others
+abbrev pub AreFigures : Data → Data → Places → List RecordKey → Figures → Type 0
+AreFigures old new takers keys figures = (year : ℕ) (name : Name) → is_year_of (span new) year ≡ true →
+    IsListed name (names_at figures year) ↔ IsReadOf old new takers keys year name

@@ -22,7 +22,7 @@ use Rattle.ghg_affected.specs.Affected.{affected_within}
 use Rattle.ghg_affected.specs.Equalities.{same_input, same_operand}
 use Rattle.ghg_graph.specs.Candidates.{AllBelow, IsIn, IsTaker}
 use Rattle.ghg_graph.specs.Changed.{HasChanged, StandsAmong}
-use Rattle.ghg_graph.specs.Figures.{HasFigures}
+use Rattle.ghg_graph.specs.Figures.{AreFigures}
 use Rattle.ghg_graph.specs.Moves.{AreMoved}
 use Rattle.ghg_graph.specs.Numbers.{name_at}
 use Rattle.ghg_graph.specs.Tops.{has_top}
@@ -96,7 +96,7 @@ pub record AreEdited (old new : Data) (index : LineIndex) (edited : Edited) : Ty
   pub kept : (k : RecordKey) → (Contains keys k → ⊥) → get old k ≡ get new k
   pub changed : HasChanged keys index.lines.items edited.changed.items
   pub within : AllBelow (length index.lines.items) edited.changed.items
-  pub figures : HasFigures old new index.takers.figures keys edited.figures
+  pub figures : AreFigures old new index.takers.figures keys edited.figures
   pub moved : AreMoved old new edited.moved
   pub years : AreYears old new edited.years
 

@@ -1,11 +1,10 @@
 //! The activities and factors of which edited records are read, year by year.
 
-ghost use Rattle.std.specs.Prelude.{◌≡◌, ◌≤◌, ◌<◌, ◌+◌, ◌++◌, ◌∷◌, ◌&&◌, ℕ, [], true, false, Some, if◌then◌else◌, IfOk, OnOk};
+ghost use Rattle.std.specs.Prelude.{◌≡◌, ◌≤◌, ◌<◌, ◌↔◌, ◌+◌, ◌++◌, ◌∷◌, ◌&&◌, ℕ, [], true, false, Some, if◌then◌else◌, IfOk, OnOk};
 ghost use Rattle.std.specs.Ordering.{is_eq, nat_cmp};
 ghost use Rattle.ghg_units.specs.Name.{is_potential_name};
 ghost use Rattle.ghg_units.specs.WellFormed.{IsSpan};
 ghost use Rattle.ghg_definitions.specs.Data.{span};
-ghost use Rattle.ghg_definitions.specs.Listed.{IsListed};
 ghost use Rattle.ghg_data.specs.Lasting.{NoneStartsBetween};
 ghost use Rattle.ghg_graph.specs.Figures.{has_record, is_taken, is_used};
 
@@ -23,7 +22,7 @@ pub(crate) struct Figures {
 }
 
 impl Figures {
-    ghost use Rattle.ghg_graph.specs.Figures.{HasFigure, HasFigures, KeepsFigures, names_at};
+    ghost use Rattle.ghg_graph.specs.Figures.{AddsFigure, AreFigures, IsPutFrom, names_at};
 
     /// Those of keys, for each year of the span. `takers` are the lines that take each activity and factor.
     pub(crate) fn of<R: Records, S: Records>(
@@ -36,7 +35,7 @@ impl Figures {
     ) -> Result<Figures, AllocError>
         requires span { span (S.content new.now) ≡ Some years }
         requires years { IsSpan years }
-        ensures { IfOk result (HasFigures (R.content old.now) (S.content new.now) takers.now keys.now) }
+        ensures { IfOk result (AreFigures (R.content old.now) (S.content new.now) takers.now keys.now) }
     {
         let mut figures = Figures {
             by_year: BTreeMap::new(alloc),
@@ -69,10 +68,9 @@ impl Figures {
     ) -> Result<(), AllocError>
         requires span { span (S.content new.now) ≡ Some years }
         requires years { IsSpan years }
-        ensures kept { OnOk result (KeepsFigures self.old self.new) }
-        ensures added { OnOk result (is_used takers.now key.now ≡ true → has_record (R.content old.now)
-            (S.content new.now) key.now ≡ true → HasFigure (R.content old.now) (S.content new.now) key.now
-            self.new) }
+        ensures added { OnOk result ((is_used takers.now key.now && has_record (R.content old.now)
+            (S.content new.now) key.now) ≡ true → AddsFigure (R.content old.now) (S.content new.now) key.now
+            self.old self.new) }
         ensures others { OnOk result ((is_used takers.now key.now && has_record (R.content old.now)
             (S.content new.now) key.now) ≡ false → self.new ≡ self.old) }
     {
@@ -93,8 +91,7 @@ impl Figures {
     ) -> Result<(), AllocError>
         requires span { span (S.content new.now) ≡ Some years }
         requires years { IsSpan years }
-        ensures kept { OnOk result (KeepsFigures self.old self.new) }
-        ensures added { OnOk result (HasFigure (R.content old.now) (S.content new.now) key.now self.new) }
+        ensures { OnOk result (AddsFigure (R.content old.now) (S.content new.now) key.now self.old self.new) }
     {
         match key {
             RecordKey::Activity(name, year) => self.put(*name, *year),
@@ -110,9 +107,7 @@ impl Figures {
 
     // Puts a name under each year from the first on, up to the end.
     fn put_each(&mut self, name: Name, first: u32, end: u32) -> Result<(), AllocError>
-        ensures kept { OnOk result (KeepsFigures self.old self.new) }
-        ensures added { OnOk result ((year : ℕ) → first ≤ year → year < end →
-            IsListed name (names_at self.new year)) }
+        ensures { OnOk result (IsPutFrom name first end self.old self.new) }
     {
         for year in first..end {
             self.put(name, year)?;
@@ -164,8 +159,8 @@ pub(crate) fn is_potential(name: &Name) -> bool
 // The year behind the last one of the span in which a factor's record that starts in a year may be in force.
 fn end_of<R: Records>(records: &R, name: &Name, start: u32, years: Span) -> u32
     requires { IsSpan years }
-    ensures { (year : ℕ) → year ≤ years.last →
-        NoneStartsBetween (R.content records.now) name.now start (year + 1) → year < result }
+    ensures { (year : ℕ) → year ≤ years.last → (year < result) ↔
+        NoneStartsBetween (R.content records.now) name.now start (year + 1) }
 {
     let end = years.last + 1;
     match records.next_start(name, start) {
@@ -175,13 +170,13 @@ fn end_of<R: Records>(records: &R, name: &Name, start: u32, years: Span) -> u32
 }
 
 fn later(year: u32, other: u32) -> u32
-    ensures { (k : ℕ) → year ≤ k → other ≤ k → result ≤ k }
+    ensures { (k : ℕ) → (result ≤ k) ↔ ((year ≤ k) × (other ≤ k)) }
 {
     if year < other { other } else { year }
 }
 
 fn earlier(year: u32, other: u32) -> u32
-    ensures { (k : ℕ) → k < year → k < other → k < result }
+    ensures { (k : ℕ) → (k < result) ↔ ((k < year) × (k < other)) }
 {
     if year < other { year } else { other }
 }
