@@ -179,4 +179,14 @@ candidates_are index changed figures before none a b c empty below by_figures by
   by_change = λ place i. third.kept place (second.kept place (first.added place i (omega arith)));
   by_figure = λ place taker. third.kept place (second.added place taker);
   by_line = third.added;
+  only = λ place is. elim (third.only place is) [
+    | inr taker ↦ inr (inr taker)
+    | inl is ↦ elim (second.only place is) [
+      | inr taker ↦ inr (inl taker)
+      | inl is ↦ elim (first.only place is) [
+        | inl is ↦ absurd (none_in none place empty is)
+        | inr j ↦ inl j.0
+      ]
+    ]
+  ];
 }

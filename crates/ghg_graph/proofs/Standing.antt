@@ -9,16 +9,36 @@ use Rattle.ghg_definitions.specs.declared.record.RecordKey.{RecordKey}
 use Rattle.ghg_definitions.specs.declared.record.RecordKey.TheVariants as key
 use Rattle.ghg_definitions.specs.Data.{Data, Name, line, name_cmp}
 use Rattle.ghg_definitions.specs.Listed.{IsListed}
-use Rattle.ghg_definitions.proofs.Listed.{from_filter_map, in_either, listed, listed_any, listed_filter_map, listed_left, listed_right}
+use Rattle.ghg_definitions.proofs.Listed.{contained, from_any, from_filter_map, in_either, listed, listed_any, listed_filter_map, listed_left, listed_right}
 use Rattle.ghg_affected.proofs.Bools.{true_not_false}
 use Rattle.ghg_graph.specs.Numbers.{name_at}
 use Rattle.ghg_graph.specs.Ordering.{IsLineOrder}
-use Rattle.ghg_graph.specs.Changed.{HasChanged, IsAbout, StandsAmong, is_span, present_line}
+use Rattle.ghg_graph.specs.Changed.{HasChanged, IsAbout, IsChangedAt, StandsAmong, is_span, present_line}
 use Rattle.ghg_graph.specs.Candidates.{AllBelow}
 use Rattle.ghg_graph.proofs.Distinct.{behind_at, one_place}
 use Rattle.ghg_graph.proofs.Marking.{equal_itself, names_equal}
 use Rattle.ghg_graph.proofs.Membership.{key_listed, listed_key}
 use Rattle.ghg_graph.proofs.Named.{number_in, number_is}
+
+-- ---- the key of the years
+
+about_each : (k : RecordKey) (name : Name) → is_span k ≡ true → IsAbout k name
+about_each key.Span name e = tt
+about_each (key.Line other) name e = absurd (true_not_false (sym e))
+about_each (key.Bind other parameter) name e = absurd (true_not_false (sym e))
+about_each (key.Activity other year) name e = absurd (true_not_false (sym e))
+about_each (key.Factor other start) name e = absurd (true_not_false (sym e))
+about_each (key.Uncert other) name e = absurd (true_not_false (sym e))
+
+pub changed_by_span : (keys : List RecordKey) (lines : List Name) (place : ℕ) → list_any is_span keys ≡ true
+    → IsChangedAt keys lines place
+changed_by_span keys lines place has =
+    let found = from_any is_span keys has in
+    record {
+      key = found.0;
+      among = contained keys found.0 found.1;
+      about = about_each found.0 (name_at lines place) found.2;
+    }
 
 -- ---- the names of the keys
 
@@ -32,6 +52,21 @@ module _ (m : Data) where
           → is_some (line m name) ≡ true
       by true here e = let same : other ≡ name = cc in subst (λ z. is_some (line m z) ≡ true) same here
       by false off e = absurd (cc)
+
+  about_named : (other name : Name) → (if is_some (line m other) then Some other else None) ≡ Some name → other ≡ name
+  about_named other name e = by (is_some (line m other)) e
+    where
+      by : (b : Bool) → (if b then Some other else None) ≡ Some name → other ≡ name
+      by true e = cc
+      by false e = absurd (cc)
+
+  pub key_about : (k : RecordKey) (name : Name) → present_line m k ≡ Some name → IsAbout k name
+  key_about (key.Line other) name e = about_named other name e
+  key_about (key.Bind other parameter) name e = about_named other name e
+  key_about key.Span name e = tt
+  key_about (key.Activity other year) name e = absurd (cc)
+  key_about (key.Factor other start) name e = absurd (cc)
+  key_about (key.Uncert other) name e = absurd (cc)
 
   pub key_present : (k : RecordKey) (name : Name) → present_line m k ≡ Some name → is_some (line m name) ≡ true
   key_present (key.Line other) name e = named other name e
@@ -48,6 +83,18 @@ module _ (m : Data) (keys : List RecordKey) (lines : List Name) (order : IsLineO
       let from = from_filter_map (present_line m) name keys
       (subst (IsListed name) all (key_listed exact_bytes name names (sym (is.0 name) ∙ on))) in
       order.complete name (key_present m from.0 name from.2)
+
+  pub changed_only : (places : List ℕ)
+      → ((place : ℕ) → IsListed place places → contains name_cmp s (name_at lines place) ≡ true)
+      → (place : ℕ) → IsListed place places → IsChangedAt keys lines place
+  changed_only places only place i =
+      let from = from_filter_map (present_line m) (name_at lines place) keys (subst (IsListed (name_at lines place)) all
+      (key_listed exact_bytes (name_at lines place) names (sym (is.0 (name_at lines place)) ∙ only place i))) in
+      record {
+        key = from.0;
+        among = contained keys from.0 from.1;
+        about = key_about m from.0 (name_at lines place) from.2;
+      }
 
   -- each is the line of a key or of a binding, where no key is that of the years
   name_of : list_any is_span keys ≡ false → (k : RecordKey) (name : Name) → Contains keys k → is_some (line m name) ≡ true
@@ -104,6 +151,8 @@ pub record IsFinding (lines : List Name) (names left : BTreeSet Name) (places : 
   pub below : AllBelow (length lines) places
   pub stand : (name : Name) → contains name_cmp names name ≡ true →
       StandsAmong places lines name ⊎ (contains name_cmp left name ≡ true)
+  pub left_of : (name : Name) → contains name_cmp left name ≡ true → contains name_cmp names name ≡ true
+  pub only : (place : ℕ) → IsListed place places → contains name_cmp names (name_at lines place) ≡ true
   -- those that are left stand before
   pub ahead : (name : Name) → contains name_cmp left name ≡ true → (place : ℕ) → place < length lines
       → name_at lines place ≡ name → place < from
@@ -140,8 +189,17 @@ module _ (lines : List Name) (names old new : BTreeSet Name) (places : List ℕ)
       by true same = inl (names_equal x name same)
       by false apart = inr (updates.0 name ∙ ap (λ b. cond b false (contains name_cmp old name)) apart ∙ on)
 
-  pub found_one : IsFinding lines names new (places ++ next ∷ []) next
-  found_one = record {
+  pub found_one : contains name_cmp old x ≡ true → IsFinding lines names new (places ++ next ∷ []) next
+  found_one there = record {
+    left_of = λ name on. was.left_of name (less_left name on).0;
+    only = λ place i. elim (in_either place places (next ∷ []) i) [
+      | inl j ↦ was.only place j
+      | inr j ↦ elim j [
+        | inl same ↦ subst (λ p. contains name_cmp names (name_at lines p) ≡ true) (sym same)
+            (was.left_of (name_at lines next) (subst (λ n. contains name_cmp old n ≡ true) x_at there))
+        | inr none ↦ absurd none
+      ]
+    ];
     within = let w = was.within in omega (arith, w, e);
     below = λ place i. elim (in_either place places (next ∷ []) i) [
       | inl j ↦ was.below place j
@@ -172,6 +230,8 @@ module _ (lines : List Name) (names old new : BTreeSet Name) (places : List ℕ)
 
   pub found_none : contains name_cmp old x ≡ false → IsFinding lines names new places next
   found_none absent = record {
+    left_of = λ name on. was.left_of name (less_left name on).0;
+    only = was.only;
     within = let w = was.within in omega (arith, w, e);
     below = was.below;
     stand = λ name on. elim (was.stand name on) [

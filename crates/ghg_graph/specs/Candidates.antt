@@ -45,3 +45,5 @@ pub record AreCandidates (index : LineIndex) (changed : List ℕ) (figures befor
   pub by_change : (place : ℕ) → IsListed place changed → IsIn places place
   pub by_figure : (place : ℕ) → IsTaker index.takers.figures figures place → IsIn places place
   pub by_line : (place : ℕ) → IsTaker index.takers.lines before place → IsIn places place
+  pub only : (place : ℕ) → IsIn places place → IsListed place changed ⊎
+      (IsTaker index.takers.figures figures place ⊎ IsTaker index.takers.lines before place)

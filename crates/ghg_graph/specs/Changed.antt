@@ -24,6 +24,12 @@ abbrev pub HasChanged : List RecordKey → List Name → List ℕ → Type 0
 HasChanged keys lines places = (k : RecordKey) (place : ℕ) → Contains keys k → place < length lines →
     IsAbout k (name_at lines place) → IsListed place places
 
+-- one of the keys is about the line at the place
+pub record IsChangedAt (keys : List RecordKey) (lines : List Name) (place : ℕ) : Type 0 where
+  pub key : RecordKey
+  pub among : Contains keys key
+  pub about : IsAbout key (name_at lines place)
+
 -- the line of the key, or of the binding, if it is present
 abbrev pub present_line : Data → RecordKey → Option Name
 present_line m (key.Line name) = if is_some (line m name) then Some name else None

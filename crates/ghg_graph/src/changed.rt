@@ -6,7 +6,8 @@ ghost use Rattle.std.specs.List.{Contains, list_any};
 ghost use Rattle.ghg_definitions.specs.Data.{Name, name_cmp};
 ghost use Rattle.ghg_definitions.specs.Listed.{IsListed};
 ghost use Rattle.ghg_graph.specs.Candidates.{AllBelow};
-ghost use Rattle.ghg_graph.specs.Changed.{HasChanged, StandsAmong, is_span, present_line, present_lines};
+ghost use Rattle.ghg_graph.specs.Changed.{HasChanged, IsChangedAt, StandsAmong, is_span, present_line, present_lines};
+ghost use Rattle.ghg_graph.specs.Numbers.{name_at};
 ghost use Rattle.ghg_graph.specs.Ordering.{IsLineOrder};
 
 use crate::numbers::equation_of;
@@ -27,6 +28,8 @@ pub(crate) fn changed_places<S: Records>(
 ) -> Result<Vec<usize>, AllocError>
     requires { IsLineOrder (S.content new.now) lines.now }
     ensures changed { IfOk result (λ places. HasChanged keys.now lines.now places.items) }
+    ensures only { IfOk result (λ places. (place : ℕ) → IsListed place places.items →
+        IsChangedAt keys.now lines.now place) }
     ensures within { IfOk result (λ places. AllBelow (length lines.now) places.items) }
 {
     if has_span(keys) {
@@ -89,6 +92,8 @@ fn places_in(alloc: Global, lines: &[Name], names: BTreeSet<Name>) -> Result<Vec
     requires { (name : Name) → contains name_cmp names name ≡ true → Contains lines.now name }
     ensures stand { IfOk result (λ places. (name : Name) → contains name_cmp names name ≡ true →
         StandsAmong places.items lines.now name) }
+    ensures only { IfOk result (λ places. (place : ℕ) → IsListed place places.items →
+        contains name_cmp names (name_at lines.now place) ≡ true) }
     ensures within { IfOk result (λ places. AllBelow (length lines.now) places.items) }
 {
     let mut left = names;

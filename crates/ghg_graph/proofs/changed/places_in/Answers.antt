@@ -19,7 +19,7 @@ loop-from-preserved-in-Continue-1 c =
     subst (λ ps. IsFinding lines c.args.names c.remove.new.self ps (from - 1)) (sym c.in_ok-push.ensures.items)
     (found_one lines c.args.names c.loop-from.left c.remove.new.self c.loop-from.places.items from (from - 1)
     c.loop-from.invariant one x (c.index-lines-from.is ∙ get_or_default lines (from - 1) x [] (omega (arith, some, less)))
-    c.remove.ensures.updates)
+    c.remove.ensures.updates (sym c.remove.ensures.test ∙ c.if-remove.true))
 
 pub loop-from-preserved : goal.loop-from-preserved
 loop-from-preserved c =
