@@ -108,6 +108,10 @@ cell_at cells n = option_or (get node_order cells.aside n) (in_columns cells.col
 
 -- ---- room for more
 
+-- the series has a column
+abbrev pub has_column : Cells → Series → Bool
+has_column cells s = is_some (get series_order cells.columns s)
+
 -- whether the column of a series, if it has one, can take over the values without memory
 abbrev pub has_room : Option Run → Run → Bool
 has_room None run = false

@@ -3,7 +3,7 @@
 ghost use Rattle.std.specs.Prelude.{◌≡◌, is_some, true, IfNone, IfOk, IfSome, IsSome, Ok, OnOk};
 ghost use Rattle.std.specs.BTreeMap as tree;
 ghost use Rattle.std.specs.Option.{option_map};
-ghost use Rattle.ghg_engine.specs.Cells.{AreApart, AreWithin, HasGrown, IsReadyFor, KeepsOtherRoom, KeepsRoom, cell_at, found_in, in_series, no_outcomes, node_order, outcome_behind, room_at, series_of, with_outcome, without_series};
+ghost use Rattle.ghg_engine.specs.Cells.{AreApart, AreWithin, HasGrown, IsReadyFor, KeepsOtherRoom, KeepsRoom, cell_at, found_in, has_column, in_series, no_outcomes, node_order, outcome_behind, room_at, series_of, with_outcome, without_series};
 
 use crate::column::Column;
 use crate::series::{Series, year_of};
@@ -66,7 +66,8 @@ impl Cells {
 
     // Gives a series a column without values, if it has none.
     fn make_column(&mut self, series: &Series) -> Result<(), AllocError>
-        ensures { HasGrown self.old self.new }
+        ensures grown { HasGrown self.old self.new }
+        ensures column { OnOk result (has_column self.new series.now ≡ true) }
     {
         if self.columns.contains_key(series) {
             return Ok(());

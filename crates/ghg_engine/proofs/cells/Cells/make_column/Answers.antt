@@ -6,11 +6,11 @@ use Rattle.ghg_engine.proofs.Taken.{empty_column}
 use Rattle.ghg_engine.proofs.Written.{none_is}
 use Rattle.ghg_engine.proofs.cells.Cells.make_column.Goals as goal
 
-pub returns-then-contains_key : goal.returns-then-contains_key
-returns-then-contains_key c = not_grown c.args.self.now
+pub returns-then-contains_key-clause-grown : goal.returns-then-contains_key-clause-grown
+returns-then-contains_key-clause-grown c = not_grown c.args.self.now
 
-pub returns : goal.returns
-returns c =
+pub returns-clause-grown : goal.returns-clause-grown
+returns-clause-grown c =
     let old = c.args.self.now in
     let new = record old { columns = c.insert.new.self } in
     let s = c.args.series.now in
