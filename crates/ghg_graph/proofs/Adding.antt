@@ -10,8 +10,9 @@ use Rattle.ghg_definitions.specs.Data.{Name}
 use Rattle.ghg_definitions.specs.Listed.{IsListed}
 use Rattle.ghg_definitions.proofs.Listed.{in_either, listed_left, listed_right}
 use Rattle.ghg_affected.proofs.Bools.{true_not_false}
-use Rattle.ghg_graph.specs.Candidates.{AllBelow, AreAdded, AreCandidates, AreTakersAdded, AreWithin, IsIn}
+use Rattle.ghg_graph.specs.Candidates.{AreAdded, AreCandidates, AreInRange, AreTakersAdded, IsCandidate, IsIn}
 use Rattle.ghg_graph.specs.Takers.{places_of}
+use Rattle.ghg_graph.specs.declared.differing.Differing.{Differing}
 use Rattle.ghg_graph.specs.declared.index.LineIndex.{LineIndex}
 use Rattle.ghg_graph.specs.declared.takers.Places.{Places}
 use Rattle.ghg_graph.proofs.Membership.{key_listed}
@@ -157,36 +158,72 @@ takers_one takers names i x old s t h e before more = record {
   ];
 }
 
--- ---- the first candidates
+-- ---- candidates
 
-pub candidates_are : (index : LineIndex) (changed : List ℕ) (figures before : List Name) (none a b c : BTreeSet ℕ)
-    → none.keys ≡ [] → AllBelow (length index.lines.items) changed
-    → AreWithin (length index.lines.items) index.takers.figures
-    → AreWithin (length index.lines.items) index.takers.lines
-    → AreAdded 0 changed none a → AreTakersAdded index.takers.figures figures a b
-    → AreTakersAdded index.takers.lines before b c → AreCandidates index changed figures before c
-candidates_are index changed figures before none a b c empty below by_figures by_lines first second third = record {
-  within = λ place is. elim (third.only place is) [
-    | inr taker ↦ by_lines taker.name place taker.under
-    | inl is ↦ elim (second.only place is) [
-      | inr taker ↦ by_figures taker.name place taker.under
-      | inl is ↦ elim (first.only place is) [
-        | inl is ↦ absurd (none_in none place empty is)
-        | inr j ↦ below place j.0
+pub candidates_are : (index : LineIndex) (changed : BTreeSet ℕ) (d : Differing) (before : List Name) (a b c e f : BTreeSet ℕ)
+    → ((place : ℕ) → contains nat_cmp a place ≡ contains nat_cmp changed place)
+    → AreTakersAdded index.takers.activities d.activities.keys a b
+    → AreTakersAdded index.takers.factors d.factors.keys b c
+    → AreTakersAdded index.takers.factors d.decays.keys c e
+    → AreTakersAdded index.takers.previous before e f → AreCandidates index changed d before f
+candidates_are index changed d before a b c e f copied activities factors decays previous place = (to, back)
+  where
+    to : IsIn f place → IsCandidate index changed d before place
+    to is = elim (previous.only place is) [
+      | inr taker ↦ inr (inr taker)
+      | inl is ↦ elim (decays.only place is) [
+        | inr taker ↦ inr (inl (inr (inr taker)))
+        | inl is ↦ elim (factors.only place is) [
+          | inr taker ↦ inr (inl (inr (inl taker)))
+          | inl is ↦ elim (activities.only place is) [
+            | inr taker ↦ inr (inl (inl taker))
+            | inl is ↦ inl (sym (copied place) ∙ is)
+          ]
+        ]
       ]
     ]
-  ];
-  by_change = λ place i. third.kept place (second.kept place (first.added place i (omega arith)));
-  by_figure = λ place taker. third.kept place (second.added place taker);
-  by_line = third.added;
-  only = λ place is. elim (third.only place is) [
-    | inr taker ↦ inr (inr taker)
-    | inl is ↦ elim (second.only place is) [
-      | inr taker ↦ inr (inl taker)
-      | inl is ↦ elim (first.only place is) [
-        | inl is ↦ absurd (none_in none place empty is)
-        | inr j ↦ inl j.0
-      ]
+
+    from_factors : IsIn c place → IsIn f place
+    from_factors is = previous.kept place (decays.kept place is)
+
+    back : IsCandidate index changed d before place → IsIn f place
+    back (inl is) = from_factors (factors.kept place (activities.kept place (copied place ∙ is)))
+    back (inr (inl (inl taker))) = from_factors (factors.kept place (activities.added place taker))
+    back (inr (inl (inr (inl taker)))) = from_factors (factors.added place taker)
+    back (inr (inl (inr (inr taker)))) = previous.kept place (decays.added place taker)
+    back (inr (inr taker)) = previous.added place taker
+
+pub candidate_within : (index : LineIndex) (changed : BTreeSet ℕ) (d : Differing) (before : List Name) → AreInRange index changed
+    → (place : ℕ) → IsCandidate index changed d before place → place < length index.lines.items
+candidate_within index changed d before range place (inl is) = range.changed_ones place is
+candidate_within index changed d before range place (inr (inl (inl taker))) = range.of_activities taker.name place taker.under
+candidate_within index changed d before range place (inr (inl (inr (inl taker)))) = range.of_factors taker.name place taker.under
+candidate_within index changed d before range place (inr (inl (inr (inr taker)))) = range.of_factors taker.name place taker.under
+candidate_within index changed d before range place (inr (inr taker)) = range.of_previous taker.name place taker.under
+
+-- ---- all places below a number
+
+-- they are those below the number
+abbrev pub AreBelow : ℕ → BTreeSet ℕ → Type 0
+AreBelow count places = (place : ℕ) → IsIn places place ↔ (place < count)
+
+pub none_below : (places : BTreeSet ℕ) → places.keys ≡ [] → AreBelow 0 places
+none_below places empty place = (λ is. absurd (none_in places place empty is), λ h. absurd (omega (arith, h)))
+
+next_or_below : (place next : ℕ) → place < next + 1 → (place < next) ⊎ (place ≡ next)
+next_or_below place next h = grind (arith, h)
+
+pub one_below : (next : ℕ) (s t : BTreeSet ℕ) → AreBelow next s → Updates nat_cmp s t next true → AreBelow (next + 1) t
+one_below next s t below updates place = (to, back)
+  where
+    to : IsIn t place → place < next + 1
+    to is = elim (comes s t next updates place is) [
+      | inl was ↦ let h = (below place).0 was in omega (arith, h)
+      | inr same ↦ omega (arith, same)
     ]
-  ];
-}
+
+    back : place < next + 1 → IsIn t place
+    back h = elim (next_or_below place next h) [
+      | inl before ↦ stays s t next updates place ((below place).1 before)
+      | inr same ↦ subst (IsIn t) (sym same) (is_in s t next updates)
+    ]

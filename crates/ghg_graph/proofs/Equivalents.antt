@@ -1,11 +1,11 @@
 -- The equivalents that are reached in a year.
-use Rattle.std.proofs.Common.{◌≡◌, ◌⊎◌, ℕ, ◌+◌, ◌<◌, Bool, true, false, cond, not, List, [], ◌∷◌, ◌++◌, filter, get_or, is_eq, length, map, option_and_then, is_some, take, Option, Some, None, inl, inr, refl, sym, ap, ap₂, ◌∙◌, subst}
+use Rattle.std.proofs.Common.{◌≡◌, ◌⊎◌, ℕ, ◌+◌, ◌<◌, Bool, true, false, cond, List, [], ◌∷◌, ◌++◌, filter, get_or, is_eq, length, map, option_and_then, is_some, take, Option, Some, None, inl, inr, refl, sym, ap, ap₂, ◌∙◌, subst}
 use Rattle.std.proofs.lemmas.List.Elements.{filter_map-append}
 use Rattle.std.proofs.lemmas.List.Kept.{IsStrictlySortedBy-filter}
 use Rattle.std.proofs.lemmas.Map.Lookups.{btree_set_from_contains, exact_bytes}
 use Rattle.std.specs.BTreeSet.{BTreeSet, IsOrdered, Updates, contains}
 use Rattle.std.specs.Cmp.Lexicographic.{nat_list_cmp_total}
-use Rattle.std.specs.List.{Contains, cons_option, filter_map, list_any}
+use Rattle.std.specs.List.{Contains, cons_option, filter_map}
 use Rattle.std.specs.Option.{option_map, option_to_list}
 use Rattle.ghg_categories.specs.declared.category.Category.{Category}
 use Rattle.ghg_equations.specs.declared.eq_id.EqId.{EqId}
@@ -19,18 +19,18 @@ use Rattle.ghg_definitions.specs.Compilation.{emits, gas_lines, is_year_of, line
 use Rattle.ghg_definitions.specs.Data.{Data, Name, category, line, line_names, name_cmp, span}
 use Rattle.ghg_definitions.specs.Listed.{IsListed}
 use Rattle.ghg_definitions.specs.Lookups.{factor_input, given}
-use Rattle.ghg_definitions.proofs.Alike.{both, second_so}
+use Rattle.ghg_definitions.proofs.Alike.{both}
 use Rattle.ghg_definitions.proofs.Depth.{or_else}
 use Rattle.ghg_definitions.proofs.Lines.{lines_sorted}
 use Rattle.ghg_definitions.proofs.Listed.{contained, from_filter, listed, listed_filter}
 use Rattle.ghg_definitions.proofs.NodeLists.{emitting, gas_lines_are}
-use Rattle.ghg_affected.specs.Equalities.{same_input}
 use Rattle.ghg_affected.proofs.Bools.{true_not_false}
 use Rattle.ghg_graph.specs.Candidates.{AreWithin}
 use Rattle.ghg_graph.specs.Changed.{StandsAmong}
 use Rattle.ghg_graph.specs.Index.{IsLineIndex}
 use Rattle.ghg_graph.specs.Numbers.{name_at}
-use Rattle.ghg_graph.specs.Reached.{AreLinesAdded, ArePotentials, AreWithEmitters, HasReached, StandsUnder, is_differing, is_reached, reached_categories}
+use Rattle.ghg_graph.specs.Differing.{ArePotentials, factor_differs}
+use Rattle.ghg_graph.specs.Reached.{AreLinesAdded, AreWithEmitters, HasReached, StandsUnder, is_reached, reached_categories}
 use Rattle.ghg_graph.specs.Takers.{places_of, potentials_of}
 use Rattle.ghg_graph.specs.Tops.{AreTops}
 use Rattle.ghg_graph.specs.declared.index.LineIndex.{LineIndex}
@@ -41,7 +41,7 @@ use Rattle.ghg_graph.proofs.Marking.{equal_itself, names_equal}
 use Rattle.ghg_graph.proofs.Membership.{key_listed, listed_key}
 use Rattle.ghg_graph.proofs.Named.{number_in, number_is}
 use Rattle.ghg_graph.proofs.Numbering.{take_next}
-use Rattle.ghg_graph.proofs.Reaching.{by_line, by_potential, input_itself, same_truth, was_there}
+use Rattle.ghg_graph.proofs.Reaching.{by_line, by_potential, same_truth, was_there}
 
 pub is_potential : (g : Gas) → is_potential_name (potential_name g) ≡ true
 is_potential gas.Co2 = refl
@@ -51,9 +51,6 @@ is_potential gas.Cf4 = refl
 is_potential gas.C2f6 = refl
 
 -- ---- lines that are added
-
-pub lines_none : (all : List Name) (s : BTreeSet Name) → AreLinesAdded all [] s s
-lines_none all s = λ name. (λ on. inl on, λ e. elim e [ inl on ↦ on | inr w ↦ absurd w.among ])
 
 pub lines_one : (all : List Name) (places : List ℕ) (i x : ℕ) (old s t : BTreeSet Name) → i < length places
     → x ≡ get_or places i x → x < length all → AreLinesAdded all (take i places) old s
@@ -104,14 +101,6 @@ lines_one all places i x old s t h e low before updates = λ name. (to name, bac
       })))
       | inr same ↦ subst (λ n. contains name_cmp t n ≡ true) (sym (ap (name_at all) same) ∙ w.named) comes
     ]
-
-pub emitters_none : (index : LineIndex) (lines all : BTreeSet Name)
-    → ((name : Name) → contains name_cmp all name ≡ contains name_cmp lines name)
-    → AreWithEmitters index [] lines all
-emitters_none index lines all same = λ name. (
-  λ on. inl (sym (same name) ∙ on),
-  λ e. elim e [ inl on ↦ same name ∙ on | inr w ↦ absurd w.under.among ],
-)
 
 pub emitters_one : (index : LineIndex) (potentials : List Name) (i : ℕ) (x : Name) (lines s t : BTreeSet Name)
     → AreWithin (length index.lines.items) index.takers.potentials
@@ -167,13 +156,10 @@ HasEquivalents old new year lines = (name : Name) → Contains (gas_lines new) n
     contains name_cmp lines name ≡ is_reached old new (node.Equiv name year)
 
 module _ (old new : Data) (year : ℕ) (within : is_year_of (span new) year ≡ true) (s : BTreeSet Name)
-    (has : HasReached old new year (year_lines.These s)) (figures : List Name)
-    (are : ArePotentials old new year figures) where
+    (has : HasReached old new year (year_lines.These s)) (potentials : List Name)
+    (are : ArePotentials old new year potentials) where
   abbrev differs : Gas → Bool
-  differs g = not (same_input (factor_input old (potential_name g) year) (factor_input new (potential_name g) year))
-
-  abbrev differing : List Name
-  differing = filter (is_differing old new year) figures
+  differs g = factor_differs old new year (potential_name g)
 
   -- where the line is not reached, it is told by the potential of its gas
   by_gas : (name : Name) (g : Gas) → line_gas new name ≡ Some g → contains name_cmp s name ≡ false
@@ -193,30 +179,13 @@ module _ (old new : Data) (year : ℕ) (within : is_year_of (span new) year ≡ 
           (sym (ap (λ o. given old (potential old year o)) was_gas))
           (sym (ap (λ o. given new (potential new year o)) emitted)))
 
-  listed_differing : (g : Gas) → differs g ≡ true → IsListed (potential_name g) differing
-  listed_differing g on = elim (or_else (list_any (λ x. is_eq (name_cmp (potential_name g) x)) figures)) [
-    | inl is ↦ listed_filter (is_differing old new year) (potential_name g) figures
-        (key_listed exact_bytes (potential_name g) figures is) (both _ _ (is_potential g) on)
-    | inr none ↦ absurd (true_not_false (sym on ∙ same none))
-  ]
-    where
-      same : list_any (λ x. is_eq (name_cmp (potential_name g) x)) figures ≡ false → differs g ≡ false
-      same none =
-          ap (λ x. not (same_input x (factor_input new (potential_name g) year)))
-          (are g (λ i. true_not_false (sym (listed_key nat_list_cmp_total (potential_name g) figures i) ∙ none)))
-          ∙ ap not (input_itself (factor_input new (potential_name g) year))
-
-  differing_differs : (g : Gas) → IsListed (potential_name g) differing → differs g ≡ true
-  differing_differs g i = second_so (is_potential_name (potential_name g)) _
-      (from_filter (is_differing old new year) (potential_name g) figures i).1
-
   -- the lines that are reached, and the emitters of the gases whose warming potentials differ
   equivalents_by : (lines : BTreeSet Name)
       → ((name : Name) → contains name_cmp s name ≡ true → contains name_cmp lines name ≡ true)
-      → ((name : Name) (g : Gas) → line_gas new name ≡ Some g → IsListed (potential_name g) differing
+      → ((name : Name) (g : Gas) → line_gas new name ≡ Some g → IsListed (potential_name g) potentials
       → contains name_cmp lines name ≡ true)
       → ((name : Name) (g : Gas) → line_gas new name ≡ Some g → contains name_cmp lines name ≡ true
-      → (contains name_cmp s name ≡ true) ⊎ IsListed (potential_name g) differing)
+      → (contains name_cmp s name ≡ true) ⊎ IsListed (potential_name g) potentials)
       → HasEquivalents old new year lines
   equivalents_by lines reached emitting only = λ name emitter.
       by name (line_gas new name) refl ((gas_lines_are new name).1 emitter)
@@ -234,28 +203,28 @@ module _ (old new : Data) (year : ℕ) (within : is_year_of (span new) year ≡ 
             | inl is ↦ with_line is
             | inr off ↦ elim (only name g emitted on) [
               | inl is ↦ with_line is
-              | inr i ↦ by_gas name g emitted off ∙ differing_differs g i
+              | inr i ↦ by_gas name g emitted off ∙ (are g).0 i
             ]
           ]
 
           back : is_reached old new (node.Equiv name year) ≡ true → contains name_cmp lines name ≡ true
           back on = elim (or_else (contains name_cmp s name)) [
             | inl is ↦ reached name is
-            | inr off ↦ emitting name g emitted (listed_differing g (sym (by_gas name g emitted off) ∙ on))
+            | inr off ↦ emitting name g emitted ((are g).1 (sym (by_gas name g emitted off) ∙ on))
           ]
 
-  pub without_emitters : differing ≡ [] → HasEquivalents old new year s
+  pub without_emitters : potentials ≡ [] → HasEquivalents old new year s
   without_emitters none = equivalents_by s (λ name on. on)
       (λ name g emitted i. absurd (subst (IsListed (potential_name g)) none i)) (λ name g emitted on. inl on)
 
   pub with_emitters : (index : LineIndex) → IsLineIndex new index → (lines : BTreeSet Name)
-      → AreWithEmitters index differing s lines → HasEquivalents old new year lines
+      → AreWithEmitters index potentials s lines → HasEquivalents old new year lines
   with_emitters index is lines all = equivalents_by lines (λ name on. (all name).1 (inl on)) emitting_ones only
     where
       order : List Name
       order = index.lines.items
 
-      emitting_ones : (name : Name) (g : Gas) → line_gas new name ≡ Some g → IsListed (potential_name g) differing
+      emitting_ones : (name : Name) (g : Gas) → line_gas new name ≡ Some g → IsListed (potential_name g) potentials
           → contains name_cmp lines name ≡ true
       emitting_ones name g emitted i =
           let place = number_in index.lines.items name in
@@ -275,7 +244,7 @@ module _ (old new : Data) (year : ℕ) (within : is_year_of (span new) year ≡ 
           }))
 
       only : (name : Name) (g : Gas) → line_gas new name ≡ Some g → contains name_cmp lines name ≡ true
-          → (contains name_cmp s name ≡ true) ⊎ IsListed (potential_name g) differing
+          → (contains name_cmp s name ≡ true) ⊎ IsListed (potential_name g) potentials
       only name g emitted on = elim ((all name).0 on) [
         | inl n ↦ inl n
         | inr w ↦
@@ -285,7 +254,7 @@ module _ (old new : Data) (year : ℕ) (within : is_year_of (span new) year ≡ 
             let same : IsListed w.under.name (potential_name g ∷ []) =
             subst (λ o. IsListed w.under.name (option_to_list (option_map potential_name o))) emitted named in
             inr (elim same [
-              | inl is ↦ subst (λ n. IsListed n differing) is w.under.among
+              | inl is ↦ subst (λ n. IsListed n potentials) is w.under.among
               | inr none ↦ absurd none
             ])
       ]

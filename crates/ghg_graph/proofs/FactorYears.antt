@@ -1,11 +1,13 @@
 -- A factor gives the same in a year where none of its records differs that may be in force in the year.
-use Rattle.std.proofs.Common.{◌≡◌, ◌⊎◌, inl, inr, ℕ, zero, suc, ◌+◌, ◌<◌, ◌≤◌, Bool, true, false, if◌then◌else◌, is_some, Option, Some, None, refl, sym, ap, ◌∙◌, subst, arith}
+use Rattle.std.proofs.Common.{◌≡◌, ◌⊎◌, inl, inr, ℕ, zero, suc, ◌+◌, ◌-◌, ◌<◌, ◌≤◌, Bool, true, false, not, if◌then◌else◌, is_some, Option, Some, None, refl, sym, ap, ap₂, ◌∙◌, subst, arith}
 use Rattle.ghg_units.specs.declared.row.Figure.{Figure}
 use Rattle.ghg_definitions.specs.declared.record.RecordKey.{RecordKey}
 use Rattle.ghg_definitions.specs.declared.record.RecordKey.TheVariants as key
 use Rattle.ghg_definitions.specs.Data.{Data, Name, figure}
 use Rattle.ghg_definitions.specs.Lookups.{decay, decay_of_figure, decayed, factor, factor_key, given, input_of_figure, recorded}
 use Rattle.ghg_data.specs.Lasting.{NoneStartsBetween}
+use Rattle.ghg_affected.specs.Equalities.{same_input}
+use Rattle.ghg_graph.specs.Differing.{decay_differs, factor_differs}
 
 -- the record that is chosen is the first one, or that of the rest
 chosen : (b : Bool) (first k : RecordKey) (rest : Option RecordKey) → (if b then Some first else rest) ≡ Some k
@@ -103,3 +105,35 @@ module _ (old new : Data) (name : Name) where
       by (Some k) is = ap (λ o. given old (decayed o)) ((same_key year same).0 ∙ is)
           ∙ ap decay_of_figure ((same_key year same).1 k is)
           ∙ sym (ap (λ o. given new (decayed o)) is)
+
+-- ---- years in which one record is in force
+
+module _ (m : Data) (name : Name) where
+  key_later : (year n : ℕ) → ((y : ℕ) → year < y → y ≤ year + n → figure m (key.Factor name y) ≡ None)
+      → factor_key m name (year + n) ≡ factor_key m name year
+  unfolding factor_key
+  key_later year zero none = let here : year + 0 ≡ year = omega arith in ap (factor_key m name) here
+  key_later year (suc n) none =
+      let next : year + suc n ≡ suc (year + n) = omega arith in
+      ap (factor_key m name) next
+      ∙ ap (λ o. if is_some o then Some (key.Factor name (suc (year + n))) else factor_key m name (year + n))
+      (none (suc (year + n)) (omega arith) (omega arith))
+      ∙ key_later year n (λ y a b. none y a (omega (arith, b)))
+
+  -- none starts behind the first of them, up to the last
+  key_same : (start first year : ℕ) → start ≤ first → first ≤ year → NoneStartsBetween m name start (year + 1)
+      → factor_key m name year ≡ factor_key m name first
+  key_same start first year low high between =
+      let whole : first + (year - first) ≡ year = omega (arith, high) in
+      sym (ap (factor_key m name) whole)
+      ∙ key_later first (year - first) (λ y a b. between y (omega (arith, low, a)) (omega (arith, high, b)))
+
+module _ (old new : Data) (name : Name) (start first year : ℕ) (low : start ≤ first) (high : first ≤ year)
+    (was : NoneStartsBetween old name start (year + 1)) (is : NoneStartsBetween new name start (year + 1)) where
+  pub factor_lasts : factor_differs old new year name ≡ factor_differs old new first name
+  factor_lasts = ap₂ (λ a b. not (same_input (given old (recorded a)) (given new (recorded b))))
+      (key_same old name start first year low high was) (key_same new name start first year low high is)
+
+  pub decay_lasts : decay_differs old new year name ≡ decay_differs old new first name
+  decay_lasts = ap₂ (λ a b. not (same_input (given old (decayed a)) (given new (decayed b))))
+      (key_same old name start first year low high was) (key_same new name start first year low high is)

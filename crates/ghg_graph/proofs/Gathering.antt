@@ -1,12 +1,12 @@
 -- The lines that are reached in a year, gathered from candidate to candidate in their order.
-use Rattle.std.proofs.Common.{◌≡◌, ◌⊎◌, inl, inr, ℕ, zero, suc, ◌+◌, ◌-◌, ◌<◌, ◌≤◌, Bool, true, false, List, [], ◌∷◌, ◌++◌, filter, length, get_or, map, take, is_gt, is_some, sym, ap, ◌∙◌, subst, arith}
+use Rattle.std.proofs.Common.{◌≡◌, ◌⊎◌, inl, inr, ℕ, zero, suc, ◌+◌, ◌-◌, ◌<◌, ◌≤◌, Bool, true, false, List, [], ◌∷◌, ◌++◌, filter, length, get_or, map, take, is_gt, sym, ap, ◌∙◌, subst, arith}
 use Rattle.std.proofs.lemmas.Bool.{cases_lt}
 use Rattle.std.proofs.lemmas.List.{append-nil, get_or_default, take_all}
 use Rattle.std.specs.BTreeSet.{BTreeSet, IsOrdered, Updates, contains}
 use Rattle.std.specs.Ordering.{nat_cmp}
 use Rattle.ghg_units.specs.declared.node.Node.{Node}
 use Rattle.ghg_units.specs.declared.node.Node.TheVariants as node
-use Rattle.ghg_definitions.specs.Data.{Data, Name, line, name_cmp}
+use Rattle.ghg_definitions.specs.Data.{Data, Name, name_cmp}
 use Rattle.ghg_definitions.specs.Listed.{IsListed}
 use Rattle.ghg_definitions.specs.Rings.{Takes}
 use Rattle.ghg_definitions.proofs.Rings.{takes}
@@ -14,7 +14,7 @@ use Rattle.ghg_affected.proofs.Bools.{never_so, true_not_false}
 use Rattle.ghg_graph.specs.Candidates.{AreAdded, IsIn}
 use Rattle.ghg_graph.specs.Index.{IsLineIndex}
 use Rattle.ghg_graph.specs.Numbers.{name_at}
-use Rattle.ghg_graph.specs.Reached.{AreFirst, HasReached, TakesReached, is_reached}
+use Rattle.ghg_graph.specs.Reached.{HasReached, is_reached}
 use Rattle.ghg_graph.specs.Takers.{places_of}
 use Rattle.ghg_graph.specs.declared.index.LineIndex.{LineIndex}
 use Rattle.ghg_graph.specs.declared.reached.Lines.TheVariants as year_lines
@@ -22,7 +22,7 @@ use Rattle.ghg_graph.proofs.Adding.{last_or_before, still_in, was_in}
 use Rattle.ghg_graph.proofs.Distinct.{behind_at, listed_before, take_place}
 use Rattle.ghg_graph.proofs.Marking.{IsSoFar, all_gathered, none_yet, one_left, one_passed, so_far_is, with_line, without_line}
 use Rattle.ghg_graph.proofs.Numbering.{take_next}
-use Rattle.ghg_graph.proofs.Starting.{also_taken}
+use Rattle.ghg_graph.proofs.Starting.{AreEnough, TakesReached}
 
 module _ (old new : Data) (year : ℕ) (lines : List Name) where
   abbrev reached_at : ℕ → Bool
@@ -90,7 +90,7 @@ pub record IsGathered (old new : Data) (year : ℕ) (index : LineIndex) (first :
   pub ordered : IsOrdered name_cmp now
 
 module _ (old new : Data) (year : ℕ) (index : LineIndex) (is : IsLineIndex new index) (first : BTreeSet ℕ)
-    (starts : AreFirst old new index.lines.items year first) where
+    (starts : AreEnough old new index.lines.items year first) where
   abbrev lines : List Name
   lines = index.lines.items
 
@@ -126,7 +126,7 @@ module _ (old new : Data) (year : ℕ) (index : LineIndex) (is : IsLineIndex new
                     | inl seen ↦ none place below (g.takers t.other place
                         (subst (λ k. IsListed k (take from lines)) there.3 (listed_before lines from there.0 seen there.2))
                         t.reached low
-                        ((is.takers.of_lines t.other place).1 (omega (arith, below, high), also_taken new (name_at lines place) t.other t.among)))
+                        ((is.takers.of_lines t.other place).1 (omega (arith, below, high), t.among)))
                     | inr later ↦
                         let earlier = there.1 in
                         true_not_false (sym t.reached
@@ -182,10 +182,7 @@ module _ (old new : Data) (year : ℕ) (index : LineIndex) (is : IsLineIndex new
     abbrev name : Name
     name = name_at lines place
 
-    -- the line at it is present, and those that it takes are known
-    pub line_there : is_some (line new name) ≡ true
-    line_there = (behind_at new [] lines is.lines.behind place h).0
-
+    -- the lines that it takes are known
     pub known : (k : Name) → Takes new name k → contains name_cmp now k ≡ is_reached old new (node.Line k year)
     known k t = elim ((behind_at new [] lines is.lines.behind place h).1 k t) [
       | inl none ↦ absurd none

@@ -10,7 +10,7 @@ use Rattle.ghg_affected.proofs.Bools.{true_not_false}
 use Rattle.ghg_data.proofs.Empty.{no_lines}
 use Rattle.ghg_graph.specs.Index.{IsLineIndex}
 use Rattle.ghg_graph.specs.Ordering.{IsLineOrder}
-use Rattle.ghg_graph.specs.Takers.{AreTakers, IsIndex, figures_of, lines_of, places_of, potentials_of}
+use Rattle.ghg_graph.specs.Takers.{AreTakers, IsIndex, activities_of, factors_of, lines_of, places_of, potentials_of, previous_of}
 use Rattle.ghg_graph.specs.declared.index.LineIndex.{LineIndex}
 use Rattle.ghg_graph.specs.declared.takers.Places.{Places}
 use Rattle.ghg_graph.specs.declared.takers.Takers.{Takers}
@@ -33,20 +33,23 @@ no_index : (names : Data → Name → List Name) (m : Data) (places : Places) �
 no_index names m places none = λ name place.
     (λ i. absurd (subst (IsListed place) (none name) i), λ h. absurd (omega (arith, h.0)))
 
-no_takers : (m : Data) (takers : Takers) → IsEmpty takers.figures → IsEmpty takers.lines → IsEmpty takers.potentials
-    → AreTakers m [] takers
-no_takers m takers figures lines potentials = record {
-  of_figures = no_index figures_of m takers.figures figures;
+no_takers : (m : Data) (takers : Takers) → IsEmpty takers.activities → IsEmpty takers.factors → IsEmpty takers.lines
+    → IsEmpty takers.previous → IsEmpty takers.potentials → AreTakers m [] takers
+no_takers m takers activities factors lines previous potentials = record {
+  of_activities = no_index activities_of m takers.activities activities;
+  of_factors = no_index factors_of m takers.factors factors;
   of_lines = no_index lines_of m takers.lines lines;
+  of_previous = no_index previous_of m takers.previous previous;
   of_potentials = no_index potentials_of m takers.potentials potentials;
 }
 
 pub nothing_in_index : (index : LineIndex) → index.lines.items ≡ [] → index.emitters.items ≡ []
-    → IsEmpty index.takers.figures → IsEmpty index.takers.lines → IsEmpty index.takers.potentials
+    → IsEmpty index.takers.activities → IsEmpty index.takers.factors → IsEmpty index.takers.lines
+    → IsEmpty index.takers.previous → IsEmpty index.takers.potentials
     → IsLineIndex (empty {X = Record} {R = key_cmp}) index
-nothing_in_index index lines emitters of_figures of_lines of_potentials = record {
+nothing_in_index index lines emitters of_activities of_factors of_lines of_previous of_potentials = record {
   lines = subst (IsLineOrder (empty {X = Record} {R = key_cmp})) (sym lines) no_order;
   emitters = emitters ∙ sym no_emitters;
   takers = subst (λ ns. AreTakers (empty {X = Record} {R = key_cmp}) ns index.takers) (sym lines)
-      (no_takers (empty {X = Record} {R = key_cmp}) index.takers of_figures of_lines of_potentials);
+      (no_takers (empty {X = Record} {R = key_cmp}) index.takers of_activities of_factors of_lines of_previous of_potentials);
 }

@@ -30,6 +30,7 @@ pub mod TakersOfLines
 pub mod Depending
 pub mod InputYears
 pub mod Distinct
+pub mod Deciding
 pub mod Adding
 pub mod FactorYears
 pub mod Starting

@@ -1,44 +1,46 @@
 -- The places at which changed lines stand.
-use Rattle.std.proofs.Common.{◌≡◌, ◌⊎◌, inl, inr, ℕ, ◌+◌, ◌<◌, ◌≤◌, Bool, true, false, cond, if◌then◌else◌, is_eq, is_some, List, [], ◌∷◌, ◌++◌, length, Some, None, refl, sym, ap, ◌∙◌, subst, arith}
+use Rattle.std.proofs.Common.{◌≡◌, ◌⊎◌, ◌↔◌, inl, inr, ℕ, ◌+◌, ◌<◌, ◌≤◌, Bool, true, false, cond, if◌then◌else◌, is_eq, is_some, List, [], ◌∷◌, ◌++◌, length, Some, None, refl, sym, ap, ◌∙◌, subst, arith}
 use Rattle.std.proofs.lemmas.Bool.{cases_lt}
-use Rattle.std.proofs.lemmas.Map.Lookups.{exact_bytes}
+use Rattle.std.proofs.lemmas.Cmp.{nat_cmp_total}
+use Rattle.std.proofs.lemmas.Map.Lookups.{exact_bytes, exact_unsigned}
 use Rattle.std.specs.BTreeSet.{BTreeSet, IsFromIterResult, Updates, contains}
 use Rattle.std.specs.Cmp.Lexicographic.{nat_list_cmp_total}
-use Rattle.std.specs.List.{Contains, filter_map, list_any}
+use Rattle.std.specs.FinMap.{get}
+use Rattle.std.specs.List.{Contains, filter_map}
+use Rattle.std.specs.Ordering.{nat_cmp}
 use Rattle.ghg_definitions.specs.declared.record.RecordKey.{RecordKey}
 use Rattle.ghg_definitions.specs.declared.record.RecordKey.TheVariants as key
-use Rattle.ghg_definitions.specs.Data.{Data, Name, line, name_cmp}
+use Rattle.ghg_definitions.specs.Data.{Data, Name, as_binding, as_line, binding, line, name_cmp}
 use Rattle.ghg_definitions.specs.Listed.{IsListed}
-use Rattle.ghg_definitions.proofs.Listed.{contained, from_any, from_filter_map, in_either, listed, listed_any, listed_filter_map, listed_left, listed_right}
+use Rattle.ghg_definitions.proofs.Depth.{or_else}
+use Rattle.ghg_definitions.proofs.Listed.{contained, from_filter_map, in_either, listed, listed_filter_map, listed_left, listed_right}
 use Rattle.ghg_affected.proofs.Bools.{true_not_false}
 use Rattle.ghg_graph.specs.Numbers.{name_at}
 use Rattle.ghg_graph.specs.Ordering.{IsLineOrder}
-use Rattle.ghg_graph.specs.Changed.{HasChanged, IsAbout, IsChangedAt, StandsAmong, is_span, present_line}
-use Rattle.ghg_graph.specs.Candidates.{AllBelow}
+use Rattle.ghg_graph.specs.Changed.{AreChanged, Differs, LineDiffers, StandsAmong, present_line}
+use Rattle.ghg_graph.specs.Candidates.{AllBelow, IsIn}
 use Rattle.ghg_graph.proofs.Distinct.{behind_at, one_place}
 use Rattle.ghg_graph.proofs.Marking.{equal_itself, names_equal}
 use Rattle.ghg_graph.proofs.Membership.{key_listed, listed_key}
 use Rattle.ghg_graph.proofs.Named.{number_in, number_is}
 
--- ---- the key of the years
+-- the key is of the line or of a binding of it
+abbrev IsAbout : RecordKey → Name → Type 0
+IsAbout (key.Line other) name = other ≡ name
+IsAbout (key.Bind other parameter) name = other ≡ name
+IsAbout _ name = ⊥
 
-about_each : (k : RecordKey) (name : Name) → is_span k ≡ true → IsAbout k name
-about_each key.Span name e = tt
-about_each (key.Line other) name e = absurd (true_not_false (sym e))
-about_each (key.Bind other parameter) name e = absurd (true_not_false (sym e))
-about_each (key.Activity other year) name e = absurd (true_not_false (sym e))
-about_each (key.Factor other start) name e = absurd (true_not_false (sym e))
-about_each (key.Uncert other) name e = absurd (true_not_false (sym e))
+-- one of the keys is about the line at the place, and what stands there differs
+record IsChangedAt (old new : Data) (keys : List RecordKey) (lines : List Name) (place : ℕ) : Type 0 where
+  key : RecordKey
+  among : Contains keys key
+  about : IsAbout key (name_at lines place)
+  differs : Differs old new key
 
-pub changed_by_span : (keys : List RecordKey) (lines : List Name) (place : ℕ) → list_any is_span keys ≡ true
-    → IsChangedAt keys lines place
-changed_by_span keys lines place has =
-    let found = from_any is_span keys has in
-    record {
-      key = found.0;
-      among = contained keys found.0 found.1;
-      about = about_each found.0 (name_at lines place) found.2;
-    }
+-- the lines that keys are about stand at these places
+abbrev HasChanged : List RecordKey → List Name → List ℕ → Type 0
+HasChanged keys lines places = (k : RecordKey) (place : ℕ) → Contains keys k → place < length lines →
+    IsAbout k (name_at lines place) → IsListed place places
 
 -- ---- the names of the keys
 
@@ -63,7 +65,7 @@ module _ (m : Data) where
   pub key_about : (k : RecordKey) (name : Name) → present_line m k ≡ Some name → IsAbout k name
   key_about (key.Line other) name e = about_named other name e
   key_about (key.Bind other parameter) name e = about_named other name e
-  key_about key.Span name e = tt
+  key_about key.Span name e = absurd (cc)
   key_about (key.Activity other year) name e = absurd (cc)
   key_about (key.Factor other start) name e = absurd (cc)
   key_about (key.Uncert other) name e = absurd (cc)
@@ -84,64 +86,104 @@ module _ (m : Data) (keys : List RecordKey) (lines : List Name) (order : IsLineO
       (subst (IsListed name) all (key_listed exact_bytes name names (sym (is.0 name) ∙ on))) in
       order.complete name (key_present m from.0 name from.2)
 
-  pub changed_only : (places : List ℕ)
-      → ((place : ℕ) → IsListed place places → contains name_cmp s (name_at lines place) ≡ true)
-      → (place : ℕ) → IsListed place places → IsChangedAt keys lines place
-  changed_only places only place i =
-      let from = from_filter_map (present_line m) (name_at lines place) keys (subst (IsListed (name_at lines place)) all
-      (key_listed exact_bytes (name_at lines place) names (sym (is.0 (name_at lines place)) ∙ only place i))) in
-      record {
-        key = from.0;
-        among = contained keys from.0 from.1;
-        about = key_about m from.0 (name_at lines place) from.2;
-      }
-
-  -- each is the line of a key or of a binding, where no key is that of the years
-  name_of : list_any is_span keys ≡ false → (k : RecordKey) (name : Name) → Contains keys k → is_some (line m name) ≡ true
-      → IsAbout k name → present_line m k ≡ Some name
-  name_of none key.Span name c here about = absurd (true_not_false (sym (listed_any is_span key.Span keys (listed keys key.Span c) refl) ∙ none))
-  name_of none (key.Line other) name c here about =
+  -- each is the line of a key or of a binding
+  name_of : (k : RecordKey) (name : Name) → is_some (line m name) ≡ true → IsAbout k name → present_line m k ≡ Some name
+  name_of key.Span name here about = absurd about
+  name_of (key.Line other) name here about =
       ap (λ b. if b then Some other else None) (ap (λ z. is_some (line m z)) about ∙ here) ∙ ap Some about
-  name_of none (key.Bind other parameter) name c here about =
+  name_of (key.Bind other parameter) name here about =
       ap (λ b. if b then Some other else None) (ap (λ z. is_some (line m z)) about ∙ here) ∙ ap Some about
-  name_of none (key.Activity other year) name c here about = absurd about
-  name_of none (key.Factor other start) name c here about = absurd about
-  name_of none (key.Uncert other) name c here about = absurd about
+  name_of (key.Activity other year) name here about = absurd about
+  name_of (key.Factor other start) name here about = absurd about
+  name_of (key.Uncert other) name here about = absurd about
 
-  pub changed : list_any is_span keys ≡ false → (places : List ℕ)
-      → ((name : Name) → contains name_cmp s name ≡ true → StandsAmong places lines name) → HasChanged keys lines places
-  changed none places stand k place c h about =
+  changed : (places : List ℕ) → ((name : Name) → contains name_cmp s name ≡ true → StandsAmong places lines name)
+      → HasChanged keys lines places
+  changed places stand k place c h about =
       let name : Name = name_at lines place in
       let here = (behind_at m [] lines order.behind place h).0 in
       let stands = stand name (is.0 name ∙ listed_key nat_list_cmp_total name names
-      (subst (IsListed name) (sym all) (listed_filter_map (present_line m) k name keys (listed keys k c) (name_of none k name c here about)))) in
+      (subst (IsListed name) (sym all) (listed_filter_map (present_line m) k name keys (listed keys k c) (name_of k name here about)))) in
       subst (λ p. IsListed p places) (one_place m lines order.behind stands.place place stands.within h stands.named) stands.among
 
--- ---- all places
+  -- the keys are those of others at which the data differ
+  module _ (old : Data) (among : List RecordKey)
+      (differing : (k : RecordKey) → Contains keys k ↔ (Contains among k × Differs old m k)) where
+    changed_only : (places : List ℕ)
+        → ((place : ℕ) → IsListed place places → contains name_cmp s (name_at lines place) ≡ true)
+        → (place : ℕ) → IsListed place places → IsChangedAt old m among lines place
+    changed_only places only place i =
+        let from = from_filter_map (present_line m) (name_at lines place) keys (subst (IsListed (name_at lines place)) all
+        (key_listed exact_bytes (name_at lines place) names (sym (is.0 (name_at lines place)) ∙ only place i))) in
+        let differs = (differing from.0).0 (contained keys from.0 from.1) in
+        record {
+          key = from.0;
+          among = differs.0;
+          about = key_about m from.0 (name_at lines place) from.2;
+          differs = differs.1;
+        }
 
--- the places below the next one, which are below the count
-pub record AreBelow (count next : ℕ) (places : List ℕ) : Type 0 where
-  pub all : (place : ℕ) → place < next → IsListed place places
-  pub within : AllBelow count places
+    -- they stand at the places of the set
+    changed_by_keys : (places : List ℕ) (set : BTreeSet ℕ) → IsFromIterResult nat_cmp places set
+        → ((name : Name) → contains name_cmp s name ≡ true → StandsAmong places lines name)
+        → ((place : ℕ) → IsListed place places → contains name_cmp s (name_at lines place) ≡ true)
+        → AllBelow (length lines) places
+        → (place : ℕ) → IsIn set place ↔ ((place < length lines) × IsChangedAt old m among lines place)
+    changed_by_keys places set from stand only within place = (to, back)
+      where
+        to : contains nat_cmp set place ≡ true → (place < length lines) × IsChangedAt old m among lines place
+        to on =
+            let i = key_listed exact_unsigned place places (sym (from.0 place) ∙ on) in
+            (within place i, changed_only places only place i)
 
-pub none_below : (count : ℕ) → AreBelow count 0 []
-none_below count = record { all = λ place h. absurd (omega (arith, h)); within = λ place i. absurd i }
+        back : (place < length lines) × IsChangedAt old m among lines place → contains nat_cmp set place ≡ true
+        back at = from.0 place ∙ listed_key nat_cmp_total place places (changed places stand at.1.key place
+            ((differing at.1.key).1 (at.1.among, at.1.differs)) at.0 at.1.about)
 
-next_or_before : (place next : ℕ) → place < next + 1 → (place < next) ⊎ (place ≡ next)
-next_or_before place next h = grind (arith, h)
+    -- these are the lines that differ, where the data do so at the keys alone
+    module _ (kept : (k : RecordKey) → (Contains among k → ⊥) → get old k ≡ get m k) where
+      line_differs : (place : ℕ) → IsChangedAt old m among lines place → LineDiffers old m (name_at lines place)
+      line_differs place at = by at.key at.about at.differs
+        where
+          by : (k : RecordKey) → IsAbout k (name_at lines place) → Differs old m k → LineDiffers old m (name_at lines place)
+          by (key.Line other) about differs = inl (subst (λ n. line old n ≡ line m n → ⊥) about differs)
+          by (key.Bind other parameter) about differs =
+              inr (parameter, subst (λ n. binding old n parameter ≡ binding m n parameter → ⊥) about differs)
+          by key.Span about differs = absurd about
+          by (key.Activity other year) about differs = absurd about
+          by (key.Factor other start) about differs = absurd about
+          by (key.Uncert other) about differs = absurd about
 
-pub one_below : (count next : ℕ) (places more : List ℕ) → next < count → AreBelow count next places
-    → more ≡ places ++ next ∷ [] → AreBelow count (next + 1) more
-one_below count next places more h are pushed = record {
-  all = λ place below. subst (IsListed place) (sym pushed) (elim (next_or_before place next below) [
-    | inl before ↦ listed_left place places (next ∷ []) (are.all place before)
-    | inr same ↦ listed_right place places (next ∷ []) (inl same)
-  ]);
-  within = λ place i. elim (in_either place places (next ∷ []) (subst (IsListed place) pushed i)) [
-    | inl j ↦ are.within place j
-    | inr j ↦ elim j [ inl same ↦ omega (arith, h, same) | inr none ↦ absurd none ]
-  ];
-}
+      pub are_changed : (places : List ℕ) (set : BTreeSet ℕ) → IsFromIterResult nat_cmp places set
+          → ((name : Name) → contains name_cmp s name ≡ true → StandsAmong places lines name)
+          → ((place : ℕ) → IsListed place places → contains name_cmp s (name_at lines place) ≡ true)
+          → AllBelow (length lines) places → AreChanged old m lines set
+      are_changed places set from stand only within place = (to, back)
+        where
+          name : Name
+          name = name_at lines place
+
+          keyed : IsIn set place ↔ ((place < length lines) × IsChangedAt old m among lines place)
+          keyed = changed_by_keys places set from stand only within place
+
+          to : IsIn set place → (place < length lines) × LineDiffers old m name
+          to on = let at = keyed.0 on in (at.0, line_differs place at.1)
+
+          -- where the key is none of them, the record is the same
+          kept_off : contains nat_cmp set place ≡ false → place < length lines → (k : RecordKey) → IsAbout k name → Differs old m k
+              → get old k ≡ get m k
+          kept_off off h k about differs = kept k (λ c. true_not_false (sym (keyed.1
+              (h, record { key = k; among = c; about = about; differs = differs })) ∙ off))
+
+          back : (place < length lines) × LineDiffers old m name → IsIn set place
+          back at = elim (or_else (contains nat_cmp set place)) [
+            | inl is ↦ is
+            | inr off ↦ absurd (by off at.1)
+          ]
+            where
+              by : contains nat_cmp set place ≡ false → LineDiffers old m name → ⊥
+              by off (inl differs) = differs (ap as_line (kept_off off at.0 (key.Line name) refl differs))
+              by off (inr w) = w.1 (ap as_binding (kept_off off at.0 (key.Bind name w.0) refl w.1))
 
 -- ---- from the last line on
 

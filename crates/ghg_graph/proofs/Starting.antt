@@ -1,48 +1,59 @@
 -- A line that is reached stands at one of the first candidates, or takes one that is reached.
-use Rattle.std.proofs.Common.{◌≡◌, inl, inr, ℕ, ◌<◌, arith, le-leb, Bool, true, false, not, ◌||◌, nat_le, nat_lt, List, [], ◌∷◌, map, flat_map, length, is_some, Option, Some, None, refl, sym, ap, ap₂, ◌∙◌, subst}
+use Rattle.std.proofs.Common.{◌≡◌, ◌⊎◌, inl, inr, ℕ, ◌<◌, Bool, true, false, not, ◌&&◌, ◌||◌, nat_le, List, [], ◌∷◌, map, filter, flat_map, length, is_some, Option, Some, None, refl, sym, ap, ap₂, ◌∙◌, subst}
 use Rattle.std.proofs.Math.Bool.{or-false}
+use Rattle.std.proofs.lemmas.Map.Lookups.{exact_bytes}
+use Rattle.std.specs.Bool.{beq}
 use Rattle.std.specs.BTreeSet.{BTreeSet, contains}
-use Rattle.std.specs.FinMap.{get}
+use Rattle.std.specs.Cmp.Lexicographic.{nat_list_cmp_total}
 use Rattle.std.specs.List.{list_any}
 use Rattle.std.specs.Option.{option_map_or}
 use Rattle.std.specs.Ordering.{nat_cmp}
+use Rattle.std.specs.Prelude.{◌↔◌}
+use Rattle.ghg_cell.specs.declared.input.Input.{Input}
 use Rattle.ghg_equations.specs.declared.eq_id.EqId.{EqId}
 use Rattle.ghg_equations.specs.Table.{Quantity, parameters}
-use Rattle.ghg_units.specs.Name.{potential_name}
+use Rattle.ghg_units.specs.Name.{is_potential_name, potential_name}
 use Rattle.ghg_units.specs.declared.node.Node.TheVariants as node
 use Rattle.ghg_units.specs.declared.row.Binding.{Binding}
 use Rattle.ghg_units.specs.declared.row.Binding.TheVariants as bound
 use Rattle.ghg_units.specs.declared.row.NotationKey.{NotationKey}
 use Rattle.ghg_units.specs.declared.row.NotationKey.TheVariants.{No, Na, Ie, Ne}
-use Rattle.ghg_definitions.specs.declared.record.Record.{Record}
-use Rattle.ghg_definitions.specs.declared.record.RecordKey.{RecordKey}
-use Rattle.ghg_definitions.specs.declared.record.RecordKey.TheVariants as key
-use Rattle.ghg_definitions.specs.Compilation.{bound_to, first_year, is_year_of, previous}
-use Rattle.ghg_definitions.specs.Data.{Data, Name, as_binding, as_figure, as_line, as_span, binding, figure, line, span}
-use Rattle.ghg_definitions.specs.Formulas.{Given, map_operand, nodes_in}
+use Rattle.ghg_definitions.specs.Compilation.{bound_to, first_year, previous}
+use Rattle.ghg_definitions.specs.Data.{Data, Name, binding, figure, line, name_cmp, span}
+use Rattle.ghg_definitions.specs.Formulas.{Given, Operand, SumOf, ValueOf, map_operand, nodes_in}
 use Rattle.ghg_definitions.specs.Listed.{IsListed}
-use Rattle.ghg_definitions.specs.Lookups.{by_key, given, input_of_figure}
-use Rattle.ghg_definitions.specs.Rings.{taken, taken_by}
+use Rattle.ghg_definitions.specs.Lookups.{by_key, given}
+use Rattle.ghg_definitions.specs.Rings.{Takes, taken, taken_by}
 use Rattle.ghg_definitions.proofs.Alike.{both}
 use Rattle.ghg_definitions.proofs.Depth.{or_else}
-use Rattle.ghg_definitions.proofs.Listed.{from_any, from_flat, from_map, listed, listed_flat}
-use Rattle.ghg_data.specs.Taken.{figures_taken, lines_taken, named_by}
+use Rattle.ghg_definitions.proofs.Listed.{from_any, from_filter, from_map, listed, listed_any, listed_filter, listed_flat}
+use Rattle.ghg_data.specs.Taken.{named_by}
 use Rattle.ghg_affected.specs.Equalities.{same_equation, same_operand}
-use Rattle.ghg_affected.proofs.Bools.{true_not_false}
-use Rattle.ghg_graph.specs.Candidates.{AreCandidates, IsIn}
-use Rattle.ghg_graph.specs.Changed.{IsAbout}
-use Rattle.ghg_graph.specs.Figures.{IsReadIn, has_record, is_taken, is_used, names_at}
+use Rattle.ghg_affected.proofs.Bools.{either, never_so, true_not_false}
+use Rattle.ghg_graph.specs.Candidates.{IsCandidate, IsIn}
+use Rattle.ghg_graph.specs.Changed.{LineDiffers}
+use Rattle.ghg_graph.specs.Differing.{ArePotentials, activity_differs, decay_differs, factor_differs, has_figure}
+use Rattle.ghg_graph.specs.Figures.{is_taken, names_at}
 use Rattle.ghg_graph.specs.Index.{IsLineIndex}
 use Rattle.ghg_graph.specs.Numbers.{name_at}
-use Rattle.ghg_graph.specs.Reached.{AreEdited, AreFirst, ArePotentials, HasBefore, TakesReached, binding_reached, has_line, is_reached}
+use Rattle.ghg_graph.specs.Reached.{AreFirst, AreYearChanges, binding_reached, has_line, is_reached, line_takes, names_of, takes_previous, takes_reached}
+use Rattle.ghg_graph.specs.Takers.{activities_taken, factors_taken, places_of, previous_taken}
 use Rattle.ghg_graph.specs.declared.index.LineIndex.{LineIndex}
 use Rattle.ghg_graph.specs.declared.reached.Edited.{Edited}
 use Rattle.ghg_graph.specs.declared.reached.Lines.{Lines}
+use Rattle.ghg_graph.specs.declared.reached.Lines.TheVariants as year_lines
+use Rattle.ghg_graph.specs.declared.reached.YearChanges.{YearChanges}
 use Rattle.ghg_graph.specs.declared.takers.Places.{Places}
+use Rattle.ghg_graph.proofs.Bindings as bindings
+use Rattle.ghg_graph.proofs.Deciding.{bindings_same, equations_same}
 use Rattle.ghg_graph.proofs.Distinct.{behind_at}
 use Rattle.ghg_graph.proofs.Equivalents.{is_potential}
-use Rattle.ghg_graph.proofs.FactorYears.{AreSame, decay_same, factor_same}
-use Rattle.ghg_graph.proofs.Reaching.{equation_itself, line_is_reached, operand_itself, was_line}
+use Rattle.ghg_graph.proofs.Membership.{key_listed, listed_key}
+use Rattle.ghg_graph.proofs.Reaching.{equation_itself, line_is_reached, operand_itself, same_truth, was_line}
+
+any_agree : {A : Type 0} (p q : A → Bool) (xs : List A) → ((x : A) → IsListed x xs → p x ≡ q x) → list_any p xs ≡ list_any q xs
+any_agree p q [] agree = refl
+any_agree p q (x ∷ xs) agree = ap₂ (λ (a b : Bool). a || b) (agree x (inl refl)) (any_agree p q xs (λ y i. agree y (inr i)))
 
 -- what a binding of a parameter names
 named_in : (names : Option Binding → List Name) (m : Data) (name : Name) (e : EqId) → line m name ≡ Some e
@@ -52,231 +63,312 @@ named_in names m name e is q i k j =
     subst (λ o. IsListed k (option_map_or (λ e. flat_map (λ q. names (binding m name q.name)) (parameters e)) o []))
     (sym is) (listed_flat (λ q. names (binding m name q.name)) q k (parameters e) i j)
 
--- a line that is taken in the same year is among those that are taken
-pub also_taken : (m : Data) (name k : Name) → IsListed k (taken m name) → IsListed k (named_by lines_taken m name)
-also_taken m name k i = by (line m name) refl i
-  where
-    also : (b : Option Binding) → IsListed k (taken_by b) → IsListed k (lines_taken b)
-    also None j = j
-    also (Some (bound.Activity other)) j = j
-    also (Some (bound.Factor other)) j = j
-    also (Some (bound.Line other)) j = j
-    also (Some (bound.Prev other)) j = absurd j
-    also (Some (bound.Sum others)) j = j
-    also (Some (bound.Decay other)) j = j
-    also (Some (bound.Key notation)) j = j
-
-    by : (o : Option EqId) → line m name ≡ o
-        → IsListed k (option_map_or (λ e. flat_map (λ q. taken_by (binding m name q.name)) (parameters e)) o [])
-        → IsListed k (named_by lines_taken m name)
-    by None at j = absurd j
-    by (Some e) at j =
-        let from = from_flat (λ (q : Quantity). taken_by (binding m name q.name)) k (parameters e) j in
-        named_in lines_taken m name e at from.0 from.1 k (also (binding m name from.0.name) from.2)
-
--- ---- what is used
-
-or_left : (a b : Bool) → a ≡ true → a || b ≡ true
-or_left true b e = refl
-or_left false b e = absurd (true_not_false (sym e))
+or_assoc : (a b c : Bool) → a || (b || c) ≡ (a || b) || c
+or_assoc true b c = refl
+or_assoc false b c = refl
 
 or_right : (a b : Bool) → b ≡ true → a || b ≡ true
 or_right true b e = refl
 or_right false b e = e
 
--- under a name at which there is a place there is one at least
-taken_at_place : (place : ℕ) (places : List ℕ) → IsListed place places → nat_lt 0 (length places) ≡ true
-taken_at_place place [] i = absurd i
-taken_at_place place (p ∷ places) i = le-leb 1 (length (p ∷ places)) (omega arith)
+or_left : (a b : Bool) → a ≡ true → a || b ≡ true
+or_left true b e = refl
+or_left false b e = absurd (true_not_false (sym e))
 
-read_is_used : (old new : Data) (year : ℕ) (takers : Places) (k : RecordKey) (name : Name) → IsReadIn old new year k name
-    → is_taken takers name ≡ true → is_used takers k ≡ true
-read_is_used old new year takers (key.Activity other when) name reads taken = ap (is_taken takers) reads.0 ∙ taken
-read_is_used old new year takers (key.Factor other start) name reads taken =
-    or_left (is_taken takers other) _ (ap (is_taken takers) reads.0 ∙ taken)
-read_is_used old new year takers key.Span name reads taken = absurd reads
-read_is_used old new year takers (key.Line other) name reads taken = absurd reads
-read_is_used old new year takers (key.Bind other parameter) name reads taken = absurd reads
-read_is_used old new year takers (key.Uncert other) name reads taken = absurd reads
+-- a set that has the names of a list, which are those that pass
+has_exactly : (s : BTreeSet Name) (names : List Name) (name : Name) (used differs : Bool)
+    → (contains name_cmp s name ≡ true) ↔ IsListed name names → IsListed name names ↔ (used && differs ≡ true)
+    → used ≡ true → contains name_cmp s name ≡ differs
+has_exactly s names name used differs set listed on = same_truth _ _
+    (λ is. sym (ap (λ b. b && differs) on) ∙ listed.0 (set.0 is))
+    (λ is. set.1 (listed.1 (ap (λ b. b && differs) on ∙ is)))
 
--- a key that has no record in either data has the same in both
-record_or_same : (old new : Data) (k : RecordKey) → (has_record old new k ≡ true → get old k ≡ get new k) → get old k ≡ get new k
-record_or_same old new k there = by (get old k) (get new k) there
-  where
-    by : (was is : Option Record) → (is_some was || is_some is ≡ true → was ≡ is) → was ≡ is
-    by None None f = refl
-    by None (Some r) f = f refl
-    by (Some r) is f = f refl
+-- it takes the value of a line that is reached in the same year
+pub record TakesReached (old new : Data) (year : ℕ) (name : Name) : Type 0 where
+  pub other : Name
+  pub among : IsListed other (taken new name)
+  pub reached : is_reached old new (node.Line other year) ≡ true
 
--- ---- warming potentials
+-- each line that is reached in the year stands at one of the places, or takes one that is
+pub record AreEnough (old new : Data) (lines : List Name) (year : ℕ) (places : BTreeSet ℕ) : Type 0 where
+  pub within : (place : ℕ) → IsIn places place → place < length lines
+  pub all : (place : ℕ) → place < length lines →
+      is_reached old new (node.Line (name_at lines place) year) ≡ true →
+      IsIn places place ⊎ TakesReached old new year (name_at lines place)
 
-pub potentials_are : (old new : Data) (index : LineIndex) (edited : Edited) → AreEdited old new index edited
-    → (year : ℕ) → is_year_of (span new) year ≡ true → ArePotentials old new year (names_at edited.figures year)
-potentials_are old new index edited are year within gas off =
-    factor_same old new (potential_name gas) year (λ start h was between. ap as_figure
-    (record_or_same old new (key.Factor (potential_name gas) start) (λ there. are.kept (key.Factor (potential_name gas) start)
-    (λ c. off ((are.figures year (potential_name gas) within).1 (record {
-      key = key.Factor (potential_name gas) start;
-      among = listed are.keys (key.Factor (potential_name gas) start) c;
-      used = or_right (is_taken index.takers.figures (potential_name gas)) _ (is_potential gas);
-      there = there;
-      reads = (refl, h, was, between);
-    }))))))
+module _ (old new : Data) (index : LineIndex) (is : IsLineIndex new index) (c : YearChanges)
+    (are : AreYearChanges old new index c) where
+  abbrev year : ℕ
+  year = c.year.number
 
--- ---- lines
+  abbrev edited : Edited
+  edited = c.edited.now
 
-module _ (old new : Data) (year : ℕ) (within : is_year_of (span new) year ≡ true)
-    (was : is_year_of (span old) year ≡ true) (index : LineIndex) (is : IsLineIndex new index) (edited : Edited)
-    (are : AreEdited old new index edited) (before : Lines) (has : HasBefore old new year before)
-    (names : List Name) (all : (name : Name) → has_line new before name ≡ true → IsListed name names)
-    (places : BTreeSet ℕ)
-    (candidates : AreCandidates index edited.changed.items (names_at edited.figures year) names places) where
+  -- ---- warming potentials
+
+  pub potentials_are : (potentials : List Name) → potentials ≡ filter is_potential_name c.differing.factors.keys
+      → ArePotentials old new year potentials
+  potentials_are potentials all gas = (to, back)
+    where
+      name : Name
+      name = potential_name gas
+
+      differs : contains name_cmp c.differing.factors name ≡ factor_differs old new year name
+      differs = has_exactly c.differing.factors (names_at edited.figures.factors year) name
+          (is_taken index.takers.factors edited.changed name || is_potential_name name) (factor_differs old new year name)
+          (are.differing.of_factors name) (are.edited.figures.of_factors year name are.year.within)
+          (or_right (is_taken index.takers.factors edited.changed name) _ (is_potential gas))
+
+      to : IsListed name potentials → factor_differs old new year name ≡ true
+      to i = sym differs ∙ listed_key nat_list_cmp_total name c.differing.factors.keys
+          (from_filter is_potential_name name c.differing.factors.keys (subst (IsListed name) all i)).0
+
+      back : factor_differs old new year name ≡ true → IsListed name potentials
+      back on = subst (IsListed name) (sym all) (listed_filter is_potential_name name c.differing.factors.keys
+          (key_listed exact_bytes name c.differing.factors.keys (differs ∙ on)) (is_potential gas))
+
+  -- ---- a line that edits do not change
+
   abbrev lines : List Name
   lines = index.lines.items
 
-  -- a line that stands at no candidate
-  module _ (place : ℕ) (h : place < length lines) (off : contains nat_cmp places place ≡ false)
+  -- one of the binding's nodes is reached
+  abbrev node_reached : Option Binding → Bool
+  node_reached b = list_any (is_reached old new) (nodes_in (bound_to new (first_year (span new)) year b))
+
+  -- what it takes but a line's value differs
+  abbrev given_differs : Option Binding → Bool
+  given_differs b = has_figure c.differing b || takes_previous c.year b
+
+  module _ (place : ℕ) (h : place < length lines) (off : contains nat_cmp edited.changed place ≡ false)
       (e : EqId) (at : line new (name_at lines place) ≡ Some e) where
     abbrev name : Name
     name = name_at lines place
 
-    not_in : IsIn places place → ⊥
-    not_in on = true_not_false (sym on ∙ off)
-
-    -- no key is about it
-    untold : (k : RecordKey) → IsAbout k name → get old k ≡ get new k
-    untold k about = are.kept k (λ c. not_in (candidates.by_change place (are.changed k place c h about)))
-
-    span_same : span old ≡ span new
-    span_same = ap as_span (untold key.Span tt)
+    unchanged : LineDiffers old new name → ⊥
+    unchanged differs = true_not_false (sym ((are.edited.changed place).1 (h, differs)) ∙ off)
 
     line_same : line old name ≡ line new name
-    line_same = ap as_line (untold (key.Line name) refl)
+    line_same = equations_same _ _ (λ differs. unchanged (inl differs))
 
     binding_same : (parameter : Name) → binding old name parameter ≡ binding new name parameter
-    binding_same parameter = ap as_binding (untold (key.Bind name parameter) refl)
+    binding_same parameter = bindings_same _ _ (λ differs. unchanged (inr (parameter, differs)))
 
-    -- an edited record of what it takes is not read in the year
-    unread : (q : Quantity) → IsListed q (parameters e) → (figure : Name)
-        → IsListed figure (figures_taken (binding new name q.name)) → (k : RecordKey) → IsReadIn old new year k figure
-        → get old k ≡ get new k
-    unread q i figure j k reads =
-        let under = (is.takers.of_figures figure place).1 (h, named_in figures_taken new name e at q i figure j) in
-        record_or_same old new k (λ there. are.kept k (λ c. not_in (candidates.by_figure place (record {
-          name = figure;
-          among = (are.figures year figure within).1 (record {
-            key = k;
-            among = listed are.keys k c;
-            used = read_is_used old new year index.takers.figures k figure reads (taken_at_place place _ under);
-            there = there;
-            reads = reads;
-          });
-          under = under;
-        }))))
+    -- what it takes is used
+    used : (takers : Places) (figure : Name) → IsListed place (places_of takers figure)
+        → is_taken takers edited.changed figure ≡ true
+    used takers figure under =
+        listed_any (λ p. not (contains nat_cmp edited.changed p)) place (places_of takers figure) under (ap not off)
 
-    factor_kept : (q : Quantity) → IsListed q (parameters e) → (figure : Name)
-        → IsListed figure (figures_taken (binding new name q.name)) → AreSame old new figure year
-    factor_kept q i figure j start low was between =
-        ap as_figure (unread q i figure j (key.Factor figure start) (refl, low, was, between))
+    under_factor : (q : Quantity) → IsListed q (parameters e) → (k : Name) → IsListed k (factors_taken (binding new name q.name))
+        → IsListed place (places_of index.takers.factors k)
+    under_factor q i k j = (is.takers.of_factors k place).1 (h, named_in factors_taken new name e at q i k j)
 
-    taker_of : (q : Quantity) → IsListed q (parameters e) → (k : Name)
-        → IsListed k (taken_by (binding new name q.name)) → IsListed k (taken new name)
-    taker_of q i k j = named_in taken_by new name e at q i k j
+    under_activity : (q : Quantity) → IsListed q (parameters e) → (k : Name) → IsListed k (activities_taken (binding new name q.name))
+        → IsListed place (places_of index.takers.activities k)
+    under_activity q i k j = (is.takers.of_activities k place).1 (h, named_in activities_taken new name e at q i k j)
 
-    -- what it takes from records is what it was
-    given_same : (q : Quantity) → IsListed q (parameters e) → (first : ℕ) (b : Option Binding) → binding new name q.name ≡ b
-        → map_operand (given old) (bound_to old first year b) ≡ map_operand (given new) (bound_to new first year b)
-    given_same q i first None bind = refl
-    given_same q i first (Some (bound.Activity k)) bind = ap (λ o. Given (input_of_figure (as_figure o)))
-        (unread q i k (subst (λ o. IsListed k (figures_taken o)) (sym bind) (inl refl)) (key.Activity k year) (refl, refl))
-    given_same q i first (Some (bound.Factor k)) bind = ap Given
-        (factor_same old new k year (factor_kept q i k (subst (λ o. IsListed k (figures_taken o)) (sym bind) (inl refl))))
-    given_same q i first (Some (bound.Line k)) bind = refl
-    given_same q i first (Some (bound.Prev k)) bind = by (nat_le year first)
+    -- an activity, a factor or a decay that it takes differs exactly where it is among those
+    activity_is : (k : Name) → IsListed place (places_of index.takers.activities k)
+        → contains name_cmp c.differing.activities k ≡ activity_differs old new year k
+    activity_is k under = has_exactly c.differing.activities (names_at edited.figures.activities year) k
+        (is_taken index.takers.activities edited.changed k) (activity_differs old new year k)
+        (are.differing.of_activities k) (are.edited.figures.of_activities year k are.year.within)
+        (used index.takers.activities k under)
+
+    factor_is : (k : Name) → IsListed place (places_of index.takers.factors k)
+        → contains name_cmp c.differing.factors k ≡ factor_differs old new year k
+    factor_is k under = has_exactly c.differing.factors (names_at edited.figures.factors year) k
+        (is_taken index.takers.factors edited.changed k || is_potential_name k) (factor_differs old new year k)
+        (are.differing.of_factors k) (are.edited.figures.of_factors year k are.year.within)
+        (or_left _ (is_potential_name k) (used index.takers.factors k under))
+
+    decay_is : (k : Name) → IsListed place (places_of index.takers.factors k)
+        → contains name_cmp c.differing.decays k ≡ decay_differs old new year k
+    decay_is k under = has_exactly c.differing.decays (names_at edited.figures.decays year) k
+        (is_taken index.takers.factors edited.changed k) (decay_differs old new year k)
+        (are.differing.of_decays k) (are.edited.figures.of_decays year k are.year.within)
+        (used index.takers.factors k under)
+
+    -- ---- what a binding takes
+
+    itself : (x : Operand Input) → not (same_operand x x) ≡ false
+    itself x = ap not (operand_itself e x)
+
+    abbrev operands_differ : Option Binding → Bool
+    operands_differ b = not (same_operand (map_operand (given old) (bound_to old (first_year (span old)) year b))
+        (map_operand (given new) (bound_to new (first_year (span new)) year b)))
+
+    previous_by : (k : Name) (a b : Bool)
+        → not (same_operand (map_operand (given old) (previous a k year)) (map_operand (given new) (previous b k year))) ≡ not (beq a b)
+    previous_by k true true = itself (map_operand (given new) (previous true k year))
+    previous_by k true false = refl
+    previous_by k false true = refl
+    previous_by k false false = itself (map_operand (given new) (previous false k year))
+
+    -- it differs exactly where the binding takes what differs
+    differs_by : (q : Quantity) → IsListed q (parameters e) → (b : Option Binding) → binding new name q.name ≡ b
+        → operands_differ b ≡ given_differs b
+    differs_by q i None bind = refl
+    differs_by q i (Some (bound.Activity k)) bind =
+        sym (activity_is k (under_activity q i k (subst (λ o. IsListed k (activities_taken o)) (sym bind) (inl refl))))
+        ∙ sym (or-false (contains name_cmp c.differing.activities k))
+    differs_by q i (Some (bound.Factor k)) bind =
+        sym (factor_is k (under_factor q i k (subst (λ o. IsListed k (factors_taken o)) (sym bind) (inl refl))))
+        ∙ sym (or-false (contains name_cmp c.differing.factors k))
+    differs_by q i (Some (bound.Line k)) bind = itself (ValueOf (node.Line k year))
+    differs_by q i (Some (bound.Prev k)) bind =
+        previous_by k (nat_le year (first_year (span old))) (nat_le year (first_year (span new)))
+        ∙ sym (ap₂ (λ a b. not (beq (nat_le year a) (nat_le year b))) are.year.first_before are.year.first)
+    differs_by q i (Some (bound.Sum ks)) bind = itself (SumOf (map (λ k. node.Line k year) ks))
+    differs_by q i (Some (bound.Decay k)) bind =
+        sym (decay_is k (under_factor q i k (subst (λ o. IsListed k (factors_taken o)) (sym bind) (inl refl))))
+        ∙ sym (or-false (contains name_cmp c.differing.decays k))
+    differs_by q i (Some (bound.Key notation)) bind = by notation
       where
-        by : (c : Bool) → map_operand (given old) (previous c k year) ≡ map_operand (given new) (previous c k year)
-        by true = refl
-        by false = refl
-    given_same q i first (Some (bound.Sum ks)) bind = refl
-    given_same q i first (Some (bound.Decay k)) bind = ap Given
-        (decay_same old new k year (factor_kept q i k (subst (λ o. IsListed k (figures_taken o)) (sym bind) (inl refl))))
-    given_same q i first (Some (bound.Key notation)) bind = by notation
-      where
-        by : (n : NotationKey) → map_operand (given old) (Given (by_key n)) ≡ map_operand (given new) (Given (by_key n))
-        by No = refl
-        by Na = refl
-        by Ie = refl
-        by Ne = refl
+        by : (n : NotationKey) → not (same_operand (map_operand (given old) (Given (by_key n))) (map_operand (given new) (Given (by_key n)))) ≡ false
+        by No = itself (map_operand (given new) (Given (by_key No)))
+        by Na = itself (map_operand (given new) (Given (by_key Na)))
+        by Ie = itself (map_operand (given new) (Given (by_key Ie)))
+        by Ne = itself (map_operand (given new) (Given (by_key Ne)))
 
-    -- so it takes a line that is reached
-    by_line : (q : Quantity) → IsListed q (parameters e) → (b : Option Binding) → binding new name q.name ≡ b
-        → list_any (is_reached old new) (nodes_in (bound_to new (first_year (span new)) year b)) ≡ true
-        → TakesReached old new year name
-    by_line q i None bind on = absurd (true_not_false (sym on))
-    by_line q i (Some (bound.Activity k)) bind on = absurd (true_not_false (sym on))
-    by_line q i (Some (bound.Factor k)) bind on = absurd (true_not_false (sym on))
-    by_line q i (Some (bound.Line k)) bind on = record {
-      other = k;
-      among = taker_of q i k (subst (λ o. IsListed k (taken_by o)) (sym bind) (inl refl));
-      reached = sym (or-false (is_reached old new (node.Line k year))) ∙ on;
-    }
-    by_line q i (Some (bound.Prev k)) bind on = absurd (not_in (candidates.by_line place (record {
-      name = k;
-      among = all k (has k ∙ on);
-      under = (is.takers.of_lines k place).1 (
-        h,
-        named_in lines_taken new name e at q i k (subst (λ o. IsListed k (lines_taken o)) (sym bind) (inl refl)),
-      );
-    })))
-    by_line q i (Some (bound.Sum ks)) bind on =
-        let found = from_any (is_reached old new) (map (λ k. node.Line k year) ks) on in
-        let from = from_map (λ k. node.Line k year) found.0 ks found.1 in
-        record {
-          other = from.0;
-          among = taker_of q i from.0 (subst (λ o. IsListed from.0 (taken_by o)) (sym bind) from.1);
-          reached = ap (is_reached old new) (sym from.2) ∙ found.2;
-        }
-    by_line q i (Some (bound.Decay k)) bind on = absurd (true_not_false (sym on))
-    by_line q i (Some (bound.Key notation)) bind on = absurd (true_not_false (sym on))
+    binding_by : (q : Quantity) → IsListed q (parameters e)
+        → binding_reached old new year (binding old name q.name) (binding new name q.name)
+        ≡ given_differs (binding new name q.name) || node_reached (binding new name q.name)
+    binding_by q i = ap (λ b. b || node_reached (binding new name q.name))
+        (ap (λ b. not (same_operand (map_operand (given old) (bound_to old (first_year (span old)) year b))
+        (map_operand (given new) (bound_to new (first_year (span new)) year (binding new name q.name))))) (binding_same q.name)
+        ∙ differs_by q i (binding new name q.name) refl)
 
     was_there : was_line old name e year ≡ true
-    was_there = both _ _ was (ap (λ o. option_map_or (λ d. same_equation d e) o false) (line_same ∙ at) ∙ equation_itself e)
+    was_there = both _ _ are.year.was
+        (ap (λ o. option_map_or (λ d. same_equation d e) o false) (line_same ∙ at) ∙ equation_itself e)
 
-    by_parameter : (q : Quantity) → IsListed q (parameters e)
-        → binding_reached old new year (binding old name q.name) (binding new name q.name) ≡ true
-        → TakesReached old new year name
-    by_parameter q i on = by_line q i (binding new name q.name) refl
-        (sym (ap (λ b. not b || list_any (is_reached old new) (nodes_in (bound_to new (first_year (span new)) year (binding new name q.name)))) same)
-        ∙ on)
-      where
-        operands : map_operand (given old) (bound_to old (first_year (span old)) year (binding old name q.name))
-            ≡ map_operand (given new) (bound_to new (first_year (span new)) year (binding new name q.name))
-        operands = ap₂ (λ s b. map_operand (given old) (bound_to old (first_year s) year b)) span_same (binding_same q.name)
-            ∙ given_same q i (first_year (span new)) (binding new name q.name) refl
+    -- the line is reached where one of its bindings takes what differs, or has a node that is reached
+    line_by : is_reached old new (node.Line name year)
+        ≡ list_any (λ q. given_differs (binding new name q.name) || node_reached (binding new name q.name)) (parameters e)
+    line_by = line_is_reached old new name year e at (both _ _ (ap is_some at) are.year.within)
+        ∙ ap (λ b. not b || list_any (λ (q : Quantity). binding_reached old new year (binding old name q.name) (binding new name q.name)) (parameters e)) was_there
+        ∙ any_agree _ _ (parameters e) binding_by
 
-        same : same_operand (map_operand (given old) (bound_to old (first_year (span old)) year (binding old name q.name)))
-            (map_operand (given new) (bound_to new (first_year (span new)) year (binding new name q.name))) ≡ true
-        same = ap (λ x. same_operand x (map_operand (given new) (bound_to new (first_year (span new)) year (binding new name q.name)))) operands
-            ∙ operand_itself e (map_operand (given new) (bound_to new (first_year (span new)) year (binding new name q.name)))
+    -- told by the lines of the year and of the year before
+    by_lines : (now : BTreeSet Name)
+        → ((k : Name) → Takes new name k → contains name_cmp now k ≡ is_reached old new (node.Line k year))
+        → line_takes new c now name ≡ is_reached old new (node.Line name year)
+    by_lines now known =
+        ap (λ o. option_map_or (λ d. list_any (λ q. takes_reached new c now (binding new name q.name)) (parameters d)) o false) at
+        ∙ any_agree _ _ (parameters e) (λ q i.
+        or_assoc (has_figure c.differing (binding new name q.name)) (takes_previous c.year (binding new name q.name)) _
+        ∙ ap (λ b. given_differs (binding new name q.name) || b)
+        (bindings.takes_reached old new year c.before now are.before (binding new name q.name)
+        (λ k t. known k (record { present = ap is_some at; parameter = q.name; bound = t }))))
+        ∙ sym line_by
 
-    takes_reached : is_reached old new (node.Line name year) ≡ true → TakesReached old new year name
-    takes_reached on =
-        let found = from_any (λ (q : Quantity). binding_reached old new year (binding old name q.name) (binding new name q.name)) (parameters e)
-        (sym (ap (λ b. not b || list_any (λ (q : Quantity). binding_reached old new year (binding old name q.name) (binding new name q.name)) (parameters e)) was_there)
-        ∙ sym (line_is_reached old new name year e at (both _ _ (ap is_some at) within)) ∙ on) in
-        by_parameter found.0 found.1 found.2
+    -- ---- one that stands at none of the first places
 
-  pub are_first : AreFirst old new lines year places
-  are_first = record {
-    within = candidates.within;
+    module _ (places : BTreeSet ℕ) (first : AreFirst index c places) (not_in : IsIn places place → ⊥) where
+      no_candidate : IsCandidate index edited.changed c.differing (names_of lines c.before) place → ⊥
+      no_candidate candidate = not_in ((first place).1 (h, inr candidate))
+
+      no_figure : (q : Quantity) → IsListed q (parameters e) → (b : Option Binding) → binding new name q.name ≡ b
+          → given_differs b ≡ true → ⊥
+      no_figure q i None bind on = true_not_false (sym on)
+      no_figure q i (Some (bound.Activity k)) bind on = no_candidate (inr (inl (inl (record {
+        name = k;
+        among = key_listed exact_bytes k c.differing.activities.keys (sym (or-false (contains name_cmp c.differing.activities k)) ∙ on);
+        under = under_activity q i k (subst (λ o. IsListed k (activities_taken o)) (sym bind) (inl refl));
+      }))))
+      no_figure q i (Some (bound.Factor k)) bind on = no_candidate (inr (inl (inr (inl (record {
+        name = k;
+        among = key_listed exact_bytes k c.differing.factors.keys (sym (or-false (contains name_cmp c.differing.factors k)) ∙ on);
+        under = under_factor q i k (subst (λ o. IsListed k (factors_taken o)) (sym bind) (inl refl));
+      })))))
+      no_figure q i (Some (bound.Line k)) bind on = true_not_false (sym on)
+      no_figure q i (Some (bound.Prev k)) bind on = not_in ((first place).1 (h, inl on))
+      no_figure q i (Some (bound.Sum ks)) bind on = true_not_false (sym on)
+      no_figure q i (Some (bound.Decay k)) bind on = no_candidate (inr (inl (inr (inr (record {
+        name = k;
+        among = key_listed exact_bytes k c.differing.decays.keys (sym (or-false (contains name_cmp c.differing.decays k)) ∙ on);
+        under = under_factor q i k (subst (λ o. IsListed k (factors_taken o)) (sym bind) (inl refl));
+      })))))
+      no_figure q i (Some (bound.Key notation)) bind on = true_not_false (sym on)
+
+      named_before : (k : Name) → has_line new c.before k ≡ true → IsListed k (names_of lines c.before)
+      named_before k on = by c.before on
+        where
+          by : (ls : Lines) → has_line new ls k ≡ true → IsListed k (names_of lines ls)
+          by year_lines.All on = listed lines k (is.lines.complete k on)
+          by (year_lines.These names) on = key_listed exact_bytes k names.keys on
+
+      by_node : (q : Quantity) → IsListed q (parameters e) → (b : Option Binding) → binding new name q.name ≡ b
+          → node_reached b ≡ true → TakesReached old new year name
+      by_node q i None bind on = absurd (true_not_false (sym on))
+      by_node q i (Some (bound.Activity k)) bind on = absurd (true_not_false (sym on))
+      by_node q i (Some (bound.Factor k)) bind on = absurd (true_not_false (sym on))
+      by_node q i (Some (bound.Line k)) bind on = record {
+        other = k;
+        among = named_in taken_by new name e at q i k (subst (λ o. IsListed k (taken_by o)) (sym bind) (inl refl));
+        reached = sym (or-false (is_reached old new (node.Line k year))) ∙ on;
+      }
+      by_node q i (Some (bound.Prev k)) bind on = absurd (no_candidate (inr (inr (record {
+        name = k;
+        among = named_before k (are.before k ∙ on);
+        under = (is.takers.of_previous k place).1 (
+          h,
+          named_in previous_taken new name e at q i k (subst (λ o. IsListed k (previous_taken o)) (sym bind) (inl refl)),
+        );
+      }))))
+      by_node q i (Some (bound.Sum ks)) bind on =
+          let found = from_any (is_reached old new) (map (λ k. node.Line k year) ks) on in
+          let from = from_map (λ k. node.Line k year) found.0 ks found.1 in
+          record {
+            other = from.0;
+            among = named_in taken_by new name e at q i from.0 (subst (λ o. IsListed from.0 (taken_by o)) (sym bind) from.1);
+            reached = ap (is_reached old new) (sym from.2) ∙ found.2;
+          }
+      by_node q i (Some (bound.Decay k)) bind on = absurd (true_not_false (sym on))
+      by_node q i (Some (bound.Key notation)) bind on = absurd (true_not_false (sym on))
+
+      by_other : is_reached old new (node.Line name year) ≡ true → TakesReached old new year name
+      by_other on =
+          let found = from_any (λ q. given_differs (binding new name q.name) || node_reached (binding new name q.name))
+          (parameters e) (sym line_by ∙ on) in
+          elim (either (given_differs (binding new name found.0.name)) _ found.2) [
+            | inl differs ↦ absurd (no_figure found.0 found.1 (binding new name found.0.name) refl differs)
+            | inr reached ↦ by_node found.0 found.1 (binding new name found.0.name) refl reached
+          ]
+
+  -- ---- the first places
+
+  pub are_enough : (places : BTreeSet ℕ) → AreFirst index c places → AreEnough old new lines year places
+  are_enough places first = record {
+    within = λ place on. ((first place).0 on).0;
     all = λ place h on. elim (or_else (contains nat_cmp places place)) [
       | inl is ↦ inl is
-      | inr off ↦ inr (by (line new (name_at lines place)) place refl h off on)
+      | inr off ↦ inr (by (line new (name_at lines place)) place refl h
+          (λ there. true_not_false (sym there ∙ off)) on)
     ];
   }
     where
+      unchanged_at : (place : ℕ) → (IsIn places place → ⊥) → contains nat_cmp edited.changed place ≡ false
+      unchanged_at place not_in = never_so _ (λ there. not_in ((first place).1
+          (((are.edited.changed place).0 there).0, inr (inl there))))
+
       by : (o : Option EqId) (place : ℕ) → line new (name_at lines place) ≡ o → place < length lines
-          → contains nat_cmp places place ≡ false → is_reached old new (node.Line (name_at lines place) year) ≡ true
+          → (IsIn places place → ⊥) → is_reached old new (node.Line (name_at lines place) year) ≡ true
           → TakesReached old new year (name_at lines place)
-      by None place at h off on = absurd (true_not_false (sym (behind_at new [] lines is.lines.behind place h).0 ∙ ap is_some at))
-      by (Some e) place at h off on = takes_reached place h off e at on
+      by None place at h not_in on = absurd (true_not_false (sym (behind_at new [] lines is.lines.behind place h).0 ∙ ap is_some at))
+      by (Some e) place at h not_in on = by_other place h (unchanged_at place not_in) e at places first not_in on
+
+  -- ---- a line that edits do not change
+
+  pub unchanged_reached : (place : ℕ) → place < length lines → contains nat_cmp edited.changed place ≡ false
+      → (now : BTreeSet Name)
+      → ((k : Name) → Takes new (name_at lines place) k → contains name_cmp now k ≡ is_reached old new (node.Line k year))
+      → line_takes new c now (name_at lines place) ≡ is_reached old new (node.Line (name_at lines place) year)
+  unchanged_reached place h off now known = by (line new (name_at lines place)) refl
+    where
+      by : (o : Option EqId) → line new (name_at lines place) ≡ o
+          → line_takes new c now (name_at lines place) ≡ is_reached old new (node.Line (name_at lines place) year)
+      by None at = absurd (true_not_false (sym (behind_at new [] lines is.lines.behind place h).0 ∙ ap is_some at))
+      by (Some e) at = by_lines place h off e at now known

@@ -19,12 +19,13 @@ use Rattle.ghg_units.specs.declared.row.Binding.{Binding}
 use Rattle.ghg_definitions.specs.declared.record.RecordKey.TheVariants as key
 use Rattle.ghg_definitions.specs.Data.{Data, Name, as_binding, as_line, binding, line, name_cmp}
 use Rattle.ghg_definitions.specs.Listed.{IsListed}
+use Rattle.ghg_definitions.specs.Rings.{taken_by}
 use Rattle.ghg_definitions.proofs.Listed.{from_filter, in_either, listed_filter, listed_left, listed_right}
 use Rattle.ghg_data.specs.Parameters.{quantity}
 use Rattle.ghg_graph.specs.Numbers.{name_at}
 use Rattle.ghg_graph.specs.Ordering.{IsLineOrder}
-use Rattle.ghg_data.specs.Taken.{figures_taken, lines_taken, named_by}
-use Rattle.ghg_graph.specs.Takers.{AreTakers, AreTakersBefore, AreTakersWith, AreUpTo, IsCut, IsIndex, IsIndexWith, IsNamedFrom, IsPut, figures_of, lines_of, places_of, potentials_of}
+use Rattle.ghg_data.specs.Taken.{named_by}
+use Rattle.ghg_graph.specs.Takers.{AreTakers, AreTakersBefore, AreTakersWith, AreUpTo, IsCut, IsIndex, IsIndexWith, IsNamedFrom, IsPut, activities_of, activities_taken, factors_of, factors_taken, lines_of, places_of, potentials_of, previous_of, previous_taken}
 use Rattle.ghg_graph.specs.declared.takers.Places.{Places}
 use Rattle.ghg_graph.specs.declared.takers.Takers.{Takers}
 use Rattle.ghg_graph.proofs.EquationParameters.{flat_named}
@@ -427,15 +428,19 @@ module _ (old new : Data) (kept : KeepsLines old new) (lines more : List Name) (
   pub takers_joined : (was is : Takers) → AreTakers old lines was → AreTakersWith (length lines) new (lines ++ more) was is
       → AreTakers new (lines ++ more) is
   takers_joined was is before after = record {
-    of_figures = index_joined figures_of (bound_still figures_taken) was.figures is.figures before.of_figures after.of_figures;
-    of_lines = index_joined lines_of (bound_still lines_taken) was.lines is.lines before.of_lines after.of_lines;
+    of_activities = index_joined activities_of (bound_still activities_taken) was.activities is.activities before.of_activities after.of_activities;
+    of_factors = index_joined factors_of (bound_still factors_taken) was.factors is.factors before.of_factors after.of_factors;
+    of_lines = index_joined lines_of (bound_still taken_by) was.lines is.lines before.of_lines after.of_lines;
+    of_previous = index_joined previous_of (bound_still previous_taken) was.previous is.previous before.of_previous after.of_previous;
     of_potentials = index_joined potentials_of potential_still was.potentials is.potentials before.of_potentials after.of_potentials;
   }
 
   pub takers_cut : (was is : Takers) → AreTakers new (lines ++ more) was
       → AreTakersBefore (length lines) new (lines ++ more) was is → AreTakers old lines is
   takers_cut was is before cut = record {
-    of_figures = index_cut figures_of (bound_still figures_taken) was.figures is.figures before.of_figures cut.of_figures;
-    of_lines = index_cut lines_of (bound_still lines_taken) was.lines is.lines before.of_lines cut.of_lines;
+    of_activities = index_cut activities_of (bound_still activities_taken) was.activities is.activities before.of_activities cut.of_activities;
+    of_factors = index_cut factors_of (bound_still factors_taken) was.factors is.factors before.of_factors cut.of_factors;
+    of_lines = index_cut lines_of (bound_still taken_by) was.lines is.lines before.of_lines cut.of_lines;
+    of_previous = index_cut previous_of (bound_still previous_taken) was.previous is.previous before.of_previous cut.of_previous;
     of_potentials = index_cut potentials_of potential_still was.potentials is.potentials before.of_potentials cut.of_potentials;
   }

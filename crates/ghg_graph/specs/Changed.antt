@@ -1,34 +1,29 @@
--- The lines that edits are about, by their places.
-use Rattle.std.specs.Prelude.{◌≡◌, ℕ, ◌<◌, ⊤, Bool, true, false, if◌then◌else◌, is_some, List, length, Option, Some, None}
-use Rattle.std.specs.List.{Contains, filter_map}
+-- The lines that edits change, by their places.
+use Rattle.std.specs.Prelude.{◌≡◌, ◌≢◌, ◌⊎◌, ◌↔◌, ℕ, ◌<◌, if◌then◌else◌, is_some, List, length, Option, Some, None}
+use Rattle.std.specs.BTreeSet.{BTreeSet}
+use Rattle.std.specs.List.{filter_map}
 use Rattle.ghg_definitions.specs.declared.record.RecordKey.{RecordKey}
 use Rattle.ghg_definitions.specs.declared.record.RecordKey.TheVariants as key
-use Rattle.ghg_definitions.specs.Data.{Data, Name, line}
+use Rattle.ghg_definitions.specs.Data.{Data, Name, binding, line}
 use Rattle.ghg_definitions.specs.Listed.{IsListed}
+use Rattle.ghg_graph.specs.Candidates.{IsIn}
 use Rattle.ghg_graph.specs.Numbers.{name_at}
 
--- the key is that of the years
-abbrev pub is_span : RecordKey → Bool
-is_span key.Span = true
-is_span _ = false
+-- the equation of the key's line, or the binding, is not what it was
+abbrev pub Differs : Data → Data → RecordKey → Type 0
+Differs old new (key.Line name) = line old name ≢ line new name
+Differs old new (key.Bind name parameter) = binding old name parameter ≢ binding new name parameter
+Differs old new _ = ⊥
 
--- the key is of the line or of a binding of it, or that of the years
-abbrev pub IsAbout : RecordKey → Name → Type 0
-IsAbout key.Span name = ⊤
-IsAbout (key.Line other) name = other ≡ name
-IsAbout (key.Bind other parameter) name = other ≡ name
-IsAbout _ name = ⊥
+-- the line's equation, or one of its bindings, is not what it was
+abbrev pub LineDiffers : Data → Data → Name → Type 0
+LineDiffers old new name = (line old name ≢ line new name)
+    ⊎ ((parameter : Name) × (binding old name parameter ≢ binding new name parameter))
 
--- the lines that keys are about stand at these places
-abbrev pub HasChanged : List RecordKey → List Name → List ℕ → Type 0
-HasChanged keys lines places = (k : RecordKey) (place : ℕ) → Contains keys k → place < length lines →
-    IsAbout k (name_at lines place) → IsListed place places
-
--- one of the keys is about the line at the place
-pub record IsChangedAt (keys : List RecordKey) (lines : List Name) (place : ℕ) : Type 0 where
-  pub key : RecordKey
-  pub among : Contains keys key
-  pub about : IsAbout key (name_at lines place)
+-- they are the places of the lines that differ
+abbrev pub AreChanged : Data → Data → List Name → BTreeSet ℕ → Type 0
+AreChanged old new lines places = (place : ℕ) → IsIn places place ↔
+    ((place < length lines) × LineDiffers old new (name_at lines place))
 
 -- the line of the key, or of the binding, if it is present
 abbrev pub present_line : Data → RecordKey → Option Name

@@ -18,6 +18,7 @@ pub mod Index
 pub mod Candidates
 pub mod Changed
 pub mod Figures
+pub mod Differing
 pub mod Falling
 pub mod Entries
 pub mod Moves

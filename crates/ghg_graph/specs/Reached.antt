@@ -1,28 +1,26 @@
 -- Which nodes edits reach, told year by year.
-use Rattle.std.specs.Prelude.{◌≡◌, ◌⊎◌, ◌↔◌, ℕ, ◌<◌, Bool, true, false, is_some, not, ◌&&◌, ◌||◌, nat_le, List, filter, length, Option, Some}
-use Rattle.std.specs.BTreeSet.{BTreeSet, contains}
-use Rattle.std.specs.FinMap.{get}
-use Rattle.std.specs.List.{Contains, filter_map, list_any}
+use Rattle.std.specs.Prelude.{◌≡◌, ◌⊎◌, ◌↔◌, ℕ, ◌<◌, Bool, true, false, is_some, not, ◌||◌, nat_le, List, filter, length, Option, Some}
+use Rattle.std.specs.Bool.{beq}
+use Rattle.std.specs.BTreeSet.{BTreeSet, IsOrdered, contains}
+use Rattle.std.specs.Option.{option_map_or}
+use Rattle.std.specs.List.{filter_map, list_any}
 use Rattle.ghg_categories.specs.declared.category.Category.{Category}
 use Rattle.ghg_categories.specs.Tree.{is_same}
-use Rattle.ghg_equations.specs.declared.quantity.Gas.{Gas}
-use Rattle.ghg_units.specs.Name.{is_potential_name, potential_name}
+use Rattle.ghg_equations.specs.Table.{parameters}
 use Rattle.ghg_units.specs.declared.node.Node.{Node}
 use Rattle.ghg_units.specs.declared.node.Node.TheVariants as node
 use Rattle.ghg_units.specs.declared.row.Binding.{Binding}
 use Rattle.ghg_units.specs.declared.row.Binding.TheVariants as bound
-use Rattle.ghg_definitions.specs.declared.record.RecordKey.{RecordKey}
 use Rattle.ghg_definitions.specs.Compilation.{bound_to, first_year, is_year_of, nodes, previous}
-use Rattle.ghg_definitions.specs.Data.{Data, Name, category, line, name_cmp, span}
+use Rattle.ghg_definitions.specs.Data.{Data, Name, binding, category, line, name_cmp, span}
 use Rattle.ghg_definitions.specs.Formulas.{map_operand, nodes_in}
-use Rattle.ghg_definitions.specs.Listed.{IsListed}
-use Rattle.ghg_definitions.specs.Lookups.{factor_input, given}
-use Rattle.ghg_definitions.specs.Rings.{taken}
+use Rattle.ghg_definitions.specs.Lookups.{given}
 use Rattle.ghg_affected.specs.Affected.{affected_within}
-use Rattle.ghg_affected.specs.Equalities.{same_input, same_operand}
-use Rattle.ghg_graph.specs.Candidates.{AllBelow, IsIn, IsTaker}
-use Rattle.ghg_graph.specs.Changed.{HasChanged, StandsAmong}
-use Rattle.ghg_graph.specs.Figures.{AreFigures}
+use Rattle.ghg_affected.specs.Equalities.{same_operand}
+use Rattle.ghg_graph.specs.Candidates.{IsCandidate, IsIn, IsTaker}
+use Rattle.ghg_graph.specs.Changed.{AreChanged, StandsAmong}
+use Rattle.ghg_graph.specs.Differing.{ArePotentials, has_figure}
+use Rattle.ghg_graph.specs.Figures.{AreFigures, IsOfYear}
 use Rattle.ghg_graph.specs.Moves.{AreMoved}
 use Rattle.ghg_graph.specs.Numbers.{name_at}
 use Rattle.ghg_graph.specs.Tops.{has_top}
@@ -32,6 +30,7 @@ use Rattle.ghg_graph.specs.declared.reached.Edited.{Edited}
 use Rattle.ghg_graph.specs.declared.reached.Lines.{Lines}
 use Rattle.ghg_graph.specs.declared.reached.Lines.TheVariants as year_lines
 use Rattle.ghg_graph.specs.declared.reached.Year.{Year}
+use Rattle.ghg_graph.specs.declared.reached.YearChanges.{YearChanges}
 use Rattle.ghg_graph.specs.declared.reached.Years.{Years}
 use Rattle.ghg_graph.specs.declared.tops.Tops.{Tops}
 
@@ -54,6 +53,11 @@ binding_reached old new year was b =
 abbrev pub has_line : Data → Lines → Name → Bool
 has_line m year_lines.All name = is_some (line m name)
 has_line m (year_lines.These names) name = contains name_cmp names name
+
+-- their names, of all lines in an order
+abbrev pub names_of : List Name → Lines → List Name
+names_of lines year_lines.All = lines
+names_of lines (year_lines.These names) = names.keys
 
 -- they are those that are reached in a year
 abbrev pub HasReached : Data → Data → ℕ → Lines → Type 0
@@ -87,43 +91,62 @@ pub record AreYears (old new : Data) (y : Years) : Type 0 where
   pub first_before : y.first_before ≡ first_year (span old)
   pub first : y.first ≡ first_year (span new)
 
--- ---- what edits are about
+-- values of the year before are taken in the new data and not in the old, or the other way round
+abbrev pub previous_differs : Year → Bool
+previous_differs y = not (beq (nat_le y.number y.first_before) (nat_le y.number y.first))
 
--- where edits are kept to the keys: the lines that these are about, the activities and factors of which their
--- records are read, the totals that add other lines, and the years
+-- ---- what edits change
+
+-- the places of the lines that differ, the activities and factors that do, the totals that add other lines,
+-- and the years
 pub record AreEdited (old new : Data) (index : LineIndex) (edited : Edited) : Type 0 where
-  pub keys : List RecordKey
-  pub kept : (k : RecordKey) → (Contains keys k → ⊥) → get old k ≡ get new k
-  pub changed : HasChanged keys index.lines.items edited.changed.items
-  pub within : AllBelow (length index.lines.items) edited.changed.items
-  pub figures : AreFigures old new index.takers.figures keys edited.figures
+  pub changed : AreChanged old new index.lines.items edited.changed
+  pub figures : AreFigures old new index.takers edited.changed edited.figures
   pub moved : AreMoved old new edited.moved
   pub years : AreYears old new edited.years
 
--- it takes the value of a line that is reached in the same year
-pub record TakesReached (old new : Data) (year : ℕ) (name : Name) : Type 0 where
-  pub other : Name
-  pub among : IsListed other (taken new name)
-  pub reached : is_reached old new (node.Line other year) ≡ true
+-- in the year: what edits change, what differs, and the lines that are reached in the year before
+pub record AreYearChanges (old new : Data) (index : LineIndex) (c : YearChanges) : Type 0 where
+  pub year : IsYear old new c.year
+  pub edited : AreEdited old new index c.edited.now
+  pub differing : IsOfYear c.edited.now.figures c.year.number c.differing
+  pub before : HasBefore old new c.year.number c.before
 
--- each line that is reached in the year stands at one of the places, or takes one that is
-pub record AreFirst (old new : Data) (lines : List Name) (year : ℕ) (places : BTreeSet ℕ) : Type 0 where
-  pub within : (place : ℕ) → IsIn places place → place < length lines
-  pub all : (place : ℕ) → place < length lines →
-      is_reached old new (node.Line (name_at lines place) year) ≡ true →
-      IsIn places place ⊎ TakesReached old new year (name_at lines place)
+-- ---- lines that edits do not change
+
+-- the binding is to a value of the year before, and these are taken in one of both data alone
+abbrev pub takes_previous : Year → Option Binding → Bool
+takes_previous y (Some (bound.Prev name)) = previous_differs y
+takes_previous y _ = false
+
+-- the binding takes a figure that differs, or a line that is reached, or is to the year before, where that
+-- differs
+abbrev pub takes_reached : Data → YearChanges → BTreeSet Name → Option Binding → Bool
+takes_reached new c now b = has_figure c.differing b
+    || (takes_previous c.year b || takes_from new c.before now b)
+
+-- one of the line's bindings does
+abbrev pub line_takes : Data → YearChanges → BTreeSet Name → Name → Bool
+line_takes new c now name = option_map_or (λ e. list_any
+    (λ q. takes_reached new c now (binding new name q.name)) (parameters e)) (line new name) false
+
+-- the places with which the search begins in the year: those of candidates, and all, where values of the year
+-- before are taken in one of both data alone
+abbrev pub AreFirst : LineIndex → YearChanges → BTreeSet ℕ → Type 0
+AreFirst index c places = (place : ℕ) → IsIn places place ↔ ((place < length index.lines.items)
+    × ((previous_differs c.year ≡ true) ⊎ IsCandidate index c.edited.now.changed c.differing
+    (names_of index.lines.items c.before) place))
 
 -- ---- equivalents
 
--- only a warming potential that is among the names differs in the year
-abbrev pub ArePotentials : Data → Data → ℕ → List Name → Type 0
-ArePotentials old new year names = (gas : Gas) → (IsListed (potential_name gas) names → ⊥) →
-    factor_input old (potential_name gas) year ≡ factor_input new (potential_name gas) year
-
--- the figure is a warming potential that differs in the year
-abbrev pub is_differing : Data → Data → ℕ → Name → Bool
-is_differing old new year name = is_potential_name name
-    && not (same_input (factor_input old name year) (factor_input new name year))
+-- they tell which equivalents are reached: in the year these warming potentials differ, and these lines are
+-- reached
+pub record TellEquivalents (old new : Data) (year : ℕ) (potentials : List Name) (lines : BTreeSet Name)
+    : Type 0 where
+  pub within : is_year_of (span new) year ≡ true
+  pub potentials_are : ArePotentials old new year potentials
+  pub reached : HasReached old new year (year_lines.These lines)
+  pub ordered : IsOrdered name_cmp lines
 
 -- the line stands in the index under one of the warming potentials
 pub record StandsUnder (index : LineIndex) (potentials : List Name) (name : Name) : Type 0 where

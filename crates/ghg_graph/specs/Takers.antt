@@ -1,11 +1,14 @@
 -- Which lines take an activity, a factor or a line, or emit a gas.
-use Rattle.std.specs.Prelude.{◌≡◌, ◌⊎◌, ◌↔◌, ℕ, ◌<◌, ◌≤◌, List, length}
+use Rattle.std.specs.Prelude.{◌≡◌, ◌⊎◌, ◌↔◌, ℕ, ◌<◌, ◌≤◌, List, [], ◌∷◌, length, Option, Some}
 use Rattle.std.specs.Option.{option_map, option_to_list}
 use Rattle.ghg_units.specs.Name.{potential_name}
+use Rattle.ghg_units.specs.declared.row.Binding.{Binding}
+use Rattle.ghg_units.specs.declared.row.Binding.TheVariants as bound
 use Rattle.ghg_definitions.specs.Compilation.{line_gas}
 use Rattle.ghg_definitions.specs.Data.{Data, Name}
 use Rattle.ghg_definitions.specs.Listed.{IsListed}
-use Rattle.ghg_data.specs.Taken.{figures_taken, lines_taken, named_by}
+use Rattle.ghg_definitions.specs.Rings.{taken_by}
+use Rattle.ghg_data.specs.Taken.{named_by}
 use Rattle.ghg_graph.specs.Ascending.{places_in}
 use Rattle.ghg_graph.specs.Numbers.{name_at}
 use Rattle.ghg_graph.specs.declared.takers.Places.{Places}
@@ -24,15 +27,41 @@ abbrev pub IsPut : List Name → ℕ → Places → Places → Type 0
 IsPut names place old new = (name : Name) (k : ℕ) → IsListed k (places_of new name) ↔
     (IsListed k (places_of old name) ⊎ ((k ≡ place) × IsListed name names))
 
+-- ---- what a binding names
+
+-- the activity that it takes
+abbrev pub activities_taken : Option Binding → List Name
+activities_taken (Some (bound.Activity name)) = name ∷ []
+activities_taken _ = []
+
+-- the factor that it takes, or of which it takes the decay
+abbrev pub factors_taken : Option Binding → List Name
+factors_taken (Some (bound.Factor name)) = name ∷ []
+factors_taken (Some (bound.Decay name)) = name ∷ []
+factors_taken _ = []
+
+-- the line whose value of the year before it takes
+abbrev pub previous_taken : Option Binding → List Name
+previous_taken (Some (bound.Prev name)) = name ∷ []
+previous_taken _ = []
+
 -- ---- what a line names
 
--- the activities and factors that it takes
-abbrev pub figures_of : Data → Name → List Name
-figures_of = named_by figures_taken
+-- the activities that it takes
+abbrev pub activities_of : Data → Name → List Name
+activities_of = named_by activities_taken
 
--- the lines that it takes, in the same year or the year before
+-- the factors that it takes, or of which it takes the decay
+abbrev pub factors_of : Data → Name → List Name
+factors_of = named_by factors_taken
+
+-- the lines whose values of the same year it takes
 abbrev pub lines_of : Data → Name → List Name
-lines_of = named_by lines_taken
+lines_of = named_by taken_by
+
+-- the lines whose values of the year before it takes
+abbrev pub previous_of : Data → Name → List Name
+previous_of = named_by previous_taken
 
 -- the warming potential of the gas that it emits
 abbrev pub potentials_of : Data → Name → List Name
@@ -46,8 +75,10 @@ IsIndex names m lines places = (name : Name) (place : ℕ) → IsListed place (p
     ((place < length lines) × IsListed name (names m (name_at lines place)))
 
 pub record AreTakers (m : Data) (lines : List Name) (takers : Takers) : Type 0 where
-  pub of_figures : IsIndex figures_of m lines takers.figures
+  pub of_activities : IsIndex activities_of m lines takers.activities
+  pub of_factors : IsIndex factors_of m lines takers.factors
   pub of_lines : IsIndex lines_of m lines takers.lines
+  pub of_previous : IsIndex previous_of m lines takers.previous
   pub of_potentials : IsIndex potentials_of m lines takers.potentials
 
 -- the places below the number stay, and under each name that has P no other is left
@@ -76,11 +107,15 @@ IsNamedFrom first names m lines name = (place : ℕ) × IsNamed first names m li
 
 -- without the places of lines from this one on
 pub record AreTakersBefore (first : ℕ) (m : Data) (lines : List Name) (old new : Takers) : Type 0 where
-  pub of_figures : IsCut (IsNamedFrom first figures_of m lines) first old.figures new.figures
+  pub of_activities : IsCut (IsNamedFrom first activities_of m lines) first old.activities new.activities
+  pub of_factors : IsCut (IsNamedFrom first factors_of m lines) first old.factors new.factors
   pub of_lines : IsCut (IsNamedFrom first lines_of m lines) first old.lines new.lines
+  pub of_previous : IsCut (IsNamedFrom first previous_of m lines) first old.previous new.previous
   pub of_potentials : IsCut (IsNamedFrom first potentials_of m lines) first old.potentials new.potentials
 
 pub record AreTakersWith (first : ℕ) (m : Data) (lines : List Name) (old new : Takers) : Type 0 where
-  pub of_figures : IsIndexWith first figures_of m lines old.figures new.figures
+  pub of_activities : IsIndexWith first activities_of m lines old.activities new.activities
+  pub of_factors : IsIndexWith first factors_of m lines old.factors new.factors
   pub of_lines : IsIndexWith first lines_of m lines old.lines new.lines
+  pub of_previous : IsIndexWith first previous_of m lines old.previous new.previous
   pub of_potentials : IsIndexWith first potentials_of m lines old.potentials new.potentials

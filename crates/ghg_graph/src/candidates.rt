@@ -1,33 +1,53 @@
 //! The places of lines that may be reached in a year.
 
-ghost use Rattle.std.specs.Prelude.{IfOk, OnOk, length};
-ghost use Rattle.ghg_graph.specs.Candidates.{AllBelow, AreAdded, AreCandidates, AreTakersAdded, AreWithin};
+ghost use Rattle.std.specs.Prelude.{◌≡◌, ℕ, IfOk, OnOk};
+ghost use Rattle.std.specs.BTreeSet.{contains};
+ghost use Rattle.std.specs.Ordering.{nat_cmp};
+ghost use Rattle.ghg_definitions.specs.Data.{Name};
+ghost use Rattle.ghg_graph.specs.Candidates.{AreAdded, AreCandidates, AreTakersAdded};
 
+use crate::differing::Differing;
 use crate::index::LineIndex;
 use crate::takers::Places;
 use ghg_units::Name;
 use std::alloc::{AllocError, Global};
 use std::collections::BTreeSet;
 
-/// The changed places, those of the lines that take one of the figures, and those of the lines that take one
-/// of the lines of the year before, in the same year or in the year after.
-pub(crate) fn first_candidates(
+/// The changed places, those of the lines that take an activity or a factor of which the name is among those
+/// that differ, and those of the lines that take one of the lines of the year before.
+pub(crate) fn candidates(
     alloc: Global,
     index: &LineIndex,
-    changed: &[usize],
-    figures: &[Name],
+    changed: &BTreeSet<usize>,
+    differing: &Differing,
     before: &[Name],
 ) -> Result<BTreeSet<usize>, AllocError>
-    requires changed { AllBelow (length index.now.lines.items) changed.now }
-    requires figures { AreWithin (length index.now.lines.items) index.now.takers.figures }
-    requires lines { AreWithin (length index.now.lines.items) index.now.takers.lines }
-    ensures { IfOk result (AreCandidates index.now changed.now figures.now before.now) }
+    ensures { IfOk result (AreCandidates index.now changed.now differing.now before.now) }
 {
-    let mut places = BTreeSet::new(alloc);
-    add_from(&mut places, changed, 0)?;
-    add_takers(&mut places, &index.takers.figures, figures)?;
-    add_takers(&mut places, &index.takers.lines, before)?;
+    let takers = &index.takers;
+    let activities = sorted_names(alloc, &differing.activities)?;
+    let factors = sorted_names(alloc, &differing.factors)?;
+    let decays = sorted_names(alloc, &differing.decays)?;
+    let mut places = copied(alloc, changed)?;
+    add_takers(&mut places, &takers.activities, &activities)?;
+    add_takers(&mut places, &takers.factors, &factors)?;
+    add_takers(&mut places, &takers.factors, &decays)?;
+    add_takers(&mut places, &takers.previous, before)?;
     Ok(places)
+}
+
+/// The names of a set, in order.
+pub(crate) fn sorted_names(alloc: Global, names: &BTreeSet<Name>) -> Result<Vec<Name>, AllocError>
+    ensures { IfOk result (λ all. all.items ≡ names.now.keys) }
+{
+    names.iter().copied().collect(alloc)
+}
+
+fn copied(alloc: Global, places: &BTreeSet<usize>) -> Result<BTreeSet<usize>, AllocError>
+    ensures { IfOk result (λ copy. (place : ℕ) →
+        contains nat_cmp copy place ≡ contains nat_cmp places.now place) }
+{
+    places.iter().copied().collect(alloc)
 }
 
 // Adds the places that stand under the names.

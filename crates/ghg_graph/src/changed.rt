@@ -1,15 +1,18 @@
-//! The lines that edits are about, by their places.
+//! The lines that edits change, by their places.
 
-ghost use Rattle.std.specs.Prelude.{◌≡◌, ◌<◌, ℕ, true, length, IfOk};
+ghost use Rattle.std.specs.Prelude.{◌≡◌, ◌↔◌, ℕ, true, length, IfOk};
 ghost use Rattle.std.specs.BTreeSet.{IsFromIterResult, contains};
-ghost use Rattle.std.specs.List.{Contains, list_any};
-ghost use Rattle.ghg_definitions.specs.Data.{Name, name_cmp};
+ghost use Rattle.std.specs.FinMap.{get};
+ghost use Rattle.std.specs.List.{Contains};
+ghost use Rattle.ghg_definitions.specs.Data.{Name, line, name_cmp};
+ghost use Rattle.ghg_definitions.specs.declared.record.RecordKey.{RecordKey};
 ghost use Rattle.ghg_definitions.specs.Listed.{IsListed};
 ghost use Rattle.ghg_graph.specs.Candidates.{AllBelow};
-ghost use Rattle.ghg_graph.specs.Changed.{HasChanged, IsChangedAt, StandsAmong, is_span, present_line, present_lines};
+ghost use Rattle.ghg_graph.specs.Changed.{AreChanged, Differs, StandsAmong, present_line, present_lines};
 ghost use Rattle.ghg_graph.specs.Numbers.{name_at};
 ghost use Rattle.ghg_graph.specs.Ordering.{IsLineOrder};
 
+use crate::equality::same_binding;
 use crate::numbers::equation_of;
 use ghg_data::Records;
 use ghg_definitions::RecordKey;
@@ -17,51 +20,54 @@ use ghg_units::Name;
 use std::alloc::{AllocError, Global};
 use std::collections::BTreeSet;
 
-/// The places of the lines that keys are about, themselves or a binding of theirs, and that are present. The
-/// lines from the first of these places on are gone over, and no others. Where a key is that of the years,
-/// these are the places of all lines.
-pub(crate) fn changed_places<S: Records>(
+/// The places of the lines that are present and of which the equation or a binding is not what it was. The
+/// records differ at the keys alone.
+pub(crate) fn changed_places<R: Records, S: Records>(
     alloc: Global,
+    old: &R,
     new: &S,
     keys: &[RecordKey],
     lines: &[Name],
-) -> Result<Vec<usize>, AllocError>
-    requires { IsLineOrder (S.content new.now) lines.now }
-    ensures changed { IfOk result (λ places. HasChanged keys.now lines.now places.items) }
-    ensures only { IfOk result (λ places. (place : ℕ) → IsListed place places.items →
-        IsChangedAt keys.now lines.now place) }
-    ensures within { IfOk result (λ places. AllBelow (length lines.now) places.items) }
+) -> Result<BTreeSet<usize>, AllocError>
+    requires kept { (k : RecordKey) → (Contains keys.now k → ⊥) →
+        get (R.content old.now) k ≡ get (S.content new.now) k }
+    requires lines { IsLineOrder (S.content new.now) lines.now }
+    ensures { IfOk result (AreChanged (R.content old.now) (S.content new.now) lines.now) }
 {
-    if has_span(keys) {
-        return all_places(alloc, lines.len());
+    let differing = differing_keys(alloc, old, new, keys)?;
+    let names = present_lines(alloc, new, &differing)?;
+    let places = places_in(alloc, lines, set_of(alloc, &names)?)?;
+    places.iter().copied().collect(alloc)
+}
+
+// Those of the keys that are of a line or of a binding that is not what it was.
+fn differing_keys<R: Records, S: Records>(
+    alloc: Global,
+    old: &R,
+    new: &S,
+    keys: &[RecordKey],
+) -> Result<Vec<RecordKey>, AllocError>
+    ensures { IfOk result (λ differing. (key : RecordKey) → Contains differing.items key ↔
+        (Contains keys.now key × Differs (R.content old.now) (S.content new.now) key)) }
+{
+    keys.iter()
+        .filter(|key| differs(old, new, key))
+        .copied()
+        .collect(alloc)
+}
+
+// Whether a key is of a line or of a binding that is not what it was.
+fn differs<R: Records, S: Records>(old: &R, new: &S, key: &RecordKey) -> bool
+    ensures { (result ≡ true) ↔ Differs (R.content old.now) (S.content new.now) key.now }
+{
+    match key {
+        RecordKey::Line(name) => equation_of(old, name) != equation_of(new, name),
+        RecordKey::Bind(name, parameter) => !same_binding(
+            old.binding(name, parameter),
+            new.binding(name, parameter),
+        ),
+        _ => false,
     }
-    let names = present_lines(alloc, new, keys)?;
-    places_in(alloc, lines, set_of(alloc, &names)?)
-}
-
-// Whether one of the keys is that of the years.
-fn has_span(keys: &[RecordKey]) -> bool
-    ensures { result ≡ list_any is_span keys.now }
-{
-    keys.iter().any(|key| is_span(key))
-}
-
-fn is_span(key: &RecordKey) -> bool
-    ensures { result ≡ is_span key.now }
-{
-    matches!(key, RecordKey::Span)
-}
-
-// The places below a number.
-fn all_places(alloc: Global, count: usize) -> Result<Vec<usize>, AllocError>
-    ensures all { IfOk result (λ places. (place : ℕ) → place < count → IsListed place places.items) }
-    ensures within { IfOk result (λ places. AllBelow count places.items) }
-{
-    let mut places = Vec::new(alloc);
-    for place in 0..count {
-        places.push(place)?;
-    }
-    Ok(places)
 }
 
 /// The lines that keys are about, themselves or a binding of theirs, and that are present.
@@ -87,7 +93,8 @@ fn present_line<S: Records>(new: &S, key: &RecordKey) -> Option<Name>
     }
 }
 
-// The places of the names: the lines are gone over from the last on, since entered ones stand last.
+// The places of the names. The lines are looked at from the last on, since entered ones stand last, until all
+// names are found.
 fn places_in(alloc: Global, lines: &[Name], names: BTreeSet<Name>) -> Result<Vec<usize>, AllocError>
     requires { (name : Name) → contains name_cmp names name ≡ true → Contains lines.now name }
     ensures stand { IfOk result (λ places. (name : Name) → contains name_cmp names name ≡ true →
@@ -108,7 +115,8 @@ fn places_in(alloc: Global, lines: &[Name], names: BTreeSet<Name>) -> Result<Vec
     Ok(places)
 }
 
-fn set_of(alloc: Global, names: &[Name]) -> Result<BTreeSet<Name>, AllocError>
+/// The set of some names.
+pub(crate) fn set_of(alloc: Global, names: &[Name]) -> Result<BTreeSet<Name>, AllocError>
     ensures { IfOk result (IsFromIterResult name_cmp names.now) }
 {
     names.iter().copied().collect(alloc)

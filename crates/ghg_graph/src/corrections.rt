@@ -42,10 +42,11 @@ fn is_figure_key(key: &RecordKey) -> bool
 
 /// The nodes that edits affect, each once and behind its inputs: those that are new, those whose formula is
 /// another or takes other figures, and all that these lead to. `index` is that of the lines once the edits
-/// are made. Where there were no years, these are all nodes. Where edits leave the years, only those lines
-/// are looked up in a year that edits are about, that take a figure of theirs, or that take a line that is
-/// affected in this year or the one before; and, where an edited warming potential is read in it, those that
-/// emit its gas. Else all are.
+/// are made. Where there were no years, these are all nodes; in a year that the old data do not have, all of
+/// the year. In another year only those lines are looked up that have another equation or binding, that take
+/// an activity, a factor or a decay which differs in it, or that take a line that is affected in this year or
+/// the one before; where a warming potential differs in it, those that emit its gas; and, where the first
+/// years of the data differ, all in the later one.
 pub fn affected(
     alloc: Global,
     book: &Book,

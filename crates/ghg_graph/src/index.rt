@@ -55,18 +55,23 @@ impl LineIndex {
     }
 }
 
-// The lines that take a line have numbers by their places.
+// The lines that take a line have numbers by their places: first those that take it in the same year, then
+// those that take it in the year after.
 impl LineTakers for LineIndex {
     ghost count_of = { taker_count };
 
     ghost taker_at = { taker_at };
 
     fn count(&self, line: &Name) -> usize {
-        self.takers.lines.at(line).len()
+        self.takers.lines.at(line).len() + self.takers.previous.at(line).len()
     }
 
     fn taker(&self, line: &Name, number: usize) -> Option<&Name> {
-        let place = self.takers.lines.at(line).get(number)?;
+        let lines = self.takers.lines.at(line);
+        let place = match lines.get(number) {
+            Some(place) => place,
+            None => self.takers.previous.at(line).get(number - lines.len())?,
+        };
         self.lines.get(*place)
     }
 }

@@ -101,8 +101,8 @@ pub(crate) fn taken_at<'a, R: Records>(records: &'a R, line: &Name, param: &Para
     taken_by(records.bound(line, param))
 }
 
-// The lines whose values of the same year a binding takes.
-fn taken_by(binding: Option<&Binding>) -> &[Name]
+/// The lines whose values of the same year a binding takes.
+pub(crate) fn taken_by(binding: Option<&Binding>) -> &[Name]
     ensures { result.now ≡ taken_by (option_copied binding.entry) }
 {
     match binding {

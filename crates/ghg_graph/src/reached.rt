@@ -1,6 +1,6 @@
 //! The nodes that edits reach, year by year.
 
-ghost use Rattle.std.specs.Prelude.{◌≡◌, ◌+◌, ◌∷◌, ◌++◌, ◌||◌, [], List, length, Some, true, false, filter, is_some, if◌then◌else◌, map, not, option_copied, reverse, IfOk, OnOk};
+ghost use Rattle.std.specs.Prelude.{◌≡◌, ◌↔◌, ℕ, ◌+◌, ◌<◌, ◌∷◌, ◌++◌, ◌||◌, [], List, length, Some, true, false, filter, is_some, if◌then◌else◌, map, option_copied, reverse, IfOk, OnOk};
 ghost use Rattle.std.specs.BTreeSet.{IsOrdered, contains};
 ghost use Rattle.std.specs.FinMap.{get};
 ghost use Rattle.std.specs.List.{Contains, filter_map, list_any};
@@ -12,20 +12,22 @@ ghost use Rattle.ghg_units.specs.declared.node.Node.TheVariants as node;
 ghost use Rattle.ghg_definitions.specs.declared.record.RecordKey.{RecordKey};
 ghost use Rattle.ghg_definitions.specs.Compilation.{emits, gas_lines, is_year_of, years_of};
 ghost use Rattle.ghg_definitions.specs.Data.{Data, Name, category, line, name_cmp, span};
-ghost use Rattle.ghg_definitions.specs.Listed.{IsListed};
 ghost use Rattle.ghg_definitions.specs.Rings.{Takes, TakesBinding};
-ghost use Rattle.ghg_affected.specs.Equalities.{same_equation, same_input};
-ghost use Rattle.ghg_graph.specs.Candidates.{AllBelow, AreWithin};
+ghost use Rattle.ghg_affected.specs.Equalities.{same_equation};
+ghost use Rattle.ghg_graph.specs.Candidates.{AllBelow, AreInRange, AreWithin, IsIn};
+ghost use Rattle.ghg_graph.specs.Changed.{LineDiffers};
 ghost use Rattle.ghg_graph.specs.Index.{IsLineIndex};
 ghost use Rattle.ghg_graph.specs.Ordering.{IsLineOrder};
-ghost use Rattle.ghg_graph.specs.Reached.{AreEdited, AreFirst, AreLinesAdded, ArePotentials, AreWithEmitters, AreYears, HasBefore, HasReached, IsYear, binding_reached, has_line, is_differing, is_reached, is_total_of, reached_categories, takes_from};
+ghost use Rattle.ghg_graph.specs.Numbers.{name_at};
+ghost use Rattle.ghg_graph.specs.Reached.{AreEdited, AreFirst, AreLinesAdded, TellEquivalents, AreWithEmitters, AreYearChanges, AreYears, HasBefore, HasReached, IsYear, binding_reached, has_line, is_reached, is_total_of, line_takes, names_of, previous_differs, reached_categories, takes_from, takes_previous, takes_reached};
 ghost use Rattle.ghg_graph.specs.declared.reached.Lines.TheVariants as year_lines;
 ghost use Rattle.ghg_graph.specs.Tops.{AreTops};
 ghost use Rattle.ghg_graph.specs.Years.{nodes_by_year, year_nodes};
 
-use crate::candidates::{add_from, first_candidates};
+use crate::candidates::{add_from, candidates, sorted_names};
 use crate::changed::changed_places;
-use crate::figures::{Figures, is_potential};
+use crate::differing::Differing;
+use crate::figures::{Figures, is_in_span};
 use crate::gases::line_gas;
 use crate::in_order;
 use crate::index::LineIndex;
@@ -35,13 +37,13 @@ use crate::operands::{self, bound_operand};
 use crate::slots::first_year;
 use crate::tops::Tops;
 use ghg_categories::Category;
-use ghg_cell::Input;
 use ghg_data::{Records, params_of};
 use ghg_definitions::RecordKey;
 use ghg_equations::EqId;
 use ghg_units::{Binding, Name, Node, Span};
 use std::alloc::{AllocError, Global};
 use std::collections::BTreeSet;
+use std::mem;
 
 // What was reached so far.
 #[derive(Drop)]
@@ -59,11 +61,11 @@ enum Lines {
     These(BTreeSet<Name>),
 }
 
-// What edits are about: the places of lines, the activities and factors of which edited records are read,
-// the totals that add other lines, and the years.
+// What edits change: the places of the lines that have another equation or binding, the activities and
+// factors that differ, and the totals that add other lines; and the years.
 #[derive(Drop)]
 struct Edited {
-    changed: Vec<usize>,
+    changed: BTreeSet<usize>,
     figures: Figures,
     moved: Moved,
     years: Years,
@@ -85,10 +87,22 @@ struct Year {
     first: u32,
 }
 
+// What tells in a year whether a line is reached: what edits change, which activities and factors differ in
+// the year, and which lines are reached in the year before.
+#[derive(Drop)]
+struct YearChanges<'a> {
+    year: Year,
+    edited: &'a Edited,
+    differing: Differing,
+    before: Lines,
+}
+
 /// The nodes that are affected where the records differ at the keys alone: year by year the lines in their
 /// order, the equivalents, the totals, each category behind those under it, and the gross total. In a year
-/// that the old data have, only those lines are looked up that edits are about, that take an edited figure or
-/// that take a line that is reached; and, where an edited warming potential differs, those that emit its gas.
+/// that the old data have, only those lines are looked up that have another equation or binding, that take an
+/// activity, a factor or a decay that differs, or that take a line that is reached in this year or the one
+/// before; where a warming potential differs, those that emit its gas; and, where the first years of the data
+/// differ, all in the later one.
 pub(crate) fn reached_nodes<R: Records, S: Records>(
     alloc: Global,
     old: &R,
@@ -133,8 +147,8 @@ fn edited_parts<R: Records, S: Records>(
     requires years { IsSpan years }
     ensures { IfOk result (AreEdited (R.content old.now) (S.content new.now) index.now) }
 {
-    let changed = changed_places(alloc, new, keys, &index.lines)?;
-    let figures = Figures::of(alloc, old, new, keys, &index.takers.figures, years)?;
+    let changed = changed_places(alloc, old, new, keys, &index.lines)?;
+    let figures = Figures::of(alloc, old, new, keys, &index.takers, &changed, years)?;
     let moved = moved_totals(alloc, old, new, keys)?;
     Ok(Edited {
         changed,
@@ -186,11 +200,12 @@ fn add_year<R: Records, S: Records>(
     add_old_year(alloc, old, new, index, edited, reached, year)
 }
 
+// Whether there are years, and this is one of them.
 fn has_year(span: Option<Span>, year: u32) -> bool
     ensures { result ≡ is_year_of span year }
 {
     match span {
-        Some(span) => span.first <= year && year <= span.last,
+        Some(span) => is_in_span(span, year),
         None => false,
     }
 }
@@ -226,12 +241,21 @@ fn add_old_year<R: Records, S: Records>(
     ensures before { OnOk result (HasBefore (R.content old.now) (S.content new.now)
         (year.number + 1) reached.new.before) }
 {
-    let figures = edited.figures.at(year.number);
-    let before = reached.before.names(alloc, &index.lines)?;
-    let first = first_candidates(alloc, index, &edited.changed, figures, &before)?;
+    let differing = edited.figures.at(alloc, year.number)?;
+    // They give way to the lines of this year.
+    let none = Lines::These(BTreeSet::new(alloc));
+    let before = mem::replace(&mut reached.before, none);
+    let changes = YearChanges {
+        year,
+        edited,
+        differing,
+        before,
+    };
+    let first = first_places(alloc, index, &changes)?;
     let nodes = &mut reached.nodes;
-    let now = add_lines(alloc, old, new, index, year, &reached.before, first, nodes)?;
-    let tops = add_equivalents(alloc, old, new, index, figures, year.number, &now, nodes)?;
+    let now = add_lines(alloc, old, new, index, &changes, first, nodes)?;
+    let potentials = changes.differing.potentials(alloc)?;
+    let tops = add_equivalents(alloc, new, index, &potentials, year.number, &now, nodes)?;
     add_totals(&tops, &edited.moved, year.number, nodes)?;
     add_gross(&tops, &edited.moved, year.number, nodes)?;
     reached.before = Lines::These(now);
@@ -239,10 +263,9 @@ fn add_old_year<R: Records, S: Records>(
 }
 
 impl Lines {
-    // Their names, of lines in an order.
+    // Their names, of all lines in an order.
     fn names(&self, alloc: Global, lines: &[Name]) -> Result<Vec<Name>, AllocError>
-        ensures { IfOk result (λ names. (m : Data) (name : Name) → IsLineOrder m lines.now →
-            has_line m self.now name ≡ true → IsListed name names.items) }
+        ensures { IfOk result (λ names. names.items ≡ names_of lines.now self.now) }
     {
         match self {
             Lines::All => Vec::from_slice(alloc, lines),
@@ -261,13 +284,44 @@ impl Lines {
     }
 }
 
-fn sorted_names(alloc: Global, names: &BTreeSet<Name>) -> Result<Vec<Name>, AllocError>
-    ensures { IfOk result (λ all. all.items ≡ names.now.keys) }
+// ---- lines
+
+// The places with which the search for the lines that are reached begins in a year: those of candidates.
+// Where the first years of the data differ, values of the year before begin or cease to be taken in the later
+// one, and these are all places.
+fn first_places(
+    alloc: Global,
+    index: &LineIndex,
+    changes: &YearChanges,
+) -> Result<BTreeSet<usize>, AllocError>
+    requires { AreInRange index.now changes.now.edited.now.changed }
+    ensures { IfOk result (AreFirst index.now changes.now) }
 {
-    names.iter().copied().collect(alloc)
+    if previous_differs(changes.year) {
+        return all_places(alloc, index.lines.len());
+    }
+    let before = changes.before.names(alloc, &index.lines)?;
+    let changed = &changes.edited.changed;
+    candidates(alloc, index, changed, &changes.differing, &before)
 }
 
-// ---- lines
+// Whether values of the year before are taken in the new data and not in the old, or the other way round.
+fn previous_differs(year: Year) -> bool
+    ensures { result ≡ previous_differs year }
+{
+    (year.number <= year.first_before) != (year.number <= year.first)
+}
+
+// The places below a number.
+fn all_places(alloc: Global, count: usize) -> Result<BTreeSet<usize>, AllocError>
+    ensures { IfOk result (λ places. (place : ℕ) → IsIn places place ↔ (place < count)) }
+{
+    let mut places = BTreeSet::new(alloc);
+    for place in 0..count {
+        places.insert(place)?;
+    }
+    Ok(places)
+}
 
 // Adds those of the lines that are reached in a year, and gives their names. They stand at the first places,
 // or take a line that is reached, which stands before them.
@@ -276,31 +330,29 @@ fn add_lines<R: Records, S: Records>(
     old: &R,
     new: &S,
     index: &LineIndex,
-    year: Year,
-    before: &Lines,
+    changes: &YearChanges,
     first: BTreeSet<usize>,
     nodes: &mut Vec<Node>,
 ) -> Result<BTreeSet<Name>, AllocError>
     requires index { IsLineIndex (S.content new.now) index.now }
-    requires year { IsYear (R.content old.now) (S.content new.now) year }
-    requires before { HasBefore (R.content old.now) (S.content new.now) year.number before.now }
-    requires first { AreFirst (R.content old.now) (S.content new.now) index.now.lines.items
-        year.number first }
+    requires changes { AreYearChanges (R.content old.now) (S.content new.now) index.now changes.now }
+    requires first { AreFirst index.now changes.now first }
     ensures nodes { OnOk result (nodes.new.items ≡ nodes.old.items ++ filter
         (is_reached (R.content old.now) (S.content new.now))
-        (map (λ name. node.Line name year.number) index.now.lines.items)) }
-    ensures names { IfOk result (λ names. HasReached (R.content old.now) (S.content new.now) year.number
-        (year_lines.These names)) }
+        (map (λ name. node.Line name changes.now.year.number) index.now.lines.items)) }
+    ensures names { IfOk result (λ names. HasReached (R.content old.now) (S.content new.now)
+        changes.now.year.number (year_lines.These names)) }
     ensures ordered { IfOk result (IsOrdered name_cmp) }
 {
+    let year = changes.year.number;
     let mut now = BTreeSet::new(alloc);
     let mut left = first;
     let mut from = 0;
     while let Some(place) = left.pop_first() {
         from = place + 1;
-        let line = &index.lines[place];
-        if line_reached(old, new, line, year, before, &now) {
-            nodes.push(Node::Line(*line, year.number))?;
+        if place_reached(old, new, index, changes, place, &now) {
+            let line = &index.lines[place];
+            nodes.push(Node::Line(*line, year))?;
             now.insert(*line)?;
             add_from(&mut left, index.takers.lines.at(line), from)?;
         }
@@ -308,8 +360,71 @@ fn add_lines<R: Records, S: Records>(
     Ok(now)
 }
 
-// Whether a line is reached in a year: it was none or had another equation, what it takes differs, or
-// it takes a line that is reached.
+// Whether the line at a place is reached in a year. Old records are looked up only where the line has another
+// equation or binding.
+fn place_reached<R: Records, S: Records>(
+    old: &R,
+    new: &S,
+    index: &LineIndex,
+    changes: &YearChanges,
+    place: usize,
+    now: &BTreeSet<Name>,
+) -> bool
+    requires index { IsLineIndex (S.content new.now) index.now }
+    requires changes { AreYearChanges (R.content old.now) (S.content new.now) index.now changes.now }
+    requires place { place < length index.now.lines.items }
+    requires now { (k : Name) → Takes (S.content new.now) (name_at index.now.lines.items place) k →
+        contains name_cmp now.now k ≡ is_reached (R.content old.now) (S.content new.now)
+        (node.Line k changes.now.year.number) }
+    ensures { result ≡ is_reached (R.content old.now) (S.content new.now)
+        (node.Line (name_at index.now.lines.items place) changes.now.year.number) }
+{
+    let line = &index.lines[place];
+    if changes.edited.changed.contains(&place) {
+        line_reached(old, new, line, changes.year, &changes.before, now)
+    } else {
+        line_takes(new, line, changes, now)
+    }
+}
+
+// Whether one of a line's bindings takes what differs, or a line that is reached.
+fn line_takes<S: Records>(new: &S, name: &Name, changes: &YearChanges, now: &BTreeSet<Name>) -> bool
+    ensures { result ≡ line_takes (S.content new.now) changes.now now.now name.now }
+{
+    let Some(id) = equation_of(new, name) else {
+        return false;
+    };
+    for param in params_of(id) {
+        if takes_reached(new, changes, now, new.bound(name, param)) {
+            return true;
+        }
+    }
+    false
+}
+
+// Whether a binding takes what differs, or a line that is reached.
+fn takes_reached<S: Records>(
+    new: &S,
+    changes: &YearChanges,
+    now: &BTreeSet<Name>,
+    binding: Option<&Binding>,
+) -> bool
+    ensures { result ≡ takes_reached (S.content new.now) changes.now now.now (option_copied binding.entry) }
+{
+    changes.differing.has_figure(binding)
+        || takes_previous(changes.year, binding)
+        || takes_from(new, &changes.before, now, binding)
+}
+
+// Whether a binding is to a value of the year before, and these are taken in one of both data alone.
+fn takes_previous(year: Year, binding: Option<&Binding>) -> bool
+    ensures { result ≡ takes_previous year (option_copied binding.entry) }
+{
+    matches!(binding, Some(Binding::Prev(_))) && previous_differs(year)
+}
+
+// Whether a line that has another equation or binding is reached in a year: it was none or had another
+// equation, what it takes differs, or it takes a line that is reached.
 fn line_reached<R: Records, S: Records>(
     old: &R,
     new: &S,
@@ -319,6 +434,7 @@ fn line_reached<R: Records, S: Records>(
     now: &BTreeSet<Name>,
 ) -> bool
     requires line { is_some (line (S.content new.now) name.now) ≡ true }
+    requires changed { LineDiffers (R.content old.now) (S.content new.now) name.now }
     requires year { IsYear (R.content old.now) (S.content new.now) year }
     requires before { HasBefore (R.content old.now) (S.content new.now) year.number before.now }
     requires now { (k : Name) → Takes (S.content new.now) name.now k → contains name_cmp now.now k ≡
@@ -399,65 +515,29 @@ fn has_any(set: &BTreeSet<Name>, names: &[Name]) -> bool
 
 // Adds the equivalents that are reached in a year, and gives the totals to which these lead. They are of
 // lines that are reached, and of lines that emit a gas whose warming potential differs.
-fn add_equivalents<R: Records, S: Records>(
+fn add_equivalents<S: Records>(
     alloc: Global,
-    old: &R,
     new: &S,
     index: &LineIndex,
-    figures: &[Name],
+    potentials: &[Name],
     year: u32,
-    now: &BTreeSet<Name>,
+    lines: &BTreeSet<Name>,
     nodes: &mut Vec<Node>,
 ) -> Result<Tops, AllocError>
     requires index { IsLineIndex (S.content new.now) index.now }
-    requires figures { ArePotentials (R.content old.now) (S.content new.now) year figures.now }
-    requires year { is_year_of (span (S.content new.now)) year ≡ true }
-    requires now { HasReached (R.content old.now) (S.content new.now) year (year_lines.These now.now) }
-    requires ordered { IsOrdered name_cmp now.now }
-    ensures nodes { OnOk result (nodes.new.items ≡ nodes.old.items ++ filter
-        (is_reached (R.content old.now) (S.content new.now))
+    ensures nodes { (old : Data) → TellEquivalents old (S.content new.now) year potentials.now lines.now →
+        OnOk result (nodes.new.items ≡ nodes.old.items ++ filter (is_reached old (S.content new.now))
         (map (λ name. node.Equiv name year) (gas_lines (S.content new.now)))) }
-    ensures tops { IfOk result (AreTops (reached_categories (R.content old.now) (S.content new.now) year
+    ensures tops { (old : Data) → TellEquivalents old (S.content new.now) year potentials.now lines.now →
+        IfOk result (AreTops (reached_categories old (S.content new.now) year
         (gas_lines (S.content new.now)))) }
 {
-    let differing = differing_potentials(alloc, old, new, figures, year)?;
-    if differing.is_empty() {
+    if potentials.is_empty() {
         // The set is not copied.
-        return add_emitting(alloc, new, now, year, nodes);
+        return add_emitting(alloc, new, lines, year, nodes);
     }
-    let lines = with_emitters(alloc, index, &differing, now)?;
-    add_emitting(alloc, new, &lines, year, nodes)
-}
-
-// Those of the figures that are warming potentials and differ in a year.
-fn differing_potentials<R: Records, S: Records>(
-    alloc: Global,
-    old: &R,
-    new: &S,
-    figures: &[Name],
-    year: u32,
-) -> Result<Vec<Name>, AllocError>
-    ensures { IfOk result (λ names. names.items ≡ filter
-        (is_differing (R.content old.now) (S.content new.now) year) figures.now) }
-{
-    figures
-        .iter()
-        .filter(|name| is_differing(old, new, name, year))
-        .copied()
-        .collect(alloc)
-}
-
-// Whether a figure is a warming potential that differs in a year.
-fn is_differing<R: Records, S: Records>(old: &R, new: &S, name: &Name, year: u32) -> bool
-    ensures { result ≡ is_differing (R.content old.now) (S.content new.now) year name.now }
-{
-    is_potential(name) && differ(old.factor(name, year), new.factor(name, year))
-}
-
-fn differ(old: Input, new: Input) -> bool
-    ensures { result ≡ not (same_input old new) }
-{
-    old != new
+    let all = with_emitters(alloc, index, potentials, lines)?;
+    add_emitting(alloc, new, &all, year, nodes)
 }
 
 // The lines of a set, and those that emit the gas of one of the warming potentials: the index has them under

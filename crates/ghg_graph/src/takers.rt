@@ -5,12 +5,11 @@ ghost use Rattle.std.specs.List.Sorted.{IsPartitionPoint};
 ghost use Rattle.std.specs.Ordering.{is_eq};
 ghost use Rattle.ghg_definitions.specs.Data.{Name, name_cmp};
 ghost use Rattle.ghg_definitions.specs.Listed.{IsListed};
-ghost use Rattle.ghg_data.specs.Taken.{figures_taken};
 ghost use Rattle.ghg_graph.specs.Ascending.{AreAscending, IsAscending};
 
 use crate::gases::potential_name;
-use crate::numbers::equation_of;
-use ghg_data::{Records, lines_taken, params_of};
+use crate::numbers::{equation_of, taken_by};
+use ghg_data::{Records, params_of};
 use ghg_units::{Binding, Name};
 use std::alloc::{AllocError, Global};
 use std::collections::BTreeMap;
@@ -100,27 +99,38 @@ fn count_below(places: &[usize], number: usize) -> usize
     places.partition_point(|place| *place < number)
 }
 
-/// For each activity or factor, and for each line, the places of the lines that take it, in the same year or,
-/// of a line, in the year after; and for each warming potential, those of the lines that emit its gas.
+/// For each activity, factor and line, the places of the lines that take it; and for each warming potential,
+/// those of the lines that emit its gas.
 #[derive(Drop)]
 pub(crate) struct Takers {
-    pub(crate) figures: Places,
+    /// Under an activity, the lines that take it.
+    pub(crate) activities: Places,
+    /// Under a factor, the lines that take it or its decay.
+    pub(crate) factors: Places,
+    /// Under a line, the lines that take it in the same year.
     pub(crate) lines: Places,
+    /// Under a line, the lines that take it in the year after.
+    pub(crate) previous: Places,
+    /// Under a warming potential, the lines that emit its gas.
     pub(crate) potentials: Places,
 }
 
 impl Takers {
-    ghost use Rattle.ghg_graph.specs.Takers.{AreTakers, AreTakersBefore, AreTakersWith, AreUpTo, IsCut, IsPut, figures_of, lines_of, places_of, potentials_of};
+    ghost use Rattle.ghg_graph.specs.Takers.{AreTakers, AreTakersBefore, AreTakersWith, AreUpTo, IsCut, IsPut, activities_of, activities_taken, factors_of, factors_taken, lines_of, places_of, potentials_of, previous_of, previous_taken};
 
     /// No takers. It takes no memory.
     pub(crate) fn new(alloc: Global) -> Takers
-        ensures figures { (name : Name) → places_of result.figures name ≡ [] }
+        ensures activities { (name : Name) → places_of result.activities name ≡ [] }
+        ensures factors { (name : Name) → places_of result.factors name ≡ [] }
         ensures lines { (name : Name) → places_of result.lines name ≡ [] }
+        ensures previous { (name : Name) → places_of result.previous name ≡ [] }
         ensures potentials { (name : Name) → places_of result.potentials name ≡ [] }
     {
         Takers {
-            figures: Places::new(alloc),
+            activities: Places::new(alloc),
+            factors: Places::new(alloc),
             lines: Places::new(alloc),
+            previous: Places::new(alloc),
             potentials: Places::new(alloc),
         }
     }
@@ -146,8 +156,10 @@ impl Takers {
         first: usize,
     ) -> Result<(), AllocError>
         requires first { first ≤ length lines.now }
-        requires figures { AreUpTo first self.old.figures }
+        requires activities { AreUpTo first self.old.activities }
+        requires factors { AreUpTo first self.old.factors }
         requires lines { AreUpTo first self.old.lines }
+        requires previous { AreUpTo first self.old.previous }
         requires potentials { AreUpTo first self.old.potentials }
         ensures { OnOk result (AreTakersWith first (R.content records.now) lines.now self.old self.new) }
     {
@@ -170,10 +182,18 @@ impl Takers {
 
     // Removes the places from one on under all that a line takes, and under the potential of its gas.
     fn cut_line<R: Records>(&mut self, records: &R, line: &Name, first: usize)
-        ensures figures { IsCut (λ name. IsListed name (figures_of (R.content records.now) line.now)) first
-            self.old.figures self.new.figures }
-        ensures lines { IsCut (λ name. IsListed name (lines_of (R.content records.now) line.now)) first
+        ensures activities { IsCut
+            (λ name. IsListed name (activities_of (R.content records.now) line.now)) first
+            self.old.activities self.new.activities }
+        ensures factors { IsCut
+            (λ name. IsListed name (factors_of (R.content records.now) line.now)) first
+            self.old.factors self.new.factors }
+        ensures lines { IsCut
+            (λ name. IsListed name (lines_of (R.content records.now) line.now)) first
             self.old.lines self.new.lines }
+        ensures previous { IsCut
+            (λ name. IsListed name (previous_of (R.content records.now) line.now)) first
+            self.old.previous self.new.previous }
         ensures potentials { IsCut
             (λ name. IsListed name (potentials_of (R.content records.now) line.now)) first
             self.old.potentials self.new.potentials }
@@ -185,10 +205,18 @@ impl Takers {
 
     // Removes the places from one on under all that a line takes.
     fn cut_bound<R: Records>(&mut self, records: &R, line: &Name, first: usize)
-        ensures figures { IsCut (λ name. IsListed name (figures_of (R.content records.now) line.now)) first
-            self.old.figures self.new.figures }
-        ensures lines { IsCut (λ name. IsListed name (lines_of (R.content records.now) line.now)) first
+        ensures activities { IsCut
+            (λ name. IsListed name (activities_of (R.content records.now) line.now)) first
+            self.old.activities self.new.activities }
+        ensures factors { IsCut
+            (λ name. IsListed name (factors_of (R.content records.now) line.now)) first
+            self.old.factors self.new.factors }
+        ensures lines { IsCut
+            (λ name. IsListed name (lines_of (R.content records.now) line.now)) first
             self.old.lines self.new.lines }
+        ensures previous { IsCut
+            (λ name. IsListed name (previous_of (R.content records.now) line.now)) first
+            self.old.previous self.new.previous }
         ensures potentials { self.new.potentials ≡ self.old.potentials }
     {
         let Some(id) = equation_of(records, line) else {
@@ -196,8 +224,11 @@ impl Takers {
         };
         for param in params_of(id) {
             let binding = records.bound(line, param);
-            self.figures.cut_all(figures_taken(binding), first);
-            self.lines.cut_all(lines_taken(binding), first);
+            self.activities
+                .cut_all(Self::activities_taken(binding), first);
+            self.factors.cut_all(Self::factors_taken(binding), first);
+            self.lines.cut_all(taken_by(binding), first);
+            self.previous.cut_all(Self::previous_taken(binding), first);
         }
     }
 
@@ -209,13 +240,19 @@ impl Takers {
         line: &Name,
         place: usize,
     ) -> Result<(), AllocError>
-        requires figures { AreUpTo place self.old.figures }
+        requires activities { AreUpTo place self.old.activities }
+        requires factors { AreUpTo place self.old.factors }
         requires lines { AreUpTo place self.old.lines }
+        requires previous { AreUpTo place self.old.previous }
         requires potentials { AreUpTo place self.old.potentials }
-        ensures figures { OnOk result (IsPut (figures_of (R.content records.now) line.now) place
-            self.old.figures self.new.figures) }
+        ensures activities { OnOk result (IsPut (activities_of (R.content records.now) line.now) place
+            self.old.activities self.new.activities) }
+        ensures factors { OnOk result (IsPut (factors_of (R.content records.now) line.now) place
+            self.old.factors self.new.factors) }
         ensures lines { OnOk result (IsPut (lines_of (R.content records.now) line.now) place
             self.old.lines self.new.lines) }
+        ensures previous { OnOk result (IsPut (previous_of (R.content records.now) line.now) place
+            self.old.previous self.new.previous) }
         ensures potentials { OnOk result (IsPut (potentials_of (R.content records.now) line.now) place
             self.old.potentials self.new.potentials) }
     {
@@ -231,12 +268,18 @@ impl Takers {
         line: &Name,
         place: usize,
     ) -> Result<(), AllocError>
-        requires figures { AreUpTo place self.old.figures }
+        requires activities { AreUpTo place self.old.activities }
+        requires factors { AreUpTo place self.old.factors }
         requires lines { AreUpTo place self.old.lines }
-        ensures figures { OnOk result (IsPut (figures_of (R.content records.now) line.now) place
-            self.old.figures self.new.figures) }
+        requires previous { AreUpTo place self.old.previous }
+        ensures activities { OnOk result (IsPut (activities_of (R.content records.now) line.now) place
+            self.old.activities self.new.activities) }
+        ensures factors { OnOk result (IsPut (factors_of (R.content records.now) line.now) place
+            self.old.factors self.new.factors) }
         ensures lines { OnOk result (IsPut (lines_of (R.content records.now) line.now) place
             self.old.lines self.new.lines) }
+        ensures previous { OnOk result (IsPut (previous_of (R.content records.now) line.now) place
+            self.old.previous self.new.previous) }
         ensures potentials { self.new.potentials ≡ self.old.potentials }
     {
         let Some(id) = equation_of(records, line) else {
@@ -244,21 +287,42 @@ impl Takers {
         };
         for param in params_of(id) {
             let binding = records.bound(line, param);
-            self.figures.put_all(figures_taken(binding), place)?;
-            self.lines.put_all(lines_taken(binding), place)?;
+            self.activities
+                .put_all(Self::activities_taken(binding), place)?;
+            self.factors.put_all(Self::factors_taken(binding), place)?;
+            self.lines.put_all(taken_by(binding), place)?;
+            self.previous.put_all(Self::previous_taken(binding), place)?;
         }
         Ok(())
     }
-}
 
-// The activity or factor whose figures a binding takes.
-fn figures_taken(binding: Option<&Binding>) -> &[Name]
-    ensures { result.now ≡ figures_taken (option_copied binding.entry) }
-{
-    match binding {
-        Some(Binding::Activity(name) | Binding::Factor(name) | Binding::Decay(name)) => {
-            slice::from_ref(name)
+    // The activity that a binding takes.
+    fn activities_taken(binding: Option<&Binding>) -> &[Name]
+        ensures { result.now ≡ activities_taken (option_copied binding.entry) }
+    {
+        match binding {
+            Some(Binding::Activity(name)) => slice::from_ref(name),
+            _ => &[],
         }
-        _ => &[],
+    }
+
+    // The factor that a binding takes, or of which it takes the decay.
+    fn factors_taken(binding: Option<&Binding>) -> &[Name]
+        ensures { result.now ≡ factors_taken (option_copied binding.entry) }
+    {
+        match binding {
+            Some(Binding::Factor(name) | Binding::Decay(name)) => slice::from_ref(name),
+            _ => &[],
+        }
+    }
+
+    // The line whose value of the year before a binding takes.
+    fn previous_taken(binding: Option<&Binding>) -> &[Name]
+        ensures { result.now ≡ previous_taken (option_copied binding.entry) }
+    {
+        match binding {
+            Some(Binding::Prev(name)) => slice::from_ref(name),
+            _ => &[],
+        }
     }
 }

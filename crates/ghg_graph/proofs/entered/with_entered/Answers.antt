@@ -3,7 +3,7 @@ use Rattle.std.specs.List.Sorted.{IsStrictlySortedBy}
 use Rattle.ghg_definitions.specs.Data.{name_cmp}
 use Rattle.ghg_data.specs.Changes.{applied}
 use Rattle.ghg_graph.specs.Entries.{AreEmittersWith}
-use Rattle.ghg_graph.specs.Takers.{AreTakersWith, figures_of, lines_of, potentials_of}
+use Rattle.ghg_graph.specs.Takers.{AreTakersWith, activities_of, factors_of, lines_of, potentials_of, previous_of}
 use Rattle.ghg_graph.proofs.Emitting.{emitters_sorted, index_joined}
 use Rattle.ghg_graph.proofs.Entering.{keeps_lines}
 use Rattle.ghg_graph.proofs.Taking.{index_up_to}
@@ -13,17 +13,29 @@ pub put_emitters-requires : goal.put_emitters-requires
 put_emitters-requires c =
     subst (IsStrictlySortedBy name_cmp) (sym c.requires.index.emitters) (emitters_sorted c.args.book.now.content)
 
-pub add-requires-clause-figures : goal.add-requires-clause-figures
-add-requires-clause-figures c =
+pub add-requires-clause-activities : goal.add-requires-clause-activities
+add-requires-clause-activities c =
     let index = c.args.index in
     let size : length index.lines.items ≤ c.len-first.result = grind (arith, c.len-first.ensures, index.lines.ok) in
-    index_up_to figures_of c.args.book.now.content index.lines.items c.len-first.result index.takers.figures size c.requires.index.takers.of_figures
+    index_up_to activities_of c.args.book.now.content index.lines.items c.len-first.result index.takers.activities size c.requires.index.takers.of_activities
+
+pub add-requires-clause-factors : goal.add-requires-clause-factors
+add-requires-clause-factors c =
+    let index = c.args.index in
+    let size : length index.lines.items ≤ c.len-first.result = grind (arith, c.len-first.ensures, index.lines.ok) in
+    index_up_to factors_of c.args.book.now.content index.lines.items c.len-first.result index.takers.factors size c.requires.index.takers.of_factors
 
 pub add-requires-clause-lines : goal.add-requires-clause-lines
 add-requires-clause-lines c =
     let index = c.args.index in
     let size : length index.lines.items ≤ c.len-first.result = grind (arith, c.len-first.ensures, index.lines.ok) in
     index_up_to lines_of c.args.book.now.content index.lines.items c.len-first.result index.takers.lines size c.requires.index.takers.of_lines
+
+pub add-requires-clause-previous : goal.add-requires-clause-previous
+add-requires-clause-previous c =
+    let index = c.args.index in
+    let size : length index.lines.items ≤ c.len-first.result = grind (arith, c.len-first.ensures, index.lines.ok) in
+    index_up_to previous_of c.args.book.now.content index.lines.items c.len-first.result index.takers.previous size c.requires.index.takers.of_previous
 
 pub add-requires-clause-potentials : goal.add-requires-clause-potentials
 add-requires-clause-potentials c =

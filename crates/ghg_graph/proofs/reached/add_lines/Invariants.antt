@@ -4,7 +4,7 @@ use Rattle.ghg_graph.proofs.reached.add_lines.Given as goal
 
 abbrev pub invariant-loop-place : goal.invariant-loop-place
 invariant-loop-place g l =
-    IsGathered (g.R.Records.content l.old) (g.S.Records.content l.new) l.year.number l.index l.fn.first
+    IsGathered (g.R.Records.content l.old) (g.S.Records.content l.new) l.changes.year.number l.index l.fn.first
     l.initial.nodes.items l.nodes.items l.from l.left l.now
 
 abbrev pub decreases-loop-place : goal.decreases-loop-place

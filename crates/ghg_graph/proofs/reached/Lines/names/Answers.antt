@@ -1,18 +1,12 @@
-use Rattle.std.proofs.Common.{◌≡◌, subst, sym, true}
-use Rattle.std.proofs.lemmas.Map.Lookups.{exact_bytes}
+use Rattle.std.proofs.Common.{◌∙◌, ap, sym}
 use Rattle.std.proofs.lemmas.Result.{IfOk-weaker}
-use Rattle.ghg_definitions.specs.Listed.{IsListed}
-use Rattle.ghg_definitions.proofs.Listed.{listed}
-use Rattle.ghg_graph.specs.Reached.{has_line}
-use Rattle.ghg_graph.proofs.Membership.{key_listed}
+use Rattle.ghg_graph.specs.Reached.{names_of}
 use Rattle.ghg_graph.proofs.reached.Lines.names.Goals as goal
 
 pub returns-in-All : goal.returns-in-All
-returns-in-All c = IfOk-weaker c.from_slice.result _ _ (λ names e m name order on. subst (IsListed name) (sym e)
-    (listed c.args.lines.now name (order.complete name (subst (λ ls. has_line m ls name ≡ true) c.in-All.is on))))
+returns-in-All c = IfOk-weaker c.from_slice.result _ _ (λ names e. e ∙ ap (names_of c.args.lines.now) (sym c.in-All.is))
     c.from_slice.ensures.items
 
 pub returns-in-These : goal.returns-in-These
-returns-in-These c = IfOk-weaker c.sorted_names.result _ _ (λ names e m name order on. subst (IsListed name) (sym e)
-    (key_listed exact_bytes name c.in-These.names.keys (subst (λ ls. has_line m ls name ≡ true) c.in-These.is on)))
+returns-in-These c = IfOk-weaker c.sorted_names.result _ _ (λ names e. e ∙ ap (names_of c.args.lines.now) (sym c.in-These.is))
     c.sorted_names.ensures

@@ -3,8 +3,8 @@ use Rattle.std.specs.List.{AllByRecursion}
 use Rattle.ghg_units.specs.Parameter.{is_parameter}
 use Rattle.ghg_definitions.specs.Data.{binding}
 use Rattle.ghg_definitions.specs.Listed.{IsListed}
-use Rattle.ghg_data.specs.Taken.{figures_taken, lines_taken}
-use Rattle.ghg_graph.specs.Takers.{IsCut}
+use Rattle.ghg_definitions.specs.Rings.{taken_by}
+use Rattle.ghg_graph.specs.Takers.{IsCut, activities_taken, factors_taken, previous_taken}
 use Rattle.ghg_graph.proofs.takers.Takers.cut_bound.Given as goal
 
 abbrev pub invariant-loop-param : goal.invariant-loop-param
@@ -13,7 +13,9 @@ invariant-loop-param g l =
     let done = take l.param-index l.param-items in
     record {
       named : AllByRecursion (λ q. is_parameter q.name.now ≡ true) (drop l.param-index l.param-items);
-      of_figures : IsCut (λ name. IsListed name (flat_map (λ q. figures_taken (binding m l.line q.name.now)) done)) l.first l.fn.self.figures l.self.figures;
-      of_lines : IsCut (λ name. IsListed name (flat_map (λ q. lines_taken (binding m l.line q.name.now)) done)) l.first l.fn.self.lines l.self.lines;
+      of_activities : IsCut (λ name. IsListed name (flat_map (λ q. activities_taken (binding m l.line q.name.now)) done)) l.first l.fn.self.activities l.self.activities;
+      of_factors : IsCut (λ name. IsListed name (flat_map (λ q. factors_taken (binding m l.line q.name.now)) done)) l.first l.fn.self.factors l.self.factors;
+      of_lines : IsCut (λ name. IsListed name (flat_map (λ q. taken_by (binding m l.line q.name.now)) done)) l.first l.fn.self.lines l.self.lines;
+      of_previous : IsCut (λ name. IsListed name (flat_map (λ q. previous_taken (binding m l.line q.name.now)) done)) l.first l.fn.self.previous l.self.previous;
       kept : l.self.potentials ≡ l.fn.self.potentials;
     }

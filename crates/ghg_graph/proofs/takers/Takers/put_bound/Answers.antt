@@ -2,51 +2,81 @@ use Rattle.std.proofs.Common.{◌≡◌, ◌∙◌, ap, flat_map, refl, subst, t
 use Rattle.std.proofs.lemmas.List.{take_all}
 use Rattle.ghg_units.specs.Parameter.{is_parameter}
 use Rattle.ghg_definitions.specs.Data.{binding}
-use Rattle.ghg_data.specs.Taken.{figures_taken, lines_taken}
-use Rattle.ghg_graph.specs.Takers.{IsPut}
+use Rattle.ghg_definitions.specs.Rings.{taken_by}
+use Rattle.ghg_graph.specs.Takers.{IsPut, activities_taken, factors_taken, previous_taken}
 use Rattle.ghg_graph.proofs.Taking.{all_left, binding_put, named_at, put_none, put_up_to}
 use Rattle.ghg_graph.proofs.takers.Takers.put_bound.Goals as goal
 
 pub loop-param-init : goal.loop-param-init
 loop-param-init g c = record {
   named = c.params_of-param-items.ensures.names;
-  of_figures = put_none c.args.place c.args.self.now.figures;
+  of_activities = put_none c.args.place c.args.self.now.activities;
+  of_factors = put_none c.args.place c.args.self.now.factors;
   of_lines = put_none c.args.place c.args.self.now.lines;
+  of_previous = put_none c.args.place c.args.self.now.previous;
   kept = refl;
 }
 
 pub put_all-requires : goal.put_all-requires
-put_all-requires g c = put_up_to _ c.args.place c.args.self.now.figures c.loop-param.self.figures c.loop-param.invariant.of_figures c.requires.figures
+put_all-requires g c = put_up_to _ c.args.place c.args.self.now.activities c.loop-param.self.activities c.loop-param.invariant.of_activities c.requires.activities
 
 pub put_all-requires-in-loop-param : goal.put_all-requires-in-loop-param
-put_all-requires-in-loop-param g c = put_up_to _ c.args.place c.args.self.now.lines c.loop-param.self.lines c.loop-param.invariant.of_lines c.requires.lines
+put_all-requires-in-loop-param g c = put_up_to _ c.args.place c.args.self.now.factors c.loop-param.self.factors c.loop-param.invariant.of_factors c.requires.factors
+
+pub put_all-requires-in-loop-param-2 : goal.put_all-requires-in-loop-param-2
+put_all-requires-in-loop-param-2 g c = put_up_to _ c.args.place c.args.self.now.lines c.loop-param.self.lines c.loop-param.invariant.of_lines c.requires.lines
+
+pub put_all-requires-in-loop-param-3 : goal.put_all-requires-in-loop-param-3
+put_all-requires-in-loop-param-3 g c = put_up_to _ c.args.place c.args.self.now.previous c.loop-param.self.previous c.loop-param.invariant.of_previous c.requires.previous
 
 pub loop-param-preserved : goal.loop-param-preserved
 loop-param-preserved g c =
     let m = g.R.Records.content c.args.records.now in
     record {
       named = all_left (λ q. is_parameter q.name.now ≡ true) c.params_of-param-items.result.now c.loop-param.param-index c.loop-param-test.true c.loop-param.invariant.named;
-      of_figures = binding_put figures_taken m c.args.line.now c.params_of-param-items.result.now c.loop-param.param-index _ c.args.place c.args.self.now.figures c.loop-param.self.figures c.put_all.new.self
-          _ c.figures_taken.result.now c.loop-param-test.true c.bound-binding.ensures c.figures_taken.ensures c.loop-param.invariant.of_figures c.in_ok-put_all.ensures;
-      of_lines = binding_put lines_taken m c.args.line.now c.params_of-param-items.result.now c.loop-param.param-index _ c.args.place c.args.self.now.lines c.loop-param.self.lines c.put_all-in-loop-param.new.self
-          _ c.lines_taken.result.now c.loop-param-test.true c.bound-binding.ensures c.lines_taken.ensures c.loop-param.invariant.of_lines c.in_ok-put_all-2.ensures;
+      of_activities = binding_put activities_taken m c.args.line.now c.params_of-param-items.result.now c.loop-param.param-index _ c.args.place c.args.self.now.activities c.loop-param.self.activities c.put_all.new.self
+          _ c.activities_taken.result.now c.loop-param-test.true c.bound-binding.ensures c.activities_taken.ensures c.loop-param.invariant.of_activities c.in_ok-put_all.ensures;
+      of_factors = binding_put factors_taken m c.args.line.now c.params_of-param-items.result.now c.loop-param.param-index _ c.args.place c.args.self.now.factors c.loop-param.self.factors c.put_all-in-loop-param.new.self
+          _ c.factors_taken.result.now c.loop-param-test.true c.bound-binding.ensures c.factors_taken.ensures c.loop-param.invariant.of_factors c.in_ok-put_all-2.ensures;
+      of_lines = binding_put taken_by m c.args.line.now c.params_of-param-items.result.now c.loop-param.param-index _ c.args.place c.args.self.now.lines c.loop-param.self.lines c.put_all-in-loop-param-2.new.self
+          _ c.taken_by.result.now c.loop-param-test.true c.bound-binding.ensures c.taken_by.ensures c.loop-param.invariant.of_lines c.in_ok-put_all-3.ensures;
+      of_previous = binding_put previous_taken m c.args.line.now c.params_of-param-items.result.now c.loop-param.param-index _ c.args.place c.args.self.now.previous c.loop-param.self.previous c.put_all-in-loop-param-3.new.self
+          _ c.previous_taken.result.now c.loop-param-test.true c.bound-binding.ensures c.previous_taken.ensures c.loop-param.invariant.of_previous c.in_ok-put_all-4.ensures;
       kept = c.loop-param.invariant.kept;
     }
 
-pub returns-clause-figures : goal.returns-clause-figures
-returns-clause-figures g c =
+pub returns-clause-activities : goal.returns-clause-activities
+returns-clause-activities g c =
     let m = g.R.Records.content c.args.records.now in
     let ps = c.params_of-param-items.result.now in
-    subst (λ ns. IsPut ns c.args.place c.args.self.now.figures c.loop-param.self.figures)
-    (ap (flat_map (λ q. figures_taken (binding m c.args.line.now q.name.now))) (take_all c.loop-param.param-index ps c.loop-param-test.false)
-    ∙ named_at figures_taken m c.args.line.now ps c.in-Some.id c.in-Some.ensures c.params_of-param-items.ensures.table)
-    c.loop-param.invariant.of_figures
+    subst (λ ns. IsPut ns c.args.place c.args.self.now.activities c.loop-param.self.activities)
+    (ap (flat_map (λ q. activities_taken (binding m c.args.line.now q.name.now))) (take_all c.loop-param.param-index ps c.loop-param-test.false)
+    ∙ named_at activities_taken m c.args.line.now ps c.in-Some.id c.in-Some.ensures c.params_of-param-items.ensures.table)
+    c.loop-param.invariant.of_activities
+
+pub returns-clause-factors : goal.returns-clause-factors
+returns-clause-factors g c =
+    let m = g.R.Records.content c.args.records.now in
+    let ps = c.params_of-param-items.result.now in
+    subst (λ ns. IsPut ns c.args.place c.args.self.now.factors c.loop-param.self.factors)
+    (ap (flat_map (λ q. factors_taken (binding m c.args.line.now q.name.now))) (take_all c.loop-param.param-index ps c.loop-param-test.false)
+    ∙ named_at factors_taken m c.args.line.now ps c.in-Some.id c.in-Some.ensures c.params_of-param-items.ensures.table)
+    c.loop-param.invariant.of_factors
 
 pub returns-clause-lines : goal.returns-clause-lines
 returns-clause-lines g c =
     let m = g.R.Records.content c.args.records.now in
     let ps = c.params_of-param-items.result.now in
     subst (λ ns. IsPut ns c.args.place c.args.self.now.lines c.loop-param.self.lines)
-    (ap (flat_map (λ q. lines_taken (binding m c.args.line.now q.name.now))) (take_all c.loop-param.param-index ps c.loop-param-test.false)
-    ∙ named_at lines_taken m c.args.line.now ps c.in-Some.id c.in-Some.ensures c.params_of-param-items.ensures.table)
+    (ap (flat_map (λ q. taken_by (binding m c.args.line.now q.name.now))) (take_all c.loop-param.param-index ps c.loop-param-test.false)
+    ∙ named_at taken_by m c.args.line.now ps c.in-Some.id c.in-Some.ensures c.params_of-param-items.ensures.table)
     c.loop-param.invariant.of_lines
+
+pub returns-clause-previous : goal.returns-clause-previous
+returns-clause-previous g c =
+    let m = g.R.Records.content c.args.records.now in
+    let ps = c.params_of-param-items.result.now in
+    subst (λ ns. IsPut ns c.args.place c.args.self.now.previous c.loop-param.self.previous)
+    (ap (flat_map (λ q. previous_taken (binding m c.args.line.now q.name.now))) (take_all c.loop-param.param-index ps c.loop-param-test.false)
+    ∙ named_at previous_taken m c.args.line.now ps c.in-Some.id c.in-Some.ensures c.params_of-param-items.ensures.table)
+    c.loop-param.invariant.of_previous

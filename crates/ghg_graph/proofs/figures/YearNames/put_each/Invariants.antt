@@ -1,6 +1,6 @@
 use Rattle.std.proofs.Common.{◌⊎◌, ◌≤◌}
 use Rattle.ghg_graph.specs.Figures.{IsPutFrom}
-use Rattle.ghg_graph.proofs.figures.Figures.put_each.Given as goal
+use Rattle.ghg_graph.proofs.figures.YearNames.put_each.Given as goal
 
 abbrev pub invariant-loop-year : goal.invariant-loop-year
 invariant-loop-year l = record {

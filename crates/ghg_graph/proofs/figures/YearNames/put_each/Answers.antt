@@ -1,6 +1,6 @@
 use Rattle.std.proofs.Common.{arith, inl, inr}
 use Rattle.ghg_graph.proofs.Reading.{put_more}
-use Rattle.ghg_graph.proofs.figures.Figures.put_each.Goals as goal
+use Rattle.ghg_graph.proofs.figures.YearNames.put_each.Goals as goal
 
 pub loop-year-preserved : goal.loop-year-preserved
 loop-year-preserved c = record {
