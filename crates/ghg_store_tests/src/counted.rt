@@ -182,6 +182,36 @@ const CASES: &[Case] = &[
         rows: "correct,factor,,HL,1990,2,,,yr,\n",
         count: 10 + 10 * 8,
     },
+    // In 2000 and 2001 an equivalent, five totals and the gross total; the line does not take the potential.
+    Case {
+        earlier: &[TWELVE_YEARS, PLANT, "enter,factor,,GWP.CO2,1990,1,,,1,\n"],
+        lines: 0,
+        rows: "enter,factor,,GWP.CO2,2000,2,,,1,\n",
+        count: 2 * 7,
+    },
+    // In each year two lines that take the corrected factor, of which one is new, their equivalents, five
+    // totals and the gross total.
+    Case {
+        earlier: &[TWELVE_YEARS, PLANT],
+        lines: 0,
+        rows: "correct,factor,,GAS.EF,1990,56200,,,kg/TJ,\nenter,line,1A1a,ELEC.MORE,,Q10,,,,\n\
+            enter,bind,ELEC.MORE,FC,,activity,GAS.TJ,,,\nenter,bind,ELEC.MORE,EF,,factor,GAS.EF,,,\n",
+        count: 12 * 10,
+    },
+    // In 1990 the line that takes the activity, its equivalent, five totals and the gross total. The other
+    // line takes the factor of the same name.
+    Case {
+        earlier: &[
+            TWELVE_YEARS,
+            PLANT,
+            OIL,
+            "enter,factor,,GAS.TJ,1990,56100,,,kg/TJ,\nenter,line,1A1a,ELEC.OIL,,Q10,,,,\n\
+                enter,bind,ELEC.OIL,FC,,activity,OIL.TJ,,,\nenter,bind,ELEC.OIL,EF,,factor,GAS.TJ,,,\n",
+        ],
+        lines: 0,
+        rows: "correct,activity,,GAS.TJ,1990,1100,,,TJ,\n",
+        count: 8,
+    },
 ];
 
 // Rows under a header, and lines behind them.
