@@ -1,7 +1,7 @@
--- Whether equations, bindings and what keys are of are the same is decided.
+-- Whether equations, bindings, what keys are of and what stands at places are the same is decided.
 use denote.Enum.Bare.{same_true, true_same}
-use Rattle.std.proofs.Common.{◌≡◌, ℕ, Bool, true, false, if◌then◌else◌, not, ◌&&◌, ◌==◌, List, [], ◌∷◌, Option, Some, None, refl, sym, ap, ap₂, ◌∙◌}
-use Rattle.std.proofs.lemmas.Bool.Decides.{Decides-and, Decides-eqb, Decides-like, Decides-not}
+use Rattle.std.proofs.Common.{◌≡◌, ℕ, Bool, true, false, if◌then◌else◌, not, ◌&&◌, ◌==◌, List, [], ◌∷◌, length, ltb, Option, Some, None, refl, sym, ap, ap₂, ◌∙◌}
+use Rattle.std.proofs.lemmas.Bool.Decides.{Decides-and, Decides-eqb, Decides-like, Decides-ltb, Decides-not}
 use Rattle.std.proofs.lemmas.Slice.Eq.{slice_eq-Decides}
 use Rattle.std.specs.Bool.{Decides}
 use Rattle.std.specs.Cmp.Lexicographic.{bytes_decides, pointwise}
@@ -17,7 +17,8 @@ use Rattle.ghg_definitions.specs.declared.record.RecordKey.TheVariants as key
 use Rattle.ghg_definitions.specs.Data.{Data, Name, binding, line}
 use Rattle.ghg_affected.specs.Equalities.{same_equation}
 use Rattle.ghg_affected.proofs.Bools.{true_not_false}
-use Rattle.ghg_graph.specs.Changed.{Differs}
+use Rattle.ghg_graph.specs.Changed.{Differs, IsFresh}
+use Rattle.ghg_graph.specs.Numbers.{name_at}
 
 -- what is decided holds where it is not refuted
 stable : {P : Type 0} (r : Bool) → Decides r P → ((P → ⊥) → ⊥) → P
@@ -125,3 +126,15 @@ differs_decides old new (key.Line name) = Decides-not _ (equations_decide (line 
 differs_decides old new (key.Bind name parameter) = Decides-not _
     (option_decides same same_decides (binding old name parameter) (binding new name parameter))
 differs_decides old new (key.Uncert name) = never (λ d. d)
+
+-- ---- places of lines
+
+pub is_fresh : Data → Data → List Name → ℕ → Bool
+is_fresh old new lines place =
+    ltb place (length lines) && not (option_eq same_equation (line old (name_at lines place)) (line new (name_at lines place)))
+
+pub fresh_decides : (old new : Data) (lines : List Name) (place : ℕ)
+    → Decides (is_fresh old new lines place) (IsFresh old new lines place)
+unfolding is_fresh
+fresh_decides old new lines place = Decides-and (ltb place (length lines)) _ (Decides-ltb place (length lines))
+    (Decides-not _ (equations_decide (line old (name_at lines place)) (line new (name_at lines place))))

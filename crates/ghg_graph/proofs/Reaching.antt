@@ -301,13 +301,6 @@ module _ (old new : Data) where
       (ap (list_any (λ (q : Quantity). binding_reached old new year (binding old name q.name) (binding new name q.name))) (sym all)
       ∙ any_named (λ k. binding_reached old new year (binding old name k) (binding new name k)) ps)
 
-  -- a line that was none, or had another equation, is reached
-  pub by_unlike : (name : Name) (year : ℕ) (e : EqId) → Some e ≡ line new name
-      → is_node new (node.Line name year) ≡ true → was_line old name e year ≡ false
-      → is_reached old new (node.Line name year) ≡ true
-  by_unlike name year e at is off =
-      line_is_reached name year e (sym at) is ∙ or_first (not (was_line old name e year)) _ (ap not off)
-
   pub by_parameter : (name : Name) (year : ℕ) (e : EqId) (ps : List Param) → Some e ≡ line new name
       → map quantity ps ≡ parameters e → is_node new (node.Line name year) ≡ true
       → (i : ℕ) (d : Param) → i < length ps → (was b : Option Binding)

@@ -329,7 +329,7 @@ all_read m reads test keys names are unread year name within = (λ i. ((are year
       }))))
     ]
 
-module _ (old new : Data) (takers : Takers) (changed : BTreeSet ℕ) (keys : List RecordKey)
+module _ (old new : Data) (takers : Takers) (fresh : BTreeSet ℕ) (keys : List RecordKey)
     (kept : (k : RecordKey) → (Contains keys k → ⊥) → get old k ≡ get new k) where
   -- a key that reads nothing has the same record
   same_at : (k : RecordKey) → (IsListed k keys → ⊥) → get old k ≡ get new k
@@ -352,16 +352,16 @@ module _ (old new : Data) (takers : Takers) (changed : BTreeSet ℕ) (keys : Lis
   differs_not x y same on = true_not_false (sym on ∙ ap not (ap (λ z. same_input z y) same ∙ input_itself y))
 
   pub figures_are : (figures : Figures)
-      → AreReadBy new IsOfActivity (taken_activity old new takers changed) keys figures.activities
-      → AreReadBy new (IsOfFactor old new) (taken_factor old new takers changed) keys figures.factors
-      → AreReadBy new (IsOfFactor old new) (taken_decay old new takers changed) keys figures.decays
-      → AreFigures old new takers changed figures
+      → AreReadBy new IsOfActivity (taken_activity old new takers fresh) keys figures.activities
+      → AreReadBy new (IsOfFactor old new) (taken_factor old new takers fresh) keys figures.factors
+      → AreReadBy new (IsOfFactor old new) (taken_decay old new takers fresh) keys figures.decays
+      → AreFigures old new takers fresh figures
   figures_are figures activities factors decays = record {
-    of_activities = all_read new IsOfActivity (taken_activity old new takers changed) keys figures.activities activities
+    of_activities = all_read new IsOfActivity (taken_activity old new takers fresh) keys figures.activities activities
         (λ year name on none. differs_not _ _ (ap (λ o. input_of_figure (as_figure o))
         (same_at (key.Activity name year) (λ i. none (key.Activity name year) i (refl, refl)))) (second_so _ _ on));
-    of_factors = all_read new (IsOfFactor old new) (taken_factor old new takers changed) keys figures.factors factors
+    of_factors = all_read new (IsOfFactor old new) (taken_factor old new takers fresh) keys figures.factors factors
         (λ year name on none. differs_not _ _ (factor_same old new name year (same_from year name none)) (second_so _ _ on));
-    of_decays = all_read new (IsOfFactor old new) (taken_decay old new takers changed) keys figures.decays decays
+    of_decays = all_read new (IsOfFactor old new) (taken_decay old new takers fresh) keys figures.decays decays
         (λ year name on none. differs_not _ _ (decay_same old new name year (same_from year name none)) (second_so _ _ on));
   }

@@ -1,5 +1,5 @@
 -- The places at which changed lines stand.
-use Rattle.std.proofs.Common.{◌≡◌, ◌⊎◌, ◌↔◌, inl, inr, ℕ, ◌+◌, ◌<◌, ◌≤◌, Bool, true, false, cond, if◌then◌else◌, is_eq, is_some, List, [], ◌∷◌, ◌++◌, length, Some, None, refl, sym, ap, ◌∙◌, subst, arith}
+use Rattle.std.proofs.Common.{◌≡◌, ◌⊎◌, ◌↔◌, inl, inr, ℕ, ◌+◌, ◌<◌, ◌≤◌, Bool, true, false, cond, if◌then◌else◌, is_eq, is_some, List, [], ◌∷◌, ◌++◌, filter, length, Some, None, refl, sym, ap, ◌∙◌, subst, arith}
 use Rattle.std.proofs.lemmas.Bool.{cases_lt}
 use Rattle.std.proofs.lemmas.Cmp.{nat_cmp_total}
 use Rattle.std.proofs.lemmas.Map.Lookups.{exact_bytes, exact_unsigned}
@@ -13,12 +13,13 @@ use Rattle.ghg_definitions.specs.declared.record.RecordKey.TheVariants as key
 use Rattle.ghg_definitions.specs.Data.{Data, Name, as_binding, as_line, binding, line, name_cmp}
 use Rattle.ghg_definitions.specs.Listed.{IsListed}
 use Rattle.ghg_definitions.proofs.Depth.{or_else}
-use Rattle.ghg_definitions.proofs.Listed.{contained, from_filter_map, in_either, listed, listed_filter_map, listed_left, listed_right}
+use Rattle.ghg_definitions.proofs.Listed.{contained, from_filter, from_filter_map, in_either, listed, listed_filter, listed_filter_map, listed_left, listed_right}
 use Rattle.ghg_affected.proofs.Bools.{true_not_false}
 use Rattle.ghg_graph.specs.Numbers.{name_at}
 use Rattle.ghg_graph.specs.Ordering.{IsLineOrder}
-use Rattle.ghg_graph.specs.Changed.{AreChanged, Differs, LineDiffers, StandsAmong, present_line}
+use Rattle.ghg_graph.specs.Changed.{AreChanged, AreFresh, Differs, IsFresh, LineDiffers, StandsAmong, present_line}
 use Rattle.ghg_graph.specs.Candidates.{AllBelow, IsIn}
+use Rattle.ghg_graph.proofs.Deciding.{fresh_decides, is_fresh}
 use Rattle.ghg_graph.proofs.Distinct.{behind_at, one_place}
 use Rattle.ghg_graph.proofs.Marking.{equal_itself, names_equal}
 use Rattle.ghg_graph.proofs.Membership.{key_listed, listed_key}
@@ -184,6 +185,23 @@ module _ (m : Data) (keys : List RecordKey) (lines : List Name) (order : IsLineO
               by : contains nat_cmp set place ≡ false → LineDiffers old m name → ⊥
               by off (inl differs) = differs (ap as_line (kept_off off at.0 (key.Line name) refl differs))
               by off (inr w) = w.1 (ap as_binding (kept_off off at.0 (key.Bind name w.0) refl w.1))
+
+-- ---- those of which the equation is not what it was
+
+pub are_fresh : (old new : Data) (lines : List Name) (changed : BTreeSet ℕ) → AreChanged old new lines changed
+    → (set : BTreeSet ℕ) → IsFromIterResult nat_cmp (filter (is_fresh old new lines) changed.keys) set
+    → AreFresh old new lines set
+are_fresh old new lines changed are set from place = (to, back)
+  where
+    to : IsIn set place → IsFresh old new lines place
+    to on = (fresh_decides old new lines place).0 (from_filter (is_fresh old new lines) place changed.keys
+        (key_listed exact_unsigned place (filter (is_fresh old new lines) changed.keys) (sym (from.0 place) ∙ on))).1
+
+    back : IsFresh old new lines place → IsIn set place
+    back at = from.0 place ∙ listed_key nat_cmp_total place (filter (is_fresh old new lines) changed.keys)
+        (listed_filter (is_fresh old new lines) place changed.keys
+        (key_listed exact_unsigned place changed.keys ((are place).1 (at.0, inl at.1)))
+        ((fresh_decides old new lines place).1 at))
 
 -- ---- from the last line on
 

@@ -25,6 +25,15 @@ abbrev pub AreChanged : Data → Data → List Name → BTreeSet ℕ → Type 0
 AreChanged old new lines places = (place : ℕ) → IsIn places place ↔
     ((place < length lines) × LineDiffers old new (name_at lines place))
 
+-- the equation of the line at the place is not what it was; a line that was not present had none
+abbrev pub IsFresh : Data → Data → List Name → ℕ → Type 0
+IsFresh old new lines place =
+    (place < length lines) × (line old (name_at lines place) ≢ line new (name_at lines place))
+
+-- they are the places of such lines
+abbrev pub AreFresh : Data → Data → List Name → BTreeSet ℕ → Type 0
+AreFresh old new lines places = (place : ℕ) → IsIn places place ↔ IsFresh old new lines place
+
 -- the line of the key, or of the binding, if it is present
 abbrev pub present_line : Data → RecordKey → Option Name
 present_line m (key.Line name) = if is_some (line m name) then Some name else None

@@ -44,29 +44,29 @@ AreNames m test names = (year : ℕ) (name : Name) → is_year_of (span m) year 
 
 -- ---- what is taken, and differs
 
--- a line that is not at one of the changed places takes it
+-- a line that is not at one of the fresh places takes it
 abbrev pub is_taken : Places → BTreeSet ℕ → Name → Bool
-is_taken takers changed name =
-    list_any (λ place. not (contains nat_cmp changed place)) (places_of takers name)
+is_taken takers fresh name =
+    list_any (λ place. not (contains nat_cmp fresh place)) (places_of takers name)
 
 abbrev pub taken_activity : Data → Data → Takers → BTreeSet ℕ → ℕ → Name → Bool
-taken_activity old new takers changed year name =
-    is_taken takers.activities changed name && activity_differs old new year name
+taken_activity old new takers fresh year name =
+    is_taken takers.activities fresh name && activity_differs old new year name
 
 -- also a warming potential that no line takes
 abbrev pub taken_factor : Data → Data → Takers → BTreeSet ℕ → ℕ → Name → Bool
-taken_factor old new takers changed year name =
-    (is_taken takers.factors changed name || is_potential_name name) && factor_differs old new year name
+taken_factor old new takers fresh year name =
+    (is_taken takers.factors fresh name || is_potential_name name) && factor_differs old new year name
 
 abbrev pub taken_decay : Data → Data → Takers → BTreeSet ℕ → ℕ → Name → Bool
-taken_decay old new takers changed year name =
-    is_taken takers.factors changed name && decay_differs old new year name
+taken_decay old new takers fresh year name =
+    is_taken takers.factors fresh name && decay_differs old new year name
 
-pub record AreFigures (old new : Data) (takers : Takers) (changed : BTreeSet ℕ) (figures : Figures)
+pub record AreFigures (old new : Data) (takers : Takers) (fresh : BTreeSet ℕ) (figures : Figures)
     : Type 0 where
-  pub of_activities : AreNames new (taken_activity old new takers changed) figures.activities
-  pub of_factors : AreNames new (taken_factor old new takers changed) figures.factors
-  pub of_decays : AreNames new (taken_decay old new takers changed) figures.decays
+  pub of_activities : AreNames new (taken_activity old new takers fresh) figures.activities
+  pub of_factors : AreNames new (taken_factor old new takers fresh) figures.factors
+  pub of_decays : AreNames new (taken_decay old new takers fresh) figures.decays
 
 -- the sets have the names that stand under the year
 pub record IsOfYear (figures : Figures) (year : ℕ) (d : Differing) : Type 0 where
@@ -100,11 +100,11 @@ IsOfFactor old new (key.Factor name start) year other = (name ≡ other)
 IsOfFactor old new _ year other = ⊥
 
 -- what the record of the key gives is put under the years in which it is read, is taken and differs
-pub record AddsFigures (old new : Data) (takers : Takers) (changed : BTreeSet ℕ) (k : RecordKey)
+pub record AddsFigures (old new : Data) (takers : Takers) (fresh : BTreeSet ℕ) (k : RecordKey)
     (before after : Figures) : Type 0 where
-  pub of_activities : AddsNames new (IsOfActivity k) (taken_activity old new takers changed)
+  pub of_activities : AddsNames new (IsOfActivity k) (taken_activity old new takers fresh)
       before.activities after.activities
-  pub of_factors : AddsNames new (IsOfFactor old new k) (taken_factor old new takers changed)
+  pub of_factors : AddsNames new (IsOfFactor old new k) (taken_factor old new takers fresh)
       before.factors after.factors
-  pub of_decays : AddsNames new (IsOfFactor old new k) (taken_decay old new takers changed)
+  pub of_decays : AddsNames new (IsOfFactor old new k) (taken_decay old new takers fresh)
       before.decays after.decays

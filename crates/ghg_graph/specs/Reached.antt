@@ -18,7 +18,7 @@ use Rattle.ghg_definitions.specs.Lookups.{given}
 use Rattle.ghg_affected.specs.Affected.{affected_within}
 use Rattle.ghg_affected.specs.Equalities.{same_operand}
 use Rattle.ghg_graph.specs.Candidates.{IsCandidate, IsIn, IsTaker}
-use Rattle.ghg_graph.specs.Changed.{AreChanged, StandsAmong}
+use Rattle.ghg_graph.specs.Changed.{AreChanged, AreFresh, StandsAmong}
 use Rattle.ghg_graph.specs.Differing.{ArePotentials, has_figure}
 use Rattle.ghg_graph.specs.Figures.{AreFigures, IsOfYear}
 use Rattle.ghg_graph.specs.Moves.{AreMoved}
@@ -40,11 +40,15 @@ use Rattle.ghg_graph.specs.declared.tops.Tops.{Tops}
 abbrev pub is_reached : Data → Data → Node → Bool
 is_reached old new = affected_within old new (length (nodes new))
 
--- what the new binding gives in a year differs from what the old one gave, or one of its nodes is reached
-abbrev pub binding_reached : Data → Data → ℕ → Option Binding → Option Binding → Bool
-binding_reached old new year was b =
+-- what the new binding gives in a year differs from what the old one gave
+abbrev pub gives_other : Data → Data → ℕ → Option Binding → Option Binding → Bool
+gives_other old new year was b =
     not (same_operand (map_operand (given old) (bound_to old (first_year (span old)) year was))
     (map_operand (given new) (bound_to new (first_year (span new)) year b)))
+
+-- it does, or one of its nodes is reached
+abbrev pub binding_reached : Data → Data → ℕ → Option Binding → Option Binding → Bool
+binding_reached old new year was b = gives_other old new year was b
     || list_any (is_reached old new) (nodes_in (bound_to new (first_year (span new)) year b))
 
 -- ---- lines of a year
@@ -97,11 +101,12 @@ previous_differs y = not (beq (nat_le y.number y.first_before) (nat_le y.number 
 
 -- ---- what edits change
 
--- the places of the lines that differ, the activities and factors that do, the totals that add other lines,
--- and the years
+-- the places of the lines that differ, and of those of which the equation does; the activities and factors
+-- that differ, the totals that add other lines, and the years
 pub record AreEdited (old new : Data) (index : LineIndex) (edited : Edited) : Type 0 where
   pub changed : AreChanged old new index.lines.items edited.changed
-  pub figures : AreFigures old new index.takers edited.changed edited.figures
+  pub fresh : AreFresh old new index.lines.items edited.fresh
+  pub figures : AreFigures old new index.takers edited.fresh edited.figures
   pub moved : AreMoved old new edited.moved
   pub years : AreYears old new edited.years
 
@@ -112,18 +117,24 @@ pub record AreYearChanges (old new : Data) (index : LineIndex) (c : YearChanges)
   pub differing : IsOfYear c.edited.now.figures c.year.number c.differing
   pub before : HasBefore old new c.year.number c.before
 
--- ---- lines that edits do not change
+-- ---- bindings that edits do not change
 
 -- the binding is to a value of the year before, and these are taken in one of both data alone
 abbrev pub takes_previous : Year → Option Binding → Bool
 takes_previous y (Some (bound.Prev name)) = previous_differs y
 takes_previous y _ = false
 
--- the binding takes a figure that differs, or a line that is reached, or is to the year before, where that
--- differs
+-- it is, or it takes a figure that differs
+abbrev pub takes_differing : YearChanges → Option Binding → Bool
+takes_differing c b = has_figure c.differing b || takes_previous c.year b
+
+-- where it stays, it gives another operand in the year exactly where it takes what differs
+abbrev pub IsTold : Data → Data → YearChanges → Option Binding → Type 0
+IsTold old new c b = gives_other old new c.year.number b b ≡ takes_differing c b
+
+-- it takes what differs, or a line that is reached
 abbrev pub takes_reached : Data → YearChanges → BTreeSet Name → Option Binding → Bool
-takes_reached new c now b = has_figure c.differing b
-    || (takes_previous c.year b || takes_from new c.before now b)
+takes_reached new c now b = takes_differing c b || takes_from new c.before now b
 
 -- one of the line's bindings does
 abbrev pub line_takes : Data → YearChanges → BTreeSet Name → Name → Bool

@@ -1,6 +1,6 @@
 //! The lines that edits change, by their places.
 
-ghost use Rattle.std.specs.Prelude.{◌≡◌, ◌↔◌, ℕ, true, length, IfOk};
+ghost use Rattle.std.specs.Prelude.{◌≡◌, ◌≢◌, ◌↔◌, ℕ, true, length, IfOk};
 ghost use Rattle.std.specs.BTreeSet.{IsFromIterResult, contains};
 ghost use Rattle.std.specs.FinMap.{get};
 ghost use Rattle.std.specs.List.{Contains};
@@ -8,7 +8,7 @@ ghost use Rattle.ghg_definitions.specs.Data.{Name, line, name_cmp};
 ghost use Rattle.ghg_definitions.specs.declared.record.RecordKey.{RecordKey};
 ghost use Rattle.ghg_definitions.specs.Listed.{IsListed};
 ghost use Rattle.ghg_graph.specs.Candidates.{AllBelow};
-ghost use Rattle.ghg_graph.specs.Changed.{AreChanged, Differs, StandsAmong, present_line, present_lines};
+ghost use Rattle.ghg_graph.specs.Changed.{AreChanged, AreFresh, Differs, IsFresh, StandsAmong, present_line, present_lines};
 ghost use Rattle.ghg_graph.specs.Numbers.{name_at};
 ghost use Rattle.ghg_graph.specs.Ordering.{IsLineOrder};
 
@@ -40,6 +40,42 @@ pub(crate) fn changed_places<R: Records, S: Records>(
     places.iter().copied().collect(alloc)
 }
 
+/// Those of the changed places at which the equation of the line is not what it was. A line that was not
+/// present had none.
+pub(crate) fn fresh_places<R: Records, S: Records>(
+    alloc: Global,
+    old: &R,
+    new: &S,
+    lines: &[Name],
+    changed: &BTreeSet<usize>,
+) -> Result<BTreeSet<usize>, AllocError>
+    requires { AreChanged (R.content old.now) (S.content new.now) lines.now changed.now }
+    ensures { IfOk result (AreFresh (R.content old.now) (S.content new.now) lines.now) }
+{
+    changed
+        .iter()
+        .filter(|place| is_fresh(old, new, lines, **place))
+        .copied()
+        .collect(alloc)
+}
+
+// Whether the equation of the line at a place is not what it was.
+fn is_fresh<R: Records, S: Records>(old: &R, new: &S, lines: &[Name], place: usize) -> bool
+    ensures { (result ≡ true) ↔ IsFresh (R.content old.now) (S.content new.now) lines.now place }
+{
+    match lines.get(place) {
+        Some(line) => equation_differs(old, new, line),
+        None => false,
+    }
+}
+
+// Whether the equation of a line is not what it was.
+fn equation_differs<R: Records, S: Records>(old: &R, new: &S, name: &Name) -> bool
+    ensures { (result ≡ true) ↔ (line (R.content old.now) name.now ≢ line (S.content new.now) name.now) }
+{
+    equation_of(old, name) != equation_of(new, name)
+}
+
 // Those of the keys that are of a line or of a binding that is not what it was.
 fn differing_keys<R: Records, S: Records>(
     alloc: Global,
@@ -61,7 +97,7 @@ fn differs<R: Records, S: Records>(old: &R, new: &S, key: &RecordKey) -> bool
     ensures { (result ≡ true) ↔ Differs (R.content old.now) (S.content new.now) key.now }
 {
     match key {
-        RecordKey::Line(name) => equation_of(old, name) != equation_of(new, name),
+        RecordKey::Line(name) => equation_differs(old, new, name),
         RecordKey::Bind(name, parameter) => !same_binding(
             old.binding(name, parameter),
             new.binding(name, parameter),

@@ -85,8 +85,8 @@ impl YearNames {
 }
 
 /// For each year of the new data the names of the activities, of the factors and of the decays of factors
-/// that differ in it, of those that a line takes which edits do not change; and, among the factors, of the
-/// warming potentials that do.
+/// that differ in it, of those that a line takes of which the equation is what it was; and, among the
+/// factors, of the warming potentials that do.
 #[derive(Drop)]
 pub(crate) struct Figures {
     activities: YearNames,
@@ -98,22 +98,22 @@ impl Figures {
     ghost use Rattle.ghg_graph.specs.Figures.{AddsFigures, AreFigures, IsOfYear, names_at};
 
     /// Those of the years of a span. The records differ at the keys alone. What each of them gives is
-    /// compared once, for all years in which it is read. `changed` are the places of the lines that edits
-    /// change.
+    /// compared once, for all years in which it is read. `fresh` are the places of the lines of which the
+    /// equation is not what it was.
     pub(crate) fn of<R: Records, S: Records>(
         alloc: Global,
         old: &R,
         new: &S,
         keys: &[RecordKey],
         takers: &Takers,
-        changed: &BTreeSet<usize>,
+        fresh: &BTreeSet<usize>,
         years: Span,
     ) -> Result<Figures, AllocError>
         requires kept { (k : RecordKey) → (Contains keys.now k → ⊥) →
             get (R.content old.now) k ≡ get (S.content new.now) k }
         requires span { span (S.content new.now) ≡ Some years }
         requires years { IsSpan years }
-        ensures { IfOk result (AreFigures (R.content old.now) (S.content new.now) takers.now changed.now) }
+        ensures { IfOk result (AreFigures (R.content old.now) (S.content new.now) takers.now fresh.now) }
     {
         let mut figures = Figures {
             activities: YearNames::new(alloc),
@@ -121,7 +121,7 @@ impl Figures {
             decays: YearNames::new(alloc),
         };
         for key in keys {
-            figures.add(old, new, key, takers, changed, years)?;
+            figures.add(old, new, key, takers, fresh, years)?;
         }
         Ok(figures)
     }
@@ -148,21 +148,21 @@ impl Figures {
         new: &S,
         key: &RecordKey,
         takers: &Takers,
-        changed: &BTreeSet<usize>,
+        fresh: &BTreeSet<usize>,
         years: Span,
     ) -> Result<(), AllocError>
         requires span { span (S.content new.now) ≡ Some years }
         requires years { IsSpan years }
-        ensures { OnOk result (AddsFigures (R.content old.now) (S.content new.now) takers.now changed.now
+        ensures { OnOk result (AddsFigures (R.content old.now) (S.content new.now) takers.now fresh.now
             key.now self.old self.new) }
     {
         match key {
             RecordKey::Activity(name, year) if is_in_span(years, *year) => {
-                let taken = is_taken(&takers.activities, changed, name);
+                let taken = is_taken(&takers.activities, fresh, name);
                 self.add_activity(old, new, *name, *year, taken)
             }
             RecordKey::Factor(name, start) if has_record(old, new, key) => {
-                let taken = is_taken(&takers.factors, changed, name);
+                let taken = is_taken(&takers.factors, fresh, name);
                 self.add_factor(old, new, *name, *start, years, taken)
             }
             _ => Ok(()),
@@ -280,11 +280,11 @@ pub(crate) fn is_in_span(years: Span, year: u32) -> bool
     years.first <= year && year <= years.last
 }
 
-// Whether a line that is not at one of the changed places takes what has the name.
-fn is_taken(takers: &Places, changed: &BTreeSet<usize>, name: &Name) -> bool
-    ensures { result ≡ is_taken takers.now changed.now name.now }
+// Whether a line that is not at one of the fresh places takes what has the name.
+fn is_taken(takers: &Places, fresh: &BTreeSet<usize>, name: &Name) -> bool
+    ensures { result ≡ is_taken takers.now fresh.now name.now }
 {
-    has_other(takers.at(name), changed)
+    has_other(takers.at(name), fresh)
 }
 
 // Whether one of the places is not in the set.

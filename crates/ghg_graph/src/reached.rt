@@ -1,32 +1,32 @@
 //! The nodes that edits reach, year by year.
 
-ghost use Rattle.std.specs.Prelude.{◌≡◌, ◌↔◌, ℕ, ◌+◌, ◌<◌, ◌∷◌, ◌++◌, ◌||◌, [], List, length, Some, true, false, filter, is_some, if◌then◌else◌, map, option_copied, reverse, IfOk, OnOk};
+ghost use Rattle.std.specs.Prelude.{◌≡◌, ◌↔◌, ℕ, ◌+◌, ◌<◌, ◌∷◌, ◌++◌, ◌||◌, [], List, length, Some, true, false, filter, if◌then◌else◌, map, option_copied, reverse, IfOk, OnOk};
 ghost use Rattle.std.specs.BTreeSet.{IsOrdered, contains};
 ghost use Rattle.std.specs.FinMap.{get};
 ghost use Rattle.std.specs.List.{Contains, filter_map, list_any};
-ghost use Rattle.std.specs.Option.{option_map_or, option_to_list};
+ghost use Rattle.std.specs.Option.{option_to_list};
+ghost use Rattle.std.specs.Ordering.{nat_cmp};
 ghost use Rattle.ghg_categories.specs.Tree.{tree};
 ghost use Rattle.ghg_categories.specs.declared.category.Category.{Category};
 ghost use Rattle.ghg_units.specs.WellFormed.{IsSpan};
 ghost use Rattle.ghg_units.specs.declared.node.Node.TheVariants as node;
 ghost use Rattle.ghg_definitions.specs.declared.record.RecordKey.{RecordKey};
 ghost use Rattle.ghg_definitions.specs.Compilation.{emits, gas_lines, is_year_of, years_of};
-ghost use Rattle.ghg_definitions.specs.Data.{Data, Name, category, line, name_cmp, span};
+ghost use Rattle.ghg_definitions.specs.Data.{Data, Name, category, name_cmp, span};
 ghost use Rattle.ghg_definitions.specs.Rings.{Takes, TakesBinding};
-ghost use Rattle.ghg_affected.specs.Equalities.{same_equation};
 ghost use Rattle.ghg_graph.specs.Candidates.{AllBelow, AreInRange, AreWithin, IsIn};
-ghost use Rattle.ghg_graph.specs.Changed.{LineDiffers};
 ghost use Rattle.ghg_graph.specs.Index.{IsLineIndex};
 ghost use Rattle.ghg_graph.specs.Ordering.{IsLineOrder};
 ghost use Rattle.ghg_graph.specs.Numbers.{name_at};
-ghost use Rattle.ghg_graph.specs.Reached.{AreEdited, AreFirst, AreLinesAdded, TellEquivalents, AreWithEmitters, AreYearChanges, AreYears, HasBefore, HasReached, IsYear, binding_reached, has_line, is_reached, is_total_of, line_takes, names_of, previous_differs, reached_categories, takes_from, takes_previous, takes_reached};
+ghost use Rattle.ghg_graph.specs.Reached.{AreEdited, AreFirst, AreLinesAdded, TellEquivalents, AreWithEmitters, AreYearChanges, AreYears, HasBefore, HasReached, IsTold, IsYear, binding_reached, gives_other, has_line, is_reached, is_total_of, line_takes, names_of, previous_differs, reached_categories, takes_differing, takes_from, takes_previous, takes_reached};
 ghost use Rattle.ghg_graph.specs.declared.reached.Lines.TheVariants as year_lines;
 ghost use Rattle.ghg_graph.specs.Tops.{AreTops};
 ghost use Rattle.ghg_graph.specs.Years.{nodes_by_year, year_nodes};
 
 use crate::candidates::{add_from, candidates, sorted_names};
-use crate::changed::changed_places;
+use crate::changed::{changed_places, fresh_places};
 use crate::differing::Differing;
+use crate::equality::same_binding;
 use crate::figures::{Figures, is_in_span};
 use crate::gases::line_gas;
 use crate::in_order;
@@ -39,7 +39,6 @@ use crate::tops::Tops;
 use ghg_categories::Category;
 use ghg_data::{Records, params_of};
 use ghg_definitions::RecordKey;
-use ghg_equations::EqId;
 use ghg_units::{Binding, Name, Node, Span};
 use std::alloc::{AllocError, Global};
 use std::collections::BTreeSet;
@@ -61,11 +60,13 @@ enum Lines {
     These(BTreeSet<Name>),
 }
 
-// What edits change: the places of the lines that have another equation or binding, the activities and
-// factors that differ, and the totals that add other lines; and the years.
+// What edits change: the places of the lines that have another equation or binding, and among them those of
+// the lines that have another equation or had none; the activities and factors that differ, and the totals
+// that add other lines; and the years.
 #[derive(Drop)]
 struct Edited {
     changed: BTreeSet<usize>,
+    fresh: BTreeSet<usize>,
     figures: Figures,
     moved: Moved,
     years: Years,
@@ -148,10 +149,12 @@ fn edited_parts<R: Records, S: Records>(
     ensures { IfOk result (AreEdited (R.content old.now) (S.content new.now) index.now) }
 {
     let changed = changed_places(alloc, old, new, keys, &index.lines)?;
-    let figures = Figures::of(alloc, old, new, keys, &index.takers, &changed, years)?;
+    let fresh = fresh_places(alloc, old, new, &index.lines, &changed)?;
+    let figures = Figures::of(alloc, old, new, keys, &index.takers, &fresh, years)?;
     let moved = moved_totals(alloc, old, new, keys)?;
     Ok(Edited {
         changed,
+        fresh,
         figures,
         moved,
         years: both_years(old, new),
@@ -360,8 +363,8 @@ fn add_lines<R: Records, S: Records>(
     Ok(now)
 }
 
-// Whether the line at a place is reached in a year. Old records are looked up only where the line has another
-// equation or binding.
+// Whether the line at a place is reached in a year. A line that has another equation, or had none, is. Old
+// records are looked up only where the equation is what it was, and a binding is another.
 fn place_reached<R: Records, S: Records>(
     old: &R,
     new: &S,
@@ -379,11 +382,12 @@ fn place_reached<R: Records, S: Records>(
     ensures { result ≡ is_reached (R.content old.now) (S.content new.now)
         (node.Line (name_at index.now.lines.items place) changes.now.year.number) }
 {
-    let line = &index.lines[place];
-    if changes.edited.changed.contains(&place) {
-        line_reached(old, new, line, changes.year, &changes.before, now)
+    if changes.edited.fresh.contains(&place) {
+        true
+    } else if changes.edited.changed.contains(&place) {
+        line_reached(old, new, index, changes, place, now)
     } else {
-        line_takes(new, line, changes, now)
+        line_takes(new, &index.lines[place], changes, now)
     }
 }
 
@@ -411,9 +415,14 @@ fn takes_reached<S: Records>(
 ) -> bool
     ensures { result ≡ takes_reached (S.content new.now) changes.now now.now (option_copied binding.entry) }
 {
-    changes.differing.has_figure(binding)
-        || takes_previous(changes.year, binding)
-        || takes_from(new, &changes.before, now, binding)
+    takes_differing(changes, binding) || takes_from(new, &changes.before, now, binding)
+}
+
+// Whether a binding takes a figure that differs, or is to a value of the year before, where that differs.
+fn takes_differing(changes: &YearChanges, binding: Option<&Binding>) -> bool
+    ensures { result ≡ takes_differing changes.now (option_copied binding.entry) }
+{
+    changes.differing.has_figure(binding) || takes_previous(changes.year, binding)
 }
 
 // Whether a binding is to a value of the year before, and these are taken in one of both data alone.
@@ -423,47 +432,37 @@ fn takes_previous(year: Year, binding: Option<&Binding>) -> bool
     matches!(binding, Some(Binding::Prev(_))) && previous_differs(year)
 }
 
-// Whether a line that has another equation or binding is reached in a year: it was none or had another
-// equation, what it takes differs, or it takes a line that is reached.
+// Whether the line at a place, of which the equation is what it was and a binding is another, is reached in a
+// year.
 fn line_reached<R: Records, S: Records>(
     old: &R,
     new: &S,
-    name: &Name,
-    year: Year,
-    before: &Lines,
+    index: &LineIndex,
+    changes: &YearChanges,
+    place: usize,
     now: &BTreeSet<Name>,
 ) -> bool
-    requires line { is_some (line (S.content new.now) name.now) ≡ true }
-    requires changed { LineDiffers (R.content old.now) (S.content new.now) name.now }
-    requires year { IsYear (R.content old.now) (S.content new.now) year }
-    requires before { HasBefore (R.content old.now) (S.content new.now) year.number before.now }
-    requires now { (k : Name) → Takes (S.content new.now) name.now k → contains name_cmp now.now k ≡
-        is_reached (R.content old.now) (S.content new.now) (node.Line k year.number) }
-    ensures { result ≡ is_reached (R.content old.now) (S.content new.now) (node.Line name.now year.number) }
+    requires index { IsLineIndex (S.content new.now) index.now }
+    requires changes { AreYearChanges (R.content old.now) (S.content new.now) index.now changes.now }
+    requires changed { IsIn changes.now.edited.now.changed place }
+    requires equation { contains nat_cmp changes.now.edited.now.fresh place ≡ false }
+    requires now { (k : Name) → Takes (S.content new.now) (name_at index.now.lines.items place) k →
+        contains name_cmp now.now k ≡ is_reached (R.content old.now) (S.content new.now)
+        (node.Line k changes.now.year.number) }
+    ensures { result ≡ is_reached (R.content old.now) (S.content new.now)
+        (node.Line (name_at index.now.lines.items place) changes.now.year.number) }
 {
-    let Some(id) = equation_of(new, name) else {
+    let line = &index.lines[place];
+    let Some(id) = equation_of(new, line) else {
         return false;
     };
-    if !has_equation(old, name, id) {
-        return true;
-    }
     for param in params_of(id) {
-        let was = old.bound(name, param);
-        if binding_reached(old, new, was, new.bound(name, param), year, before, now) {
+        let was = old.bound(line, param);
+        if binding_reached(old, new, was, new.bound(line, param), changes, now) {
             return true;
         }
     }
     false
-}
-
-// Whether a line is present, with the equation.
-fn has_equation<R: Records>(records: &R, name: &Name, id: EqId) -> bool
-    ensures { result ≡ option_map_or (λ e. same_equation e id) (line (R.content records.now) name.now) false }
-{
-    match equation_of(records, name) {
-        Some(own) => own == id,
-        None => false,
-    }
 }
 
 // Whether what a binding gives in a year differs from what the old one gave, or is of a line that is reached.
@@ -472,20 +471,42 @@ fn binding_reached<R: Records, S: Records>(
     new: &S,
     was: Option<&Binding>,
     binding: Option<&Binding>,
-    year: Year,
-    before: &Lines,
+    changes: &YearChanges,
     now: &BTreeSet<Name>,
 ) -> bool
-    requires year { IsYear (R.content old.now) (S.content new.now) year }
-    requires before { HasBefore (R.content old.now) (S.content new.now) year.number before.now }
+    requires year { IsYear (R.content old.now) (S.content new.now) changes.now.year }
+    requires before { HasBefore (R.content old.now) (S.content new.now) changes.now.year.number
+        changes.now.before }
+    requires told { IsTold (R.content old.now) (S.content new.now) changes.now (option_copied binding) }
     requires now { (k : Name) → TakesBinding (option_copied binding) k → contains name_cmp now.now k ≡
-        is_reached (R.content old.now) (S.content new.now) (node.Line k year.number) }
-    ensures { result ≡ binding_reached (R.content old.now) (S.content new.now) year.number
+        is_reached (R.content old.now) (S.content new.now) (node.Line k changes.now.year.number) }
+    ensures { result ≡ binding_reached (R.content old.now) (S.content new.now) changes.now.year.number
         (option_copied was.entry) (option_copied binding.entry) }
 {
-    let given = bound_operand(old, year.first_before, was, year.number);
+    gives_other(old, new, was, binding, changes) || takes_from(new, &changes.before, now, binding)
+}
+
+// Whether what a binding gives in a year differs from what the old one gave. Where both are equal, no figure
+// is looked up.
+fn gives_other<R: Records, S: Records>(
+    old: &R,
+    new: &S,
+    was: Option<&Binding>,
+    binding: Option<&Binding>,
+    changes: &YearChanges,
+) -> bool
+    requires year { IsYear (R.content old.now) (S.content new.now) changes.now.year }
+    requires told { IsTold (R.content old.now) (S.content new.now) changes.now (option_copied binding) }
+    ensures { result ≡ gives_other (R.content old.now) (S.content new.now) changes.now.year.number
+        (option_copied was.entry) (option_copied binding.entry) }
+{
+    if same_binding(was, binding) {
+        return takes_differing(changes, binding);
+    }
+    let year = changes.year;
+    let gave = bound_operand(old, year.first_before, was, year.number);
     let gives = bound_operand(new, year.first, binding, year.number);
-    operands::differ(&given, &gives) || takes_from(new, before, now, binding)
+    operands::differ(&gave, &gives)
 }
 
 // Whether a line that a binding takes is in the set of the year, or of the year before.

@@ -12,15 +12,15 @@ returns-in-Activity g c =
     let old = g.R.Records.content c.args.old.now in
     let new = g.S.Records.content c.args.new.now in
     let takers = c.args.takers.now in
-    let changed = c.args.changed.now in
+    let fresh = c.args.fresh.now in
     let before = c.args.self.now in
     let after = c.add_activity.new.self in
-    on_ok_weaker c.add_activity.result (λ added. subst (λ k. AddsFigures old new takers changed k before after) (sym c.in-Activity.is) (record {
-      of_activities = activity_added new c.in-Activity.name c.in-Activity.year c.is_taken-taken.result (is_taken takers.activities changed)
+    on_ok_weaker c.add_activity.result (λ added. subst (λ k. AddsFigures old new takers fresh k before after) (sym c.in-Activity.is) (record {
+      of_activities = activity_added new c.in-Activity.name c.in-Activity.year c.is_taken-taken.result (is_taken takers.activities fresh)
           (activity_differs old new) before.activities after.activities c.is_taken-taken.ensures added;
-      of_factors = none_added new _ (taken_factor old new takers changed) before.factors after.factors c.add_activity.ensures.factors
+      of_factors = none_added new _ (taken_factor old new takers fresh) before.factors after.factors c.add_activity.ensures.factors
           (λ year name within none. none);
-      of_decays = none_added new _ (taken_decay old new takers changed) before.decays after.decays c.add_activity.ensures.decays
+      of_decays = none_added new _ (taken_decay old new takers fresh) before.decays after.decays c.add_activity.ensures.decays
           (λ year name within none. none);
     })) c.add_activity.ensures.activities
 
@@ -29,25 +29,25 @@ returns-in-Factor g c =
     let old = g.R.Records.content c.args.old.now in
     let new = g.S.Records.content c.args.new.now in
     let takers = c.args.takers.now in
-    let changed = c.args.changed.now in
+    let fresh = c.args.fresh.now in
     let before = c.args.self.now in
     let after = c.add_factor.new.self in
     let name = c.in-Factor.name in
     let taken = c.is_taken-taken-in-Factor.result in
     let there : has_record old new (key.Factor name c.in-Factor.start) ≡ true =
     sym (ap (has_record old new) c.in-Factor.is) ∙ sym c.has_record.ensures ∙ c.if-has_record.true in
-    let is : taken ≡ is_taken takers.factors changed name = c.is_taken-taken-in-Factor.ensures in
-    on_ok_both c.add_factor.result _ _ _ (λ factors decays. subst (λ k. AddsFigures old new takers changed k before after) (sym c.in-Factor.is) (record {
-      of_activities = none_added new _ (taken_activity old new takers changed) before.activities after.activities
+    let is : taken ≡ is_taken takers.factors fresh name = c.is_taken-taken-in-Factor.ensures in
+    on_ok_both c.add_factor.result _ _ _ (λ factors decays. subst (λ k. AddsFigures old new takers fresh k before after) (sym c.in-Factor.is) (record {
+      of_activities = none_added new _ (taken_activity old new takers fresh) before.activities after.activities
           c.add_factor.ensures.activities (λ year k within none. none);
       of_factors = added_by new (λ year k. (name ≡ k) × IsFrom old new name c.in-Factor.start year) _ (λ year k. (taken || is_potential_name k) && factor_differs old new year k)
-          (taken_factor old new takers changed) before.factors after.factors
+          (taken_factor old new takers fresh) before.factors after.factors
           (λ year k. (λ r. (r.0, there, r.1), λ r. (r.0, r.2)))
           (λ year k reads. ap (λ b. (b || is_potential_name k) && factor_differs old new year k)
-          (is ∙ ap (is_taken takers.factors changed) reads.0)) factors;
+          (is ∙ ap (is_taken takers.factors fresh) reads.0)) factors;
       of_decays = added_by new (λ year k. (name ≡ k) × IsFrom old new name c.in-Factor.start year) _ (λ year k. taken && decay_differs old new year k)
-          (taken_decay old new takers changed) before.decays after.decays
+          (taken_decay old new takers fresh) before.decays after.decays
           (λ year k. (λ r. (r.0, there, r.1), λ r. (r.0, r.2)))
           (λ year k reads. ap (λ b. b && decay_differs old new year k)
-          (is ∙ ap (is_taken takers.factors changed) reads.0)) decays;
+          (is ∙ ap (is_taken takers.factors fresh) reads.0)) decays;
     })) c.add_factor.ensures.factors c.add_factor.ensures.decays

@@ -8,7 +8,7 @@ invariant-loop-key g l =
     let old = g.R.Records.content l.old in
     let new = g.S.Records.content l.new in
     let keys = take l.key-index l.keys in record {
-      activities : AreReadBy new IsOfActivity (taken_activity old new l.takers l.changed) keys l.figures.activities;
-      factors : AreReadBy new (IsOfFactor old new) (taken_factor old new l.takers l.changed) keys l.figures.factors;
-      decays : AreReadBy new (IsOfFactor old new) (taken_decay old new l.takers l.changed) keys l.figures.decays;
+      activities : AreReadBy new IsOfActivity (taken_activity old new l.takers l.fresh) keys l.figures.activities;
+      factors : AreReadBy new (IsOfFactor old new) (taken_factor old new l.takers l.fresh) keys l.figures.factors;
+      decays : AreReadBy new (IsOfFactor old new) (taken_decay old new l.takers l.fresh) keys l.figures.decays;
     }
