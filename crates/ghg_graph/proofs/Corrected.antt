@@ -1,20 +1,18 @@
 -- What a correction of figures alone leaves as it was.
-use Rattle.std.proofs.Common.{◌≡◌, inl, inr, Bool, true, ◌&&◌, List, [], ◌∷◌, map, is_some, refl, sym, ap, ◌∙◌, subst}
+use Rattle.std.proofs.Common.{◌≡◌, inl, inr, Bool, true, ◌&&◌, List, [], ◌∷◌, map, refl, sym, ap, ◌∙◌, subst}
 use Rattle.std.specs.FinMap.{get}
 use Rattle.std.specs.List.{Contains, list_all}
 use Rattle.ghg_definitions.specs.declared.record.RecordKey.{RecordKey}
-use Rattle.ghg_definitions.specs.Data.{Data, Name}
+use Rattle.ghg_definitions.specs.Data.{Data}
 use Rattle.ghg_definitions.specs.Listed.{IsListed}
 use Rattle.ghg_definitions.proofs.Alike.{first_so, second_so}
 use Rattle.ghg_definitions.proofs.Listed.{contained}
 use Rattle.ghg_affected.specs.Figures.{DifferInFigures, is_figure_key}
 use Rattle.ghg_affected.proofs.Bools.{true_not_false}
-use Rattle.ghg_affected.proofs.Figures.{same_line, takes_before}
 use Rattle.ghg_data.specs.Changes.{Change, applied}
 use Rattle.ghg_data.proofs.Covered.{changed_or_kept}
 use Rattle.ghg_data.proofs.Faults.{IsAmong}
 use Rattle.ghg_graph.specs.Corrections.{are_of_figures}
-use Rattle.ghg_graph.specs.Ordering.{IsBehind, IsLineOrder}
 
 pub among : (k : RecordKey) (ks : List RecordKey) → IsAmong k ks → IsListed k ks
 among k [] i = i
@@ -48,22 +46,3 @@ differ_in_figures m cs e = record {
     | inr same ↦ sym same
   ];
 }
-
--- ---- orders
-
-module _ (old new : Data) (differ : DifferInFigures old new) where
-  behind_still : (done names : List Name) → IsBehind old done names → IsBehind new done names
-  behind_still done [] behind = tt
-  behind_still done (name ∷ names) behind = (
-    sym (ap is_some (same_line old new differ name)) ∙ behind.0,
-    behind.1,
-    λ k t. behind.2 k (takes_before old new differ name k t),
-    behind_still (name ∷ done) names behind.3,
-  )
-
-  -- lines in order stay in order
-  pub same_order : (names : List Name) → IsLineOrder old names → IsLineOrder new names
-  same_order names order = record {
-    behind = behind_still [] names order.behind;
-    complete = λ name is. order.complete name (ap is_some (same_line old new differ name) ∙ is);
-  }

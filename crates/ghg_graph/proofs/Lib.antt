@@ -36,3 +36,4 @@ pub mod FactorYears
 pub mod Starting
 pub mod Gathering
 pub mod Reading
+pub mod IdleYears

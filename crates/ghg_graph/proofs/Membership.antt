@@ -1,6 +1,8 @@
 -- What a set has is one of its keys.
-use Rattle.std.proofs.Common.{◌≡◌, true, List, Ordering, is_eq, sym, ap, subst, [], ◌∷◌, length, refl, arith}
+use Rattle.std.proofs.Common.{◌≡◌, ◌↔◌, ◌==◌, Bool, true, List, Ordering, is_eq, sym, ap, subst, [], length}
+use Rattle.std.proofs.lemmas.Bool.Decides.{Decides-eqb, same_from_decides}
 use Rattle.std.proofs.lemmas.Cmp.{tied_itself}
+use Rattle.std.proofs.lemmas.List.{nil_from_length}
 use Rattle.std.proofs.lemmas.Map.Lookups.{CmpEqualImpliesEq}
 use Rattle.std.proofs.lemmas.Map.Views.{tells_apart}
 use Rattle.std.specs.Cmp.{IsTotalOrder}
@@ -21,8 +23,12 @@ module _ {K : Type 0} {R : K → K → Ordering} where
 
 -- a set of no keys has nothing
 pub no_keys : {K : Type 0} (s : BTreeSet K) → btree_set_len s ≡ 0 → s.keys ≡ []
-no_keys {K} s e = no_items s.keys e
-  where
-    no_items : (ks : List K) → length ks ≡ 0 → ks ≡ []
-    no_items [] e = refl
-    no_items (k ∷ ks) e = absurd (omega (arith, e))
+no_keys s e = nil_from_length s.keys e
+
+-- what tells whether a list has no length
+pub none_is : {A : Type 0} (b : Bool) (xs : List A) → (b ≡ true) ↔ (length xs ≡ 0) → b ≡ (length xs == 0)
+none_is b xs is = same_from_decides b (length xs == 0) is (Decides-eqb (length xs) 0)
+
+-- a list of no length has nothing
+pub none_from : {A : Type 0} (xs : List A) → (length xs == 0) ≡ true → xs ≡ []
+none_from xs e = nil_from_length xs ((Decides-eqb (length xs) 0).0 e)

@@ -1,5 +1,5 @@
 -- The activities and factors that differ between old and new data, year by year.
-use Rattle.std.specs.Prelude.{◌≡◌, ◌≤◌, ◌+◌, ◌||◌, ◌&&◌, ◌<◌, ◌⊎◌, ◌↔◌, ℕ, Bool, true, is_some, not, List, []}
+use Rattle.std.specs.Prelude.{◌≡◌, ◌≤◌, ◌+◌, ◌||◌, ◌&&◌, ◌<◌, ◌⊎◌, ◌↔◌, ◌==◌, ℕ, Bool, true, is_some, not, List, [], length}
 use Rattle.std.specs.BTreeMap.{get}
 use Rattle.std.specs.BTreeSet.{BTreeSet, contains}
 use Rattle.std.specs.FinMap as finite
@@ -76,6 +76,11 @@ pub record IsOfYear (figures : Figures) (year : ℕ) (d : Differing) : Type 0 wh
       (contains name_cmp d.factors name ≡ true) ↔ IsListed name (names_at figures.factors year)
   pub of_decays : (name : Name) →
       (contains name_cmp d.decays name ≡ true) ↔ IsListed name (names_at figures.decays year)
+
+-- no name stands under the year
+abbrev pub has_none : Figures → ℕ → Bool
+has_none figures year = (length (names_at figures.activities year) == 0)
+    && ((length (names_at figures.factors year) == 0) && (length (names_at figures.decays year) == 0))
 
 -- ---- in which years a record is read
 

@@ -1,5 +1,5 @@
 -- Which nodes edits reach, told year by year.
-use Rattle.std.specs.Prelude.{◌≡◌, ◌⊎◌, ◌↔◌, ℕ, ◌<◌, Bool, true, false, is_some, not, ◌||◌, nat_le, List, filter, length, Option, Some}
+use Rattle.std.specs.Prelude.{◌≡◌, ◌⊎◌, ◌↔◌, ℕ, ◌==◌, ◌<◌, Bool, true, false, is_some, not, ◌&&◌, ◌||◌, nat_le, List, filter, length, Option, Some}
 use Rattle.std.specs.Bool.{beq}
 use Rattle.std.specs.BTreeSet.{BTreeSet, IsOrdered, contains}
 use Rattle.std.specs.Option.{option_map_or}
@@ -20,7 +20,7 @@ use Rattle.ghg_affected.specs.Equalities.{same_operand}
 use Rattle.ghg_graph.specs.Candidates.{IsCandidate, IsIn, IsTaker}
 use Rattle.ghg_graph.specs.Changed.{AreChanged, AreFresh, StandsAmong}
 use Rattle.ghg_graph.specs.Differing.{ArePotentials, has_figure}
-use Rattle.ghg_graph.specs.Figures.{AreFigures, IsOfYear}
+use Rattle.ghg_graph.specs.Figures.{AreFigures, IsOfYear, has_none}
 use Rattle.ghg_graph.specs.Moves.{AreMoved}
 use Rattle.ghg_graph.specs.Numbers.{name_at}
 use Rattle.ghg_graph.specs.Tops.{has_top}
@@ -117,22 +117,36 @@ pub record AreYearChanges (old new : Data) (index : LineIndex) (c : YearChanges)
   pub differing : IsOfYear c.edited.now.figures c.year.number c.differing
   pub before : HasBefore old new c.year.number c.before
 
--- ---- bindings that edits do not change
+-- ---- idle years
+
+-- they are a set without names
+abbrev pub are_none : Lines → Bool
+are_none year_lines.All = false
+are_none (year_lines.These names) = length names.keys == 0
+
+-- no line is changed, no total adds other lines, no line is reached in the year before, values of the year
+-- before are taken in both data or in neither, and no activity, factor or decay is noted under the year
+abbrev pub is_idle : Edited → Lines → Year → Bool
+is_idle edited before y = (length edited.changed.keys == 0)
+    && ((length edited.moved.tops.items == 0) && (not edited.moved.gross
+    && (are_none before && (not (previous_differs y) && has_none edited.figures y.number))))
+
+-- ---- what a line takes
 
 -- the binding is to a value of the year before, and these are taken in one of both data alone
 abbrev pub takes_previous : Year → Option Binding → Bool
 takes_previous y (Some (bound.Prev name)) = previous_differs y
 takes_previous y _ = false
 
--- it is, or it takes a figure that differs
+-- the binding is such a one, or takes a figure that differs
 abbrev pub takes_differing : YearChanges → Option Binding → Bool
 takes_differing c b = has_figure c.differing b || takes_previous c.year b
 
--- where it stays, it gives another operand in the year exactly where it takes what differs
+-- a binding that stays gives another operand in the year exactly where it takes what differs
 abbrev pub IsTold : Data → Data → YearChanges → Option Binding → Type 0
 IsTold old new c b = gives_other old new c.year.number b b ≡ takes_differing c b
 
--- it takes what differs, or a line that is reached
+-- the binding takes what differs, or a line that is reached
 abbrev pub takes_reached : Data → YearChanges → BTreeSet Name → Option Binding → Bool
 takes_reached new c now b = takes_differing c b || takes_from new c.before now b
 

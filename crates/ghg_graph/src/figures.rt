@@ -85,8 +85,8 @@ impl YearNames {
 }
 
 /// For each year of the new data the names of the activities, of the factors and of the decays of factors
-/// that differ in it, of those that a line takes of which the equation is what it was; and, among the
-/// factors, of the warming potentials that do.
+/// that differ in it and that a line takes whose equation is what it was; and, among the factors, of the
+/// warming potentials that differ.
 #[derive(Drop)]
 pub(crate) struct Figures {
     activities: YearNames,
@@ -95,7 +95,7 @@ pub(crate) struct Figures {
 }
 
 impl Figures {
-    ghost use Rattle.ghg_graph.specs.Figures.{AddsFigures, AreFigures, IsOfYear, names_at};
+    ghost use Rattle.ghg_graph.specs.Figures.{AddsFigures, AreFigures, IsOfYear, has_none, names_at};
 
     /// Those of the years of a span. The records differ at the keys alone. What each of them gives is
     /// compared once, for all years in which it is read. `fresh` are the places of the lines of which the
@@ -124,6 +124,15 @@ impl Figures {
             figures.add(old, new, key, takers, fresh, years)?;
         }
         Ok(figures)
+    }
+
+    /// Whether there are none of a year.
+    pub(crate) fn has_none(&self, year: u32) -> bool
+        ensures { result ≡ has_none self.now year }
+    {
+        self.activities.at(year).is_empty()
+            && self.factors.at(year).is_empty()
+            && self.decays.at(year).is_empty()
     }
 
     /// Those of a year.

@@ -1,7 +1,7 @@
 //! Lines that come to, leave or change the category at which they emit a gas, and the totals that so add
 //! other lines.
 
-ghost use Rattle.std.specs.Prelude.{◌≡◌, [], filter, IfOk, IsTrue};
+ghost use Rattle.std.specs.Prelude.{◌≡◌, ◌==◌, filter, length, IfOk};
 ghost use Rattle.std.specs.FinMap.{get};
 ghost use Rattle.std.specs.List.{Contains, filter_map, list_any};
 ghost use Rattle.ghg_categories.specs.Tree.{is_same, stands_under, tree};
@@ -118,7 +118,7 @@ fn crosses(scope: &Scope, line: &Move) -> bool
 impl Moved {
     /// Whether no category is one of them.
     pub(crate) fn are_none(&self) -> bool
-        ensures { IsTrue result → self.now.tops.items ≡ [] }
+        ensures { result ≡ (length self.now.tops.items == 0) }
     {
         self.tops.is_empty()
     }

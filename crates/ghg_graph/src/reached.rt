@@ -1,6 +1,6 @@
 //! The nodes that edits reach, year by year.
 
-ghost use Rattle.std.specs.Prelude.{◌≡◌, ◌↔◌, ℕ, ◌+◌, ◌<◌, ◌∷◌, ◌++◌, ◌||◌, [], List, length, Some, true, false, filter, if◌then◌else◌, map, option_copied, reverse, IfOk, OnOk};
+ghost use Rattle.std.specs.Prelude.{◌≡◌, ◌↔◌, ◌==◌, ℕ, ◌+◌, ◌<◌, ◌∷◌, ◌++◌, ◌||◌, [], List, length, Some, true, false, filter, if◌then◌else◌, map, option_copied, reverse, IfOk, OnOk};
 ghost use Rattle.std.specs.BTreeSet.{IsOrdered, contains};
 ghost use Rattle.std.specs.FinMap.{get};
 ghost use Rattle.std.specs.List.{Contains, filter_map, list_any};
@@ -18,7 +18,7 @@ ghost use Rattle.ghg_graph.specs.Candidates.{AllBelow, AreInRange, AreWithin, Is
 ghost use Rattle.ghg_graph.specs.Index.{IsLineIndex};
 ghost use Rattle.ghg_graph.specs.Ordering.{IsLineOrder};
 ghost use Rattle.ghg_graph.specs.Numbers.{name_at};
-ghost use Rattle.ghg_graph.specs.Reached.{AreEdited, AreFirst, AreLinesAdded, TellEquivalents, AreWithEmitters, AreYearChanges, AreYears, HasBefore, HasReached, IsTold, IsYear, binding_reached, gives_other, has_line, is_reached, is_total_of, line_takes, names_of, previous_differs, reached_categories, takes_differing, takes_from, takes_previous, takes_reached};
+ghost use Rattle.ghg_graph.specs.Reached.{AreEdited, AreFirst, AreLinesAdded, TellEquivalents, AreWithEmitters, AreYearChanges, AreYears, HasBefore, HasReached, IsTold, IsYear, binding_reached, are_none, gives_other, has_line, is_idle, is_reached, is_total_of, line_takes, names_of, previous_differs, reached_categories, takes_differing, takes_from, takes_previous, takes_reached};
 ghost use Rattle.ghg_graph.specs.declared.reached.Lines.TheVariants as year_lines;
 ghost use Rattle.ghg_graph.specs.Tops.{AreTops};
 ghost use Rattle.ghg_graph.specs.Years.{nodes_by_year, year_nodes};
@@ -244,6 +244,10 @@ fn add_old_year<R: Records, S: Records>(
     ensures before { OnOk result (HasBefore (R.content old.now) (S.content new.now)
         (year.number + 1) reached.new.before) }
 {
+    if is_idle(edited, &reached.before, year) {
+        // No line of this year is reached, as none of the year before is.
+        return Ok(());
+    }
     let differing = edited.figures.at(alloc, year.number)?;
     // They give way to the lines of this year.
     let none = Lines::These(BTreeSet::new(alloc));
@@ -265,7 +269,38 @@ fn add_old_year<R: Records, S: Records>(
     Ok(())
 }
 
+// Whether nothing that edits change, and no line of the year before, bears on a year.
+fn is_idle(edited: &Edited, before: &Lines, year: Year) -> bool
+    ensures { result ≡ is_idle edited.now before.now year }
+{
+    edited.changes_no_line()
+        && edited.moved.are_none()
+        && !edited.moved.gross
+        && before.are_none()
+        && !previous_differs(year)
+        && edited.figures.has_none(year.number)
+}
+
+impl Edited {
+    // Whether no line is changed.
+    fn changes_no_line(&self) -> bool
+        ensures { result ≡ (length self.now.changed.keys == 0) }
+    {
+        self.changed.is_empty()
+    }
+}
+
 impl Lines {
+    // Whether they are a set without names.
+    fn are_none(&self) -> bool
+        ensures { result ≡ are_none self.now }
+    {
+        match self {
+            Lines::All => false,
+            Lines::These(names) => names.is_empty(),
+        }
+    }
+
     // Their names, of all lines in an order.
     fn names(&self, alloc: Global, lines: &[Name]) -> Result<Vec<Name>, AllocError>
         ensures { IfOk result (λ names. names.items ≡ names_of lines.now self.now) }
@@ -465,7 +500,8 @@ fn line_reached<R: Records, S: Records>(
     false
 }
 
-// Whether what a binding gives in a year differs from what the old one gave, or is of a line that is reached.
+// Whether what a binding gives in a year differs from what the old one gave, or it takes a line that is
+// reached.
 fn binding_reached<R: Records, S: Records>(
     old: &R,
     new: &S,

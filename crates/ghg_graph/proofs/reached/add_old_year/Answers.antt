@@ -10,6 +10,7 @@ use Rattle.ghg_graph.specs.declared.reached.Edited.{Edited}
 use Rattle.ghg_graph.specs.declared.reached.Lines.{Lines}
 use Rattle.ghg_graph.specs.declared.reached.Lines.TheVariants as year_lines
 use Rattle.ghg_graph.specs.declared.reached.Year.{Year}
+use Rattle.ghg_graph.proofs.IdleYears.{idle_added, idle_turned}
 use Rattle.ghg_graph.proofs.Starting.{potentials_are}
 use Rattle.ghg_graph.proofs.YearParts.{year_added, year_turned}
 use Rattle.ghg_graph.proofs.reached.add_old_year.Goals as goal
@@ -38,6 +39,18 @@ add_lines-requires-clause-changes g c =
     changes_are old new c.args.index.now c.args.edited c.args.year c.replace-before.result c.in_ok-differing.differing
     c.requires.year c.requires.edited (subst (HasBefore old new c.args.year.number) (sym c.replace-before.ensures.value) c.requires.before)
     c.in_ok-differing.ensures
+
+pub returns-then-is_idle-clause-nodes : goal.returns-then-is_idle-clause-nodes
+returns-then-is_idle-clause-nodes g c =
+    idle_added (g.R.Records.content c.args.old.now) (g.S.Records.content c.args.new.now) c.args.index.now c.requires.index
+    c.args.edited c.requires.edited c.args.reached.now.before c.args.year c.requires.year c.requires.before
+    (sym c.is_idle.ensures ∙ c.if-is_idle.true) c.args.reached.now.nodes.items
+
+pub returns-then-is_idle-clause-before : goal.returns-then-is_idle-clause-before
+returns-then-is_idle-clause-before g c =
+    idle_turned (g.R.Records.content c.args.old.now) (g.S.Records.content c.args.new.now) c.args.index.now c.requires.index
+    c.args.edited c.requires.edited c.args.reached.now.before c.args.year c.requires.year c.requires.before
+    (sym c.is_idle.ensures ∙ c.if-is_idle.true)
 
 pub returns-clause-nodes : goal.returns-clause-nodes
 returns-clause-nodes g c =
