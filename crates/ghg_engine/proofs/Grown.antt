@@ -9,27 +9,29 @@ use Rattle.ghg_definitions.specs.Formulas.{Outcome}
 use Rattle.ghg_definitions.specs.Trials.{Outcomes}
 use Rattle.ghg_engine.specs.declared.cells.Cells.{Cells}
 use Rattle.ghg_engine.specs.declared.series.Series.{Series}
-use Rattle.ghg_engine.specs.Cells.{AreWithin, HasGrown, IsReadyFor, cell_at, has_room, has_value, room_at, series_order, with_outcome}
+use Rattle.ghg_engine.specs.Cells.{AreWithin, HasGrown, IsReadyFor, cell_at, has_column, has_room, has_value, room_at, series_order, with_outcome}
 use Rattle.ghg_engine.specs.Columns.{Run, takes_in}
 use Rattle.ghg_engine.proofs.Places.{node_same, series_same}
 
 -- ---- one step after another
 
-pub grown_alike : (old new : Cells) → cell_at new ≡ cell_at old → ((s : Series) (run : Run) → room_at old s run ≡ true → room_at new s run ≡ true) → HasGrown old new
-grown_alike old new same room = record {
+pub grown_alike : (old new : Cells) → cell_at new ≡ cell_at old → ((s : Series) → has_column old s ≡ true → has_column new s ≡ true) → ((s : Series) (run : Run) → room_at old s run ≡ true → room_at new s run ≡ true) → HasGrown old new
+grown_alike old new same columns room = record {
   outcomes = λ n there. ap (λ (f : Outcomes). f n) same;
   values = λ n there. ap (λ (f : Outcomes). f n) same;
+  columns = columns;
   room = room;
 }
 
 pub not_grown : (cells : Cells) → HasGrown cells cells
-not_grown cells = grown_alike cells cells refl (λ s run has. has)
+not_grown cells = grown_alike cells cells refl (λ s has. has) (λ s run has. has)
 
 module _ (first second third : Cells) (begins : HasGrown first second) (goes_on : HasGrown second third) where
   pub grown_further : HasGrown first third
   grown_further = record {
     outcomes = λ n there. goes_on.outcomes n (ap is_some (begins.outcomes n there) ∙ there) ∙ begins.outcomes n there;
     values = λ n has. goes_on.values n has ∙ begins.values n (sym (ap has_value (goes_on.values n has)) ∙ has);
+    columns = λ s has. goes_on.columns s (begins.columns s has);
     room = λ s run has. goes_on.room s run (begins.room s run has);
   }
 
@@ -52,6 +54,7 @@ pub one_place : (old new : Cells) (n : Node) → cell_at old n ≡ None → cell
 one_place old new n none put columns = record {
   outcomes = λ k there. ap (λ (f : Outcomes). f k) put ∙ kept k there (same_node k n) refl;
   values = λ k has. ap (λ (f : Outcomes). f k) put ∙ stays k (same_node k n) (sym (ap (λ (f : Outcomes). has_value (f k)) put) ∙ has);
+  columns = λ s has. ap (λ cs. is_some (get series_order cs s)) columns ∙ has;
   room = λ s run has. ap (λ cs. has_room (get series_order cs s) run) columns ∙ has;
 }
   where
@@ -71,6 +74,13 @@ lent_some None p run is has = absurd (true_not_false (sym has ∙ ap (λ q. has_
 lent_some (Some b) p run is has = search rules
 
 module _ (s : Series) (after : Run) (old new : BTreeMap Series Run) (updates : (q : Series) → get series_order new q ≡ cond (is_at (series_order s) q) (Some after) (get series_order old q)) where
+  pub column_stays : (q : Series) → is_some (get series_order old q) ≡ true → is_some (get series_order new q) ≡ true
+  column_stays q has = by (is_at (series_order s) q) refl
+    where
+      by : (b : Bool) → is_at (series_order s) q ≡ b → is_some (get series_order new q) ≡ true
+      by true at = ap is_some (updates q ∙ ap (λ b. cond b (Some after) (get series_order old q)) at)
+      by false apart = ap is_some (updates q ∙ ap (λ b. cond b (Some after) (get series_order old q)) apart) ∙ has
+
   pub others_room : (q : Series) (run : Run) → is_at (series_order s) q ≡ false → has_room (get series_order new q) run ≡ has_room (get series_order old q) run
   others_room q run apart = ap (λ o. has_room o run) (updates q ∙ ap (λ b. cond b (Some after) (get series_order old q)) apart)
 

@@ -12,32 +12,29 @@ use Rattle.ghg_definitions.specs.Formulas.{Outcome}
 use Rattle.ghg_definitions.specs.Trials.{Outcomes, is_over}
 use Rattle.ghg_engine.specs.declared.cells.Cells.{Cells}
 use Rattle.ghg_engine.specs.declared.numbered.SeriesColumn.{SeriesColumn}
-use Rattle.ghg_engine.specs.Cells.{AreWithin, HasGrown, IsReadyFor, KeepsOtherRoom, KeepsRoom, NoneOver, cell_at, found_in}
+use Rattle.ghg_engine.specs.Cells.{AreWithin, IsReadyFor, KeepsOtherRoom, KeepsRoom, NoneOver, cell_at, found_in}
 use Rattle.ghg_engine.specs.Fresh.{AreReady, fitting, with_value}
 use Rattle.ghg_engine.specs.Numbered.{HaveOneNumber}
-use Rattle.ghg_engine.proofs.Grown.{ready_still}
 use Rattle.ghg_engine.proofs.Places.{node_same}
 use Rattle.ghg_engine.proofs.UnderNumbers.{other_series, series_last}
 use Rattle.ghg_engine.proofs.Written.{one_moved, one_within, some_behind, without}
 
 -- ---- columns, for each of which there is room
 
--- there is room for the first n of them
-abbrev pub AreReadyTo : ℕ → Cells → List SeriesColumn → Type 0
-AreReadyTo n cells columns = (i : ℕ) (c : SeriesColumn) → i < n → slice_get columns i ≡ Some c → IsReadyFor cells c.series c.column
+-- P of the first n of them
+abbrev pub OfFirst : ℕ → (SeriesColumn → Type 0) → List SeriesColumn → Type 0
+OfFirst n P columns = (i : ℕ) (c : SeriesColumn) → i < n → slice_get columns i ≡ Some c → P c
 
-pub one_more_ready : (columns : List SeriesColumn) (n : ℕ) (held : SeriesColumn) → slice_get columns n ≡ Some held → (before after : Cells) → HasGrown before after → IsReadyFor after held.series held.column →
-    AreReadyTo n before columns → AreReadyTo (n + 1) after columns
-one_more_ready columns n held there before after grown ready so_far i c low at = by (i == n) refl
+pub of_one_more : (P Q : SeriesColumn → Type 0) (columns : List SeriesColumn) (n : ℕ) (held : SeriesColumn) → slice_get columns n ≡ Some held → ((c : SeriesColumn) → P c → Q c) → Q held →
+    OfFirst n P columns → OfFirst (n + 1) Q columns
+of_one_more P Q columns n held there still this so_far i c low at = by (i == n) refl
   where
     less : (i n : ℕ) → (i ≡ n → ⊥) → i < n + 1 → i < n
     less i n off low = omega (arith, off, low)
 
-    by : (b : Bool) → (i == n) ≡ b → IsReadyFor after c.series c.column
-    by true e =
-        let same = same_Some held c (sym there ∙ ap (slice_get columns) (sym (eqb-true i n e)) ∙ at) in
-        subst (λ (d : SeriesColumn). IsReadyFor after d.series d.column) same ready
-    by false e = ready_still before after grown c.series c.column (so_far i c (less i n (eqb-false i n e) low) at)
+    by : (b : Bool) → (i == n) ≡ b → Q c
+    by true e = subst Q (same_Some held c (sym there ∙ ap (slice_get columns) (sym (eqb-true i n e)) ∙ at)) this
+    by false e = still c (so_far i c (less i n (eqb-false i n e) low) at)
 
 pub last_there : (columns : List SeriesColumn) (c : SeriesColumn) → slice_get (columns ++ c ∷ []) (length columns) ≡ Some c
 last_there [] c = refl

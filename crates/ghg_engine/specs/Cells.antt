@@ -124,10 +124,11 @@ room_at cells s run = has_room (get series_order cells.columns s) run
 abbrev pub IsReadyFor : Cells → Series → Run → Type 0
 IsReadyFor cells s run = (room_at cells s run ≡ true) ⊎ AreWithin (in_series s run) (cell_at cells)
 
--- each outcome stays, no node has a value that had none, and there is no less room
+-- each outcome and each column stays, no node has a value that had none, and there is no less room
 pub record HasGrown (old new : Cells) : Type 0 where
   pub outcomes : (n : Node) → is_some (cell_at old n) ≡ true → cell_at new n ≡ cell_at old n
   pub values : (n : Node) → has_value (cell_at new n) ≡ true → cell_at new n ≡ cell_at old n
+  pub columns : (s : Series) → has_column old s ≡ true → has_column new s ≡ true
   pub room : (s : Series) (run : Run) → room_at old s run ≡ true → room_at new s run ≡ true
 
 -- the columns have as much room as before

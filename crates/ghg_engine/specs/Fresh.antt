@@ -1,5 +1,5 @@
 -- Cells of nodes that are evaluated anew.
-use Rattle.std.specs.Prelude.{◌≡◌, ℕ, if◌then◌else◌, List, None, Some, Ok, Err}
+use Rattle.std.specs.Prelude.{◌≡◌, ℕ, true, if◌then◌else◌, List, None, Some, Ok, Err}
 use Rattle.std.specs.BTreeMap.{get}
 use Rattle.std.specs.List.{slice_get}
 use Rattle.ghg_units.specs.declared.node.Node.{Node}
@@ -8,7 +8,7 @@ use Rattle.ghg_definitions.specs.Trials.{Outcomes, is_over}
 use Rattle.ghg_engine.specs.declared.cells.Cells.{Cells}
 use Rattle.ghg_engine.specs.declared.fresh.FreshCells.{FreshCells}
 use Rattle.ghg_engine.specs.declared.numbered.SeriesColumn.{SeriesColumn}
-use Rattle.ghg_engine.specs.Cells.{AreWithin, IsReadyFor, cell_at, found_in, node_order, with_outcome}
+use Rattle.ghg_engine.specs.Cells.{AreWithin, IsReadyFor, cell_at, found_in, has_column, node_order, with_outcome}
 use Rattle.ghg_engine.specs.Numbered.{in_numbered}
 
 -- the outcome of a node that has a fresh cell: the one in its column, else the one that stands aside
@@ -19,6 +19,11 @@ fresh_at fresh = found_in (in_numbered fresh.columns) (get node_order fresh.asid
 abbrev pub AreReady : Cells → List SeriesColumn → Type 0
 AreReady cells columns =
     (i : ℕ) (c : SeriesColumn) → slice_get columns i ≡ Some c → IsReadyFor cells c.series c.column
+
+-- the series of each of the columns has a column among the cells
+abbrev pub HaveColumns : Cells → List SeriesColumn → Type 0
+HaveColumns cells columns =
+    (i : ℕ) (c : SeriesColumn) → slice_get columns i ≡ Some c → has_column cells c.series ≡ true
 
 -- the fresh cells can be taken over without memory
 pub record HasRoomFor (cells : Cells) (fresh : FreshCells) : Type 0 where

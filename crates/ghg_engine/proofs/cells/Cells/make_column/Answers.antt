@@ -1,7 +1,7 @@
 use Rattle.std.proofs.Common.{ap, sym, ◌∙◌}
 use Rattle.std.specs.BTreeMap.{get}
 use Rattle.ghg_engine.specs.Cells.{found_in, node_order, series_order}
-use Rattle.ghg_engine.proofs.Grown.{grown_alike, not_grown, room_added}
+use Rattle.ghg_engine.proofs.Grown.{column_stays, grown_alike, not_grown, room_added}
 use Rattle.ghg_engine.proofs.Taken.{empty_column}
 use Rattle.ghg_engine.proofs.Written.{none_is}
 use Rattle.ghg_engine.proofs.cells.Cells.make_column.Goals as goal
@@ -17,4 +17,5 @@ returns-clause-grown c =
     let absent = none_is (get series_order old.columns s) (sym c.contains_key.ensures ∙ c.if-contains_key.false) in
     let updates = c.in_ok-insert.ensures.updates.0 in
     grown_alike old new (ap (found_in (get node_order old.aside)) (empty_column s c.new.result old.columns new.columns updates c.new.ensures absent))
+    (column_stays s c.new.result old.columns new.columns updates)
     (room_added s c.new.result old.columns new.columns updates absent)

@@ -2,7 +2,7 @@ use Rattle.std.proofs.Common.{sym, ap, ◌∙◌}
 use Rattle.std.specs.BTreeMap.{get}
 use Rattle.std.specs.Option.{option_copied_mut}
 use Rattle.ghg_engine.specs.Cells.{found_in, node_order}
-use Rattle.ghg_engine.proofs.Grown.{grown_alike, room_grows}
+use Rattle.ghg_engine.proofs.Grown.{column_stays, grown_alike, room_grows}
 use Rattle.ghg_engine.proofs.Taken.{column_still}
 use Rattle.ghg_engine.proofs.Takes.{more_room}
 use Rattle.ghg_engine.proofs.Written.{some_is}
@@ -18,5 +18,6 @@ returns-in-Some-clause-grown c =
     let found = sym c.get_mut.ensures.value ∙ ap option_copied_mut c.in-Some.is in
     let updates = ((c.get_mut.follows.holds after).3 (some_is _ before found)).0 in
     grown_alike old new (ap (found_in (get node_order old.aside)) (column_still s before after old.columns new.columns updates found c.widen.ensures.first c.widen.ensures.values))
+    (column_stays s after old.columns new.columns updates)
     (room_grows s after old.columns new.columns updates before found
     (more_room before after c.widen.ensures.first c.widen.ensures.values c.widen.ensures.spare))
