@@ -1,12 +1,15 @@
 -- What totals were in data before.
-use Rattle.std.proofs.Common.{◌≡◌, inl, inr, ℕ, Bool, true, false, ◌&&◌, cond, is_some, List, [], ◌∷◌, ◌++◌, map, filter, Contains, Option, Some, None, Ok, Err, refl, sym, ap, ap₂, ◌∙◌, subst}
+use Rattle.std.proofs.Common.{◌≡◌, ◌↔◌, inl, inr, ℕ, Bool, true, false, not, cond, is_some, List, [], ◌∷◌, ◌++◌, map, filter, Contains, Option, Some, None, Ok, Err, refl, sym, ap, ap₂, ◌∙◌, subst}
+use Rattle.std.specs.BTreeSet.{BTreeSet, IsOrdered, contains}
+use Rattle.std.specs.FinMap.{get}
+use Rattle.std.specs.Cmp.Lexicographic.{nat_list_cmp_total}
+use Rattle.std.specs.List.Sorted.{IsStrictlySortedBy}
+use Rattle.std.proofs.lemmas.Map.Lookups.{exact_bytes}
 use Rattle.std.specs.Prelude.{IfSome}
 use Rattle.std.specs.Option.{option_map_or}
-use Rattle.std.proofs.lemmas.List.{map-append}
 use Rattle.std.proofs.lemmas.List.Elements.{filter-append}
 use Rattle.std.proofs.lemmas.List.Kept.{IsStrictlySortedBy-filter}
 use Rattle.ghg_categories.specs.declared.category.Category.{Category}
-use Rattle.ghg_categories.specs.Tree.{is_same}
 use Rattle.ghg_cell.specs.declared.figures.Figures.{Figures}
 use Rattle.ghg_cell.specs.declared.input.Input.{Input}
 use Rattle.ghg_cell.specs.declared.input.Input.TheVariants.{Blank, Known}
@@ -16,9 +19,12 @@ use Rattle.ghg_cell.specs.Values.{input_of, then}
 use Rattle.ghg_cell.proofs.Limited.{sum_known}
 use Rattle.ghg_units.specs.declared.node.Node.{Node}
 use Rattle.ghg_units.specs.declared.node.Node.TheVariants as node
-use Rattle.ghg_definitions.specs.Compilation.{compilation, emits, gas_lines, gas_lines_at, is_node, is_year_of, sheet_of}
-use Rattle.ghg_definitions.specs.Data.{Data, Name, category, line, line_names, name_cmp, span}
+use Rattle.ghg_definitions.specs.declared.record.RecordKey.{RecordKey}
+use Rattle.ghg_definitions.specs.declared.record.RecordKey.TheVariants as key
+use Rattle.ghg_definitions.specs.Compilation.{compilation, emits, gas_lines, gas_lines_at, is_node, sheet_of}
+use Rattle.ghg_definitions.specs.Data.{Data, Name, category, line_names, name_cmp}
 use Rattle.ghg_definitions.specs.Formulas.{Outcome, Summed, inputs, map_formula, outcome_of}
+use Rattle.ghg_definitions.specs.Listed.{IsListed}
 use Rattle.ghg_definitions.specs.Rings.{IsAcyclic}
 use Rattle.ghg_definitions.specs.Sound.{IsWorkbook}
 use Rattle.ghg_definitions.specs.Trials.{IsCompilation, IsInput, Outcomes, is_over, or_blank, value_of}
@@ -28,20 +34,24 @@ use Rattle.ghg_definitions.proofs.Consequences.{points_within}
 use Rattle.ghg_definitions.proofs.Depth.{or_else}
 use Rattle.ghg_definitions.proofs.Grounded.{acyclic_grounded, line_listed}
 use Rattle.ghg_definitions.proofs.Lines.{lines_sorted}
-use Rattle.ghg_definitions.proofs.Listed.{from_filter, listed_filter}
+use Rattle.ghg_definitions.proofs.Listed.{contained, from_filter, from_map, in_either, listed, listed_filter, listed_filter_map, listed_left, listed_map, listed_right}
 use Rattle.ghg_definitions.proofs.NodeLists.{emitting}
 use Rattle.ghg_definitions.proofs.OneTrial.{compilation_trial}
-use Rattle.ghg_affected.specs.Subtotals.{addends, children, gross_parts, is_above_parts, is_total, subtotals}
+use Rattle.ghg_affected.specs.Subtotals.{addends, is_total, subtotals}
+use Rattle.ghg_affected.proofs.Bools.{true_not_false}
 use Rattle.ghg_affected.proofs.Children.{plus}
 use Rattle.ghg_affected.proofs.Closed.{inputs_are_nodes}
 use Rattle.ghg_affected.proofs.Subtotals.{totals_are_of_subtotals}
 use Rattle.ghg_graph.proofs.Emitting.{same_names}
-use Rattle.ghg_engine.specs.Changes.{AreNamesOf, IsReadyFrom, IsResummed, Stays, StaysWithLines, has_outcome, input_at, or_nothing}
+use Rattle.ghg_graph.proofs.Membership.{key_listed, listed_key}
+use Rattle.ghg_engine.specs.Changes.{AreChangedLines, AreEdited, AreEmitters, AreKeptLines, Exchange, IsReadyFrom, IsResummed, Stays, addends_exchange, equivalent_line, has_outcome, input_at, or_nothing}
 use Rattle.ghg_engine.specs.Evaluation.{IsReady}
-use Rattle.ghg_engine.specs.declared.changes.ChangedLines.{ChangedLines}
+use Rattle.ghg_engine.specs.declared.changed_lines.ChangedAddends.{ChangedAddends}
+use Rattle.ghg_engine.specs.declared.changed_lines.ChangedLines.{ChangedLines}
+use Rattle.ghg_engine.specs.declared.changed_lines.GroupedLines.{GroupedLines}
 use Rattle.ghg_engine.specs.Grouping.{names_at}
 use Rattle.ghg_engine.proofs.Entered.{emits_at, emits_named, of_emits_at, sorted_at, to_emits_at}
-use Rattle.ghg_engine.proofs.Resummed.{blanks_left_out, gathered_inputs, known_append, sum_at}
+use Rattle.ghg_engine.proofs.Resummed.{at_both, behind_first, gathered_inputs, parts_added, plus_swap, sum_at}
 use Rattle.ghg_engine.proofs.SubtotalNodes.{subtotals_are_nodes}
 
 -- ---- one outcome
@@ -93,62 +103,7 @@ module _ (m : Data) (acyclic : IsAcyclic m) (whole : IsCompilation (sheet_of m) 
     | inr none ↦ absurd (nothing_known (compilation m n) b ((compilation_trial m acyclic).nowhere_else n none) is)
   ]
 
--- ---- lines that stay
-
-module _ (old new : Data) (stays : StaysWithLines old new) where
-  same_emits : (test : Category → Bool) (name : Name) → is_some (line old name) ≡ true → emits_at test old name ≡ emits_at test new name
-  same_emits test name present = emits_named old new test name (stays.lines name present)
-
-  lines_before : (test : Category → Bool) → gas_lines_at test old ≡ filter (emits old) (gas_lines_at test new)
-  lines_before test = same_names (gas_lines_at test old) (filter (emits old) (gas_lines_at test new)) (sorted_at test old)
-      (IsStrictlySortedBy-filter name_cmp (emits old) (gas_lines_at test new) (sorted_at test new))
-      (λ k i.
-      let on = to_emits_at test old k i in
-      let at = from_filter (λ name. option_map_or test (category old name) false) k (gas_lines old) i in
-      let gas = (from_filter (emits old) k (line_names old) at.0).1 in
-      listed_filter (emits old) k (gas_lines_at test new) (of_emits_at test new k (sym (same_emits test k (emitting old k gas)) ∙ on)) gas)
-      (λ k i.
-      let at = from_filter (emits old) k (gas_lines_at test new) i in
-      of_emits_at test old k (same_emits test k (emitting old k at.1) ∙ to_emits_at test new k at.0))
-
-  module _ (acyclic : IsAcyclic old) where
-    -- a line that emitted no gas was no part of a total
-    blank_before : (year : ℕ) (name : Name) → emits old name ≡ false → input_at (compilation old) (node.Equiv name year) ≡ Blank
-    blank_before year name none = ap (λ o. or_nothing (value_of o)) ((compilation_trial old acyclic).nowhere_else (node.Equiv name year) (ap (λ b. b && is_year_of (span old) year) none))
-
-    addends_alike : (parts : List Category) (own : Category → Bool) (year : ℕ) → sum_at (input_at (compilation old)) (addends old parts own year) ≡ sum_at (input_at (compilation old)) (addends new parts own year)
-    addends_alike parts own year =
-        split (gas_lines_at own old)
-        ∙ ap (plus (sum_at h totals)) (ap (λ names. sum_at h (map to names)) (lines_before own) ∙ blanks_left_out h to (emits old) (blank_before year) (gas_lines_at own new))
-        ∙ sym (split (gas_lines_at own new))
-      where
-        h : Node → Input
-        h = input_at (compilation old)
-
-        to : Name → Node
-        to name = node.Equiv name year
-
-        totals : List Node
-        totals = map (λ c. node.Total c year) parts
-
-        split : (names : List Name) → sum_at (input_at (compilation old)) (map (λ c. node.Total c year) parts ++ map (λ name. node.Equiv name year) names) ≡ plus (sum_at h totals) (sum_at h (map to names))
-        split names = ap (λ is. sum_known is) (map-append (input_at (compilation old)) (map (λ c. node.Total c year) parts) (map (λ name. node.Equiv name year) names))
-            ∙ known_append (map (input_at (compilation old)) (map (λ c. node.Total c year) parts)) (map (input_at (compilation old)) (map (λ name. node.Equiv name year) names))
-
-    subtotals_alike : (n : Node) → summed (map (input_at (compilation old)) (subtotals old n)) ≡ summed (map (input_at (compilation old)) (subtotals new n))
-    unfolding summed
-    subtotals_alike (node.Line name year) = refl
-    subtotals_alike (node.Equiv name year) = refl
-    subtotals_alike (node.Total top year) = ap reported (addends_alike (children top) (λ c. is_same c top) year)
-    subtotals_alike (node.Gross year) = ap reported (addends_alike gross_parts is_above_parts year)
-
-    lines_alike : (test : Category → Bool) (year : ℕ)
-        → summed (map (input_at (compilation old)) (map (λ name. node.Equiv name year) (gas_lines_at test old)))
-        ≡ summed (map (input_at (compilation old)) (map (λ name. node.Equiv name year) (gas_lines_at test new)))
-    unfolding summed
-    lines_alike test year = ap reported (addends_alike [] test year)
-
--- ---- candidates
+-- ---- edited lines and others
 
 -- two tests in either order
 filters_swap : {A : Type 0} (p q : A → Bool) (xs : List A) → filter p (filter q xs) ≡ filter q (filter p xs)
@@ -170,36 +125,167 @@ filter_of_map to p (x ∷ xs) = ap (λ ys. cond (p (to x)) (to x ∷ ys) ys) (fi
     back true = refl
     back false = refl
 
+map_of_map : {A : Type 0} (h : Node → Input) (to : A → Node) (xs : List A) → map h (map to xs) ≡ map (λ x. h (to x)) xs
+map_of_map h to [] = refl
+map_of_map h to (x ∷ xs) = ap (λ ys. h (to x) ∷ ys) (map_of_map h to xs)
+
+pub not_true : (b : Bool) → not b ≡ true → b ≡ false
+not_true true e = absurd (true_not_false (sym e))
+not_true false e = refl
+
+module _ (edited : BTreeSet Name) (ordered : IsOrdered name_cmp edited) where
+  abbrev is_edited : Name → Bool
+  is_edited name = contains name_cmp edited name
+
+  abbrev is_kept : Name → Bool
+  is_kept name = not (contains name_cmp edited name)
+
+  -- those of the lines at categories that pass which are edited
+  module _ (m : Data) (lines : GroupedLines) (are : AreEmitters m edited lines) (test : Category → Bool) where
+    moved_names : names_at test m lines.names.items ≡ filter is_edited (gas_lines_at test m)
+    moved_names = same_names (names_at test m lines.names.items) (filter is_edited (gas_lines_at test m))
+        (IsStrictlySortedBy-filter name_cmp (λ name. option_map_or test (category m name) false) lines.names.items
+        (subst (IsStrictlySortedBy name_cmp) (sym are.names) (IsStrictlySortedBy-filter name_cmp (emits m) edited.keys ordered)))
+        (IsStrictlySortedBy-filter name_cmp is_edited (gas_lines_at test m) (sorted_at test m))
+        (λ k i.
+        let at = from_filter (λ name. option_map_or test (category m name) false) k lines.names.items i in
+        let gas = from_filter (emits m) k edited.keys (subst (IsListed k) are.names at.0) in
+        listed_filter is_edited k (gas_lines_at test m)
+        (listed_filter (λ name. option_map_or test (category m name) false) k (gas_lines m)
+        (listed_filter (emits m) k (line_names m) (line_listed m k (emitting m k gas.1)) gas.1) at.1)
+        (listed_key nat_list_cmp_total k edited.keys gas.0))
+        (λ k i.
+        let at = from_filter is_edited k (gas_lines_at test m) i in
+        let passes = from_filter (λ name. option_map_or test (category m name) false) k (gas_lines m) at.0 in
+        let gas = from_filter (emits m) k (line_names m) passes.0 in
+        listed_filter (λ name. option_map_or test (category m name) false) k lines.names.items
+        (subst (IsListed k) (sym are.names) (listed_filter (emits m) k edited.keys (key_listed exact_bytes k edited.keys at.1) gas.1)) passes.1)
+
+    -- they and the others add up to all
+    whole_sum : (h : Node → Input) (parts : List Node) (year : ℕ)
+        → summed (map h ((parts ++ map (λ name. node.Equiv name year) (filter is_kept (gas_lines_at test m))) ++ map (λ name. node.Equiv name year) (names_at test m lines.names.items)))
+        ≡ summed (map h (parts ++ map (λ name. node.Equiv name year) (gas_lines_at test m)))
+    unfolding summed
+    whole_sum h parts year = ap reported (
+        at_both h (parts ++ map to others) (map to (names_at test m lines.names.items))
+        ∙ ap (λ names. plus (sum_at h (parts ++ map to others)) (sum_at h (map to names))) moved_names
+        ∙ ap (λ x. plus x (sum_at h (map to moved))) (at_both h parts (map to others))
+        ∙ behind_first (sum_at h parts) (sum_at h (map to others)) (sum_at h (map to moved))
+        ∙ ap (plus (sum_at h parts)) (plus_swap (sum_at h (map to others)) (sum_at h (map to moved))
+        ∙ ap₂ (λ (xs ys : List Input). plus (sum_known xs) (sum_known ys)) (map_of_map h to moved) (map_of_map h to others)
+        ∙ parts_added (λ name. h (to name)) is_edited (gas_lines_at test m)
+        ∙ ap (λ xs. sum_known xs) (sym (map_of_map h to (gas_lines_at test m))))
+        ∙ sym (at_both h parts (map to (gas_lines_at test m)))
+        )
+      where
+        to : Name → Node
+        to name = node.Equiv name year
+
+        others : List Name
+        others = filter is_kept (gas_lines_at test m)
+
+        moved : List Name
+        moved = filter is_edited (gas_lines_at test m)
+
+    whole_listed : (parts : List Node) (year : ℕ) (k : Node)
+        → IsListed k ((parts ++ map (λ name. node.Equiv name year) (filter is_kept (gas_lines_at test m))) ++ map (λ name. node.Equiv name year) (names_at test m lines.names.items))
+        ↔ IsListed k (parts ++ map (λ name. node.Equiv name year) (gas_lines_at test m))
+    whole_listed parts year k = (into, back)
+      where
+        to : Name → Node
+        to name = node.Equiv name year
+
+        all : List Name
+        all = gas_lines_at test m
+
+        into : IsListed k ((parts ++ map to (filter is_kept all)) ++ map to (names_at test m lines.names.items)) → IsListed k (parts ++ map to all)
+        into i = elim (in_either k (parts ++ map to (filter is_kept all)) (map to (names_at test m lines.names.items)) i) [
+          | inl j ↦ elim (in_either k parts (map to (filter is_kept all)) j) [
+            | inl one ↦ listed_left k parts (map to all) one
+            | inr one ↦
+                let from = from_map to k (filter is_kept all) one in
+                listed_right k parts (map to all) (subst (λ n. IsListed n (map to all)) (sym from.2) (listed_map to from.0 all (from_filter is_kept from.0 all from.1).0))
+          ]
+          | inr one ↦
+              let from = from_map to k (names_at test m lines.names.items) one in
+              listed_right k parts (map to all) (subst (λ n. IsListed n (map to all)) (sym from.2)
+              (listed_map to from.0 all (from_filter is_edited from.0 all (subst (IsListed from.0) moved_names from.1)).0))
+        ]
+
+        back : IsListed k (parts ++ map to all) → IsListed k ((parts ++ map to (filter is_kept all)) ++ map to (names_at test m lines.names.items))
+        back i = elim (in_either k parts (map to all) i) [
+          | inl one ↦ listed_left k (parts ++ map to (filter is_kept all)) _ (listed_left k parts (map to (filter is_kept all)) one)
+          | inr one ↦
+              let from = from_map to k all one in
+              elim (or_else (is_edited from.0)) [
+                | inl on ↦ listed_right k (parts ++ map to (filter is_kept all)) _ (subst (λ n. IsListed n (map to (names_at test m lines.names.items))) (sym from.2)
+                    (listed_map to from.0 _ (subst (IsListed from.0) (sym moved_names) (listed_filter is_edited from.0 all from.1 on))))
+                | inr off ↦ listed_left k (parts ++ map to (filter is_kept all)) _ (listed_right k parts (map to (filter is_kept all)) (subst (λ n. IsListed n (map to (filter is_kept all))) (sym from.2)
+                    (listed_map to from.0 _ (listed_filter is_kept from.0 all from.1 (ap not off)))))
+              ]
+        ]
+
+-- ---- data before
+
+module _ (old new : Data) (keys : List RecordKey) (edited : BTreeSet Name) (are : AreEdited keys edited)
+    (records : (k : RecordKey) → (IsListed k keys → ⊥) → get old k ≡ get new k) where
+  -- a line that is not edited has the same record
+  same_at : (test : Category → Bool) (name : Name) → not (contains name_cmp edited name) ≡ true → emits_at test old name ≡ emits_at test new name
+  same_at test name off = emits_named old new test name
+      (records (key.Line name) (λ i. true_not_false (sym ((are.lines name).1 i) ∙ not_true _ off)))
+
+  kept_alike : (test : Category → Bool) → filter (λ k. not (contains name_cmp edited k)) (gas_lines_at test old) ≡ filter (λ k. not (contains name_cmp edited k)) (gas_lines_at test new)
+  kept_alike test = same_names (filter p (gas_lines_at test old)) (filter p (gas_lines_at test new))
+      (IsStrictlySortedBy-filter name_cmp p (gas_lines_at test old) (sorted_at test old))
+      (IsStrictlySortedBy-filter name_cmp p (gas_lines_at test new) (sorted_at test new))
+      (λ k i.
+      let at = from_filter p k (gas_lines_at test old) i in
+      listed_filter p k (gas_lines_at test new) (of_emits_at test new k (sym (same_at test k at.1) ∙ to_emits_at test old k at.0)) at.1)
+      (λ k i.
+      let at = from_filter p k (gas_lines_at test new) i in
+      listed_filter p k (gas_lines_at test old) (of_emits_at test old k (same_at test k at.1 ∙ to_emits_at test new k at.0)) at.1)
+    where
+      p : Name → Bool
+      p k = not (contains name_cmp edited k)
+
+-- ---- kept lines of which equivalents are evaluated anew
+
 module _ (m : Data) (fresh : Outcomes) (nodes : List Node) (among : (k : Node) → is_some (fresh k) ≡ true → (is_node m k ≡ true) × Contains nodes k)
-    (names : List Name) (named : AreNamesOf nodes names) where
-  changed_names : (year : ℕ) → filter (λ name. has_outcome fresh (node.Equiv name year)) names ≡ filter (λ name. has_outcome fresh (node.Equiv name year)) (gas_lines m)
-  changed_names year = same_names (filter q names) (filter q (gas_lines m))
+    (edited : BTreeSet Name) (names : List Name) (named : AreKeptLines nodes edited names) where
+  abbrev unedited : Name → Bool
+  unedited name = not (contains name_cmp edited name)
+
+  kept_names : (year : ℕ) → filter (λ name. has_outcome fresh (node.Equiv name year)) names ≡ filter (λ name. has_outcome fresh (node.Equiv name year)) (filter unedited (gas_lines m))
+  kept_names year = same_names (filter q names) (filter q (filter unedited (gas_lines m)))
       (IsStrictlySortedBy-filter name_cmp q names named.order)
-      (IsStrictlySortedBy-filter name_cmp q (gas_lines m) (IsStrictlySortedBy-filter name_cmp (emits m) (line_names m) (lines_sorted m)))
+      (IsStrictlySortedBy-filter name_cmp q (filter unedited (gas_lines m)) (IsStrictlySortedBy-filter name_cmp unedited (gas_lines m)
+      (IsStrictlySortedBy-filter name_cmp (emits m) (line_names m) (lines_sorted m))))
       (λ k i.
       let at = from_filter q k names i in
       let on = first_so (emits m k) _ (among (node.Equiv k year) at.1).0 in
-      listed_filter q k (gas_lines m) (listed_filter (emits m) k (line_names m) (line_listed m k (emitting m k on)) on) at.1)
+      listed_filter q k (filter unedited (gas_lines m)) (listed_filter unedited k (gas_lines m)
+      (listed_filter (emits m) k (line_names m) (line_listed m k (emitting m k on)) on) (ap not ((named.named k).0 at.0).1)) at.1)
       (λ k i.
-      let at = from_filter q k (gas_lines m) i in
-      listed_filter q k names (named.named k year (among (node.Equiv k year) at.1).1) at.1)
+      let at = from_filter q k (filter unedited (gas_lines m)) i in
+      let off = (from_filter unedited k (gas_lines m) at.0).1 in
+      listed_filter q k names ((named.named k).1 (
+        listed_filter_map equivalent_line (node.Equiv k year) k nodes (listed nodes (node.Equiv k year) (among (node.Equiv k year) at.1).1) refl,
+        not_true _ off,
+      )) at.1)
     where
       q : Name → Bool
       q name = has_outcome fresh (node.Equiv name year)
 
-  pub candidates_are : (parts : List Category) (own : Category → Bool) (year : ℕ)
-      → filter (has_outcome fresh) (map (λ c. node.Total c year) parts ++ map (λ name. node.Equiv name year) (names_at own m names))
-      ≡ filter (has_outcome fresh) (addends m parts own year)
-  candidates_are parts own year =
-      filter-append (has_outcome fresh) totals (map to (names_at own m names))
-      ∙ ap (λ ks. filter (has_outcome fresh) totals ++ ks) (filter_of_map to (has_outcome fresh) (names_at own m names)
-      ∙ ap (map to) (filters_swap q at names ∙ ap (filter at) (changed_names year) ∙ filters_swap at q (gas_lines m))
-      ∙ sym (filter_of_map to (has_outcome fresh) (gas_lines_at own m)))
-      ∙ sym (filter-append (has_outcome fresh) totals (map to (gas_lines_at own m)))
+  pub kept_anew : (parts : List Node) (own : Category → Bool) (year : ℕ)
+      → filter (has_outcome fresh) (parts ++ map (λ name. node.Equiv name year) (names_at own m names))
+      ≡ filter (has_outcome fresh) (parts ++ map (λ name. node.Equiv name year) (filter unedited (gas_lines_at own m)))
+  kept_anew parts own year =
+      filter-append (has_outcome fresh) parts (map to (names_at own m names))
+      ∙ ap (λ ks. filter (has_outcome fresh) parts ++ ks) (filter_of_map to (has_outcome fresh) (names_at own m names)
+      ∙ ap (map to) (filters_swap q at names ∙ ap (filter at) (kept_names year) ∙ filters_swap at q (filter unedited (gas_lines m)) ∙ ap (filter q) (filters_swap at unedited (gas_lines m)))
+      ∙ sym (filter_of_map to (has_outcome fresh) (filter unedited (gas_lines_at own m))))
+      ∙ sym (filter-append (has_outcome fresh) parts (map to (filter unedited (gas_lines_at own m))))
     where
-      totals : List Node
-      totals = map (λ c. node.Total c year) parts
-
       to : Name → Node
       to name = node.Equiv name year
 
@@ -213,54 +299,87 @@ module _ (m : Data) (fresh : Outcomes) (nodes : List Node) (among : (k : Node) �
 
 module _ (old new : Data) (workbook : IsWorkbook new) (acyclic : IsAcyclic new) (changed : ChangedLines) (fresh found : Outcomes) (n : Node)
     (ready : IsReady new found n) (from : IsReadyFrom old new changed fresh n) where
-  stays_at : (k : Node) → Contains (subtotals new n) k → fresh k ≡ None → Stays (compilation old k) (found k)
-  stays_at k c none =
-      let kept = from.before.kept k (subtotals_are_nodes new n ready.node k c) (from.others k c none) in
+  abbrev lines : AreChangedLines old new from.keys from.nodes changed
+  lines = from.lines
+
+  abbrev rest : (Category → Bool) → List Name
+  rest own = filter (λ k. not (contains name_cmp lines.edited k)) (gas_lines_at own new)
+
+  -- what the node adds, by lines at categories that pass
+  module _ (parts : List Node) (own : Category → Bool) (year : ℕ) (ns : List Node)
+      (all : ns ≡ parts ++ map (λ name. node.Equiv name year) (gas_lines_at own new))
+      (was : (b : Input) → value_of (compilation old n) ≡ Some b
+      → summed (map (input_at (compilation old)) (parts ++ map (λ name. node.Equiv name year) (gas_lines_at own old))) ≡ Ok b)
+      (stays : (k : Node) → IsListed k ns → fresh k ≡ None → Stays (compilation old k) (found k)) where
+    abbrev to : Name → Node
+    to name = node.Equiv name year
+
+    exchanged : (e : Exchange) → e.kept ≡ parts ++ map to (names_at own new changed.kept.names.items)
+        → e.gone ≡ map to (names_at own old changed.gone.names.items) → e.come ≡ map to (names_at own new changed.come.names.items)
+        → IsResummed found fresh (compilation old) n ns e
+    exchanged e kept gone come = record {
+      kept = parts ++ map to (rest own);
+      was = λ b is. ap (λ ks. summed (map (input_at (compilation old)) ((parts ++ map to (rest own)) ++ ks))) gone
+          ∙ ap (λ names. summed (map (input_at (compilation old)) ((parts ++ map to names) ++ map to (names_at own old changed.gone.names.items))))
+          (sym (kept_alike old new from.keys lines.edited lines.are_edited from.before.records own))
+          ∙ whole_sum lines.edited lines.are_edited.ordered old changed.gone lines.gone own (input_at (compilation old)) parts year
+          ∙ was b is;
+      adds = record {
+        sums = λ given. ap (λ ks. summed (map given ((parts ++ map to (rest own)) ++ ks))) come
+            ∙ whole_sum lines.edited lines.are_edited.ordered new changed.come lines.come own given parts year
+            ∙ ap (λ ks. summed (map given ks)) (sym all);
+        nodes = λ k. (
+          λ i. subst (IsListed k) (sym all) ((listed_whole k).0 (subst (λ ks. IsListed k ((parts ++ map to (rest own)) ++ ks)) come i)),
+          λ i. subst (λ ks. IsListed k ((parts ++ map to (rest own)) ++ ks)) (sym come) ((listed_whole k).1 (subst (IsListed k) all i)),
+        );
+      };
+      changed = ap (filter (has_outcome fresh)) kept ∙ kept_anew new fresh from.nodes from.among lines.edited changed.kept.names.items lines.kept parts own year;
+      others = λ k i none. stays k (subst (IsListed k) (sym all) ((listed_whole k).0 (listed_left k (parts ++ map to (rest own)) _ i))) none;
+    }
+      where
+        listed_whole : (k : Node) → IsListed k ((parts ++ map to (rest own)) ++ map to (names_at own new changed.come.names.items)) ↔ IsListed k (parts ++ map to (gas_lines_at own new))
+        listed_whole k = whole_listed lines.edited lines.are_edited.ordered new changed.come lines.come own parts year k
+
+  stays_by : (k : Node) → is_node new k ≡ true → (Contains from.nodes k → ⊥) → found k ≡ compilation new k → Stays (compilation old k) (found k)
+  stays_by k is off now =
+      let kept = from.before.kept k is off in
       record {
-        same = kept ∙ sym (ready.subtotals_are k c);
+        same = kept ∙ sym now;
         fits = never_over old from.before.acyclic from.before.fits k;
         within = subst (λ o. PointLiesWithin (or_nothing (value_of o))) (sym kept) (within_of (compilation new k)
             (points_within (sheet_of new) (acyclic_grounded new acyclic) (compilation new) (compilation_trial new acyclic) (sources_nested new workbook) k));
       }
 
-  pub from_ready : is_total n ≡ true → (ns candidates : List Node) → ns ≡ subtotals new n
-      → filter (has_outcome fresh) candidates ≡ filter (has_outcome fresh) (subtotals new n)
-      → IsResummed found fresh (compilation old) n ns candidates
-  from_ready total ns candidates all among = record {
-    sum = λ b is. ap (λ ks. summed (map (input_at (compilation old)) ks)) all
-        ∙ sym (subtotals_alike old new from.before.stays from.before.acyclic n)
-        ∙ total_was old from.before.acyclic from.before.fits n total b is;
-    changed = among ∙ ap (filter (has_outcome fresh)) (sym all);
-    others = λ k c none. stays_at k (subst (λ ks. Contains ks k) all c) none;
-  }
+  -- by the groups
+  module _ (parts : List Category) (own : Category → Bool) (year : ℕ) (formed : subtotals new n ≡ addends new parts own year)
+      (formed_before : subtotals old n ≡ addends old parts own year) (total : is_total n ≡ true) (ns : List Node) (all : ns ≡ subtotals new n) where
+    pub from_ready : (a : ChangedAddends) → a.kept.categories.now ≡ parts → a.kept.own.now ≡ names_at own new changed.kept.names.items
+        → a.gone.now ≡ names_at own old changed.gone.names.items → a.come.now ≡ names_at own new changed.come.names.items
+        → IsResummed found fresh (compilation old) n ns (addends_exchange a year)
+    from_ready a same_parts kept gone come =
+        exchanged totals own year ns (all ∙ formed)
+        (λ b is. ap (λ ks. summed (map (input_at (compilation old)) ks)) (sym formed_before) ∙ total_was old from.before.acyclic from.before.fits n total b is)
+        (λ k i none.
+        let c = subst (λ ks. Contains ks k) all (contained ns k i) in
+        stays_by k (subtotals_are_nodes new n ready.node k c) (from.others k c none) (ready.subtotals_are k c))
+        (addends_exchange a year)
+        (ap₂ (λ (ds : List Category) (names : List Name). map (λ c. node.Total c year) ds ++ map (λ name. node.Equiv name year) names) same_parts kept)
+        (ap (map (λ name. node.Equiv name year)) gone) (ap (map (λ name. node.Equiv name year)) come)
+      where
+        totals : List Node
+        totals = map (λ c. node.Total c year) parts
 
-  -- the candidates by the groups
-  pub grouped_candidates : (parts cs : List Category) (own : Category → Bool) (names : List Name) (year : ℕ) → cs ≡ parts → names ≡ names_at own new changed.names.items
-      → filter (has_outcome fresh) (map (λ c. node.Total c year) cs ++ map (λ name. node.Equiv name year) names) ≡ filter (has_outcome fresh) (addends new parts own year)
-  grouped_candidates parts cs own names year same_parts same_names =
-      ap₂ (λ (ds : List Category) (ks : List Name). filter (has_outcome fresh) (map (λ c. node.Total c year) ds ++ map (λ name. node.Equiv name year) ks)) same_parts same_names
-      ∙ candidates_are new fresh from.nodes from.among changed.names.items from.lines.named parts own year
-
-  -- ---- by the lines that count
-
-  stays_input : (k : Node) → IsInput (sheet_of new) k n → fresh k ≡ None → Stays (compilation old k) (found k)
-  stays_input k input none =
-      let kept = from.before.kept k (inputs_are_nodes new workbook k n input) (from.other_inputs k input none) in
-      record {
-        same = kept ∙ sym (ready.inputs_are k input);
-        fits = never_over old from.before.acyclic from.before.fits k;
-        within = subst (λ o. PointLiesWithin (or_nothing (value_of o))) (sym kept) (within_of (compilation new k)
-            (points_within (sheet_of new) (acyclic_grounded new acyclic) (compilation new) (compilation_trial new acyclic) (sources_nested new workbook) k));
-      }
-
+  -- by the lines that count
   pub lines_ready : (test : Category → Bool) (year : ℕ)
       → (sheet_of old).formula n ≡ Summed (map (λ name. node.Equiv name year) (gas_lines_at test old))
       → (sheet_of new).formula n ≡ Summed (map (λ name. node.Equiv name year) (gas_lines_at test new))
-      → IsResummed found fresh (compilation old) n (map (λ name. node.Equiv name year) (gas_lines_at test new))
-      (map (λ name. node.Equiv name year) (names_at test new changed.names.items))
-  lines_ready test year was is = record {
-    sum = λ b value. sym (lines_alike old new from.before.stays from.before.acyclic test year)
-        ∙ line_sum_was old from.before.acyclic from.before.fits n (map (λ name. node.Equiv name year) (gas_lines_at test old)) was b value;
-    changed = candidates_are new fresh from.nodes from.among changed.names.items from.lines.named [] test year;
-    others = λ k c none. stays_input k (record { node = ready.node; among = subst (λ φ. Contains (inputs φ) k) (sym is) c }) none;
-  }
+      → (e : Exchange) → e.kept ≡ map (λ name. node.Equiv name year) (names_at test new changed.kept.names.items)
+      → e.gone ≡ map (λ name. node.Equiv name year) (names_at test old changed.gone.names.items) → e.come ≡ map (λ name. node.Equiv name year) (names_at test new changed.come.names.items)
+      → IsResummed found fresh (compilation old) n (map (λ name. node.Equiv name year) (gas_lines_at test new)) e
+  lines_ready test year was is e kept gone come =
+      exchanged [] test year (map (λ name. node.Equiv name year) (gas_lines_at test new)) refl
+      (λ b value. line_sum_was old from.before.acyclic from.before.fits n (map (λ name. node.Equiv name year) (gas_lines_at test old)) was b value)
+      (λ k i none.
+      let input : IsInput (sheet_of new) k n = record { node = ready.node; among = subst (λ φ. Contains (inputs φ) k) (sym is) (contained (map (λ name. node.Equiv name year) (gas_lines_at test new)) k i) } in
+      stays_by k (inputs_are_nodes new workbook k n input) (from.other_inputs k input none) (ready.inputs_are k input))
+      e kept gone come

@@ -1,11 +1,11 @@
 -- What is known before of the next node in turn.
-use Rattle.std.proofs.Common.{◌≡◌, ◌⊎◌, inl, inr, ℕ, ◌+◌, ◌<◌, Bool, true, false, is_some, List, [], ◌∷◌, ◌++◌, Contains, length, get_or, take, drop, Option, Some, None, refl, sym, ap, ◌∙◌, subst}
+use Rattle.std.proofs.Common.{◌≡◌, ◌⊎◌, inl, inr, ℕ, ◌+◌, ◌<◌, Bool, true, false, is_some, List, [], ◌∷◌, ◌++◌, Contains, length, get_or, take, drop, map, Option, Some, None, refl, sym, ap, ◌∙◌, subst}
 use Rattle.std.specs.Prelude.{IfSome}
 use Rattle.std.proofs.lemmas.List.{append_assoc, take-append-drop}
 use Rattle.ghg_units.specs.declared.node.Node.{Node}
-use Rattle.ghg_definitions.specs.declared.record.RecordKey.TheVariants as key
+use Rattle.ghg_definitions.specs.declared.record.RecordKey.{RecordKey}
 use Rattle.ghg_definitions.specs.Compilation.{compilation, is_node, sheet_of}
-use Rattle.ghg_definitions.specs.Data.{Data, as_span}
+use Rattle.ghg_definitions.specs.Data.{Data}
 use Rattle.ghg_definitions.specs.Formulas.{Outcome}
 use Rattle.ghg_definitions.specs.Listed.{IsListed}
 use Rattle.ghg_definitions.specs.Rings.{IsAcyclic}
@@ -19,14 +19,11 @@ use Rattle.ghg_affected.specs.Subtotals.{subtotals}
 use Rattle.ghg_affected.proofs.Bools.{true_not_false}
 use Rattle.ghg_affected.proofs.Closed.{inputs_are_nodes}
 use Rattle.ghg_data.specs.Changes.{Change, applied}
-use Rattle.ghg_data.proofs.Covered.{changed_or_kept}
 use Rattle.ghg_graph.specs.Corrections.{ListsAffected}
-use Rattle.ghg_graph.specs.Entries.{are_entries, is_entry}
-use Rattle.ghg_graph.proofs.Corrected.{all_pass, among}
-use Rattle.ghg_graph.proofs.Entering.{keeps_lines}
+use Rattle.ghg_graph.proofs.Corrected.{kept_record}
 use Rattle.ghg_graph.proofs.Numbering.{take_next}
-use Rattle.ghg_engine.specs.declared.changes.ChangedLines.{ChangedLines}
-use Rattle.ghg_engine.specs.Changes.{AreChangedLines, IsBefore, IsReadyFrom, StaysWithLines}
+use Rattle.ghg_engine.specs.declared.changed_lines.ChangedLines.{ChangedLines}
+use Rattle.ghg_engine.specs.Changes.{AreChangedLines, IsBefore, IsReadyFrom}
 use Rattle.ghg_engine.specs.Compiled.{IsCompiled}
 use Rattle.ghg_engine.proofs.Compiled.{compiled_alike}
 use Rattle.ghg_engine.proofs.Patched.{unaffected_kept}
@@ -88,25 +85,16 @@ module _ (old m : Data) (workbook : IsWorkbook m) (acyclic : IsAcyclic m) (chang
     | inr i ↦ so_far.in_turn.1 k input (contained (n ∷ rest) k i)
   ]
 
-  pub next_from : IsBefore old m nodes → AreChangedLines m nodes changed → IsReadyFrom old m changed fresh n
-  next_from before lines = record { nodes = nodes; before = before; lines = lines; among = fresh_among; others = none_among; other_inputs = no_input_among }
+  pub next_from : (keys : List RecordKey) → IsBefore old m keys nodes → AreChangedLines old m keys nodes changed → IsReadyFrom old m changed fresh n
+  next_from keys before lines = record { keys = keys; nodes = nodes; before = before; lines = lines; among = fresh_among; others = none_among; other_inputs = no_input_among }
 
--- ---- edits that enter lines
+-- ---- edits
 
-module _ (m : Data) (cs : List Change) (entries : are_entries m cs ≡ true) where
-  entries_stay : StaysWithLines m (applied m cs)
-  entries_stay = record {
-    years = elim (changed_or_kept m cs key.Span) [
-      | inl i ↦ absurd (true_not_false (sym (all_pass (is_entry m) cs entries key.Span (among key.Span _ i))))
-      | inr same ↦ ap as_span (sym same)
-    ];
-    lines = λ name present. sym ((keeps_lines m cs entries).lines name present);
-  }
-
-  pub is_before : IsWorkbook (applied m cs) → IsAcyclic (applied m cs) → (cells : Outcomes) → IsCompiled m cells → (ns : List Node) → ListsAffected m (applied m cs) ns → IsBefore m (applied m cs) ns
-  is_before workbook after cells is ns lists = record {
-    acyclic = is.acyclic;
-    fits = is.fits;
-    stays = entries_stay;
-    kept = unaffected_kept m (applied m cs) workbook after (compilation m) (compiled_alike m cells (compilation m) (λ n node. sym (is.outcomes_are n node)) is) ns lists;
-  }
+pub is_before : (m : Data) (cs : List Change) → IsWorkbook (applied m cs) → IsAcyclic (applied m cs) → (cells : Outcomes) → IsCompiled m cells → (ns : List Node) → ListsAffected m (applied m cs) ns
+    → (keys : List RecordKey) → keys ≡ map (λ c. c.0) cs → IsBefore m (applied m cs) keys ns
+is_before m cs workbook after cells is ns lists keys all = record {
+  acyclic = is.acyclic;
+  fits = is.fits;
+  records = λ k off. kept_record m cs keys all k (λ c. off (listed keys k c));
+  kept = unaffected_kept m (applied m cs) workbook after (compilation m) (compiled_alike m cells (compilation m) (λ n node. sym (is.outcomes_are n node)) is) ns lists;
+}

@@ -1,6 +1,7 @@
 -- Totals from what they were, and what changed.
-use Rattle.std.specs.Prelude.{◌≡◌, ℕ, Bool, true, false, is_some, List, ◌++◌, map, filter, Option, Some, None, Ok}
-use Rattle.std.specs.List.{Contains, list_any}
+use Rattle.std.specs.Prelude.{◌≡◌, ◌↔◌, ℕ, Bool, true, false, is_some, List, ◌++◌, map, filter, Option, Some, None, Ok}
+use Rattle.std.specs.BTreeSet.{BTreeSet, IsOrdered, contains}
+use Rattle.std.specs.List.{Contains, filter_map, list_any}
 use Rattle.std.specs.List.Sorted.{IsStrictlySortedBy}
 use Rattle.std.specs.FinMap.{get}
 use Rattle.ghg_cell.specs.declared.input.Input.{Input}
@@ -9,21 +10,24 @@ use Rattle.ghg_cell.specs.Laws.{PointLiesWithin}
 use Rattle.ghg_cell.specs.Totals.{summed}
 use Rattle.ghg_units.specs.declared.node.Node.{Node}
 use Rattle.ghg_units.specs.declared.node.Node.TheVariants as node
+use Rattle.ghg_definitions.specs.declared.record.RecordKey.{RecordKey}
 use Rattle.ghg_definitions.specs.declared.record.RecordKey.TheVariants as key
-use Rattle.ghg_definitions.specs.Compilation.{compilation, is_node, sheet_of}
-use Rattle.ghg_definitions.specs.Data.{Data, Name, line, name_cmp, span}
+use Rattle.ghg_definitions.specs.Compilation.{compilation, emits, is_node, sheet_of}
+use Rattle.ghg_definitions.specs.Data.{Data, Name, name_cmp}
 use Rattle.ghg_definitions.specs.Formulas.{Outcome}
 use Rattle.ghg_definitions.specs.Listed.{IsListed}
 use Rattle.ghg_definitions.specs.Rings.{IsAcyclic}
 use Rattle.ghg_definitions.specs.Trials.{IsCompilation, IsInput, Outcomes, is_over, value_of}
 use Rattle.ghg_affected.specs.Subtotals.{subtotals}
-use Rattle.ghg_engine.specs.declared.changes.ChangedLines.{ChangedLines}
+use Rattle.ghg_categories.specs.declared.category.Category.{Category}
+use Rattle.ghg_engine.specs.declared.changed_lines.ChangedAddends.{ChangedAddends}
+use Rattle.ghg_engine.specs.declared.changed_lines.ChangedLines.{ChangedLines}
+use Rattle.ghg_engine.specs.declared.changed_lines.GroupedLines.{GroupedLines}
 use Rattle.ghg_engine.specs.declared.changes.Changes.{Changes}
-use Rattle.ghg_engine.specs.declared.parts.Addends.{Addends}
 use Rattle.ghg_engine.specs.declared.parts.Part.TheVariants as part
 use Rattle.ghg_engine.specs.Evaluation.{AreKept}
 use Rattle.ghg_engine.specs.Grouping.{AreGroupsOf, names_at}
-use Rattle.ghg_engine.specs.Parts.{counts_in, nodes_for}
+use Rattle.ghg_engine.specs.Parts.{addends_for, counts_in, nodes_for}
 
 -- ---- what is gathered
 
@@ -38,22 +42,55 @@ input_at outcomes n = or_nothing (value_of (outcomes n))
 abbrev pub has_outcome : Outcomes → Node → Bool
 has_outcome outcomes n = is_some (outcomes n)
 
--- what those of the nodes are for others that have fresh outcomes
-abbrev pub changed_inputs : Outcomes → Outcomes → List Node → List Input
-changed_inputs fresh outcomes ns = map (input_at outcomes) (filter (has_outcome fresh) ns)
+-- nodes that a sum adds before and now, nodes that are taken out of it, and nodes that are put in; one may be
+-- both taken out and put in
+pub record Exchange : Type 0 where
+  pub kept : List Node
+  pub gone : List Node
+  pub come : List Node
 
--- of the nodes with fresh outcomes, of which none is over, the changes have what they gave before, and what
--- they give now
-pub record AreChanges (fresh before : Outcomes) (ns : List Node) (changes : Changes) : Type 0 where
-  pub gone : changes.gone.items ≡ changed_inputs fresh before ns
-  pub come : changes.come.items ≡ changed_inputs fresh fresh ns
-  pub none_over : list_any (λ k. is_over (fresh k)) ns ≡ false
+-- what leaves the sum: what nodes gave that are evaluated anew, and the nodes that are gone
+abbrev pub leaving : Outcomes → Exchange → List Node
+leaving fresh e = filter (has_outcome fresh) e.kept ++ e.gone
 
--- the same behind what the changes had
-pub record HasMoreChanges (fresh before : Outcomes) (ns : List Node) (old new : Changes) : Type 0 where
-  pub gone : new.gone.items ≡ old.gone.items ++ changed_inputs fresh before ns
-  pub come : new.come.items ≡ old.come.items ++ changed_inputs fresh fresh ns
-  pub none_over : list_any (λ k. is_over (fresh k)) ns ≡ false
+-- what enters it
+abbrev pub entering : Outcomes → Exchange → List Node
+entering fresh e = filter (has_outcome fresh) e.kept ++ e.come
+
+-- the changes have what leaves the sum, as it was before, and what enters it, of which none is over
+pub record AreChanges (before found fresh : Outcomes) (e : Exchange) (changes : Changes) : Type 0 where
+  pub gone_are : changes.gone.items ≡ map (input_at before) (leaving fresh e)
+  pub come_are : changes.come.items ≡ map (input_at found) (entering fresh e)
+  pub none_over : list_any (λ k. is_over (found k)) (entering fresh e) ≡ false
+
+-- behind what the changes had come what the first nodes gave before, and what the second give now, of which
+-- none is over
+pub record HasMoreChanges (before found : Outcomes) (gone come : List Node) (old new : Changes)
+    : Type 0 where
+  pub gone_more : new.gone.items ≡ old.gone.items ++ map (input_at before) gone
+  pub come_more : new.come.items ≡ old.come.items ++ map (input_at found) come
+  pub none_over : list_any (λ k. is_over (found k)) come ≡ false
+
+-- the same of those of the nodes, before and now, that have fresh outcomes
+abbrev pub HasMoreKept : Outcomes → Outcomes → Outcomes → List Node → Changes → Changes → Type 0
+HasMoreKept before found fresh ns old new =
+    HasMoreChanges before found (filter (has_outcome fresh) ns) (filter (has_outcome fresh) ns) old new
+
+-- what those of the kept nodes of an exchange gave that have fresh outcomes, and what enters the sum
+abbrev pub HasMoreEntering : Outcomes → Outcomes → Outcomes → Exchange → Changes → Changes → Type 0
+HasMoreEntering before found fresh e old new =
+    HasMoreChanges before found (filter (has_outcome fresh) e.kept) (entering fresh e) old new
+
+-- behind what was gone comes what the nodes gave before
+pub record HasMoreGone (before : Outcomes) (ns : List Node) (old new : Changes) : Type 0 where
+  pub gone_more : new.gone.items ≡ old.gone.items ++ map (input_at before) ns
+  pub come_same : new.come ≡ old.come
+
+-- behind what had come comes what the nodes give now, of which none is over
+pub record HasMoreCome (found : Outcomes) (ns : List Node) (old new : Changes) : Type 0 where
+  pub come_more : new.come.items ≡ old.come.items ++ map (input_at found) ns
+  pub gone_same : new.gone ≡ old.gone
+  pub none_over : list_any (λ k. is_over (found k)) ns ≡ false
 
 -- ---- a total from what it was
 
@@ -63,54 +100,98 @@ pub record Stays (before now : Option Outcome) : Type 0 where
   pub fits : is_over before ≡ false
   pub within : PointLiesWithin (or_nothing (value_of before))
 
--- the node was the sum of what the nodes were that it adds; those of them with fresh outcomes are among the
--- candidates, and the others stay
-pub record IsResummed (found fresh before : Outcomes) (n : Node) (ns candidates : List Node) : Type 0 where
-  pub sum : (b : Input) → value_of (before n) ≡ Some b → summed (map (input_at before) ns) ≡ Ok b
-  pub changed : filter (has_outcome fresh) candidates ≡ filter (has_outcome fresh) ns
-  pub others : (k : Node) → Contains ns k → fresh k ≡ None → Stays (before k) (found k)
+-- the two lists of nodes give the same sum, whatever they give, and have the same nodes
+pub record AddTheSame (ks ns : List Node) : Type 0 where
+  pub sums : (given : Node → Input) → summed (map given ks) ≡ summed (map given ns)
+  pub nodes : (k : Node) → IsListed k ks ↔ IsListed k ns
 
--- ---- the data before
+-- the node was the sum of what nodes gave that it adds still and of those that are taken out; it adds the
+-- former and those that are put in; of the former those with fresh outcomes are those that the exchange has,
+-- and the others stay
+pub record IsResummed (found fresh before : Outcomes) (n : Node) (ns : List Node) (e : Exchange)
+    : Type 0 where
+  pub kept : List Node
+  pub was : (b : Input) → value_of (before n) ≡ Some b →
+      summed (map (input_at before) (kept ++ e.gone)) ≡ Ok b
+  pub adds : AddTheSame (kept ++ e.come) ns
+  pub changed : filter (has_outcome fresh) e.kept ≡ filter (has_outcome fresh) kept
+  pub others : (k : Node) → IsListed k kept → fresh k ≡ None → Stays (before k) (found k)
 
--- the years are the same, and each line that was present has the same record
-pub record StaysWithLines (old new : Data) : Type 0 where
-  pub years : span old ≡ span new
-  pub lines : (name : Name) → is_some (line old name) ≡ true →
-      get old (key.Line name) ≡ get new (key.Line name)
-
--- the old data have a compilation, whose outcomes are those of the new data at all nodes but those listed
-pub record IsBefore (old new : Data) (ns : List Node) : Type 0 where
-  pub acyclic : IsAcyclic old
-  pub fits : IsCompilation (sheet_of old) (compilation old)
-  pub stays : StaysWithLines old new
-  pub kept : AreKept new ns (compilation old)
+-- ---- lines that change
 
 -- the line of an equivalent
 abbrev pub equivalent_line : Node → Option Name
 equivalent_line (node.Equiv name year) = Some name
 equivalent_line _ = None
 
--- the names are in order, and among them each line is of which an equivalent is in the list
-pub record AreNamesOf (ns : List Node) (names : List Name) : Type 0 where
+-- the line of a key
+abbrev pub key_line : RecordKey → Option Name
+key_line (key.Line name) = Some name
+key_line _ = None
+
+-- the lines whose records have one of the keys
+pub record AreEdited (keys : List RecordKey) (edited : BTreeSet Name) : Type 0 where
+  pub ordered : IsOrdered name_cmp edited
+  pub lines : (name : Name) → (contains name_cmp edited name ≡ true) ↔ IsListed (key.Line name) keys
+
+-- the names in order of the lines of which an equivalent is in the list, without the edited ones
+pub record AreKeptLines (ns : List Node) (edited : BTreeSet Name) (names : List Name) : Type 0 where
   pub order : IsStrictlySortedBy name_cmp names
-  pub named : (name : Name) (year : ℕ) → Contains ns (node.Equiv name year) → IsListed name names
+  pub named : (name : Name) → IsListed name names ↔
+      (IsListed name (filter_map equivalent_line ns) × (contains name_cmp edited name ≡ false))
 
--- the names are such ones, and the groups are theirs
-pub record AreChangedLines (m : Data) (ns : List Node) (changed : ChangedLines) : Type 0 where
-  pub named : AreNamesOf ns changed.names.items
-  pub grouped : AreGroupsOf m changed.names.items changed.groups
+abbrev pub AreGrouped : Data → GroupedLines → Type 0
+AreGrouped m lines = AreGroupsOf m lines.names.items lines.groups
 
--- the equivalents of those of the changed lines that count in a total
-abbrev pub changed_for : Data → ChangedLines → Addends → ℕ → List Node
-changed_for m changed a year =
-    nodes_for part.Equivalent (names_at (counts_in a.top) m changed.names.items) year
+-- those of the edited lines that emit a gas, and their groups
+pub record AreEmitters (m : Data) (edited : BTreeSet Name) (lines : GroupedLines) : Type 0 where
+  pub names : lines.names.items ≡ filter (emits m) edited.keys
+  pub grouped : AreGrouped m lines
+
+-- the kept lines have the equivalents of the list, in their groups; the others are the edited ones that
+-- emitted a gas, and those that do
+pub record AreChangedLines (old new : Data) (keys : List RecordKey) (ns : List Node) (changed : ChangedLines)
+    : Type 0 where
+  pub edited : BTreeSet Name
+  pub are_edited : AreEdited keys edited
+  pub kept : AreKeptLines ns edited changed.kept.names.items
+  pub grouped : AreGrouped new changed.kept
+  pub gone : AreEmitters old edited changed.gone
+  pub come : AreEmitters new edited changed.come
+
+-- those that a total adds by its groups
+abbrev pub addends_exchange : ChangedAddends → ℕ → Exchange
+addends_exchange changed year = record {
+  kept = addends_for changed.kept year;
+  gone = nodes_for part.Equivalent changed.gone.now year;
+  come = nodes_for part.Equivalent changed.come.now year;
+}
+
+-- those that count in the total of a category, or in the gross total where none is given
+abbrev pub counted_exchange : Data → Data → ChangedLines → Option Category → ℕ → Exchange
+counted_exchange old new changed top year = record {
+  kept = nodes_for part.Equivalent (names_at (counts_in top) new changed.kept.names.items) year;
+  gone = nodes_for part.Equivalent (names_at (counts_in top) old changed.gone.names.items) year;
+  come = nodes_for part.Equivalent (names_at (counts_in top) new changed.come.names.items) year;
+}
+
+-- ---- the data before
+
+-- the old data have a compilation, whose outcomes are those of the new data at all nodes but those listed;
+-- the records differ at the keys alone
+pub record IsBefore (old new : Data) (keys : List RecordKey) (ns : List Node) : Type 0 where
+  pub acyclic : IsAcyclic old
+  pub fits : IsCompilation (sheet_of old) (compilation old)
+  pub records : (k : RecordKey) → (IsListed k keys → ⊥) → get old k ≡ get new k
+  pub kept : AreKept new ns (compilation old)
 
 -- the fresh outcomes are of nodes in a list, at whose other nodes the old data have the outcomes; the list
 -- has none of the inputs and of the subtotals without a fresh outcome
 pub record IsReadyFrom (old new : Data) (changed : ChangedLines) (fresh : Outcomes) (n : Node) : Type 0 where
+  pub keys : List RecordKey
   pub nodes : List Node
-  pub before : IsBefore old new nodes
-  pub lines : AreChangedLines new nodes changed
+  pub before : IsBefore old new keys nodes
+  pub lines : AreChangedLines old new keys nodes changed
   pub among : (k : Node) → is_some (fresh k) ≡ true → (is_node new k ≡ true) × Contains nodes k
   pub others : (k : Node) → Contains (subtotals new n) k → fresh k ≡ None → Contains nodes k → ⊥
   pub other_inputs : (k : Node) → IsInput (sheet_of new) k n → fresh k ≡ None → Contains nodes k → ⊥

@@ -51,8 +51,8 @@ impl Cells {
 
     // ---- room for more
 
-    /// Gives a series a column, if it has none, and makes room for values of it, as far as there is memory: in
-    /// its column, or else a place for each aside of it.
+    /// Gives a series a column, if it has none, and makes room for values of it, as far as there is memory:
+    /// in its column, or else a place for each aside of it.
     pub(crate) fn make_room(&mut self, series: &Series, column: &Column) -> Result<(), AllocError>
         ensures grown { HasGrown self.old self.new }
         ensures column { OnOk result (has_column self.new series.now ≡ true) }

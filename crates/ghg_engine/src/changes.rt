@@ -1,35 +1,30 @@
 //! What changes in a total.
 
-ghost use Rattle.std.specs.Prelude.{◌≡◌, ◌∷◌, [], true, false, IfOk, map};
+ghost use Rattle.std.specs.Prelude.{◌≡◌, ◌↔◌, ◌≤◌, ◌∷◌, [], true, false, IfOk, OnOk, filter, length, map};
 ghost use Rattle.std.specs.List.{list_any};
 ghost use Rattle.ghg_units.specs.declared.node.Node.TheVariants as node;
 ghost use Rattle.ghg_definitions.specs.Compilation.{compilation};
 ghost use Rattle.ghg_definitions.specs.Trials.{is_over};
 ghost use Rattle.ghg_engine.specs.Fresh.{fresh_at};
-ghost use Rattle.ghg_engine.specs.Changes.{AreChanges, HasMoreChanges, input_at};
+ghost use Rattle.ghg_engine.specs.Changes.{AreChanges, HasMoreCome, HasMoreEntering, HasMoreGone, HasMoreKept, addends_exchange, counted_exchange, entering, has_outcome, input_at};
 ghost use Rattle.ghg_engine.specs.declared.parts.Part.TheVariants as part;
 ghost use Rattle.ghg_engine.specs.Grouping.{names_at};
+ghost use Rattle.ghg_engine.specs.Overlays.{outcomes_of};
 ghost use Rattle.ghg_engine.specs.Parts.{addends_for, counts_in, nodes_for};
 
-use crate::groups::Groups;
+use crate::changed_lines::{ChangedAddends, ChangedLines};
 use crate::overlay::Overlay;
 use crate::parts::{Addends, counts};
 use ghg_categories::Category;
-use ghg_cell::Input;
+use ghg_cell::{Input, MOST_PARTS};
 use ghg_data::Records;
 use ghg_graph::Cells;
 use ghg_interval::Over;
 use ghg_units::{Name, Node};
 use std::alloc::{AllocError, Global};
 
-/// The lines of which an equivalent is evaluated anew, by name, and their groups.
-#[derive(Drop)]
-pub(crate) struct ChangedLines {
-    pub(crate) names: Vec<Name>,
-    pub(crate) groups: Groups,
-}
-
-/// What some parts of a total gave before, and what they give now. The lists are shared by all totals.
+/// What parts of a total gave before, where they give something else now or are gone; and what such parts
+/// give now, and parts that have come. The lists are shared by all totals.
 #[derive(Drop)]
 pub(crate) struct Changes {
     pub(crate) gone: Vec<Input>,
@@ -48,71 +43,131 @@ impl Changes {
         }
     }
 
-    /// Gathers what those of the addends gave that are evaluated anew, and what they give now. Answers
-    /// whether none of them is over.
+    /// Gathers what those of the kept addends gave that are evaluated anew, and what they give now; what the
+    /// lines give that have come; and what those gave that are gone. Answers whether none of what is given
+    /// now is over. Where something is, no more is looked at.
     pub(crate) fn gather<C: Cells>(
+        &mut self,
+        cells: &Overlay<'_>,
+        before: &C,
+        changed: &ChangedAddends<'_>,
+        year: u32,
+    ) -> Result<bool, AllocError>
+        ensures { IfOk result (λ whole. whole ≡ true → AreChanges (compilation (C.content before.now))
+            (outcomes_of cells.now) (fresh_at cells.now.fresh) (addends_exchange changed.now year) self.new) }
+    {
+        self.clear();
+        if !self.add_entering(cells, before, changed, year)? {
+            return Ok(false);
+        }
+        self.add_gone(before, changed.gone, year)?;
+        Ok(true)
+    }
+
+    /// Gathers the same of the lines that count in the total of a category, or in the gross total where none
+    /// is given. Each line is looked up. Answers whether none of what is given now is over.
+    pub(crate) fn gather_counted<R: Records, C: Cells>(
+        &mut self,
+        records: &R,
+        cells: &Overlay<'_>,
+        before: &C,
+        changed: &ChangedLines,
+        top: Option<Category>,
+        year: u32,
+    ) -> Result<bool, AllocError>
+        ensures changes { IfOk result (λ whole. whole ≡ true → AreChanges (compilation (C.content before.now))
+            (outcomes_of cells.now) (fresh_at cells.now.fresh)
+            (counted_exchange (C.content before.now) (R.content records.now) changed.now top year) self.new) }
+        ensures over { IfOk result (λ whole. whole ≡ false → list_any (λ n. is_over (outcomes_of cells.now n))
+            (entering (fresh_at cells.now.fresh) (counted_exchange (C.content before.now)
+            (R.content records.now) changed.now top year)) ≡ true) }
+    {
+        self.clear();
+        if !self.add_counted_entering(records, cells, before, changed, top, year)? {
+            return Ok(false);
+        }
+        let gone = changed.gone.names.as_slice();
+        self.add_counted_gone(before, gone, top, year)?;
+        Ok(true)
+    }
+
+    /// Whether they are no more than a total may add.
+    pub(crate) fn are_few(&self) -> bool
+        ensures { (result ≡ true) ↔ ((length self.now.gone.items ≤ MOST_PARTS)
+            × (length self.now.come.items ≤ MOST_PARTS)) }
+    {
+        self.gone.len() <= MOST_PARTS && self.come.len() <= MOST_PARTS
+    }
+
+    fn clear(&mut self)
+        ensures gone { self.new.gone.items ≡ [] }
+        ensures come { self.new.come.items ≡ [] }
+    {
+        self.gone.clear();
+        self.come.clear();
+    }
+
+    // What those gave that are evaluated anew, and what these and the lines give that have come.
+    fn add_entering<C: Cells>(
+        &mut self,
+        cells: &Overlay<'_>,
+        before: &C,
+        changed: &ChangedAddends<'_>,
+        year: u32,
+    ) -> Result<bool, AllocError>
+        ensures { IfOk result (λ whole. whole ≡ true → HasMoreEntering (compilation (C.content before.now))
+            (outcomes_of cells.now) (fresh_at cells.now.fresh) (addends_exchange changed.now year)
+            self.old self.new) }
+    {
+        if !self.add_kept(cells, before, &changed.kept, year)? {
+            return Ok(false);
+        }
+        self.add_come(cells, changed.come, year)
+    }
+
+    // The same of those of the lines that count.
+    fn add_counted_entering<R: Records, C: Cells>(
+        &mut self,
+        records: &R,
+        cells: &Overlay<'_>,
+        before: &C,
+        changed: &ChangedLines,
+        top: Option<Category>,
+        year: u32,
+    ) -> Result<bool, AllocError>
+        ensures changes { IfOk result (λ whole. whole ≡ true → HasMoreEntering
+            (compilation (C.content before.now)) (outcomes_of cells.now) (fresh_at cells.now.fresh)
+            (counted_exchange (C.content before.now) (R.content records.now) changed.now top year)
+            self.old self.new) }
+        ensures over { IfOk result (λ whole. whole ≡ false → list_any (λ n. is_over (outcomes_of cells.now n))
+            (entering (fresh_at cells.now.fresh) (counted_exchange (C.content before.now)
+            (R.content records.now) changed.now top year)) ≡ true) }
+    {
+        let kept = changed.kept.names.as_slice();
+        let come = changed.come.names.as_slice();
+        if !self.add_counted(records, cells, before, kept, top, year)? {
+            return Ok(false);
+        }
+        self.add_counted_come(records, cells, come, top, year)
+    }
+
+    // ---- nodes that the total adds before and now
+
+    fn add_kept<C: Cells>(
         &mut self,
         cells: &Overlay<'_>,
         before: &C,
         addends: &Addends<'_>,
         year: u32,
     ) -> Result<bool, AllocError>
-        ensures { IfOk result (λ whole. whole ≡ true → AreChanges (fresh_at cells.now.fresh)
-            (compilation (C.content before.now)) (addends_for addends.now year) self.new) }
+        ensures { IfOk result (λ whole. whole ≡ true → HasMoreKept (compilation (C.content before.now))
+            (outcomes_of cells.now) (fresh_at cells.now.fresh) (addends_for addends.now year)
+            self.old self.new) }
     {
-        self.gone.clear();
-        self.come.clear();
         if !self.add_totals(cells, before, addends.categories, year)? {
             return Ok(false);
         }
         self.add_equivalents(cells, before, addends.own, year)
-    }
-
-    /// Gathers the same of the equivalents of those lines that count in the total of a category, or in the
-    /// gross total where none is given. Each line is looked up. Answers whether none of them is over.
-    pub(crate) fn gather_counted<R: Records, C: Cells>(
-        &mut self,
-        records: &R,
-        cells: &Overlay<'_>,
-        before: &C,
-        names: &[Name],
-        top: Option<Category>,
-        year: u32,
-    ) -> Result<bool, AllocError>
-        ensures changes { IfOk result (λ whole. whole ≡ true → AreChanges (fresh_at cells.now.fresh)
-            (compilation (C.content before.now)) (nodes_for part.Equivalent
-            (names_at (counts_in top) (R.content records.now) names.now) year) self.new) }
-        ensures over { IfOk result (λ whole. whole ≡ false → list_any
-            (λ n. is_over (fresh_at cells.now.fresh n)) (nodes_for part.Equivalent
-            (names_at (counts_in top) (R.content records.now) names.now) year) ≡ true) }
-    {
-        self.gone.clear();
-        self.come.clear();
-        self.add_counted(records, cells, before, names, top, year)
-    }
-
-    fn add_counted<R: Records, C: Cells>(
-        &mut self,
-        records: &R,
-        cells: &Overlay<'_>,
-        before: &C,
-        names: &[Name],
-        top: Option<Category>,
-        year: u32,
-    ) -> Result<bool, AllocError>
-        ensures changes { IfOk result (λ whole. whole ≡ true → HasMoreChanges (fresh_at cells.now.fresh)
-            (compilation (C.content before.now)) (nodes_for part.Equivalent
-            (names_at (counts_in top) (R.content records.now) names.now) year) self.old self.new) }
-        ensures over { IfOk result (λ whole. whole ≡ false → list_any
-            (λ n. is_over (fresh_at cells.now.fresh n)) (nodes_for part.Equivalent
-            (names_at (counts_in top) (R.content records.now) names.now) year) ≡ true) }
-    {
-        for name in names {
-            if counts(records, top, name) && !self.add(cells, before, &Node::Equiv(*name, year))? {
-                return Ok(false);
-            }
-        }
-        Ok(true)
     }
 
     fn add_totals<C: Cells>(
@@ -122,9 +177,9 @@ impl Changes {
         categories: &[Category],
         year: u32,
     ) -> Result<bool, AllocError>
-        ensures { IfOk result (λ whole. whole ≡ true → HasMoreChanges (fresh_at cells.now.fresh)
-            (compilation (C.content before.now)) (map (λ c. node.Total c year) categories.now)
-            self.old self.new) }
+        ensures { IfOk result (λ whole. whole ≡ true → HasMoreKept (compilation (C.content before.now))
+            (outcomes_of cells.now) (fresh_at cells.now.fresh)
+            (map (λ c. node.Total c year) categories.now) self.old self.new) }
     {
         for category in categories {
             if !self.add(cells, before, &Node::Total(*category, year))? {
@@ -141,12 +196,38 @@ impl Changes {
         names: &[Name],
         year: u32,
     ) -> Result<bool, AllocError>
-        ensures { IfOk result (λ whole. whole ≡ true → HasMoreChanges (fresh_at cells.now.fresh)
-            (compilation (C.content before.now)) (map (λ name. node.Equiv name year) names.now)
-            self.old self.new) }
+        ensures { IfOk result (λ whole. whole ≡ true → HasMoreKept (compilation (C.content before.now))
+            (outcomes_of cells.now) (fresh_at cells.now.fresh)
+            (nodes_for part.Equivalent names.now year) self.old self.new) }
     {
         for name in names {
             if !self.add(cells, before, &Node::Equiv(*name, year))? {
+                return Ok(false);
+            }
+        }
+        Ok(true)
+    }
+
+    // The equivalents of those of the lines that count.
+    fn add_counted<R: Records, C: Cells>(
+        &mut self,
+        records: &R,
+        cells: &Overlay<'_>,
+        before: &C,
+        names: &[Name],
+        top: Option<Category>,
+        year: u32,
+    ) -> Result<bool, AllocError>
+        ensures changes { IfOk result (λ whole. whole ≡ true → HasMoreKept
+            (compilation (C.content before.now)) (outcomes_of cells.now) (fresh_at cells.now.fresh)
+            (nodes_for part.Equivalent (names_at (counts_in top) (R.content records.now) names.now) year)
+            self.old self.new) }
+        ensures over { IfOk result (λ whole. whole ≡ false → list_any (λ n. is_over (outcomes_of cells.now n))
+            (filter (has_outcome (fresh_at cells.now.fresh)) (nodes_for part.Equivalent
+            (names_at (counts_in top) (R.content records.now) names.now) year)) ≡ true) }
+    {
+        for name in names {
+            if counts(records, top, name) && !self.add(cells, before, &Node::Equiv(*name, year))? {
                 return Ok(false);
             }
         }
@@ -161,10 +242,11 @@ impl Changes {
         before: &C,
         node: &Node,
     ) -> Result<bool, AllocError>
-        ensures changes { IfOk result (λ whole. whole ≡ true → HasMoreChanges (fresh_at cells.now.fresh)
-            (compilation (C.content before.now)) (node.now ∷ []) self.old self.new) }
-        ensures over { IfOk result (λ whole. whole ≡ false →
-            is_over (fresh_at cells.now.fresh node.now) ≡ true) }
+        ensures changes { IfOk result (λ whole. whole ≡ true → HasMoreKept
+            (compilation (C.content before.now)) (outcomes_of cells.now) (fresh_at cells.now.fresh)
+            (node.now ∷ []) self.old self.new) }
+        ensures over { IfOk result (λ whole. whole ≡ false → list_any (λ n. is_over (outcomes_of cells.now n))
+            (filter (has_outcome (fresh_at cells.now.fresh)) (node.now ∷ [])) ≡ true) }
     {
         match cells.fresh_outcome(node) {
             None => Ok(true),
@@ -174,6 +256,109 @@ impl Changes {
                 self.come.push(input)?;
                 Ok(true)
             }
+        }
+    }
+
+    // ---- lines that are gone, and lines that have come
+
+    fn add_gone<C: Cells>(
+        &mut self,
+        before: &C,
+        names: &[Name],
+        year: u32,
+    ) -> Result<(), AllocError>
+        ensures { OnOk result (HasMoreGone (compilation (C.content before.now))
+            (nodes_for part.Equivalent names.now year) self.old self.new) }
+    {
+        for name in names {
+            self.push_gone(before, &Node::Equiv(*name, year))?;
+        }
+        Ok(())
+    }
+
+    // Those of the lines that counted.
+    fn add_counted_gone<C: Cells>(
+        &mut self,
+        before: &C,
+        names: &[Name],
+        top: Option<Category>,
+        year: u32,
+    ) -> Result<(), AllocError>
+        ensures { OnOk result (HasMoreGone (compilation (C.content before.now)) (nodes_for part.Equivalent
+            (names_at (counts_in top) (C.content before.now) names.now) year) self.old self.new) }
+    {
+        for name in names {
+            if counts(before.book(), top, name) {
+                self.push_gone(before, &Node::Equiv(*name, year))?;
+            }
+        }
+        Ok(())
+    }
+
+    // Adds what a node gave.
+    fn push_gone<C: Cells>(&mut self, before: &C, node: &Node) -> Result<(), AllocError>
+        ensures { OnOk result (HasMoreGone (compilation (C.content before.now)) (node.now ∷ [])
+            self.old self.new) }
+    {
+        self.gone.push(input_at(before, node))?;
+        Ok(())
+    }
+
+    // Answers whether none of the equivalents is over.
+    fn add_come(
+        &mut self,
+        cells: &Overlay<'_>,
+        names: &[Name],
+        year: u32,
+    ) -> Result<bool, AllocError>
+        ensures { IfOk result (λ whole. whole ≡ true → HasMoreCome (outcomes_of cells.now)
+            (nodes_for part.Equivalent names.now year) self.old self.new) }
+    {
+        for name in names {
+            if !self.push_come(cells, &Node::Equiv(*name, year))? {
+                return Ok(false);
+            }
+        }
+        Ok(true)
+    }
+
+    // Those of the lines that count.
+    fn add_counted_come<R: Records>(
+        &mut self,
+        records: &R,
+        cells: &Overlay<'_>,
+        names: &[Name],
+        top: Option<Category>,
+        year: u32,
+    ) -> Result<bool, AllocError>
+        ensures changes { IfOk result (λ whole. whole ≡ true → HasMoreCome (outcomes_of cells.now)
+            (nodes_for part.Equivalent (names_at (counts_in top) (R.content records.now) names.now) year)
+            self.old self.new) }
+        ensures over { IfOk result (λ whole. whole ≡ false → list_any (λ n. is_over (outcomes_of cells.now n))
+            (nodes_for part.Equivalent (names_at (counts_in top) (R.content records.now) names.now) year)
+            ≡ true) }
+    {
+        for name in names {
+            if counts(records, top, name) && !self.push_come(cells, &Node::Equiv(*name, year))? {
+                return Ok(false);
+            }
+        }
+        Ok(true)
+    }
+
+    // Adds what a node gives now. Answers whether it is not over.
+    fn push_come(&mut self, cells: &Overlay<'_>, node: &Node) -> Result<bool, AllocError>
+        ensures changes { IfOk result (λ whole. whole ≡ true → HasMoreCome (outcomes_of cells.now)
+            (node.now ∷ []) self.old self.new) }
+        ensures over { IfOk result (λ whole. whole ≡ false →
+            is_over (outcomes_of cells.now node.now) ≡ true) }
+    {
+        match cells.outcome(node, &mut 0) {
+            Ok(given) => {
+                self.come.push(given)?;
+                Ok(true)
+            }
+            Err(Over) => Ok(false),
         }
     }
 }

@@ -1,11 +1,12 @@
 //! A book with its cells.
 
-ghost use Rattle.std.specs.Prelude.{◌≡◌, ◌≤◌, ◌+◌, length, Ok, Err, Some, IfOk, MatchResult, IfSome, true};
+ghost use Rattle.std.specs.Prelude.{◌≡◌, ◌≤◌, ◌+◌, length, Ok, Err, Some, None, IfOk, IfNone, MatchResult, IfSome};
 ghost use Rattle.std.specs.FinMap as finite;
 ghost use Rattle.std.specs.List.{AllByRecursion};
 ghost use Rattle.ghg_units.specs.WellFormed.{IsWellFormed};
 ghost use Rattle.ghg_definitions.specs.Compilation.{compilation, overflow, sheet_of};
 ghost use Rattle.ghg_definitions.specs.Containment.{HoldsExactValues};
+ghost use Rattle.ghg_definitions.specs.Data.{span};
 ghost use Rattle.ghg_definitions.specs.Rows.{after};
 ghost use Rattle.ghg_definitions.specs.Rules.{arranged, planned};
 ghost use Rattle.ghg_definitions.specs.Trials.{IsCompilation, value_of};
@@ -29,7 +30,7 @@ use crate::proposal::{Fresh, Proposal};
 use crate::refusal::EngineRefusal;
 use crate::withdrawn::drop_withdrawn;
 use ghg_cell::{Value, take};
-use ghg_data::{Book, Edits, PlanRefusal, after};
+use ghg_data::{Book, Edits, PlanRefusal, Records, after};
 use ghg_graph::{
     CycleRefusal, affected, are_entries, are_of_figures, check_changed, entered_order,
     indexes_have_takers,
@@ -266,12 +267,14 @@ impl Engine {
         let count = nodes.len() as u64;
         let permits = take(count, steps);
         let records = after(&self.book, edits);
-        let before = self.before(edits);
+        let before = self.before();
+        let keys = edits.keys();
         match evaluate_all(
             alloc,
             &records,
             layout,
             before,
+            keys,
             &self.cells,
             &nodes,
             permits,
@@ -281,15 +284,13 @@ impl Engine {
         }
     }
 
-    // These cells, where edits leave the years, and the lines that there are.
-    fn before(&self, edits: &Edits) -> Option<&Engine>
-        ensures { IfSome result (λ e. (e.now ≡ self.now) × (are_entries self.now.content edits.now ≡ true)) }
+    // These cells, if there are years.
+    fn before(&self) -> Option<&Engine>
+        ensures cells { IfSome result (λ e. e.now ≡ self.now) }
+        ensures none { IfNone result (span self.now.content ≡ None) }
     {
-        if are_entries(&self.book, edits) {
-            Some(self)
-        } else {
-            None
-        }
+        self.book.span()?;
+        Some(self)
     }
 
     /// Makes the edits of a proposal that was made on this engine as it stands. It takes no memory, and has

@@ -1,9 +1,8 @@
 //! The evaluation of nodes, each once and behind its inputs.
 
-ghost use Rattle.std.specs.Prelude.{◌≡◌, IfOk, IfSome, MatchResult, Some, filter_map, length};
-ghost use Rattle.std.specs.BTreeSet.{IsFromIterResult};
+ghost use Rattle.std.specs.Prelude.{◌≡◌, IfOk, IfSome, MatchResult, Some, length};
 ghost use Rattle.ghg_definitions.specs.Compilation.{compilation, first_year, gas_lines, sheet_of};
-ghost use Rattle.ghg_definitions.specs.Data.{name_cmp, span};
+ghost use Rattle.ghg_definitions.specs.Data.{span};
 ghost use Rattle.ghg_definitions.specs.Nodes.{lesser_node};
 ghost use Rattle.ghg_definitions.specs.Rings.{IsAcyclic};
 ghost use Rattle.ghg_definitions.specs.Sound.{IsWorkbook};
@@ -11,7 +10,7 @@ ghost use Rattle.ghg_affected.specs.Patches.{least_break};
 ghost use Rattle.ghg_graph.specs.NodeOrders.{AreInOrder};
 ghost use Rattle.ghg_engine.specs.Breaking.{least_with};
 ghost use Rattle.ghg_engine.specs.Cells.{cell_at};
-ghost use Rattle.ghg_engine.specs.Changes.{AreChangedLines, AreNamesOf, IsBefore, IsReadyFrom, IsResummed, changed_for, equivalent_line};
+ghost use Rattle.ghg_engine.specs.Changes.{AreChangedLines, IsBefore, IsReadyFrom, IsResummed, addends_exchange, counted_exchange};
 ghost use Rattle.ghg_definitions.specs.Trials.{value_of};
 ghost use Rattle.ghg_engine.specs.Evaluation.{AreEvaluated, AreKept, IsEvaluatedAt, IsEvaluatedSum, IsOutcomeOf, IsReady, IsTotalOf};
 ghost use Rattle.ghg_engine.specs.Factors.{AreKeptFactors};
@@ -24,11 +23,11 @@ ghost use Rattle.ghg_engine.specs.Proposals.{IfOverflow};
 
 use crate::arguments::Arguments;
 use crate::cells::Cells;
-use crate::changes::{ChangedLines, Changes};
+use crate::changed_lines::{ChangedAddends, ChangedLines};
+use crate::changes::Changes;
 use crate::evaluated::Evaluated;
 use crate::factors::Factors;
 use crate::fresh::FreshCells;
-use crate::groups::Groups;
 use crate::known::{Known, KnownLine, Turn, line_at};
 use crate::layout::Layout;
 use crate::numbered::Room;
@@ -38,22 +37,23 @@ use crate::refusal::EngineRefusal;
 use crate::series::year_of;
 use ghg_cell::{Input, MOST_PARTS, Permits, Ticket, equiv, total, total_from};
 use ghg_data::Records;
+use ghg_definitions::RecordKey;
 use ghg_graph::first_year;
 use ghg_interval::Over;
 use ghg_units::{Name, Node};
 use std::alloc::{AllocError, Global};
 use std::cmp::Ordering;
-use std::collections::BTreeSet;
 
 /// The cells of nodes, each evaluated in its turn over the others and over cells that are kept, which are
 /// right at all other nodes of the workbook; or the least of them that is over while none of its inputs is.
-/// Where the cells of the workbook before are given, with its years and all its lines, a total follows from
-/// what it was and what has changed.
+/// Where the cells of the workbook before are given, from whose records these differ at the keys alone, a
+/// total follows from what it was and what has changed.
 pub(crate) fn evaluate_all<R: Records, C: ghg_graph::Cells>(
     alloc: Global,
     records: &R,
     layout: &Layout,
     before: Option<&C>,
+    keys: &[RecordKey],
     kept: &Cells,
     nodes: &[Node],
     permits: Permits,
@@ -62,7 +62,8 @@ pub(crate) fn evaluate_all<R: Records, C: ghg_graph::Cells>(
     requires acyclic { IsAcyclic (R.content records.now) }
     requires layout { IsLayout (R.content records.now) layout.now }
     requires order { AreInOrder (R.content records.now) nodes.now }
-    requires before { IfSome before (λ b. IsBefore (C.content b.now) (R.content records.now) nodes.now) }
+    requires before { IfSome before (λ b.
+        IsBefore (C.content b.now) (R.content records.now) keys.now nodes.now) }
     requires kept { AreKept (R.content records.now) nodes.now (cell_at kept.now) }
     requires paid { permits ≡ length nodes.now }
     ensures { MatchResult result
@@ -71,7 +72,7 @@ pub(crate) fn evaluate_all<R: Records, C: ghg_graph::Cells>(
 {
     let first = first_year(records);
     let mut known = Known::of(alloc, records, nodes)?;
-    let from = with_lines(alloc, records, before, nodes)?;
+    let from = with_lines(alloc, records, before, keys, nodes)?;
     let mut permits = permits;
     let mut buffers = Buffers::new(alloc);
     let mut cells = Overlay::over(alloc, kept, room_for(&known, nodes));
@@ -99,7 +100,7 @@ pub(crate) fn evaluate_all<R: Records, C: ghg_graph::Cells>(
     }
 }
 
-// The cells of the workbook before, and the lines of which an equivalent is evaluated anew.
+// The cells of the workbook before, and the lines of which totals may add something else.
 #[derive(Drop)]
 struct Before<'a, C> {
     cells: &'a C,
@@ -110,47 +111,20 @@ fn with_lines<'a, R: Records, C: ghg_graph::Cells>(
     alloc: Global,
     records: &R,
     before: Option<&'a C>,
+    keys: &[RecordKey],
     nodes: &[Node],
 ) -> Result<Option<Before<'a, C>>, AllocError>
-    requires { IfSome before (λ b. IsBefore (C.content b.now) (R.content records.now) nodes.now) }
+    requires { IfSome before (λ b.
+        IsBefore (C.content b.now) (R.content records.now) keys.now nodes.now) }
     ensures { IfOk result (λ o. IfSome o (λ b.
-        IsBefore (C.content b.cells.now) (R.content records.now) nodes.now
-        × AreChangedLines (R.content records.now) nodes.now b.changed)) }
+        IsBefore (C.content b.cells.now) (R.content records.now) keys.now nodes.now
+        × AreChangedLines (C.content b.cells.now) (R.content records.now) keys.now nodes.now b.changed)) }
 {
     let Some(cells) = before else {
         return Ok(None);
     };
-    let names = equivalent_lines(alloc, nodes)?;
-    let groups = Groups::of(alloc, records, &names)?;
-    let changed = ChangedLines { names, groups };
+    let changed = ChangedLines::of(alloc, cells.book(), records, keys, nodes)?;
     Ok(Some(Before { cells, changed }))
-}
-
-// The lines of which an equivalent is among nodes, by name.
-fn equivalent_lines(alloc: Global, nodes: &[Node]) -> Result<Vec<Name>, AllocError>
-    ensures { IfOk result (λ names. AreNamesOf nodes.now names.items) }
-{
-    let names = line_set(alloc, nodes)?;
-    names.iter().copied().collect(alloc)
-}
-
-fn line_set(alloc: Global, nodes: &[Node]) -> Result<BTreeSet<Name>, AllocError>
-    ensures { IfOk result (IsFromIterResult name_cmp (filter_map equivalent_line nodes.now)) }
-{
-    nodes
-        .iter()
-        .filter_map(|node| equivalent_line(node))
-        .collect(alloc)
-}
-
-// The line of an equivalent.
-fn equivalent_line(node: &Node) -> Option<Name>
-    ensures { result ≡ equivalent_line node.now }
-{
-    match node {
-        Node::Equiv(name, _) => Some(*name),
-        _ => None,
-    }
 }
 
 // The years of nodes, if the nodes are at least half as many as the lines and emitters of the first year
@@ -261,7 +235,7 @@ fn evaluate<R: Records, C: ghg_graph::Cells>(
             let addends = layout.groups.total(*category);
             match before {
                 Some(from) => {
-                    let changed = from.changed.groups.total(*category);
+                    let changed = from.changed.total(*category);
                     sum_from(
                         &emitters, from, cells, node, &addends, &changed, *year, ticket, buffers,
                     )
@@ -280,7 +254,7 @@ fn evaluate<R: Records, C: ghg_graph::Cells>(
             let addends = layout.groups.gross();
             match before {
                 Some(from) => {
-                    let changed = from.changed.groups.gross();
+                    let changed = from.changed.gross();
                     sum_from(
                         &emitters, from, cells, node, &addends, &changed, *year, ticket, buffers,
                     )
@@ -305,16 +279,16 @@ struct Emitters<'a, R> {
     names: &'a [Name],
 }
 
-// Evaluates a total in a year: what it was, and what has changed since, where that is a part of its own
-// lines, none of it is over and it is no more than a total may add; else the sum of what it adds. `changed`
-// are all addends that are evaluated anew, maybe among others.
+// Evaluates a total in a year: what it was, and what has changed since, where these are fewer lines than it
+// has of its own, none of them is over and they are no more than a total may add; else the sum of what it
+// adds.
 fn sum_from<R: Records, C: ghg_graph::Cells>(
     emitters: &Emitters<'_, R>,
     before: &Before<'_, C>,
     cells: &Overlay<'_>,
     node: &Node,
     addends: &Addends<'_>,
-    changed: &Addends<'_>,
+    changed: &ChangedAddends<'_>,
     year: u32,
     ticket: Ticket,
     buffers: &mut Buffers,
@@ -323,21 +297,20 @@ fn sum_from<R: Records, C: ghg_graph::Cells>(
     requires emitters { emitters.now.names.now ≡ gas_lines (R.content emitters.now.records.now) }
     requires before { IsResummed (outcomes_of cells.now) (fresh_at cells.now.fresh)
         (compilation (C.content before.now.cells.now)) node.now
-        (addends_for addends.now year) (addends_for changed.now year) }
+        (addends_for addends.now year) (addends_exchange changed.now year) }
     requires lines { IsResummed (outcomes_of cells.now) (fresh_at cells.now.fresh)
         (compilation (C.content before.now.cells.now)) node.now
         (all_for (R.content emitters.now.records.now) addends.now year)
-        (changed_for (R.content emitters.now.records.now) before.now.changed addends.now year) }
+        (counted_exchange (C.content before.now.cells.now) (R.content emitters.now.records.now)
+        before.now.changed addends.now.top year) }
     ensures { IfOk result (IsTotalOf (R.content emitters.now.records.now) (outcomes_of cells.now)
         addends.now year) }
 {
-    if changed.own.len() < addends.own.len() {
+    if changed.len() < addends.own.len() {
         if let Some(value) = before.cells.value(node) {
             let was = value.input();
             let changes = &mut buffers.changes;
-            if changes.gather(cells, before.cells, changed, year)?
-                && changes.gone.len() <= MOST_PARTS
-            {
+            if changes.gather(cells, before.cells, changed, year)? && changes.are_few() {
                 let value = total_from(ticket, was, &changes.gone, &changes.come);
                 return Ok(Evaluated::of(value));
             }
@@ -367,7 +340,8 @@ fn sum_changed<R: Records, C: ghg_graph::Cells>(
     requires lines { IsResummed (outcomes_of cells.now) (fresh_at cells.now.fresh)
         (compilation (C.content before.now.cells.now)) node.now
         (all_for (R.content emitters.now.records.now) addends.now year)
-        (changed_for (R.content emitters.now.records.now) before.now.changed addends.now year) }
+        (counted_exchange (C.content before.now.cells.now) (R.content emitters.now.records.now)
+        before.now.changed addends.now.top year) }
     ensures { IfOk result (IsTotalOf (R.content emitters.now.records.now) (outcomes_of cells.now)
         addends.now year) }
 {
@@ -378,18 +352,17 @@ fn sum_changed<R: Records, C: ghg_graph::Cells>(
     let Some(value) = before.cells.value(node) else {
         return sum_lines(emitters, cells, addends, year, ticket, parts);
     };
-    let names = before.changed.names.as_slice();
     if !changes.gather_counted(
         emitters.records,
         cells,
         before.cells,
-        names,
+        &before.changed,
         addends.top,
         year,
     )? {
         return Ok(Evaluated::passed_on());
     }
-    if changes.gone.len() <= MOST_PARTS {
+    if changes.are_few() {
         let value = total_from(ticket, value.input(), &changes.gone, &changes.come);
         return Ok(Evaluated::of(value));
     }

@@ -3,6 +3,7 @@
 
 mod arguments;
 mod cells;
+mod changed_lines;
 mod changes;
 mod children;
 mod column;

@@ -8,12 +8,11 @@ use Rattle.ghg_engine.specs.Overlays.{outcomes_of}
 use Rattle.ghg_engine.proofs.Answered.{if_ok}
 use Rattle.ghg_categories.specs.Tree.{is_same, stands_under}
 use Rattle.ghg_affected.specs.Subtotals.{children, gross_parts, is_above_parts}
-use Rattle.ghg_engine.specs.Grouping.{names_at}
 use Rattle.ghg_engine.specs.declared.parts.Part.TheVariants.{Equivalent}
-use Rattle.ghg_engine.specs.Changes.{IsReadyFrom, IsResummed, changed_for}
+use Rattle.ghg_engine.specs.Changes.{IsReadyFrom, IsResummed, addends_exchange, counted_exchange}
 use Rattle.ghg_engine.specs.Parts.{addends_for, all_for, counts_in, nodes_for}
 use Rattle.ghg_engine.specs.Fresh.{fresh_at}
-use Rattle.ghg_engine.proofs.Before.{from_ready, grouped_candidates, lines_ready, of_some}
+use Rattle.ghg_engine.proofs.Before.{from_ready, lines_ready, of_some}
 use Rattle.ghg_engine.proofs.Ready.{of_formula, of_total}
 use Rattle.ghg_engine.proofs.evaluation.evaluate.Goals as goal
 
@@ -42,14 +41,15 @@ sum_from-requires-clause-before g c =
     let n = node.Total c.in-Total.category year in
     let from = of_some _ c.args.before.now c.in-Some.from c.in-Some.is c.requires.before in
     let old = g.C.Cells.content c.in-Some.from.cells.now in
+    let changed = c.in-Some.from.changed in
     let ready = subst (IsReady m found) c.in-Total.is c.requires.ready in
-    let ready_from = subst (IsReadyFrom old m c.in-Some.from.changed fresh) c.in-Total.is from in
-    subst (λ k. IsResummed found fresh (compilation old) k (addends_for c.total-addends.result year) (addends_for c.total-changed.result year)) (sym c.in-Total.is)
-    (from_ready old m c.requires.workbook c.requires.acyclic c.in-Some.from.changed fresh found n ready ready_from refl _ _
+    let ready_from = subst (IsReadyFrom old m changed fresh) c.in-Total.is from in
+    subst (λ k. IsResummed found fresh (compilation old) k (addends_for c.total-addends.result year) (addends_exchange c.total-changed.result year)) (sym c.in-Total.is)
+    (from_ready old m c.requires.workbook c.requires.acyclic changed fresh found n ready ready_from (children c.in-Total.category) (λ k. is_same k c.in-Total.category) year refl refl refl _
     (ap₂ (λ (cs : List Category) (names : List Name). map (λ d. node.Total d year) cs ++ map (λ name. node.Equiv name year) names)
     c.total-addends.ensures.categories (c.total-addends.ensures.own ∙ c.requires.layout.groups.at c.in-Total.category))
-    (grouped_candidates old m c.requires.workbook c.requires.acyclic c.in-Some.from.changed fresh found n ready ready_from (children c.in-Total.category) _ (λ k. is_same k c.in-Total.category) _ year
-    c.total-changed.ensures.categories (c.total-changed.ensures.own ∙ ready_from.lines.grouped.at c.in-Total.category)))
+    c.total-changed.result c.total-changed.ensures.categories (c.total-changed.ensures.kept ∙ ready_from.lines.grouped.at c.in-Total.category)
+    (c.total-changed.ensures.gone ∙ ready_from.lines.gone.grouped.at c.in-Total.category) (c.total-changed.ensures.come ∙ ready_from.lines.come.grouped.at c.in-Total.category))
 
 pub sum_from-requires-clause-lines : goal.sum_from-requires-clause-lines
 sum_from-requires-clause-lines g c =
@@ -63,10 +63,9 @@ sum_from-requires-clause-lines g c =
     let changed = c.in-Some.from.changed in
     let ready = subst (IsReady m found) c.in-Total.is c.requires.ready in
     let ready_from = subst (IsReadyFrom old m changed fresh) c.in-Total.is from in
-    subst (λ k. IsResummed found fresh (compilation old) k (all_for m c.total-addends.result year) (changed_for m changed c.total-addends.result year)) (sym c.in-Total.is)
-    (subst (λ top. IsResummed found fresh (compilation old) n (nodes_for Equivalent (gas_lines_at (counts_in top) m) year)
-    (nodes_for Equivalent (names_at (counts_in top) m changed.names.items) year)) (sym c.total-addends.ensures.top)
-    (lines_ready old m c.requires.workbook c.requires.acyclic changed fresh found n ready ready_from (λ k. stands_under k c.in-Total.category) year refl refl))
+    subst (λ k. IsResummed found fresh (compilation old) k (all_for m c.total-addends.result year) (counted_exchange old m changed c.total-addends.result.top year)) (sym c.in-Total.is)
+    (subst (λ top. IsResummed found fresh (compilation old) n (nodes_for Equivalent (gas_lines_at (counts_in top) m) year) (counted_exchange old m changed top year)) (sym c.total-addends.ensures.top)
+    (lines_ready old m c.requires.workbook c.requires.acyclic changed fresh found n ready ready_from (λ k. stands_under k c.in-Total.category) year refl refl _ refl refl refl))
 
 pub returns-in-Some-clause-outcome : goal.returns-in-Some-clause-outcome
 returns-in-Some-clause-outcome g c =
@@ -101,14 +100,15 @@ sum_from-requires-in-Some-before-clause-before g c =
     let n = node.Gross year in
     let from = of_some _ c.args.before.now c.in-Some-before.from c.in-Some-before.is c.requires.before in
     let old = g.C.Cells.content c.in-Some-before.from.cells.now in
+    let changed = c.in-Some-before.from.changed in
     let ready = subst (IsReady m found) c.in-Gross.is c.requires.ready in
-    let ready_from = subst (IsReadyFrom old m c.in-Some-before.from.changed fresh) c.in-Gross.is from in
-    subst (λ k. IsResummed found fresh (compilation old) k (addends_for c.gross-addends.result year) (addends_for c.gross-changed.result year)) (sym c.in-Gross.is)
-    (from_ready old m c.requires.workbook c.requires.acyclic c.in-Some-before.from.changed fresh found n ready ready_from refl _ _
+    let ready_from = subst (IsReadyFrom old m changed fresh) c.in-Gross.is from in
+    subst (λ k. IsResummed found fresh (compilation old) k (addends_for c.gross-addends.result year) (addends_exchange c.gross-changed.result year)) (sym c.in-Gross.is)
+    (from_ready old m c.requires.workbook c.requires.acyclic changed fresh found n ready ready_from gross_parts is_above_parts year refl refl refl _
     (ap₂ (λ (cs : List Category) (names : List Name). map (λ d. node.Total d year) cs ++ map (λ name. node.Equiv name year) names)
     c.gross-addends.ensures.categories (c.gross-addends.ensures.own ∙ c.requires.layout.groups.above))
-    (grouped_candidates old m c.requires.workbook c.requires.acyclic c.in-Some-before.from.changed fresh found n ready ready_from gross_parts _ is_above_parts _ year
-    c.gross-changed.ensures.categories (c.gross-changed.ensures.own ∙ ready_from.lines.grouped.above)))
+    c.gross-changed.result c.gross-changed.ensures.categories (c.gross-changed.ensures.kept ∙ ready_from.lines.grouped.above)
+    (c.gross-changed.ensures.gone ∙ ready_from.lines.gone.grouped.above) (c.gross-changed.ensures.come ∙ ready_from.lines.come.grouped.above))
 
 pub sum_from-requires-in-Some-before-clause-lines : goal.sum_from-requires-in-Some-before-clause-lines
 sum_from-requires-in-Some-before-clause-lines g c =
@@ -122,10 +122,9 @@ sum_from-requires-in-Some-before-clause-lines g c =
     let changed = c.in-Some-before.from.changed in
     let ready = subst (IsReady m found) c.in-Gross.is c.requires.ready in
     let ready_from = subst (IsReadyFrom old m changed fresh) c.in-Gross.is from in
-    subst (λ k. IsResummed found fresh (compilation old) k (all_for m c.gross-addends.result year) (changed_for m changed c.gross-addends.result year)) (sym c.in-Gross.is)
-    (subst (λ top. IsResummed found fresh (compilation old) n (nodes_for Equivalent (gas_lines_at (counts_in top) m) year)
-    (nodes_for Equivalent (names_at (counts_in top) m changed.names.items) year)) (sym c.gross-addends.ensures.top)
-    (lines_ready old m c.requires.workbook c.requires.acyclic changed fresh found n ready ready_from counts_in_gross year refl refl))
+    subst (λ k. IsResummed found fresh (compilation old) k (all_for m c.gross-addends.result year) (counted_exchange old m changed c.gross-addends.result.top year)) (sym c.in-Gross.is)
+    (subst (λ top. IsResummed found fresh (compilation old) n (nodes_for Equivalent (gas_lines_at (counts_in top) m) year) (counted_exchange old m changed top year)) (sym c.gross-addends.ensures.top)
+    (lines_ready old m c.requires.workbook c.requires.acyclic changed fresh found n ready ready_from counts_in_gross year refl refl _ refl refl refl))
 
 pub returns-in-Some-before-clause-outcome : goal.returns-in-Some-before-clause-outcome
 returns-in-Some-before-clause-outcome g c =

@@ -53,7 +53,7 @@ evaluate-requires-clause-before g c =
     let fresh = fresh_at c.loop-node.cells.fresh in
     if_some _ c.loop-node.invariant.3 (λ (b : Before _) h. next_from (g.C.Cells.content b.cells.now) m c.requires.workbook c.requires.acyclic b.changed (take i nodes) n (drop (i + 1) nodes) nodes
     (around nodes i n c.loop-node-test.true c.node-item.is) found fresh c.loop-node.least
-    (at_next m nodes i n c.loop-node-test.true c.node-item.is found fresh c.loop-node.least c.loop-node.invariant.0) h.0 h.1)
+    (at_next m nodes i n c.loop-node-test.true c.node-item.is found fresh c.loop-node.least c.loop-node.invariant.0) c.args.keys.now h.0 h.1)
 
 pub insert-requires : goal.insert-requires
 insert-requires g c =

@@ -1,4 +1,4 @@
-use Rattle.std.proofs.Common.{◌≡◌, ◌∙◌, true, Some, length, sym, ap, subst, arith}
+use Rattle.std.proofs.Common.{◌≡◌, ◌∙◌, Some, length, sym, ap, subst, arith}
 use Rattle.ghg_affected.specs.Affected.{affected_nodes}
 use Rattle.ghg_affected.specs.Patches.{least_break}
 use Rattle.ghg_definitions.specs.Compilation.{compilation, overflow}
@@ -14,7 +14,6 @@ use Rattle.ghg_engine.specs.Fresh.{fresh_at}
 use Rattle.ghg_engine.specs.Proposals.{IfOverflow}
 use Rattle.ghg_engine.specs.Changes.{IsBefore}
 use Rattle.ghg_engine.specs.Views.{EngineView}
-use Rattle.ghg_graph.specs.Entries.{are_entries}
 use Rattle.ghg_engine.proofs.Answered.{if_over}
 use Rattle.ghg_engine.proofs.Next.{if_some, is_before}
 use Rattle.ghg_engine.proofs.Patched.{all_affected, fresh_compiled, fresh_fits, fresh_of_lines, fresh_over, unaffected_kept}
@@ -51,9 +50,10 @@ evaluate_all-requires-clause-before g c =
     let after = subst (λ m. IsAcyclic (applied m edits)) (sym is) c.requires.arranged.acyclic in
     let kept = c.self.invariant.0 in
     let lists = subst (ListsAffected old new) (sym c.deref.ensures.value) c.in_ok-nodes.ensures in
-    if_some c.before-before.result c.before-before.ensures (λ b h. subst (λ m. IsBefore b.now.content m ns) (sym c.after-records.ensures)
-    (subst (λ m. IsBefore m new ns) (is ∙ sym (ap (λ (e : EngineView). e.content) h.0))
-    (is_before old edits (subst (λ m. are_entries m edits ≡ true) (sym is) h.1) workbook after cells kept ns lists)))
+    let keys = c.keys-keys.result.now in
+    if_some c.before-before.result c.before-before.ensures.cells (λ b h. subst (λ m. IsBefore b.now.content m keys ns) (sym c.after-records.ensures)
+    (subst (λ m. IsBefore m new keys ns) (is ∙ sym (ap (λ (e : EngineView). e.content) h))
+    (is_before old edits workbook after cells kept ns lists keys c.keys-keys.ensures.keys)))
 
 -- what is said of the book is said of what contracts see
 pub returns-in-Ok-clause-steps : goal.returns-in-Ok-clause-steps

@@ -1,0 +1,18 @@
+use Rattle.std.proofs.Common.{map}
+use Rattle.ghg_units.specs.declared.node.Node.TheVariants.{Total}
+use Rattle.ghg_definitions.specs.Compilation.{compilation}
+use Rattle.ghg_engine.specs.Fresh.{fresh_at}
+use Rattle.ghg_engine.specs.Overlays.{outcomes_of}
+use Rattle.ghg_engine.specs.Parts.{nodes_for}
+use Rattle.ghg_engine.specs.declared.parts.Part.TheVariants.{Equivalent}
+use Rattle.ghg_engine.proofs.Answered.{if_ok}
+use Rattle.ghg_engine.proofs.Changed.{kept_further}
+use Rattle.ghg_engine.proofs.changes.Changes.add_kept.Goals as goal
+
+pub returns : goal.returns
+returns g c =
+    let a = c.args.addends.now in
+    let year = c.args.year in
+    if_ok c.add_equivalents.result (λ whole more e. kept_further (compilation (g.C.Cells.content c.args.before.now)) (outcomes_of c.args.cells.now) (fresh_at c.args.cells.now.fresh)
+    (map (λ d. Total d year) a.categories.now) (nodes_for Equivalent a.own.now year) c.args.self.now c.add_totals.new.self c.add_equivalents.new.self
+    (c.in_ok-add_totals.ensures c.if-not-branch.false) (more e)) c.add_equivalents.ensures
