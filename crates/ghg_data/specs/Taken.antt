@@ -7,13 +7,6 @@ use Rattle.ghg_units.specs.declared.row.Binding.TheVariants as bound
 use Rattle.ghg_definitions.specs.Data.{Data, Name, binding, line}
 use Rattle.ghg_definitions.specs.Rings.{taken_by}
 
--- the activity or factor whose figures a binding takes
-abbrev pub figures_taken : Option Binding → List Name
-figures_taken (Some (bound.Activity name)) = name ∷ []
-figures_taken (Some (bound.Factor name)) = name ∷ []
-figures_taken (Some (bound.Decay name)) = name ∷ []
-figures_taken _ = []
-
 -- the lines whose values a binding takes, that of the year before among them
 abbrev pub lines_taken : Option Binding → List Name
 lines_taken (Some (bound.Prev name)) = name ∷ []

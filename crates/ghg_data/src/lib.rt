@@ -37,5 +37,4 @@ pub use names::take_name;
 pub use parameters::params_of;
 pub use records::Records;
 pub use refusal::PlanRefusal;
-pub use taken::lines_taken;
 pub use view::After;

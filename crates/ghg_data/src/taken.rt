@@ -9,8 +9,8 @@ use ghg_definitions::Place;
 use ghg_units::{Binding, Name};
 use std::slice;
 
-/// The lines whose values a binding takes, that of the year before among them.
-pub fn lines_taken(binding: Option<&Binding>) -> &[Name]
+// The lines whose values a binding takes, that of the year before among them.
+fn lines_taken(binding: Option<&Binding>) -> &[Name]
     ensures { result.now ≡ lines_taken (option_copied binding.entry) }
 {
     match binding {
