@@ -17,8 +17,8 @@ use Rattle.ghg_definitions.specs.Trials.{IsInput}
 use Rattle.ghg_definitions.proofs.Alike.{both, first_so, not_so, second_so}
 use Rattle.ghg_definitions.proofs.Grounded.{Comes, line_comes}
 use Rattle.ghg_definitions.proofs.Lines.{lines_sorted}
-use Rattle.ghg_definitions.proofs.Listed.{contained, from_filter, from_flat, from_map, in_either, listed, listed_any, listed_filter, listed_flat, listed_left, listed_map, listed_right}
-use Rattle.ghg_definitions.proofs.NodeLists.{from_years, gas_lines_are, tree_is, years_are}
+use Rattle.ghg_definitions.proofs.Listed.{contained, from_filter, from_map, in_either, listed, listed_any, listed_filter, listed_flat, listed_left, listed_map, listed_right}
+use Rattle.ghg_definitions.proofs.NodeLists.{gas_lines_are, tree_is, years_are}
 use Rattle.ghg_affected.specs.Counts.{StandOnce}
 use Rattle.ghg_affected.specs.Patches.{IsInTurn}
 use Rattle.ghg_affected.specs.Subtotals.{AreBehindSubtotals, addends, children, gross_parts, is_above_parts, subtotals}
@@ -27,9 +27,10 @@ use Rattle.ghg_affected.proofs.Bools.{true_not_false}
 use Rattle.ghg_affected.proofs.Once.{Once, once_filter, once_names, once_upwards}
 use Rattle.ghg_graph.specs.Corrections.{ListsAffected}
 use Rattle.ghg_graph.specs.Ordering.{IsBehind, IsLineOrder}
-use Rattle.ghg_graph.specs.NodeOrders.{AreInOrder, ListsNodes}
+use Rattle.ghg_graph.specs.NodeOrders.{AreByYear, AreInOrder, ListsNodes}
 use Rattle.ghg_graph.specs.Reached.{is_reached}
 use Rattle.ghg_graph.specs.Years.{nodes_by_year, year_nodes}
+use Rattle.ghg_graph.proofs.ByYear.{by_year_of, some_by_year, years_ascend}
 use Rattle.ghg_graph.proofs.Marks.{from_reverse, listed_reverse}
 use Rattle.ghg_graph.proofs.InputYears.{input_of}
 use Rattle.ghg_graph.proofs.Reaching.{affected_reached, reached_affected}
@@ -168,8 +169,8 @@ module _ (m : Data) where
   once [] placed = tt
   once (n ∷ ns) placed = (λ c. placed.2 (listed ns n c), once ns placed.3)
 
-  in_order : (ns : List Node) → IsPlaced ns → AreInOrder m ns
-  in_order ns placed = record { in_turn = in_turn ns placed; behind = behind ns placed; once = once ns placed }
+  in_order : (ns : List Node) → IsPlaced ns → AreByYear ns → AreInOrder m ns
+  in_order ns placed by_year = record { in_turn = in_turn ns placed; behind = behind ns placed; once = once ns placed; by_year = by_year }
 
   some_placed : (p : Node → Bool) (ns : List Node) → IsPlaced ns → IsPlaced (filter p ns)
   some_placed p [] placed = tt
@@ -353,13 +354,6 @@ module _ (m : Data) where
   -- ---- all years
 
   module _ (names : List Name) (order : IsLineOrder m names) where
-    by_year_of : (first count : ℕ) (n : Node) → IsListed n (nodes_by_year names (gas_lines m) (years_from first count))
-        → first ≤ year_in n
-    by_year_of first count n l =
-        let from = from_flat (year_nodes names (gas_lines m)) n (years_from first count) l in
-        let low = from_years first count from.0 from.1 in
-        omega (arith, low.0, of_this_year names (gas_lines m) from.0 n from.2)
-
     years_placed : (first count : ℕ) → ((y : ℕ) → IsListed y (years_from first count) → is_year_of (span m) y ≡ true)
         → IsPlaced (nodes_by_year names (gas_lines m) (years_from first count))
     years_placed first zero within = tt
@@ -369,7 +363,7 @@ module _ (m : Data) where
         (year_placed first (within first (inl refl)) names order)
         (years_placed (first + 1) count (λ y i. within y (inr i)))
         (λ n i. of_this_year names (gas_lines m) first n i)
-        (λ n i. omega (arith, by_year_of (first + 1) count n i))
+        (λ n i. omega (arith, by_year_of names (gas_lines m) (first + 1) count n i))
 
     abbrev every : List Node
     every = nodes_by_year names (gas_lines m) (years_of (span m))
@@ -381,6 +375,13 @@ module _ (m : Data) where
 
     every_placed : IsPlaced every
     every_placed = every_by (span m) refl
+
+    every_by_year : AreByYear every
+    every_by_year = by (span m)
+      where
+        by : (s : Option Span) → AreByYear (nodes_by_year names (gas_lines m) (years_of s))
+        by None = tt
+        by (Some s) = years_ascend names (gas_lines m) s.first (s.last + 1 - s.first)
 
     at_year : (n : Node) (year : ℕ) → is_year_of (span m) year ≡ true → IsListed n (year_nodes names (gas_lines m) year)
         → IsListed n every
@@ -422,7 +423,7 @@ pub lists_nodes : (m : Data) (names emitters : List Name) → IsLineOrder m name
     → (ns : List Node) → ns ≡ nodes_by_year names emitters (years_of (span m)) → ListsNodes m ns
 lists_nodes m names emitters order all ns e =
     subst (ListsNodes m) (sym (e ∙ ap (λ es. nodes_by_year names es (years_of (span m))) all)) (record {
-      order = in_order m _ (every_placed m names order);
+      order = in_order m _ (every_placed m names order) (every_by_year m names order);
       complete = λ n is. contained _ n (node_there m names order n is);
     })
 
@@ -436,7 +437,7 @@ lists_affected old new names emitters order all ns e =
   where
     found : ListsAffected old new (filter (is_reached old new) (nodes_by_year names (gas_lines new) (years_of (span new))))
     found = record {
-      order = in_order new _ (some_placed new (is_reached old new) _ (every_placed new names order));
+      order = in_order new _ (some_placed new (is_reached old new) _ (every_placed new names order)) (some_by_year (is_reached old new) _ (every_by_year new names order));
       sound = λ n c. reached_affected old new n
           (from_filter (is_reached old new) n (nodes_by_year names (gas_lines new) (years_of (span new))) (listed _ n c)).1;
       complete = λ n a. contained _ n (listed_filter (is_reached old new) n (nodes_by_year names (gas_lines new) (years_of (span new)))

@@ -12,6 +12,7 @@ pub mod Marking
 pub mod YearParts
 pub mod YearNodes
 pub mod Corrected
+pub mod ByYear
 pub mod InTurn
 pub mod Membership
 pub mod Pushed
