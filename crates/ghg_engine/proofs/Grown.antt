@@ -9,22 +9,23 @@ use Rattle.ghg_definitions.specs.Formulas.{Outcome}
 use Rattle.ghg_definitions.specs.Trials.{Outcomes}
 use Rattle.ghg_engine.specs.declared.cells.Cells.{Cells}
 use Rattle.ghg_engine.specs.declared.series.Series.{Series}
-use Rattle.ghg_engine.specs.Cells.{AreWithin, HasGrown, IsReadyFor, cell_at, has_column, has_room, has_value, room_at, series_order, with_outcome}
-use Rattle.ghg_engine.specs.Columns.{Run, takes_in}
+use Rattle.ghg_engine.specs.Cells.{AreWithin, HasGrown, IsReadyFor, cell_at, has_column, has_room, has_value, room_at, series_order, touches_at, touches_column, with_outcome}
+use Rattle.ghg_engine.specs.Columns.{Run, takes_in, touches}
 use Rattle.ghg_engine.proofs.Places.{node_same, series_same}
 
 -- ---- one step after another
 
-pub grown_alike : (old new : Cells) → cell_at new ≡ cell_at old → ((s : Series) → has_column old s ≡ true → has_column new s ≡ true) → ((s : Series) (run : Run) → room_at old s run ≡ true → room_at new s run ≡ true) → HasGrown old new
-grown_alike old new same columns room = record {
+pub grown_alike : (old new : Cells) → cell_at new ≡ cell_at old → ((s : Series) → has_column old s ≡ true → has_column new s ≡ true) → ((s : Series) (run : Run) → room_at old s run ≡ true → room_at new s run ≡ true) → ((s : Series) (run : Run) → touches_at old s run ≡ true → touches_at new s run ≡ true) → HasGrown old new
+grown_alike old new same columns room touching = record {
   outcomes = λ n there. ap (λ (f : Outcomes). f n) same;
   values = λ n there. ap (λ (f : Outcomes). f n) same;
   columns = columns;
   room = room;
+  touching = touching;
 }
 
 pub not_grown : (cells : Cells) → HasGrown cells cells
-not_grown cells = grown_alike cells cells refl (λ s has. has) (λ s run has. has)
+not_grown cells = grown_alike cells cells refl (λ s has. has) (λ s run has. has) (λ s run meets. meets)
 
 module _ (first second third : Cells) (begins : HasGrown first second) (goes_on : HasGrown second third) where
   pub grown_further : HasGrown first third
@@ -33,6 +34,7 @@ module _ (first second third : Cells) (begins : HasGrown first second) (goes_on 
     values = λ n has. goes_on.values n has ∙ begins.values n (sym (ap has_value (goes_on.values n has)) ∙ has);
     columns = λ s has. goes_on.columns s (begins.columns s has);
     room = λ s run has. goes_on.room s run (begins.room s run has);
+    touching = λ s run meets. goes_on.touching s run (begins.touching s run meets);
   }
 
 -- ---- what stays
@@ -56,6 +58,7 @@ one_place old new n none put columns = record {
   values = λ k has. ap (λ (f : Outcomes). f k) put ∙ stays k (same_node k n) (sym (ap (λ (f : Outcomes). has_value (f k)) put) ∙ has);
   columns = λ s has. ap (λ cs. is_some (get series_order cs s)) columns ∙ has;
   room = λ s run has. ap (λ cs. has_room (get series_order cs s) run) columns ∙ has;
+  touching = λ s run meets. ap (λ cs. touches_column (get series_order cs s) run) columns ∙ meets;
 }
   where
     kept : (k : Node) → is_some (cell_at old k) ≡ true → (b : Bool) → same_node k n ≡ b → cond b placed (cell_at old k) ≡ cell_at old k
@@ -67,6 +70,10 @@ one_place old new n none put columns = record {
     stays k false has = refl
 
 -- ---- room in columns
+
+pub lent_there : (o : Option (MutBor Run)) (p : Option Run) → option_copied_mut o ≡ p → is_some p ≡ true → IsSome o
+lent_there None p is has = absurd (true_not_false (sym has ∙ ap is_some (sym is)))
+lent_there (Some b) p is has = search rules
 
 -- where there is room, there is a column
 pub lent_some : (o : Option (MutBor Run)) (p : Option Run) (run : Run) → option_copied_mut o ≡ p → has_room p run ≡ true → IsSome o
@@ -106,3 +113,14 @@ module _ (s : Series) (after : Run) (old new : BTreeMap Series Run) (updates : (
       by : (b : Bool) → is_at (series_order s) q ≡ b → has_room (get series_order new q) run ≡ true
       by true at = absurd (true_not_false (sym has ∙ ap (λ o. has_room o run) (ap (get series_order old) (sym (series_same s q at)) ∙ absent)))
       by false apart = others_room q run apart ∙ has
+
+  -- what touches the column that was there touches the one that is there now
+  pub touching_stays : ((run : Run) → touches_column (get series_order old s) run ≡ true → touches after run ≡ true) → (q : Series) (run : Run) → touches_column (get series_order old q) run ≡ true → touches_column (get series_order new q) run ≡ true
+  touching_stays still q run meets = by (is_at (series_order s) q) refl
+    where
+      is : (b : Bool) → is_at (series_order s) q ≡ b → touches_column (get series_order new q) run ≡ touches_column (cond b (Some after) (get series_order old q)) run
+      is b at = ap (λ o. touches_column o run) (updates q ∙ ap (λ c. cond c (Some after) (get series_order old q)) at)
+
+      by : (b : Bool) → is_at (series_order s) q ≡ b → touches_column (get series_order new q) run ≡ true
+      by true at = is true at ∙ still run (sym (ap (λ o. touches_column o run) (ap (get series_order old) (sym (series_same s q at)))) ∙ meets)
+      by false apart = is false apart ∙ meets

@@ -17,7 +17,7 @@ use Rattle.ghg_engine.specs.declared.cells.Cells.{Cells}
 use Rattle.ghg_engine.specs.declared.series.Series.{Series}
 use Rattle.ghg_engine.specs.declared.series.Series.TheVariants as series
 use Rattle.ghg_engine.specs.contracts.series.SeriesOrd.TheImpl as derived_of_series
-use Rattle.ghg_engine.specs.Columns.{Run, takes_in, value_in}
+use Rattle.ghg_engine.specs.Columns.{Run, takes_in, touches, value_in}
 
 -- ---- outcomes
 
@@ -120,16 +120,26 @@ has_room (Some column) run = takes_in column run
 abbrev pub room_at : Cells → Series → Run → Bool
 room_at cells s run = has_room (get series_order cells.columns s) run
 
+-- whether the values touch the column of a series, if it has one
+abbrev pub touches_column : Option Run → Run → Bool
+touches_column None run = true
+touches_column (Some column) run = touches column run
+
+abbrev pub touches_at : Cells → Series → Run → Bool
+touches_at cells s run = touches_column (get series_order cells.columns s) run
+
 -- the values of the series can be taken over without memory: by its column, or since each has a cell
 abbrev pub IsReadyFor : Cells → Series → Run → Type 0
 IsReadyFor cells s run = (room_at cells s run ≡ true) ⊎ AreWithin (in_series s run) (cell_at cells)
 
--- each outcome and each column stays, no node has a value that had none, and there is no less room
+-- each outcome and each column stays, no node has a value that had none, and there is no less room; what
+-- touched a column still does
 pub record HasGrown (old new : Cells) : Type 0 where
   pub outcomes : (n : Node) → is_some (cell_at old n) ≡ true → cell_at new n ≡ cell_at old n
   pub values : (n : Node) → has_value (cell_at new n) ≡ true → cell_at new n ≡ cell_at old n
   pub columns : (s : Series) → has_column old s ≡ true → has_column new s ≡ true
   pub room : (s : Series) (run : Run) → room_at old s run ≡ true → room_at new s run ≡ true
+  pub touching : (s : Series) (run : Run) → touches_at old s run ≡ true → touches_at new s run ≡ true
 
 -- the columns have as much room as before
 abbrev pub KeepsRoom : Cells → Cells → Type 0

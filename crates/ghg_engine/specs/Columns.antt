@@ -38,14 +38,26 @@ abbrev pub covers : Run → Run → Bool
 covers run other = length other.values == 0
     || (nat_le run.first other.first && nat_le (end_of other) (end_of run))
 
--- the second begins behind the last year of the first, which has room for its values there
-abbrev pub goes_behind : Run → Run → Bool
-goes_behind run next = next.first == end_of run && nat_le (length next.values) run.spare
+-- the first has no years, or none lies between it and the second
+abbrev pub touches : Run → Run → Bool
+touches run next = length run.values == 0 || (nat_le next.first (end_of run) && nat_le run.first (end_of next))
 
--- the first can take over the values of the second without memory: in place of its own, over its own, or
--- behind them
+-- the second begins in the years of the first or directly behind them, and ends behind them; the first has
+-- room for those of its years that are behind
+abbrev pub goes_behind : Run → Run → Bool
+goes_behind run next = nat_le run.first next.first && nat_le next.first (end_of run)
+    && nat_le (end_of run) (end_of next) && nat_le (end_of next - end_of run) run.spare
+
+-- the second ends in the years of the first or directly before them, and begins before them; the first has
+-- room for those of its years that are before
+abbrev pub comes_before : Run → Run → Bool
+comes_before run next = nat_le next.first run.first && nat_le run.first (end_of next)
+    && nat_le (end_of next) (end_of run) && nat_le (run.first - next.first) run.spare
+
+-- the first can take over the values of the second without memory: in place of its own, over its own, behind
+-- them or before them
 abbrev pub takes_in : Run → Run → Bool
-takes_in run next = covers next run || (covers run next || goes_behind run next)
+takes_in run next = covers next run || covers run next || goes_behind run next || comes_before run next
 
 -- each year has the value of the fresh run, else that of the old one
 abbrev pub IsOver : Run → Run → Run → Type 0

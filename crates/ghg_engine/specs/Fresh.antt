@@ -8,7 +8,7 @@ use Rattle.ghg_definitions.specs.Trials.{Outcomes, is_over}
 use Rattle.ghg_engine.specs.declared.cells.Cells.{Cells}
 use Rattle.ghg_engine.specs.declared.fresh.FreshCells.{FreshCells}
 use Rattle.ghg_engine.specs.declared.numbered.SeriesColumn.{SeriesColumn}
-use Rattle.ghg_engine.specs.Cells.{AreWithin, IsReadyFor, cell_at, found_in, has_column, node_order, with_outcome}
+use Rattle.ghg_engine.specs.Cells.{AreWithin, IsReadyFor, cell_at, found_in, has_column, node_order, room_at, touches_at, with_outcome}
 use Rattle.ghg_engine.specs.Numbered.{in_numbered}
 
 -- the outcome of a node that has a fresh cell: the one in its column, else the one that stands aside
@@ -24,6 +24,12 @@ AreReady cells columns =
 abbrev pub HaveColumns : Cells → List SeriesColumn → Type 0
 HaveColumns cells columns =
     (i : ℕ) (c : SeriesColumn) → slice_get columns i ≡ Some c → has_column cells c.series ≡ true
+
+-- the column of a series now takes in each of the columns that touched it before
+abbrev pub HasGrownFor : Cells → Cells → List SeriesColumn → Type 0
+HasGrownFor old new columns =
+    (i : ℕ) (c : SeriesColumn) → slice_get columns i ≡ Some c
+    → touches_at old c.series c.column ≡ true → room_at new c.series c.column ≡ true
 
 -- the fresh cells can be taken over without memory
 pub record HasRoomFor (cells : Cells) (fresh : FreshCells) : Type 0 where

@@ -3,7 +3,7 @@
 ghost use Rattle.std.specs.Prelude.{◌≡◌, is_some, true, IfNone, IfOk, IfSome, IsSome, Ok, OnOk};
 ghost use Rattle.std.specs.BTreeMap as tree;
 ghost use Rattle.std.specs.Option.{option_map};
-ghost use Rattle.ghg_engine.specs.Cells.{AreApart, AreWithin, HasGrown, IsReadyFor, KeepsOtherRoom, KeepsRoom, cell_at, found_in, has_column, in_series, no_outcomes, node_order, outcome_behind, room_at, series_of, with_outcome, without_series};
+ghost use Rattle.ghg_engine.specs.Cells.{AreApart, AreWithin, HasGrown, IsReadyFor, KeepsOtherRoom, KeepsRoom, cell_at, found_in, has_column, in_series, no_outcomes, node_order, outcome_behind, room_at, series_of, touches_at, with_outcome, without_series};
 
 use crate::column::Column;
 use crate::series::{Series, year_of};
@@ -52,11 +52,13 @@ impl Cells {
     // ---- room for more
 
     /// Gives a series a column, if it has none, and makes room for values of it, as far as there is memory:
-    /// in its column, or else a place for each aside of it.
+    /// in its column, where they touch that, or else a place for each aside of it.
     pub(crate) fn make_room(&mut self, series: &Series, column: &Column) -> Result<(), AllocError>
         ensures grown { HasGrown self.old self.new }
         ensures column { OnOk result (has_column self.new series.now ≡ true) }
         ensures ready { OnOk result (IsReadyFor self.new series.now column.now) }
+        ensures room { OnOk result (touches_at self.old series.now column.now ≡ true →
+            room_at self.new series.now column.now ≡ true) }
     {
         self.make_column(series)?;
         if !self.widen(series, column)? {
@@ -77,16 +79,16 @@ impl Cells {
         Ok(())
     }
 
-    // Makes room in the column of a series for values, if they come behind its own. It answers whether it has
-    // room for them.
+    // Makes room in the column of a series for values, if they touch it. It answers whether it has room for
+    // them.
     fn widen(&mut self, series: &Series, next: &Column) -> Result<bool, AllocError>
+        requires { has_column self.old series.now ≡ true }
         ensures grown { HasGrown self.old self.new }
-        ensures room { IfOk result (λ fits. fits ≡ room_at self.new series.now next.now) }
+        ensures fits { IfOk result (λ fits. fits ≡ room_at self.new series.now next.now) }
+        ensures room { IfOk result (λ fits. touches_at self.old series.now next.now ≡ true → fits ≡ true) }
     {
-        match self.columns.get_mut(series) {
-            Some(column) => column.widen(next),
-            None => Ok(false),
-        }
+        let column = self.columns.get_mut(series).unwrap();
+        column.widen(next)
     }
 
     // Makes a place for each value of a series.

@@ -1,7 +1,7 @@
 //! The values of a series, year by year.
 
-ghost use Rattle.std.specs.Prelude.{◌≡◌, ◌<◌, ◌≤◌, ◌+◌, ◌-◌, ◌==◌, [], ◌∷◌, ◌++◌, true, None, Some, is_ok, is_some, length, if◌then◌else◌, IfNone, IfOk, IfSome, OnSome, SomeIff, option_copied};
-ghost use Rattle.ghg_engine.specs.Columns.{HasIn, HasShapeOf, IsOver, IsPutIn, covers, end_of, goes_behind, takes_in, value_in};
+ghost use Rattle.std.specs.Prelude.{◌≡◌, ◌<◌, ◌≤◌, ◌+◌, ◌-◌, [], ◌∷◌, ◌++◌, true, None, Some, drop, is_ok, is_some, length, if◌then◌else◌, vec_capacity, IfNone, IfOk, IfSome, OnSome, SomeIff, option_copied};
+ghost use Rattle.ghg_engine.specs.Columns.{HasIn, HasShapeOf, IsOver, IsPutIn, comes_before, covers, end_of, goes_behind, takes_in, touches, value_in};
 
 use ghg_cell::Value;
 use std::alloc::{AllocError, Global};
@@ -123,26 +123,31 @@ impl Column {
 
     // ---- the values of another column
 
-    /// Makes room for the values of another column, if they come behind the last year. It answers whether
-    /// this one can take them in.
+    /// Makes room for the values of another column, if it has no years, or none lies between the two. It
+    /// answers whether it can take them in.
     pub(crate) fn widen(&mut self, next: &Column) -> Result<bool, AllocError>
         ensures first { self.new.first ≡ self.old.first }
         ensures values { self.new.values ≡ self.old.values }
         ensures spare { self.old.spare ≤ self.new.spare }
         ensures fits { IfOk result (λ fits. fits ≡ takes_in self.new next.now) }
+        ensures room { IfOk result (λ fits. touches self.old next.now ≡ true → fits ≡ true) }
     {
-        if self.ends_before(next) {
-            self.values.reserve_exact(next.values.len())?;
+        if self.touches(next) && !next.covers(self) {
+            let years = self.years_beyond(next);
+            self.values.reserve_exact(years)?;
         }
         Ok(self.takes_in(next))
     }
 
     /// Whether it can take over the values of another column without memory: in place of its own, over its
-    /// own, or behind them.
+    /// own, behind them or before them.
     pub(crate) fn takes_in(&self, next: &Column) -> bool
         ensures { result ≡ takes_in self.now next.now }
     {
-        next.covers(self) || self.covers(next) || self.has_room_behind(next)
+        next.covers(self)
+            || self.covers(next)
+            || self.has_room_behind(next)
+            || self.has_room_before(next)
     }
 
     /// Takes over the values of another column. It takes no memory.
@@ -154,8 +159,10 @@ impl Column {
             *self = next;
         } else if self.covers(&next) {
             self.overwrite_years(next);
-        } else {
+        } else if self.has_room_behind(&next) {
             self.append(next);
+        } else {
+            self.prepend(next);
         }
     }
 
@@ -170,27 +177,72 @@ impl Column {
         }
     }
 
-    // Takes over the values of a column that begins behind the last year, for which there is room.
+    // Takes over the values of a column that begins in its years or directly behind them, for which there is
+    // room.
     fn append(&mut self, next: Column)
         requires { goes_behind self.old next ≡ true }
         ensures { IsOver next self.old self.new }
     {
         let mut next = next;
+        self.values.truncate((next.first - self.first) as usize);
         self.values.append(&mut next.values).unwrap();
     }
 
-    // Whether another column begins behind the last year, and there is room for its values.
+    // Takes over the values of a column that ends in its years or directly before them, for which there is
+    // room.
+    fn prepend(&mut self, next: Column)
+        requires { comes_before self.old next ≡ true }
+        ensures { IsOver next self.old self.new }
+    {
+        let mut next = next;
+        drop_first(&mut self.values, (next.end() - self.first as u64) as usize);
+        let later = self.values.len();
+        self.values.append(&mut next.values).unwrap();
+        self.values.rotate_left(later);
+        self.first = next.first;
+    }
+
+    // Whether another column begins in its years or directly behind them, ends behind them, and finds room.
     fn has_room_behind(&self, next: &Column) -> bool
         ensures { result ≡ goes_behind self.now next.now }
     {
-        self.ends_before(next) && next.values.len() <= self.values.capacity() - self.values.len()
+        self.first <= next.first
+            && next.first as u64 <= self.end()
+            && self.end() <= next.end()
+            && next.end() - self.end() <= self.spare()
     }
 
-    // Whether another column begins with the year behind the last.
-    fn ends_before(&self, next: &Column) -> bool
-        ensures { result ≡ (next.now.first == end_of self.now) }
+    // Whether another column ends in its years or directly before them, begins before them, and finds room.
+    fn has_room_before(&self, next: &Column) -> bool
+        ensures { result ≡ comes_before self.now next.now }
     {
-        next.first as u64 == self.end()
+        next.first <= self.first
+            && self.first as u64 <= next.end()
+            && next.end() <= self.end()
+            && (self.first - next.first) as u64 <= self.spare()
+    }
+
+    // Whether it has no years, or none lies between it and another column.
+    fn touches(&self, next: &Column) -> bool
+        ensures { result ≡ touches self.now next.now }
+    {
+        self.values.len() == 0 || next.first as u64 <= self.end() && self.first as u64 <= next.end()
+    }
+
+    // How many years of another column are before or behind its own.
+    fn years_beyond(&self, next: &Column) -> usize
+        ensures { result ≡ (self.now.first - next.now.first) + (end_of next.now - end_of self.now) }
+    {
+        let before = self.first.saturating_sub(next.first) as usize;
+        let behind = next.end().saturating_sub(self.end()) as usize;
+        before + behind
+    }
+
+    // For how many more years there is room.
+    fn spare(&self) -> u64
+        ensures { result ≡ self.now.spare }
+    {
+        (self.values.capacity() - self.values.len()) as u64
     }
 
     // Whether it has each year that another column has.
@@ -238,4 +290,14 @@ fn append(values: &mut Vec<Value>, value: Value) -> Result<(), AllocError>
     }
     values.push(value)?;
     Ok(())
+}
+
+// Drops so many values from the front.
+fn drop_first(values: &mut Vec<Value>, count: usize)
+    requires { count ≤ length values.old.items }
+    ensures items { values.new.items ≡ drop count values.old.items }
+    ensures capacity { vec_capacity values.new ≡ vec_capacity values.old }
+{
+    values.rotate_left(count);
+    values.truncate(values.len() - count);
 }

@@ -4,7 +4,7 @@ ghost use Rattle.std.specs.Prelude.{◌≡◌, is_some, true, None, OnOk};
 ghost use Rattle.std.specs.BTreeMap as tree;
 ghost use Rattle.std.specs.Option.{option_map};
 ghost use Rattle.ghg_engine.specs.Cells.{AreWithin, HasGrown, KeepsRoom, NoneOver, cell_at, found_in, no_outcomes, node_order, outcome_behind, with_outcome};
-ghost use Rattle.ghg_engine.specs.Fresh.{AreReady, HasRoomFor, HaveColumns, fitting, fresh_at, with_value};
+ghost use Rattle.ghg_engine.specs.Fresh.{AreReady, HasGrownFor, HasRoomFor, HaveColumns, fitting, fresh_at, with_value};
 ghost use Rattle.ghg_engine.specs.Numbered.{in_numbered};
 
 use crate::cells::Cells;
@@ -67,10 +67,11 @@ impl FreshCells {
     }
 
     /// Makes room for the cells among others, as far as there is memory. Each of their series gets a column
-    /// there, if it has none.
+    /// there, if it has none, and room in it for values that touch it.
     pub(crate) fn make_room(&self, cells: &mut Cells) -> Result<(), AllocError>
         ensures grown { HasGrown cells.old cells.new }
         ensures columns { OnOk result (HaveColumns cells.new self.now.columns) }
+        ensures touching { OnOk result (HasGrownFor cells.old cells.new self.now.columns) }
         ensures room { OnOk result (HasRoomFor cells.new self.now) }
     {
         make_columns(&self.columns, cells)?;
@@ -105,6 +106,7 @@ fn put_aside(
 fn make_columns(columns: &NumberedColumns, cells: &mut Cells) -> Result<(), AllocError>
     ensures grown { HasGrown cells.old cells.new }
     ensures columns { OnOk result (HaveColumns cells.new columns.now) }
+    ensures touching { OnOk result (HasGrownFor cells.old cells.new columns.now) }
     ensures ready { OnOk result (AreReady cells.new columns.now) }
 {
     for number in 0..columns.len() {

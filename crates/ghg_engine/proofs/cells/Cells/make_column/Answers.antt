@@ -1,8 +1,9 @@
 use Rattle.std.proofs.Common.{ap, sym, ◌∙◌}
 use Rattle.std.specs.BTreeMap.{get}
 use Rattle.ghg_engine.specs.Cells.{found_in, node_order, series_order}
-use Rattle.ghg_engine.proofs.Grown.{column_stays, grown_alike, not_grown, room_added}
+use Rattle.ghg_engine.proofs.Grown.{column_stays, grown_alike, not_grown, room_added, touching_stays}
 use Rattle.ghg_engine.proofs.Taken.{empty_column}
+use Rattle.ghg_engine.proofs.Takes.{touches_none}
 use Rattle.ghg_engine.proofs.Written.{none_is}
 use Rattle.ghg_engine.proofs.cells.Cells.make_column.Goals as goal
 
@@ -19,3 +20,4 @@ returns-clause-grown c =
     grown_alike old new (ap (found_in (get node_order old.aside)) (empty_column s c.new.result old.columns new.columns updates c.new.ensures absent))
     (column_stays s c.new.result old.columns new.columns updates)
     (room_added s c.new.result old.columns new.columns updates absent)
+    (touching_stays s c.new.result old.columns new.columns updates (λ run meets. touches_none c.new.result run c.new.ensures))
