@@ -1,14 +1,15 @@
 -- What totals were in data before.
-use Rattle.std.proofs.Common.{◌≡◌, ◌↔◌, inl, inr, ℕ, Bool, true, false, not, cond, is_some, List, [], ◌∷◌, ◌++◌, map, filter, Contains, Option, Some, None, Ok, Err, refl, sym, ap, ap₂, ◌∙◌, subst}
+use Rattle.std.proofs.Common.{◌≡◌, ◌↔◌, inl, inr, ℕ, Bool, true, false, not, cond, is_some, List, [], ◌∷◌, ◌++◌, map, filter, filter_map, Contains, Option, Some, None, Ok, Err, refl, sym, ap, ap₂, ◌∙◌, subst}
 use Rattle.std.specs.BTreeSet.{BTreeSet, IsOrdered, contains}
 use Rattle.std.specs.FinMap.{get}
 use Rattle.std.specs.Cmp.Lexicographic.{nat_list_cmp_total}
 use Rattle.std.specs.List.Sorted.{IsStrictlySortedBy}
 use Rattle.std.proofs.lemmas.Map.Lookups.{exact_bytes}
 use Rattle.std.specs.Prelude.{IfSome}
-use Rattle.std.specs.Option.{option_map_or}
+use Rattle.std.specs.Option.{option_eq, option_map_or}
 use Rattle.std.proofs.lemmas.List.Elements.{filter-append}
 use Rattle.std.proofs.lemmas.List.Kept.{IsStrictlySortedBy-filter}
+use Rattle.ghg_categories.specs.Tree.{is_same}
 use Rattle.ghg_categories.specs.declared.category.Category.{Category}
 use Rattle.ghg_cell.specs.declared.figures.Figures.{Figures}
 use Rattle.ghg_cell.specs.declared.input.Input.{Input}
@@ -25,6 +26,7 @@ use Rattle.ghg_definitions.specs.Compilation.{compilation, emits, gas_lines, gas
 use Rattle.ghg_definitions.specs.Data.{Data, Name, category, line_names, name_cmp}
 use Rattle.ghg_definitions.specs.Formulas.{Outcome, Summed, inputs, map_formula, outcome_of}
 use Rattle.ghg_definitions.specs.Listed.{IsListed}
+use Rattle.ghg_definitions.specs.Nodes.{year_in}
 use Rattle.ghg_definitions.specs.Rings.{IsAcyclic}
 use Rattle.ghg_definitions.specs.Sound.{IsWorkbook}
 use Rattle.ghg_definitions.specs.Trials.{IsCompilation, IsInput, Outcomes, is_over, or_blank, value_of}
@@ -34,8 +36,8 @@ use Rattle.ghg_definitions.proofs.Consequences.{points_within}
 use Rattle.ghg_definitions.proofs.Depth.{or_else}
 use Rattle.ghg_definitions.proofs.Grounded.{acyclic_grounded, line_listed}
 use Rattle.ghg_definitions.proofs.Lines.{lines_sorted}
-use Rattle.ghg_definitions.proofs.Listed.{contained, from_filter, from_map, in_either, listed, listed_filter, listed_filter_map, listed_left, listed_map, listed_right}
-use Rattle.ghg_definitions.proofs.NodeLists.{emitting}
+use Rattle.ghg_definitions.proofs.Listed.{contained, from_filter, from_map, in_either, listed_filter, listed_filter_map, listed_left, listed_map, listed_right}
+use Rattle.ghg_definitions.proofs.NodeLists.{category_same, emitting}
 use Rattle.ghg_definitions.proofs.OneTrial.{compilation_trial}
 use Rattle.ghg_affected.specs.Subtotals.{addends, is_total, subtotals}
 use Rattle.ghg_affected.proofs.Bools.{true_not_false}
@@ -44,13 +46,13 @@ use Rattle.ghg_affected.proofs.Closed.{inputs_are_nodes}
 use Rattle.ghg_affected.proofs.Subtotals.{totals_are_of_subtotals}
 use Rattle.ghg_graph.proofs.Emitting.{same_names}
 use Rattle.ghg_graph.proofs.Membership.{key_listed, listed_key}
-use Rattle.ghg_engine.specs.Changes.{AreChangedLines, AreEdited, AreEmitters, AreKeptLines, Exchange, IsReadyFrom, IsResummed, Stays, addends_exchange, equivalent_line, has_outcome, input_at, or_nothing}
+use Rattle.ghg_engine.specs.Changes.{AreChangedLines, AreEmitters, AreKeptLines, AreMoved, Exchange, IsReadyFrom, IsResummed, Stays, addends_exchange, has_outcome, input_at, is_moved, moved_line, or_nothing}
 use Rattle.ghg_engine.specs.Evaluation.{IsReady}
 use Rattle.ghg_engine.specs.declared.changed_lines.ChangedAddends.{ChangedAddends}
 use Rattle.ghg_engine.specs.declared.changed_lines.ChangedLines.{ChangedLines}
 use Rattle.ghg_engine.specs.declared.changed_lines.GroupedLines.{GroupedLines}
-use Rattle.ghg_engine.specs.Grouping.{names_at}
-use Rattle.ghg_engine.proofs.Entered.{emits_at, emits_named, of_emits_at, sorted_at, to_emits_at}
+use Rattle.ghg_engine.specs.Grouping.{emitted_at, names_at}
+use Rattle.ghg_engine.proofs.Entered.{emits_at, emitted_alike, of_emits_at, sorted_at, to_emits_at}
 use Rattle.ghg_engine.proofs.Resummed.{at_both, behind_first, gathered_inputs, parts_added, plus_swap, sum_at}
 use Rattle.ghg_engine.proofs.SubtotalNodes.{subtotals_are_nodes}
 
@@ -103,7 +105,7 @@ module _ (m : Data) (acyclic : IsAcyclic m) (whole : IsCompilation (sheet_of m) 
     | inr none ↦ absurd (nothing_known (compilation m n) b ((compilation_trial m acyclic).nowhere_else n none) is)
   ]
 
--- ---- edited lines and others
+-- ---- moved lines and others
 
 -- two tests in either order
 filters_swap : {A : Type 0} (p q : A → Bool) (xs : List A) → filter p (filter q xs) ≡ filter q (filter p xs)
@@ -133,33 +135,33 @@ pub not_true : (b : Bool) → not b ≡ true → b ≡ false
 not_true true e = absurd (true_not_false (sym e))
 not_true false e = refl
 
-module _ (edited : BTreeSet Name) (ordered : IsOrdered name_cmp edited) where
-  abbrev is_edited : Name → Bool
-  is_edited name = contains name_cmp edited name
+module _ (moved : BTreeSet Name) (ordered : IsOrdered name_cmp moved) where
+  abbrev is_moved_line : Name → Bool
+  is_moved_line name = contains name_cmp moved name
 
   abbrev is_kept : Name → Bool
-  is_kept name = not (contains name_cmp edited name)
+  is_kept name = not (contains name_cmp moved name)
 
-  -- those of the lines at categories that pass which are edited
-  module _ (m : Data) (lines : GroupedLines) (are : AreEmitters m edited lines) (test : Category → Bool) where
-    moved_names : names_at test m lines.names.items ≡ filter is_edited (gas_lines_at test m)
-    moved_names = same_names (names_at test m lines.names.items) (filter is_edited (gas_lines_at test m))
+  -- those of the lines at categories that pass which are moved
+  module _ (m : Data) (lines : GroupedLines) (are : AreEmitters m moved lines) (test : Category → Bool) where
+    moved_names : names_at test m lines.names.items ≡ filter is_moved_line (gas_lines_at test m)
+    moved_names = same_names (names_at test m lines.names.items) (filter is_moved_line (gas_lines_at test m))
         (IsStrictlySortedBy-filter name_cmp (λ name. option_map_or test (category m name) false) lines.names.items
-        (subst (IsStrictlySortedBy name_cmp) (sym are.names) (IsStrictlySortedBy-filter name_cmp (emits m) edited.keys ordered)))
-        (IsStrictlySortedBy-filter name_cmp is_edited (gas_lines_at test m) (sorted_at test m))
+        (subst (IsStrictlySortedBy name_cmp) (sym are.names) (IsStrictlySortedBy-filter name_cmp (emits m) moved.keys ordered)))
+        (IsStrictlySortedBy-filter name_cmp is_moved_line (gas_lines_at test m) (sorted_at test m))
         (λ k i.
         let at = from_filter (λ name. option_map_or test (category m name) false) k lines.names.items i in
-        let gas = from_filter (emits m) k edited.keys (subst (IsListed k) are.names at.0) in
-        listed_filter is_edited k (gas_lines_at test m)
+        let gas = from_filter (emits m) k moved.keys (subst (IsListed k) are.names at.0) in
+        listed_filter is_moved_line k (gas_lines_at test m)
         (listed_filter (λ name. option_map_or test (category m name) false) k (gas_lines m)
         (listed_filter (emits m) k (line_names m) (line_listed m k (emitting m k gas.1)) gas.1) at.1)
-        (listed_key nat_list_cmp_total k edited.keys gas.0))
+        (listed_key nat_list_cmp_total k moved.keys gas.0))
         (λ k i.
-        let at = from_filter is_edited k (gas_lines_at test m) i in
+        let at = from_filter is_moved_line k (gas_lines_at test m) i in
         let passes = from_filter (λ name. option_map_or test (category m name) false) k (gas_lines m) at.0 in
         let gas = from_filter (emits m) k (line_names m) passes.0 in
         listed_filter (λ name. option_map_or test (category m name) false) k lines.names.items
-        (subst (IsListed k) (sym are.names) (listed_filter (emits m) k edited.keys (key_listed exact_bytes k edited.keys at.1) gas.1)) passes.1)
+        (subst (IsListed k) (sym are.names) (listed_filter (emits m) k moved.keys (key_listed exact_bytes k moved.keys at.1) gas.1)) passes.1)
 
     -- they and the others add up to all
     whole_sum : (h : Node → Input) (parts : List Node) (year : ℕ)
@@ -169,11 +171,11 @@ module _ (edited : BTreeSet Name) (ordered : IsOrdered name_cmp edited) where
     whole_sum h parts year = ap reported (
         at_both h (parts ++ map to others) (map to (names_at test m lines.names.items))
         ∙ ap (λ names. plus (sum_at h (parts ++ map to others)) (sum_at h (map to names))) moved_names
-        ∙ ap (λ x. plus x (sum_at h (map to moved))) (at_both h parts (map to others))
-        ∙ behind_first (sum_at h parts) (sum_at h (map to others)) (sum_at h (map to moved))
-        ∙ ap (plus (sum_at h parts)) (plus_swap (sum_at h (map to others)) (sum_at h (map to moved))
-        ∙ ap₂ (λ (xs ys : List Input). plus (sum_known xs) (sum_known ys)) (map_of_map h to moved) (map_of_map h to others)
-        ∙ parts_added (λ name. h (to name)) is_edited (gas_lines_at test m)
+        ∙ ap (λ x. plus x (sum_at h (map to moved_ones))) (at_both h parts (map to others))
+        ∙ behind_first (sum_at h parts) (sum_at h (map to others)) (sum_at h (map to moved_ones))
+        ∙ ap (plus (sum_at h parts)) (plus_swap (sum_at h (map to others)) (sum_at h (map to moved_ones))
+        ∙ ap₂ (λ (xs ys : List Input). plus (sum_known xs) (sum_known ys)) (map_of_map h to moved_ones) (map_of_map h to others)
+        ∙ parts_added (λ name. h (to name)) is_moved_line (gas_lines_at test m)
         ∙ ap (λ xs. sum_known xs) (sym (map_of_map h to (gas_lines_at test m))))
         ∙ sym (at_both h parts (map to (gas_lines_at test m)))
         )
@@ -184,8 +186,8 @@ module _ (edited : BTreeSet Name) (ordered : IsOrdered name_cmp edited) where
         others : List Name
         others = filter is_kept (gas_lines_at test m)
 
-        moved : List Name
-        moved = filter is_edited (gas_lines_at test m)
+        moved_ones : List Name
+        moved_ones = filter is_moved_line (gas_lines_at test m)
 
     whole_listed : (parts : List Node) (year : ℕ) (k : Node)
         → IsListed k ((parts ++ map (λ name. node.Equiv name year) (filter is_kept (gas_lines_at test m))) ++ map (λ name. node.Equiv name year) (names_at test m lines.names.items))
@@ -209,7 +211,7 @@ module _ (edited : BTreeSet Name) (ordered : IsOrdered name_cmp edited) where
           | inr one ↦
               let from = from_map to k (names_at test m lines.names.items) one in
               listed_right k parts (map to all) (subst (λ n. IsListed n (map to all)) (sym from.2)
-              (listed_map to from.0 all (from_filter is_edited from.0 all (subst (IsListed from.0) moved_names from.1)).0))
+              (listed_map to from.0 all (from_filter is_moved_line from.0 all (subst (IsListed from.0) moved_names from.1)).0))
         ]
 
         back : IsListed k (parts ++ map to all) → IsListed k ((parts ++ map to (filter is_kept all)) ++ map to (names_at test m lines.names.items))
@@ -217,9 +219,9 @@ module _ (edited : BTreeSet Name) (ordered : IsOrdered name_cmp edited) where
           | inl one ↦ listed_left k (parts ++ map to (filter is_kept all)) _ (listed_left k parts (map to (filter is_kept all)) one)
           | inr one ↦
               let from = from_map to k all one in
-              elim (or_else (is_edited from.0)) [
+              elim (or_else (is_moved_line from.0)) [
                 | inl on ↦ listed_right k (parts ++ map to (filter is_kept all)) _ (subst (λ n. IsListed n (map to (names_at test m lines.names.items))) (sym from.2)
-                    (listed_map to from.0 _ (subst (IsListed from.0) (sym moved_names) (listed_filter is_edited from.0 all from.1 on))))
+                    (listed_map to from.0 _ (subst (IsListed from.0) (sym moved_names) (listed_filter is_moved_line from.0 all from.1 on))))
                 | inr off ↦ listed_left k (parts ++ map to (filter is_kept all)) _ (listed_right k parts (map to (filter is_kept all)) (subst (λ n. IsListed n (map to (filter is_kept all))) (sym from.2)
                     (listed_map to from.0 _ (listed_filter is_kept from.0 all from.1 (ap not off)))))
               ]
@@ -227,14 +229,35 @@ module _ (edited : BTreeSet Name) (ordered : IsOrdered name_cmp edited) where
 
 -- ---- data before
 
-module _ (old new : Data) (keys : List RecordKey) (edited : BTreeSet Name) (are : AreEdited keys edited)
-    (records : (k : RecordKey) → (IsListed k keys → ⊥) → get old k ≡ get new k) where
-  -- a line that is not edited has the same record
-  same_at : (test : Category → Bool) (name : Name) → not (contains name_cmp edited name) ≡ true → emits_at test old name ≡ emits_at test new name
-  same_at test name off = emits_named old new test name
-      (records (key.Line name) (λ i. true_not_false (sym ((are.lines name).1 i) ∙ not_true _ off)))
+same_category : (a b : Option Category) → option_eq is_same a b ≡ true → a ≡ b
+same_category None None e = refl
+same_category None (Some c) e = absurd (true_not_false (sym e))
+same_category (Some c) None e = absurd (true_not_false (sym e))
+same_category (Some c) (Some d) e = ap Some ((category_same c d).0 e)
 
-  kept_alike : (test : Category → Bool) → filter (λ k. not (contains name_cmp edited k)) (gas_lines_at test old) ≡ filter (λ k. not (contains name_cmp edited k)) (gas_lines_at test new)
+pub not_false : (b : Bool) → not b ≡ false → b ≡ true
+not_false true e = refl
+not_false false e = absurd (true_not_false e)
+
+module _ (old new : Data) (keys : List RecordKey) (moved : BTreeSet Name) (are : AreMoved old new keys moved)
+    (records : (k : RecordKey) → (IsListed k keys → ⊥) → get old k ≡ get new k) where
+  -- a moved line is in the set, where its record has one of the keys
+  in_set : (name : Name) → is_moved old new name ≡ true → IsListed (key.Line name) keys → contains name_cmp moved name ≡ true
+  in_set name on i = are.0 name ∙ listed_key nat_list_cmp_total name (filter_map (moved_line old new) keys)
+      (listed_filter_map (moved_line old new) (key.Line name) name keys i (ap (λ b. cond b (Some name) None) on))
+
+  -- a line that is not in the set emits a gas where it did, or emits none still
+  same_place : (name : Name) → not (contains name_cmp moved name) ≡ true → emitted_at old name ≡ emitted_at new name
+  same_place name off = by (is_moved old new name) refl
+    where
+      by : (b : Bool) → is_moved old new name ≡ b → emitted_at old name ≡ emitted_at new name
+      by true on = emitted_alike old new name (records (key.Line name) (λ i. true_not_false (sym (in_set name on i) ∙ not_true _ off)))
+      by false still = same_category _ _ (not_false _ still)
+
+  same_at : (test : Category → Bool) (name : Name) → not (contains name_cmp moved name) ≡ true → emits_at test old name ≡ emits_at test new name
+  same_at test name off = ap (λ at. option_map_or test at false) (same_place name off)
+
+  kept_alike : (test : Category → Bool) → filter (λ k. not (contains name_cmp moved k)) (gas_lines_at test old) ≡ filter (λ k. not (contains name_cmp moved k)) (gas_lines_at test new)
   kept_alike test = same_names (filter p (gas_lines_at test old)) (filter p (gas_lines_at test new))
       (IsStrictlySortedBy-filter name_cmp p (gas_lines_at test old) (sorted_at test old))
       (IsStrictlySortedBy-filter name_cmp p (gas_lines_at test new) (sorted_at test new))
@@ -246,45 +269,42 @@ module _ (old new : Data) (keys : List RecordKey) (edited : BTreeSet Name) (are 
       listed_filter p k (gas_lines_at test old) (of_emits_at test old k (same_at test k at.1 ∙ to_emits_at test new k at.0)) at.1)
     where
       p : Name → Bool
-      p k = not (contains name_cmp edited k)
+      p k = not (contains name_cmp moved k)
 
 -- ---- kept lines of which equivalents are evaluated anew
 
 module _ (m : Data) (fresh : Outcomes) (nodes : List Node) (among : (k : Node) → is_some (fresh k) ≡ true → (is_node m k ≡ true) × Contains nodes k)
-    (edited : BTreeSet Name) (names : List Name) (named : AreKeptLines nodes edited names) where
-  abbrev unedited : Name → Bool
-  unedited name = not (contains name_cmp edited name)
+    (year : ℕ) (moved : BTreeSet Name) (names : List Name) (named : AreKeptLines nodes year moved names) where
+  abbrev unmoved : Name → Bool
+  unmoved name = not (contains name_cmp moved name)
 
-  kept_names : (year : ℕ) → filter (λ name. has_outcome fresh (node.Equiv name year)) names ≡ filter (λ name. has_outcome fresh (node.Equiv name year)) (filter unedited (gas_lines m))
-  kept_names year = same_names (filter q names) (filter q (filter unedited (gas_lines m)))
+  kept_names : filter (λ name. has_outcome fresh (node.Equiv name year)) names ≡ filter (λ name. has_outcome fresh (node.Equiv name year)) (filter unmoved (gas_lines m))
+  kept_names = same_names (filter q names) (filter q (filter unmoved (gas_lines m)))
       (IsStrictlySortedBy-filter name_cmp q names named.order)
-      (IsStrictlySortedBy-filter name_cmp q (filter unedited (gas_lines m)) (IsStrictlySortedBy-filter name_cmp unedited (gas_lines m)
+      (IsStrictlySortedBy-filter name_cmp q (filter unmoved (gas_lines m)) (IsStrictlySortedBy-filter name_cmp unmoved (gas_lines m)
       (IsStrictlySortedBy-filter name_cmp (emits m) (line_names m) (lines_sorted m))))
       (λ k i.
       let at = from_filter q k names i in
       let on = first_so (emits m k) _ (among (node.Equiv k year) at.1).0 in
-      listed_filter q k (filter unedited (gas_lines m)) (listed_filter unedited k (gas_lines m)
+      listed_filter q k (filter unmoved (gas_lines m)) (listed_filter unmoved k (gas_lines m)
       (listed_filter (emits m) k (line_names m) (line_listed m k (emitting m k on)) on) (ap not ((named.named k).0 at.0).1)) at.1)
       (λ k i.
-      let at = from_filter q k (filter unedited (gas_lines m)) i in
-      let off = (from_filter unedited k (gas_lines m) at.0).1 in
-      listed_filter q k names ((named.named k).1 (
-        listed_filter_map equivalent_line (node.Equiv k year) k nodes (listed nodes (node.Equiv k year) (among (node.Equiv k year) at.1).1) refl,
-        not_true _ off,
-      )) at.1)
+      let at = from_filter q k (filter unmoved (gas_lines m)) i in
+      let off = (from_filter unmoved k (gas_lines m) at.0).1 in
+      listed_filter q k names ((named.named k).1 ((among (node.Equiv k year) at.1).1, not_true _ off)) at.1)
     where
       q : Name → Bool
       q name = has_outcome fresh (node.Equiv name year)
 
-  pub kept_anew : (parts : List Node) (own : Category → Bool) (year : ℕ)
+  pub kept_anew : (parts : List Node) (own : Category → Bool)
       → filter (has_outcome fresh) (parts ++ map (λ name. node.Equiv name year) (names_at own m names))
-      ≡ filter (has_outcome fresh) (parts ++ map (λ name. node.Equiv name year) (filter unedited (gas_lines_at own m)))
-  kept_anew parts own year =
+      ≡ filter (has_outcome fresh) (parts ++ map (λ name. node.Equiv name year) (filter unmoved (gas_lines_at own m)))
+  kept_anew parts own =
       filter-append (has_outcome fresh) parts (map to (names_at own m names))
       ∙ ap (λ ks. filter (has_outcome fresh) parts ++ ks) (filter_of_map to (has_outcome fresh) (names_at own m names)
-      ∙ ap (map to) (filters_swap q at names ∙ ap (filter at) (kept_names year) ∙ filters_swap at q (filter unedited (gas_lines m)) ∙ ap (filter q) (filters_swap at unedited (gas_lines m)))
-      ∙ sym (filter_of_map to (has_outcome fresh) (filter unedited (gas_lines_at own m))))
-      ∙ sym (filter-append (has_outcome fresh) parts (map to (filter unedited (gas_lines_at own m))))
+      ∙ ap (map to) (filters_swap q at names ∙ ap (filter at) kept_names ∙ filters_swap at q (filter unmoved (gas_lines m)) ∙ ap (filter q) (filters_swap at unmoved (gas_lines m)))
+      ∙ sym (filter_of_map to (has_outcome fresh) (filter unmoved (gas_lines_at own m))))
+      ∙ sym (filter-append (has_outcome fresh) parts (map to (filter unmoved (gas_lines_at own m))))
     where
       to : Name → Node
       to name = node.Equiv name year
@@ -303,10 +323,16 @@ module _ (old new : Data) (workbook : IsWorkbook new) (acyclic : IsAcyclic new) 
   lines = from.lines
 
   abbrev rest : (Category → Bool) → List Name
-  rest own = filter (λ k. not (contains name_cmp lines.edited k)) (gas_lines_at own new)
+  rest own = filter (λ k. not (contains name_cmp changed.moved k)) (gas_lines_at own new)
+
+  abbrev year : ℕ
+  year = year_in n
+
+  kept_lines : AreKeptLines from.nodes (year_in n) changed.moved changed.kept.names.items
+  kept_lines = subst (λ y. AreKeptLines from.nodes y changed.moved changed.kept.names.items) from.year lines.of_year.kept
 
   -- what the node adds, by lines at categories that pass
-  module _ (parts : List Node) (own : Category → Bool) (year : ℕ) (ns : List Node)
+  module _ (parts : List Node) (own : Category → Bool) (ns : List Node)
       (all : ns ≡ parts ++ map (λ name. node.Equiv name year) (gas_lines_at own new))
       (was : (b : Input) → value_of (compilation old n) ≡ Some b
       → summed (map (input_at (compilation old)) (parts ++ map (λ name. node.Equiv name year) (gas_lines_at own old))) ≡ Ok b)
@@ -321,24 +347,24 @@ module _ (old new : Data) (workbook : IsWorkbook new) (acyclic : IsAcyclic new) 
       kept = parts ++ map to (rest own);
       was = λ b is. ap (λ ks. summed (map (input_at (compilation old)) ((parts ++ map to (rest own)) ++ ks))) gone
           ∙ ap (λ names. summed (map (input_at (compilation old)) ((parts ++ map to names) ++ map to (names_at own old changed.gone.names.items))))
-          (sym (kept_alike old new from.keys lines.edited lines.are_edited from.before.records own))
-          ∙ whole_sum lines.edited lines.are_edited.ordered old changed.gone lines.gone own (input_at (compilation old)) parts year
+          (sym (kept_alike old new from.keys changed.moved lines.are_moved from.before.records own))
+          ∙ whole_sum changed.moved lines.are_moved.1 old changed.gone lines.gone own (input_at (compilation old)) parts year
           ∙ was b is;
       adds = record {
         sums = λ given. ap (λ ks. summed (map given ((parts ++ map to (rest own)) ++ ks))) come
-            ∙ whole_sum lines.edited lines.are_edited.ordered new changed.come lines.come own given parts year
+            ∙ whole_sum changed.moved lines.are_moved.1 new changed.come lines.come own given parts year
             ∙ ap (λ ks. summed (map given ks)) (sym all);
         nodes = λ k. (
           λ i. subst (IsListed k) (sym all) ((listed_whole k).0 (subst (λ ks. IsListed k ((parts ++ map to (rest own)) ++ ks)) come i)),
           λ i. subst (λ ks. IsListed k ((parts ++ map to (rest own)) ++ ks)) (sym come) ((listed_whole k).1 (subst (IsListed k) all i)),
         );
       };
-      changed = ap (filter (has_outcome fresh)) kept ∙ kept_anew new fresh from.nodes from.among lines.edited changed.kept.names.items lines.kept parts own year;
+      changed = ap (filter (has_outcome fresh)) kept ∙ kept_anew new fresh from.nodes from.among year changed.moved changed.kept.names.items kept_lines parts own;
       others = λ k i none. stays k (subst (IsListed k) (sym all) ((listed_whole k).0 (listed_left k (parts ++ map to (rest own)) _ i))) none;
     }
       where
         listed_whole : (k : Node) → IsListed k ((parts ++ map to (rest own)) ++ map to (names_at own new changed.come.names.items)) ↔ IsListed k (parts ++ map to (gas_lines_at own new))
-        listed_whole k = whole_listed lines.edited lines.are_edited.ordered new changed.come lines.come own parts year k
+        listed_whole k = whole_listed changed.moved lines.are_moved.1 new changed.come lines.come own parts year k
 
   stays_by : (k : Node) → is_node new k ≡ true → (Contains from.nodes k → ⊥) → found k ≡ compilation new k → Stays (compilation old k) (found k)
   stays_by k is off now =
@@ -351,13 +377,13 @@ module _ (old new : Data) (workbook : IsWorkbook new) (acyclic : IsAcyclic new) 
       }
 
   -- by the groups
-  module _ (parts : List Category) (own : Category → Bool) (year : ℕ) (formed : subtotals new n ≡ addends new parts own year)
+  module _ (parts : List Category) (own : Category → Bool) (formed : subtotals new n ≡ addends new parts own year)
       (formed_before : subtotals old n ≡ addends old parts own year) (total : is_total n ≡ true) (ns : List Node) (all : ns ≡ subtotals new n) where
     pub from_ready : (a : ChangedAddends) → a.kept.categories.now ≡ parts → a.kept.own.now ≡ names_at own new changed.kept.names.items
         → a.gone.now ≡ names_at own old changed.gone.names.items → a.come.now ≡ names_at own new changed.come.names.items
         → IsResummed found fresh (compilation old) n ns (addends_exchange a year)
     from_ready a same_parts kept gone come =
-        exchanged totals own year ns (all ∙ formed)
+        exchanged totals own ns (all ∙ formed)
         (λ b is. ap (λ ks. summed (map (input_at (compilation old)) ks)) (sym formed_before) ∙ total_was old from.before.acyclic from.before.fits n total b is)
         (λ k i none.
         let c = subst (λ ks. Contains ks k) all (contained ns k i) in
@@ -370,14 +396,14 @@ module _ (old new : Data) (workbook : IsWorkbook new) (acyclic : IsAcyclic new) 
         totals = map (λ c. node.Total c year) parts
 
   -- by the lines that count
-  pub lines_ready : (test : Category → Bool) (year : ℕ)
+  pub lines_ready : (test : Category → Bool)
       → (sheet_of old).formula n ≡ Summed (map (λ name. node.Equiv name year) (gas_lines_at test old))
       → (sheet_of new).formula n ≡ Summed (map (λ name. node.Equiv name year) (gas_lines_at test new))
       → (e : Exchange) → e.kept ≡ map (λ name. node.Equiv name year) (names_at test new changed.kept.names.items)
       → e.gone ≡ map (λ name. node.Equiv name year) (names_at test old changed.gone.names.items) → e.come ≡ map (λ name. node.Equiv name year) (names_at test new changed.come.names.items)
       → IsResummed found fresh (compilation old) n (map (λ name. node.Equiv name year) (gas_lines_at test new)) e
-  lines_ready test year was is e kept gone come =
-      exchanged [] test year (map (λ name. node.Equiv name year) (gas_lines_at test new)) refl
+  lines_ready test was is e kept gone come =
+      exchanged [] test (map (λ name. node.Equiv name year) (gas_lines_at test new)) refl
       (λ b value. line_sum_was old from.before.acyclic from.before.fits n (map (λ name. node.Equiv name year) (gas_lines_at test old)) was b value)
       (λ k i none.
       let input : IsInput (sheet_of new) k n = record { node = ready.node; among = subst (λ φ. Contains (inputs φ) k) (sym is) (contained (map (λ name. node.Equiv name year) (gas_lines_at test new)) k i) } in

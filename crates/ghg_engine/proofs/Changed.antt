@@ -120,6 +120,21 @@ over_right over ns ms on = list_any-append over ns ms ∙ ap (λ b. list_any ove
     so true = refl
     so false = refl
 
+-- the same of what is evaluated anew
+pub over_kept_left : (over anew : Node → Bool) (ns ms : List Node) → list_any over (filter anew ns) ≡ true → list_any over (filter anew (ns ++ ms)) ≡ true
+over_kept_left over anew ns ms on = ap (list_any over) (filter-append anew ns ms) ∙ over_left over (filter anew ns) (filter anew ms) on
+
+pub over_kept_right : (over anew : Node → Bool) (ns ms : List Node) → list_any over (filter anew ms) ≡ true → list_any over (filter anew (ns ++ ms)) ≡ true
+over_kept_right over anew ns ms on = ap (list_any over) (filter-append anew ns ms) ∙ over_right over (filter anew ns) (filter anew ms) on
+
+-- the node of the one at a place
+pub node_at : {A : Type 0} (to : A → Node) (xs : List A) (i : ℕ) (x : A) → i < length xs → x ≡ get_or xs i x → IsListed (to x) (map to xs)
+node_at to xs i x within is = listed_map to x xs (subst (λ y. IsListed y xs) (sym is) (at_place xs i x within))
+
+-- the same where the element is looked up
+pub node_found : {A : Type 0} (to : A → Node) (xs : List A) (i : ℕ) (d : A) → i < length xs → IsListed (to (get_or xs i d)) (map to xs)
+node_found to xs i d within = listed_map to (get_or xs i d) xs (at_place xs i d within)
+
 -- the one at a place, where it passes
 pub passing_at : (to : Name → Node) (q : Name → Bool) (names : List Name) (i : ℕ) (name : Name) → i < length names → name ≡ get_or names i name → q name ≡ true → IsListed (to name) (map to (filter q names))
 passing_at to q names i name within is on = listed_map to name (filter q names) (listed_filter q name names (subst (λ k. IsListed k names) (sym is) (at_place names i name within)) on)

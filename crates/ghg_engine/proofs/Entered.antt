@@ -78,12 +78,12 @@ abbrev emitted_by : Option Record → Option Category
 emitted_by record_is = option_and_then (λ gas. as_category record_is) (option_and_then (λ id. gas_of (output id)) (as_line record_is))
 
 -- a line with the same record
-pub emits_named : (old new : Data) (test : Category → Bool) (name : Name) → get old (key.Line name) ≡ get new (key.Line name) → emits_at test old name ≡ emits_at test new name
-emits_named old new test name same = ap (λ r. option_map_or test (emitted_by r) false) same
+pub emitted_alike : (old new : Data) (name : Name) → get old (key.Line name) ≡ get new (key.Line name) → emitted_at old name ≡ emitted_at new name
+emitted_alike old new name same = ap emitted_by same
 
 module _ (old new : Data) (lines : List Name) (adds : AddsLines old new lines) (test : Category → Bool) where
   same_at : (name : Name) → is_some (line old name) ≡ true → emits_at test old name ≡ emits_at test new name
-  same_at name present = emits_named old new test name (adds.kept name present)
+  same_at name present = ap (λ at. option_map_or test at false) (emitted_alike old new name (adds.kept name present))
 
   all_at : (names : List Name) → HasMore (emits_at test new) (gas_lines_at test old) lines names → names ≡ gas_lines_at test new
   all_at names more = same_names names (gas_lines_at test new) more.order (sorted_at test new)

@@ -33,5 +33,7 @@ pub mod Answered
 mod Changed
 mod Resummed
 mod Before
+mod OfYear
 mod Named
 mod Next
+mod AtPlace

@@ -8,6 +8,7 @@ use Rattle.ghg_definitions.specs.Compilation.{compilation, is_node, sheet_of}
 use Rattle.ghg_definitions.specs.Data.{Data}
 use Rattle.ghg_definitions.specs.Formulas.{Outcome}
 use Rattle.ghg_definitions.specs.Listed.{IsListed}
+use Rattle.ghg_definitions.specs.Nodes.{year_in}
 use Rattle.ghg_definitions.specs.Rings.{IsAcyclic}
 use Rattle.ghg_definitions.specs.Sound.{IsWorkbook}
 use Rattle.ghg_definitions.specs.Trials.{IsInput, Outcomes}
@@ -34,6 +35,10 @@ use Rattle.ghg_engine.proofs.Turns.{IsSoFar}
 pub if_some : {A : Type 0} {P Q : A → Type 0} (o : Option A) → IfSome o P → ((x : A) → P x → Q x) → IfSome o Q
 if_some None p h = p
 if_some (Some x) p h = h x p
+
+pub both_some : {A : Type 0} (P Q : A → Type 0) (o : Option A) → IfSome o P → IfSome o Q → IfSome o (λ x. P x × Q x)
+both_some P Q None p q = tt
+both_some P Q (Some x) p q = (p, q)
 
 -- a node is listed or not
 listed_or_not : (k : Node) (ns : List Node) → IsListed k ns ⊎ (IsListed k ns → ⊥)
@@ -85,8 +90,8 @@ module _ (old m : Data) (workbook : IsWorkbook m) (acyclic : IsAcyclic m) (chang
     | inr i ↦ so_far.in_turn.1 k input (contained (n ∷ rest) k i)
   ]
 
-  pub next_from : (keys : List RecordKey) → IsBefore old m keys nodes → AreChangedLines old m keys nodes changed → IsReadyFrom old m changed fresh n
-  next_from keys before lines = record { keys = keys; nodes = nodes; before = before; lines = lines; among = fresh_among; others = none_among; other_inputs = no_input_among }
+  pub next_from : (keys : List RecordKey) → IsBefore old m keys nodes → AreChangedLines old m keys nodes changed → changed.year ≡ year_in n → IsReadyFrom old m changed fresh n
+  next_from keys before lines year = record { keys = keys; nodes = nodes; before = before; lines = lines; year = year; among = fresh_among; others = none_among; other_inputs = no_input_among }
 
 -- ---- edits
 

@@ -73,6 +73,13 @@ not_before (d ∷ done) n rest once c = elim (listed (d ∷ done) n c) [
   | inr i ↦ not_before done n rest once.1 (contained done n i)
 ]
 
+-- the nodes from a place on begin with the one there
+pub drop_next : (ns : List Node) (i : ℕ) (n : Node) → n ≡ get_or ns i n → i < length ns → drop i ns ≡ n ∷ drop (i + 1) ns
+drop_next ns i n is within = begins ∙ ap (λ k. k ∷ drop (i + 1) ns) (sym is)
+  where
+    begins : drop i ns ≡ get_or ns i n ∷ drop (i + 1) ns
+    begins = rw (add-one, drop-cons ns i n) refl
+
 -- ---- some are evaluated, and the rest is not
 
 module _ (m : Data) where
@@ -148,10 +155,7 @@ module _ (m : Data) where
 
   -- the next of the nodes
   pub at_next : (ns : List Node) (i : ℕ) (n : Node) → i < length ns → n ≡ get_or ns i n → (found fresh : Outcomes) (least : Option Node) → IsSoFar (take i ns) (drop i ns) found fresh least → IsSoFar (take i ns) (n ∷ drop (i + 1) ns) found fresh least
-  at_next ns i n within is found fresh least so_far = subst (λ rest. IsSoFar (take i ns) rest found fresh least) (drop_next ∙ ap (λ k. k ∷ drop (i + 1) ns) (sym is)) so_far
-    where
-      drop_next : drop i ns ≡ get_or ns i n ∷ drop (i + 1) ns
-      drop_next = rw (add-one, drop-cons ns i n) refl
+  at_next ns i n within is found fresh least so_far = subst (λ rest. IsSoFar (take i ns) rest found fresh least) (drop_next ns i n is within) so_far
 
   module _ (ns : List Node) (i : ℕ) (over : length ns ≤ i) (found fresh : Outcomes) (least : Option Node) (so_far : IsSoFar (take i ns) (drop i ns) found fresh least) where
     all_so_far : IsSoFar ns (drop i ns) found fresh least

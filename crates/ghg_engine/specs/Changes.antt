@@ -1,7 +1,8 @@
 -- Totals from what they were, and what changed.
-use Rattle.std.specs.Prelude.{◌≡◌, ◌↔◌, ℕ, Bool, true, false, is_some, List, ◌++◌, map, filter, Option, Some, None, Ok}
-use Rattle.std.specs.BTreeSet.{BTreeSet, IsOrdered, contains}
-use Rattle.std.specs.List.{Contains, filter_map, list_any}
+use Rattle.std.specs.Prelude.{◌≡◌, ◌↔◌, ◌≤◌, ℕ, Bool, true, false, not, if◌then◌else◌, is_some, List, ◌++◌, map, take, drop, filter, filter_map, Option, Some, None, IfSome, Ok}
+use Rattle.std.specs.Option.{option_eq}
+use Rattle.std.specs.BTreeSet.{BTreeSet, IsFromIterResult, contains}
+use Rattle.std.specs.List.{Contains, list_any, slice_get}
 use Rattle.std.specs.List.Sorted.{IsStrictlySortedBy}
 use Rattle.std.specs.FinMap.{get}
 use Rattle.ghg_cell.specs.declared.input.Input.{Input}
@@ -16,17 +17,20 @@ use Rattle.ghg_definitions.specs.Compilation.{compilation, emits, is_node, sheet
 use Rattle.ghg_definitions.specs.Data.{Data, Name, name_cmp}
 use Rattle.ghg_definitions.specs.Formulas.{Outcome}
 use Rattle.ghg_definitions.specs.Listed.{IsListed}
+use Rattle.ghg_definitions.specs.Nodes.{year_in}
 use Rattle.ghg_definitions.specs.Rings.{IsAcyclic}
 use Rattle.ghg_definitions.specs.Trials.{IsCompilation, IsInput, Outcomes, is_over, value_of}
 use Rattle.ghg_affected.specs.Subtotals.{subtotals}
+use Rattle.ghg_categories.specs.Tree.{is_same}
 use Rattle.ghg_categories.specs.declared.category.Category.{Category}
 use Rattle.ghg_engine.specs.declared.changed_lines.ChangedAddends.{ChangedAddends}
 use Rattle.ghg_engine.specs.declared.changed_lines.ChangedLines.{ChangedLines}
 use Rattle.ghg_engine.specs.declared.changed_lines.GroupedLines.{GroupedLines}
 use Rattle.ghg_engine.specs.declared.changes.Changes.{Changes}
+use Rattle.ghg_engine.specs.declared.evaluation.Before.{Before}
 use Rattle.ghg_engine.specs.declared.parts.Part.TheVariants as part
 use Rattle.ghg_engine.specs.Evaluation.{AreKept}
-use Rattle.ghg_engine.specs.Grouping.{AreGroupsOf, names_at}
+use Rattle.ghg_engine.specs.Grouping.{AreGroupsOf, emitted_at, names_at}
 use Rattle.ghg_engine.specs.Parts.{addends_for, counts_in, nodes_for}
 
 -- ---- what is gathered
@@ -48,6 +52,10 @@ pub record Exchange : Type 0 where
   pub kept : List Node
   pub gone : List Node
   pub come : List Node
+
+-- one of the nodes is over
+abbrev pub AnyIsOver : Outcomes → List Node → Type 0
+AnyIsOver outcomes ns = list_any (λ n. is_over (outcomes n)) ns ≡ true
 
 -- what leaves the sum: what nodes gave that are evaluated anew, and the nodes that are gone
 abbrev pub leaving : Outcomes → Exchange → List Node
@@ -124,40 +132,75 @@ abbrev pub equivalent_line : Node → Option Name
 equivalent_line (node.Equiv name year) = Some name
 equivalent_line _ = None
 
--- the line of a key
-abbrev pub key_line : RecordKey → Option Name
-key_line (key.Line name) = Some name
-key_line _ = None
+-- the line emits a gas at another category than before, or did only before, or does only now
+abbrev pub is_moved : Data → Data → Name → Bool
+is_moved old new name = not (option_eq is_same (emitted_at old name) (emitted_at new name))
 
--- the lines whose records have one of the keys
-pub record AreEdited (keys : List RecordKey) (edited : BTreeSet Name) : Type 0 where
-  pub ordered : IsOrdered name_cmp edited
-  pub lines : (name : Name) → (contains name_cmp edited name ≡ true) ↔ IsListed (key.Line name) keys
+-- the line of a key, where it is moved
+abbrev pub moved_line : Data → Data → RecordKey → Option Name
+moved_line old new (key.Line name) = if is_moved old new name then Some name else None
+moved_line old new _ = None
 
--- the names in order of the lines of which an equivalent is in the list, without the edited ones
-pub record AreKeptLines (ns : List Node) (edited : BTreeSet Name) (names : List Name) : Type 0 where
+-- the set has the lines of the keys that are moved
+abbrev pub AreMoved : Data → Data → List RecordKey → BTreeSet Name → Type 0
+AreMoved old new keys moved = IsFromIterResult name_cmp (filter_map (moved_line old new) keys) moved
+
+-- the names in order of the lines of which the equivalent of a year is in the list, without the moved ones
+pub record AreKeptLines (ns : List Node) (year : ℕ) (moved : BTreeSet Name) (names : List Name)
+    : Type 0 where
   pub order : IsStrictlySortedBy name_cmp names
   pub named : (name : Name) → IsListed name names ↔
-      (IsListed name (filter_map equivalent_line ns) × (contains name_cmp edited name ≡ false))
+      (Contains ns (node.Equiv name year) × (contains name_cmp moved name ≡ false))
 
 abbrev pub AreGrouped : Data → GroupedLines → Type 0
 AreGrouped m lines = AreGroupsOf m lines.names.items lines.groups
 
--- those of the edited lines that emit a gas, and their groups
-pub record AreEmitters (m : Data) (edited : BTreeSet Name) (lines : GroupedLines) : Type 0 where
-  pub names : lines.names.items ≡ filter (emits m) edited.keys
+-- those of the moved lines that emit a gas, and their groups
+pub record AreEmitters (m : Data) (moved : BTreeSet Name) (lines : GroupedLines) : Type 0 where
+  pub names : lines.names.items ≡ filter (emits m) moved.keys
   pub grouped : AreGrouped m lines
 
--- the kept lines have the equivalents of the list, in their groups; the others are the edited ones that
--- emitted a gas, and those that do
+-- the kept lines are those of the year at hand, in their groups
+pub record AreOfYear (m : Data) (ns : List Node) (changed : ChangedLines) : Type 0 where
+  pub kept : AreKeptLines ns changed.year changed.moved changed.kept.names.items
+  pub grouped : AreGrouped m changed.kept
+
+-- the kept lines are those of the year at hand, and the others the moved ones that emitted a gas, and those
+-- that do
 pub record AreChangedLines (old new : Data) (keys : List RecordKey) (ns : List Node) (changed : ChangedLines)
     : Type 0 where
-  pub edited : BTreeSet Name
-  pub are_edited : AreEdited keys edited
-  pub kept : AreKeptLines ns edited changed.kept.names.items
-  pub grouped : AreGrouped new changed.kept
-  pub gone : AreEmitters old edited changed.gone
-  pub come : AreEmitters new edited changed.come
+  pub are_moved : AreMoved old new keys changed.moved
+  pub of_year : AreOfYear new ns changed
+  pub gone : AreEmitters old changed.moved changed.gone
+  pub come : AreEmitters new changed.moved changed.come
+
+-- the same lines are moved
+pub record MovesTheSame (old new : ChangedLines) : Type 0 where
+  pub moved : new.moved ≡ old.moved
+  pub gone : new.gone ≡ old.gone
+  pub come : new.come ≡ old.come
+
+-- no node up to the place is of a later year, and none from there on is of an earlier one
+pub record IsBetween (year place : ℕ) (ns : List Node) : Type 0 where
+  pub before : (k : Node) → Contains (take place ns) k → year_in k ≤ year
+  pub behind : (k : Node) → Contains (drop place ns) k → year ≤ year_in k
+
+-- the kept lines are those of the year at hand, and that year is between the nodes before the place and the
+-- others
+pub record IsAtPlace (m : Data) (ns : List Node) (place : ℕ) (changed : ChangedLines) : Type 0 where
+  pub of_year : AreOfYear m ns changed
+  pub between : IsBetween changed.year place ns
+
+-- the year at hand is that of the node at the place
+pub record IsAtNode (m : Data) (ns : List Node) (place : ℕ) (changed : ChangedLines) : Type 0 where
+  pub of_year : AreOfYear m ns changed
+  pub year : IfSome (slice_get ns place) (λ n. changed.year ≡ year_in n)
+
+-- the same cells of before, with the same moved lines, now for the node at the place
+abbrev pub GoesOn : {C : Type 0} → Data → List Node → ℕ → Option (Before C) → Option (Before C) → Type 0
+GoesOn m ns place None new = new ≡ None
+GoesOn m ns place (Some from) new =
+    IfSome new (λ b. (b.cells ≡ from.cells) × MovesTheSame from.changed b.changed × IsAtNode m ns place b.changed)
 
 -- those that a total adds by its groups
 abbrev pub addends_exchange : ChangedAddends → ℕ → Exchange
@@ -186,12 +229,13 @@ pub record IsBefore (old new : Data) (keys : List RecordKey) (ns : List Node) : 
   pub kept : AreKept new ns (compilation old)
 
 -- the fresh outcomes are of nodes in a list, at whose other nodes the old data have the outcomes; the list
--- has none of the inputs and of the subtotals without a fresh outcome
+-- has none of the inputs and of the subtotals without a fresh outcome; the year at hand is that of the node
 pub record IsReadyFrom (old new : Data) (changed : ChangedLines) (fresh : Outcomes) (n : Node) : Type 0 where
   pub keys : List RecordKey
   pub nodes : List Node
   pub before : IsBefore old new keys nodes
   pub lines : AreChangedLines old new keys nodes changed
+  pub year : changed.year ≡ year_in n
   pub among : (k : Node) → is_some (fresh k) ≡ true → (is_node new k ≡ true) × Contains nodes k
   pub others : (k : Node) → Contains (subtotals new n) k → fresh k ≡ None → Contains nodes k → ⊥
   pub other_inputs : (k : Node) → IsInput (sheet_of new) k n → fresh k ≡ None → Contains nodes k → ⊥

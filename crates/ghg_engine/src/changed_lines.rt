@@ -1,16 +1,20 @@
 //! The lines of which totals may add something else than before.
 
-ghost use Rattle.std.specs.Prelude.{◌≡◌, filter, filter_map, not, IfOk};
+ghost use Rattle.std.specs.Prelude.{◌≡◌, ◌≤◌, ◌<◌, ◌+◌, ◌-◌, ◌^◌, ◌==◌, filter, filter_map, length, max, min, not, IfOk, OnOk};
 ghost use Rattle.std.specs.BTreeSet.{IsFromIterResult, contains};
+ghost use Rattle.std.specs.List.{Contains, take_while};
 ghost use Rattle.ghg_affected.specs.Subtotals.{children, gross_parts};
 ghost use Rattle.ghg_definitions.specs.Compilation.{emits};
 ghost use Rattle.ghg_definitions.specs.Data.{name_cmp};
-ghost use Rattle.ghg_engine.specs.Changes.{AreChangedLines, AreEdited, AreKeptLines, equivalent_line, key_line};
+ghost use Rattle.ghg_definitions.specs.Nodes.{year_in};
+ghost use Rattle.ghg_graph.specs.NodeOrders.{AreByYear};
+ghost use Rattle.ghg_engine.specs.Changes.{AreChangedLines, AreGrouped, AreKeptLines, AreMoved, IsAtNode, IsAtPlace, IsBetween, MovesTheSame, equivalent_line, moved_line};
 ghost use Rattle.ghg_engine.specs.Grouping.{AreGroupsOf, group_at};
 
-use crate::groups::Groups;
+use crate::groups::{Groups, emitted_at};
 use crate::nodes::emits;
 use crate::parts::Addends;
+use crate::series::year_of;
 use ghg_categories::Category;
 use ghg_data::Records;
 use ghg_definitions::RecordKey;
@@ -39,16 +43,37 @@ impl GroupedLines {
         let groups = Groups::of(alloc, records, &names)?;
         Ok(GroupedLines { names, groups })
     }
+
+    // Gives way to other lines. Where these are the same ones, none is looked up.
+    fn become_those<R: Records>(
+        &mut self,
+        alloc: Global,
+        records: &R,
+        names: Vec<Name>,
+    ) -> Result<(), AllocError>
+        requires { AreGrouped (R.content records.now) self.old }
+        ensures names { OnOk result (self.new.names.items ≡ names.items) }
+        ensures grouped { OnOk result (AreGrouped (R.content records.now) self.new) }
+    {
+        if self.names != names {
+            *self = GroupedLines::of(alloc, records, names)?;
+        }
+        Ok(())
+    }
 }
 
-/// The lines of which totals may add something else than before.
+/// The lines of which totals may add something else than before, for the totals of one year after another.
 #[derive(Drop)]
 pub(crate) struct ChangedLines {
-    /// Those of which an equivalent is evaluated anew, and whose equation and category are not edited.
+    // The lines that edits move.
+    moved: BTreeSet<Name>,
+    /// The year at hand.
+    year: u32,
+    /// Those of which the equivalent of that year is evaluated anew, and which are not moved.
     pub(crate) kept: GroupedLines,
-    /// The edited lines that emitted a gas, where they stood before.
+    /// The moved lines that emitted a gas, where they stood before.
     pub(crate) gone: GroupedLines,
-    /// The edited lines that emit a gas, where they stand now.
+    /// The moved lines that emit a gas, where they stand now.
     pub(crate) come: GroupedLines,
 }
 
@@ -64,14 +89,18 @@ pub(crate) struct ChangedAddends<'a> {
 impl ChangedAddends<'_> {
     /// How many lines they are, where those that are put in are the same as those that are taken out, as far
     /// as they go.
-    pub(crate) fn len(&self) -> usize {
-        let edited = self.gone.len().max(self.come.len());
-        self.kept.own.len().saturating_add(edited)
+    pub(crate) fn len(&self) -> usize
+        ensures { result ≡ min (length self.now.kept.own.now +
+            max (length self.now.gone.now) (length self.now.come.now)) (2 ^ 64 - 1) }
+    {
+        let moved = self.gone.len().max(self.come.len());
+        self.kept.own.len().saturating_add(moved)
     }
 }
 
 impl ChangedLines {
-    /// Those where the records differ at the keys alone, and the nodes are evaluated anew.
+    /// Those where the records differ at the keys alone, and the nodes are evaluated anew. The year at hand is
+    /// that of the first node.
     pub(crate) fn of<R: Records, S: Records>(
         alloc: Global,
         old: &R,
@@ -79,16 +108,50 @@ impl ChangedLines {
         keys: &[RecordKey],
         nodes: &[Node],
     ) -> Result<ChangedLines, AllocError>
-        ensures { IfOk result (AreChangedLines (R.content old.now) (S.content new.now) keys.now nodes.now) }
+        requires { AreByYear nodes.now }
+        ensures changed { IfOk result (AreChangedLines (R.content old.now) (S.content new.now)
+            keys.now nodes.now) }
+        ensures first { IfOk result (λ changed. IsBetween changed.year 0 nodes.now) }
     {
-        let edited = edited_lines(alloc, keys)?;
-        let kept = kept_lines(alloc, nodes, &edited)?;
-        let gone = emitters(alloc, old, &edited)?;
-        let come = emitters(alloc, new, &edited)?;
+        let moved = moved_lines(alloc, old, new, keys)?;
+        let year = first_year_of(nodes);
+        let kept = kept_lines(alloc, nodes, year, &moved)?;
+        let gone = emitters(alloc, old, &moved)?;
+        let come = emitters(alloc, new, &moved)?;
         let kept = GroupedLines::of(alloc, new, kept)?;
         let gone = GroupedLines::of(alloc, old, gone)?;
         let come = GroupedLines::of(alloc, new, come)?;
-        Ok(ChangedLines { kept, gone, come })
+        Ok(ChangedLines {
+            moved,
+            year,
+            kept,
+            gone,
+            come,
+        })
+    }
+
+    /// Goes on to the year of the node at a place, where the node before it is of the year at hand.
+    pub(crate) fn go_on<R: Records>(
+        &mut self,
+        alloc: Global,
+        new: &R,
+        nodes: &[Node],
+        place: usize,
+    ) -> Result<(), AllocError>
+        requires place { place < length nodes.now }
+        requires by_year { AreByYear nodes.now }
+        requires at { IsAtPlace (R.content new.now) nodes.now place self.old }
+        ensures at { OnOk result (IsAtNode (R.content new.now) nodes.now place self.new) }
+        ensures same { OnOk result (MovesTheSame self.old self.new) }
+    {
+        let year = year_of(&nodes[place]);
+        if year == self.year {
+            return Ok(());
+        }
+        let names = kept_lines(alloc, &nodes[place..], year, &self.moved)?;
+        self.kept.become_those(alloc, new, names)?;
+        self.year = year;
+        Ok(())
     }
 
     /// What may change of what the total of a category adds.
@@ -120,40 +183,55 @@ impl ChangedLines {
     }
 }
 
-// The lines whose records have one of the keys.
-fn edited_lines(alloc: Global, keys: &[RecordKey]) -> Result<BTreeSet<Name>, AllocError>
-    ensures { IfOk result (AreEdited keys.now) }
+// The lines of keys that are moved.
+fn moved_lines<R: Records, S: Records>(
+    alloc: Global,
+    old: &R,
+    new: &S,
+    keys: &[RecordKey],
+) -> Result<BTreeSet<Name>, AllocError>
+    ensures { IfOk result (AreMoved (R.content old.now) (S.content new.now) keys.now) }
 {
-    let lines = key_lines(alloc, keys)?;
-    Ok(lines)
+    keys.iter()
+        .filter_map(|key| moved_line(old, new, key))
+        .collect(alloc)
 }
 
-fn key_lines(alloc: Global, keys: &[RecordKey]) -> Result<BTreeSet<Name>, AllocError>
-    ensures { IfOk result (IsFromIterResult name_cmp (filter_map key_line keys.now)) }
-{
-    keys.iter().filter_map(|key| key_line(key)).collect(alloc)
-}
-
-// The line whose record has the key.
-fn key_line(key: &RecordKey) -> Option<Name>
-    ensures { result ≡ key_line key.now }
+// The line of a key, where it is moved.
+fn moved_line<R: Records, S: Records>(old: &R, new: &S, key: &RecordKey) -> Option<Name>
+    ensures { result ≡ moved_line (R.content old.now) (S.content new.now) key.now }
 {
     match key {
-        RecordKey::Line(name) => Some(*name),
+        RecordKey::Line(name) if emitted_at(old, name) != emitted_at(new, name) => Some(*name),
         _ => None,
     }
 }
 
-// The lines of which an equivalent is among nodes, by name, without the edited ones.
+// The year of the first node, if there is one.
+fn first_year_of(nodes: &[Node]) -> u32
+    requires { AreByYear nodes.now }
+    ensures { IsBetween result 0 nodes.now }
+{
+    match nodes.first() {
+        Some(node) => year_of(node),
+        None => 0,
+    }
+}
+
+// The lines of which the equivalent of a year is among nodes, by name, without the moved ones. None of the
+// nodes is of an earlier year.
 fn kept_lines(
     alloc: Global,
     nodes: &[Node],
-    edited: &BTreeSet<Name>,
+    year: u32,
+    moved: &BTreeSet<Name>,
 ) -> Result<Vec<Name>, AllocError>
-    ensures { IfOk result (λ names. AreKeptLines nodes.now edited.now names.items) }
+    requires by_year { AreByYear nodes.now }
+    requires behind { (k : Node) → Contains nodes.now k → year ≤ year_in k }
+    ensures { IfOk result (λ names. AreKeptLines nodes.now year moved.now names.items) }
 {
-    let lines = equivalent_lines(alloc, nodes)?;
-    without(alloc, &lines, edited)
+    let lines = equivalent_lines(alloc, nodes, year)?;
+    without(alloc, &lines, moved)
 }
 
 // The names of a set that another one does not have.
@@ -172,12 +250,14 @@ fn without(
         .collect(alloc)
 }
 
-// The lines of which an equivalent is among nodes.
-fn equivalent_lines(alloc: Global, nodes: &[Node]) -> Result<BTreeSet<Name>, AllocError>
-    ensures { IfOk result (IsFromIterResult name_cmp (filter_map equivalent_line nodes.now)) }
+// The lines of equivalents among the nodes of a year that stand first. No node behind them is looked at.
+fn equivalent_lines(alloc: Global, nodes: &[Node], year: u32) -> Result<BTreeSet<Name>, AllocError>
+    ensures { IfOk result (IsFromIterResult name_cmp (filter_map equivalent_line
+        (take_while (λ n. year_in n == year) nodes.now))) }
 {
     nodes
         .iter()
+        .take_while(|node| year_of(node) == year)
         .filter_map(|node| equivalent_line(node))
         .collect(alloc)
 }

@@ -1,12 +1,11 @@
 //! What changes in a total.
 
 ghost use Rattle.std.specs.Prelude.{◌≡◌, ◌↔◌, ◌≤◌, ◌∷◌, [], true, false, IfOk, OnOk, filter, length, map};
-ghost use Rattle.std.specs.List.{list_any};
 ghost use Rattle.ghg_units.specs.declared.node.Node.TheVariants as node;
 ghost use Rattle.ghg_definitions.specs.Compilation.{compilation};
 ghost use Rattle.ghg_definitions.specs.Trials.{is_over};
 ghost use Rattle.ghg_engine.specs.Fresh.{fresh_at};
-ghost use Rattle.ghg_engine.specs.Changes.{AreChanges, HasMoreCome, HasMoreEntering, HasMoreGone, HasMoreKept, addends_exchange, counted_exchange, entering, has_outcome, input_at};
+ghost use Rattle.ghg_engine.specs.Changes.{AnyIsOver, AreChanges, HasMoreCome, HasMoreEntering, HasMoreGone, HasMoreKept, addends_exchange, counted_exchange, entering, has_outcome, input_at};
 ghost use Rattle.ghg_engine.specs.declared.parts.Part.TheVariants as part;
 ghost use Rattle.ghg_engine.specs.Grouping.{names_at};
 ghost use Rattle.ghg_engine.specs.Overlays.{outcomes_of};
@@ -53,8 +52,10 @@ impl Changes {
         changed: &ChangedAddends<'_>,
         year: u32,
     ) -> Result<bool, AllocError>
-        ensures { IfOk result (λ whole. whole ≡ true → AreChanges (compilation (C.content before.now))
+        ensures changes { IfOk result (λ whole. whole ≡ true → AreChanges (compilation (C.content before.now))
             (outcomes_of cells.now) (fresh_at cells.now.fresh) (addends_exchange changed.now year) self.new) }
+        ensures over { IfOk result (λ whole. whole ≡ false → AnyIsOver (outcomes_of cells.now)
+            (entering (fresh_at cells.now.fresh) (addends_exchange changed.now year))) }
     {
         self.clear();
         if !self.add_entering(cells, before, changed, year)? {
@@ -78,9 +79,9 @@ impl Changes {
         ensures changes { IfOk result (λ whole. whole ≡ true → AreChanges (compilation (C.content before.now))
             (outcomes_of cells.now) (fresh_at cells.now.fresh)
             (counted_exchange (C.content before.now) (R.content records.now) changed.now top year) self.new) }
-        ensures over { IfOk result (λ whole. whole ≡ false → list_any (λ n. is_over (outcomes_of cells.now n))
-            (entering (fresh_at cells.now.fresh) (counted_exchange (C.content before.now)
-            (R.content records.now) changed.now top year)) ≡ true) }
+        ensures over { IfOk result (λ whole. whole ≡ false → AnyIsOver (outcomes_of cells.now)
+            (entering (fresh_at cells.now.fresh)
+            (counted_exchange (C.content before.now) (R.content records.now) changed.now top year))) }
     {
         self.clear();
         if !self.add_counted_entering(records, cells, before, changed, top, year)? {
@@ -115,9 +116,11 @@ impl Changes {
         changed: &ChangedAddends<'_>,
         year: u32,
     ) -> Result<bool, AllocError>
-        ensures { IfOk result (λ whole. whole ≡ true → HasMoreEntering (compilation (C.content before.now))
-            (outcomes_of cells.now) (fresh_at cells.now.fresh) (addends_exchange changed.now year)
-            self.old self.new) }
+        ensures changes { IfOk result (λ whole. whole ≡ true → HasMoreEntering
+            (compilation (C.content before.now)) (outcomes_of cells.now) (fresh_at cells.now.fresh)
+            (addends_exchange changed.now year) self.old self.new) }
+        ensures over { IfOk result (λ whole. whole ≡ false → AnyIsOver (outcomes_of cells.now)
+            (entering (fresh_at cells.now.fresh) (addends_exchange changed.now year))) }
     {
         if !self.add_kept(cells, before, &changed.kept, year)? {
             return Ok(false);
@@ -139,9 +142,9 @@ impl Changes {
             (compilation (C.content before.now)) (outcomes_of cells.now) (fresh_at cells.now.fresh)
             (counted_exchange (C.content before.now) (R.content records.now) changed.now top year)
             self.old self.new) }
-        ensures over { IfOk result (λ whole. whole ≡ false → list_any (λ n. is_over (outcomes_of cells.now n))
-            (entering (fresh_at cells.now.fresh) (counted_exchange (C.content before.now)
-            (R.content records.now) changed.now top year)) ≡ true) }
+        ensures over { IfOk result (λ whole. whole ≡ false → AnyIsOver (outcomes_of cells.now)
+            (entering (fresh_at cells.now.fresh)
+            (counted_exchange (C.content before.now) (R.content records.now) changed.now top year))) }
     {
         let kept = changed.kept.names.as_slice();
         let come = changed.come.names.as_slice();
@@ -160,9 +163,11 @@ impl Changes {
         addends: &Addends<'_>,
         year: u32,
     ) -> Result<bool, AllocError>
-        ensures { IfOk result (λ whole. whole ≡ true → HasMoreKept (compilation (C.content before.now))
-            (outcomes_of cells.now) (fresh_at cells.now.fresh) (addends_for addends.now year)
-            self.old self.new) }
+        ensures changes { IfOk result (λ whole. whole ≡ true → HasMoreKept
+            (compilation (C.content before.now)) (outcomes_of cells.now) (fresh_at cells.now.fresh)
+            (addends_for addends.now year) self.old self.new) }
+        ensures over { IfOk result (λ whole. whole ≡ false → AnyIsOver (outcomes_of cells.now)
+            (filter (has_outcome (fresh_at cells.now.fresh)) (addends_for addends.now year))) }
     {
         if !self.add_totals(cells, before, addends.categories, year)? {
             return Ok(false);
@@ -177,9 +182,11 @@ impl Changes {
         categories: &[Category],
         year: u32,
     ) -> Result<bool, AllocError>
-        ensures { IfOk result (λ whole. whole ≡ true → HasMoreKept (compilation (C.content before.now))
-            (outcomes_of cells.now) (fresh_at cells.now.fresh)
+        ensures changes { IfOk result (λ whole. whole ≡ true → HasMoreKept
+            (compilation (C.content before.now)) (outcomes_of cells.now) (fresh_at cells.now.fresh)
             (map (λ c. node.Total c year) categories.now) self.old self.new) }
+        ensures over { IfOk result (λ whole. whole ≡ false → AnyIsOver (outcomes_of cells.now)
+            (filter (has_outcome (fresh_at cells.now.fresh)) (map (λ c. node.Total c year) categories.now))) }
     {
         for category in categories {
             if !self.add(cells, before, &Node::Total(*category, year))? {
@@ -196,9 +203,11 @@ impl Changes {
         names: &[Name],
         year: u32,
     ) -> Result<bool, AllocError>
-        ensures { IfOk result (λ whole. whole ≡ true → HasMoreKept (compilation (C.content before.now))
-            (outcomes_of cells.now) (fresh_at cells.now.fresh)
+        ensures changes { IfOk result (λ whole. whole ≡ true → HasMoreKept
+            (compilation (C.content before.now)) (outcomes_of cells.now) (fresh_at cells.now.fresh)
             (nodes_for part.Equivalent names.now year) self.old self.new) }
+        ensures over { IfOk result (λ whole. whole ≡ false → AnyIsOver (outcomes_of cells.now)
+            (filter (has_outcome (fresh_at cells.now.fresh)) (nodes_for part.Equivalent names.now year))) }
     {
         for name in names {
             if !self.add(cells, before, &Node::Equiv(*name, year))? {
@@ -222,9 +231,9 @@ impl Changes {
             (compilation (C.content before.now)) (outcomes_of cells.now) (fresh_at cells.now.fresh)
             (nodes_for part.Equivalent (names_at (counts_in top) (R.content records.now) names.now) year)
             self.old self.new) }
-        ensures over { IfOk result (λ whole. whole ≡ false → list_any (λ n. is_over (outcomes_of cells.now n))
+        ensures over { IfOk result (λ whole. whole ≡ false → AnyIsOver (outcomes_of cells.now)
             (filter (has_outcome (fresh_at cells.now.fresh)) (nodes_for part.Equivalent
-            (names_at (counts_in top) (R.content records.now) names.now) year)) ≡ true) }
+            (names_at (counts_in top) (R.content records.now) names.now) year))) }
     {
         for name in names {
             if counts(records, top, name) && !self.add(cells, before, &Node::Equiv(*name, year))? {
@@ -245,8 +254,8 @@ impl Changes {
         ensures changes { IfOk result (λ whole. whole ≡ true → HasMoreKept
             (compilation (C.content before.now)) (outcomes_of cells.now) (fresh_at cells.now.fresh)
             (node.now ∷ []) self.old self.new) }
-        ensures over { IfOk result (λ whole. whole ≡ false → list_any (λ n. is_over (outcomes_of cells.now n))
-            (filter (has_outcome (fresh_at cells.now.fresh)) (node.now ∷ [])) ≡ true) }
+        ensures over { IfOk result (λ whole. whole ≡ false → AnyIsOver (outcomes_of cells.now)
+            (filter (has_outcome (fresh_at cells.now.fresh)) (node.now ∷ []))) }
     {
         match cells.fresh_outcome(node) {
             None => Ok(true),
@@ -311,8 +320,10 @@ impl Changes {
         names: &[Name],
         year: u32,
     ) -> Result<bool, AllocError>
-        ensures { IfOk result (λ whole. whole ≡ true → HasMoreCome (outcomes_of cells.now)
+        ensures changes { IfOk result (λ whole. whole ≡ true → HasMoreCome (outcomes_of cells.now)
             (nodes_for part.Equivalent names.now year) self.old self.new) }
+        ensures over { IfOk result (λ whole. whole ≡ false → AnyIsOver (outcomes_of cells.now)
+            (nodes_for part.Equivalent names.now year)) }
     {
         for name in names {
             if !self.push_come(cells, &Node::Equiv(*name, year))? {
@@ -334,9 +345,8 @@ impl Changes {
         ensures changes { IfOk result (λ whole. whole ≡ true → HasMoreCome (outcomes_of cells.now)
             (nodes_for part.Equivalent (names_at (counts_in top) (R.content records.now) names.now) year)
             self.old self.new) }
-        ensures over { IfOk result (λ whole. whole ≡ false → list_any (λ n. is_over (outcomes_of cells.now n))
-            (nodes_for part.Equivalent (names_at (counts_in top) (R.content records.now) names.now) year)
-            ≡ true) }
+        ensures over { IfOk result (λ whole. whole ≡ false → AnyIsOver (outcomes_of cells.now)
+            (nodes_for part.Equivalent (names_at (counts_in top) (R.content records.now) names.now) year)) }
     {
         for name in names {
             if counts(records, top, name) && !self.push_come(cells, &Node::Equiv(*name, year))? {

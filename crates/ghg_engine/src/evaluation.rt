@@ -1,16 +1,16 @@
 //! The evaluation of nodes, each once and behind its inputs.
 
-ghost use Rattle.std.specs.Prelude.{◌≡◌, IfOk, IfSome, MatchResult, Some, length};
+ghost use Rattle.std.specs.Prelude.{◌≡◌, ◌<◌, IfOk, IfSome, MatchResult, OnOk, Some, length};
 ghost use Rattle.ghg_definitions.specs.Compilation.{compilation, first_year, gas_lines, sheet_of};
 ghost use Rattle.ghg_definitions.specs.Data.{span};
 ghost use Rattle.ghg_definitions.specs.Nodes.{lesser_node};
 ghost use Rattle.ghg_definitions.specs.Rings.{IsAcyclic};
 ghost use Rattle.ghg_definitions.specs.Sound.{IsWorkbook};
 ghost use Rattle.ghg_affected.specs.Patches.{least_break};
-ghost use Rattle.ghg_graph.specs.NodeOrders.{AreInOrder};
+ghost use Rattle.ghg_graph.specs.NodeOrders.{AreByYear, AreInOrder};
 ghost use Rattle.ghg_engine.specs.Breaking.{least_with};
 ghost use Rattle.ghg_engine.specs.Cells.{cell_at};
-ghost use Rattle.ghg_engine.specs.Changes.{AreChangedLines, IsBefore, IsReadyFrom, IsResummed, addends_exchange, counted_exchange};
+ghost use Rattle.ghg_engine.specs.Changes.{AreChangedLines, GoesOn, IsAtPlace, IsBefore, IsBetween, IsReadyFrom, IsResummed, addends_exchange, counted_exchange};
 ghost use Rattle.ghg_definitions.specs.Trials.{value_of};
 ghost use Rattle.ghg_engine.specs.Evaluation.{AreEvaluated, AreKept, IsEvaluatedAt, IsEvaluatedSum, IsOutcomeOf, IsReady, IsTotalOf};
 ghost use Rattle.ghg_engine.specs.Factors.{AreKeptFactors};
@@ -72,12 +72,14 @@ pub(crate) fn evaluate_all<R: Records, C: ghg_graph::Cells>(
 {
     let first = first_year(records);
     let mut known = Known::of(alloc, records, nodes)?;
-    let from = with_lines(alloc, records, before, keys, nodes)?;
+    let mut from = with_lines(alloc, records, before, keys, nodes)?;
     let mut permits = permits;
     let mut buffers = Buffers::new(alloc);
     let mut cells = Overlay::over(alloc, kept, room_for(&known, nodes));
     let mut least = None;
-    for node in nodes {
+    for place in 0..nodes.len() {
+        let node = &nodes[place];
+        go_on(alloc, records, &mut from, nodes, place)?;
         let ticket = permits.ticket().unwrap();
         buffers.parts.begin(year_of(node));
         let evaluated = evaluate(
@@ -114,17 +116,39 @@ fn with_lines<'a, R: Records, C: ghg_graph::Cells>(
     keys: &[RecordKey],
     nodes: &[Node],
 ) -> Result<Option<Before<'a, C>>, AllocError>
-    requires { IfSome before (λ b.
+    requires by_year { AreByYear nodes.now }
+    requires before { IfSome before (λ b.
         IsBefore (C.content b.now) (R.content records.now) keys.now nodes.now) }
-    ensures { IfOk result (λ o. IfSome o (λ b.
+    ensures lines { IfOk result (λ o. IfSome o (λ b.
         IsBefore (C.content b.cells.now) (R.content records.now) keys.now nodes.now
         × AreChangedLines (C.content b.cells.now) (R.content records.now) keys.now nodes.now b.changed)) }
+    ensures first { IfOk result (λ o. IfSome o (λ b. IsBetween b.changed.year 0 nodes.now)) }
 {
     let Some(cells) = before else {
         return Ok(None);
     };
     let changed = ChangedLines::of(alloc, cells.book(), records, keys, nodes)?;
     Ok(Some(Before { cells, changed }))
+}
+
+// Goes on to the node at a place: where its year is another one, so are the lines of which equivalents are
+// evaluated anew.
+fn go_on<R: Records, C: ghg_graph::Cells>(
+    alloc: Global,
+    records: &R,
+    from: &mut Option<Before<'_, C>>,
+    nodes: &[Node],
+    place: usize,
+) -> Result<(), AllocError>
+    requires place { place < length nodes.now }
+    requires by_year { AreByYear nodes.now }
+    requires from { IfSome from.old (λ b. IsAtPlace (R.content records.now) nodes.now place b.changed) }
+    ensures { OnOk result (GoesOn (R.content records.now) nodes.now place from.old from.new) }
+{
+    match from {
+        Some(before) => before.changed.go_on(alloc, records, nodes, place),
+        None => Ok(()),
+    }
 }
 
 // The years of nodes, if the nodes are at least half as many as the lines and emitters of the first year

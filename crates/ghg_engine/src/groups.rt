@@ -222,8 +222,8 @@ fn is_above_parts(category: Category) -> bool
     matches!(category, Category::National | Category::C3)
 }
 
-// The category at which a line stands that emits a gas.
-fn emitted_at<R: Records>(records: &R, name: &Name) -> Option<Category>
+/// The category at which a line stands that emits a gas.
+pub(crate) fn emitted_at<R: Records>(records: &R, name: &Name) -> Option<Category>
     ensures { result ≡ emitted_at (R.content records.now) name.now }
 {
     let (category, id) = records.line(name)?;

@@ -45,10 +45,10 @@ sum_from-requires-clause-before g c =
     let ready = subst (IsReady m found) c.in-Total.is c.requires.ready in
     let ready_from = subst (IsReadyFrom old m changed fresh) c.in-Total.is from in
     subst (λ k. IsResummed found fresh (compilation old) k (addends_for c.total-addends.result year) (addends_exchange c.total-changed.result year)) (sym c.in-Total.is)
-    (from_ready old m c.requires.workbook c.requires.acyclic changed fresh found n ready ready_from (children c.in-Total.category) (λ k. is_same k c.in-Total.category) year refl refl refl _
+    (from_ready old m c.requires.workbook c.requires.acyclic changed fresh found n ready ready_from (children c.in-Total.category) (λ k. is_same k c.in-Total.category) refl refl refl _
     (ap₂ (λ (cs : List Category) (names : List Name). map (λ d. node.Total d year) cs ++ map (λ name. node.Equiv name year) names)
     c.total-addends.ensures.categories (c.total-addends.ensures.own ∙ c.requires.layout.groups.at c.in-Total.category))
-    c.total-changed.result c.total-changed.ensures.categories (c.total-changed.ensures.kept ∙ ready_from.lines.grouped.at c.in-Total.category)
+    c.total-changed.result c.total-changed.ensures.categories (c.total-changed.ensures.kept ∙ ready_from.lines.of_year.grouped.at c.in-Total.category)
     (c.total-changed.ensures.gone ∙ ready_from.lines.gone.grouped.at c.in-Total.category) (c.total-changed.ensures.come ∙ ready_from.lines.come.grouped.at c.in-Total.category))
 
 pub sum_from-requires-clause-lines : goal.sum_from-requires-clause-lines
@@ -65,7 +65,7 @@ sum_from-requires-clause-lines g c =
     let ready_from = subst (IsReadyFrom old m changed fresh) c.in-Total.is from in
     subst (λ k. IsResummed found fresh (compilation old) k (all_for m c.total-addends.result year) (counted_exchange old m changed c.total-addends.result.top year)) (sym c.in-Total.is)
     (subst (λ top. IsResummed found fresh (compilation old) n (nodes_for Equivalent (gas_lines_at (counts_in top) m) year) (counted_exchange old m changed top year)) (sym c.total-addends.ensures.top)
-    (lines_ready old m c.requires.workbook c.requires.acyclic changed fresh found n ready ready_from (λ k. stands_under k c.in-Total.category) year refl refl _ refl refl refl))
+    (lines_ready old m c.requires.workbook c.requires.acyclic changed fresh found n ready ready_from (λ k. stands_under k c.in-Total.category) refl refl _ refl refl refl))
 
 pub returns-in-Some-clause-outcome : goal.returns-in-Some-clause-outcome
 returns-in-Some-clause-outcome g c =
@@ -104,10 +104,10 @@ sum_from-requires-in-Some-before-clause-before g c =
     let ready = subst (IsReady m found) c.in-Gross.is c.requires.ready in
     let ready_from = subst (IsReadyFrom old m changed fresh) c.in-Gross.is from in
     subst (λ k. IsResummed found fresh (compilation old) k (addends_for c.gross-addends.result year) (addends_exchange c.gross-changed.result year)) (sym c.in-Gross.is)
-    (from_ready old m c.requires.workbook c.requires.acyclic changed fresh found n ready ready_from gross_parts is_above_parts year refl refl refl _
+    (from_ready old m c.requires.workbook c.requires.acyclic changed fresh found n ready ready_from gross_parts is_above_parts refl refl refl _
     (ap₂ (λ (cs : List Category) (names : List Name). map (λ d. node.Total d year) cs ++ map (λ name. node.Equiv name year) names)
     c.gross-addends.ensures.categories (c.gross-addends.ensures.own ∙ c.requires.layout.groups.above))
-    c.gross-changed.result c.gross-changed.ensures.categories (c.gross-changed.ensures.kept ∙ ready_from.lines.grouped.above)
+    c.gross-changed.result c.gross-changed.ensures.categories (c.gross-changed.ensures.kept ∙ ready_from.lines.of_year.grouped.above)
     (c.gross-changed.ensures.gone ∙ ready_from.lines.gone.grouped.above) (c.gross-changed.ensures.come ∙ ready_from.lines.come.grouped.above))
 
 pub sum_from-requires-in-Some-before-clause-lines : goal.sum_from-requires-in-Some-before-clause-lines
@@ -124,7 +124,7 @@ sum_from-requires-in-Some-before-clause-lines g c =
     let ready_from = subst (IsReadyFrom old m changed fresh) c.in-Gross.is from in
     subst (λ k. IsResummed found fresh (compilation old) k (all_for m c.gross-addends.result year) (counted_exchange old m changed c.gross-addends.result.top year)) (sym c.in-Gross.is)
     (subst (λ top. IsResummed found fresh (compilation old) n (nodes_for Equivalent (gas_lines_at (counts_in top) m) year) (counted_exchange old m changed top year)) (sym c.gross-addends.ensures.top)
-    (lines_ready old m c.requires.workbook c.requires.acyclic changed fresh found n ready ready_from counts_in_gross year refl refl _ refl refl refl))
+    (lines_ready old m c.requires.workbook c.requires.acyclic changed fresh found n ready ready_from counts_in_gross refl refl _ refl refl refl))
 
 pub returns-in-Some-before-clause-outcome : goal.returns-in-Some-before-clause-outcome
 returns-in-Some-before-clause-outcome g c =

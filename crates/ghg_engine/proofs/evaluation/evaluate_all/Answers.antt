@@ -1,5 +1,7 @@
-use Rattle.std.proofs.Common.{rules, [], ◌∷◌, ◌++◌, ◌≡◌, ◌+◌, ◌<◌, ◌∙◌, ℕ, ap₂, sym, subst, take, drop, Option, Some, None, ap, arith}
+use Rattle.std.proofs.Common.{rules, [], ◌∷◌, ◌++◌, ◌≡◌, ◌+◌, ◌<◌, ◌∙◌, ℕ, ap₂, refl, sym, subst, take, drop, Option, Some, None, ap, arith}
 use Rattle.std.proofs.lemmas.List.{take_more}
+use Rattle.std.proofs.lemmas.Option.{slice_get_read}
+use Rattle.std.specs.List.{slice_get}
 use Rattle.std.specs.Option.{IsSome, MatchOption}
 use Rattle.ghg_engine.specs.declared.evaluation.Before.{Before}
 use Rattle.ghg_affected.specs.Counts.{StandOnce}
@@ -7,7 +9,10 @@ use Rattle.ghg_engine.specs.Cells.{cell_at, found_in}
 use Rattle.ghg_engine.specs.Fresh.{fresh_at}
 use Rattle.ghg_engine.specs.Evaluation.{AreKept}
 use Rattle.ghg_engine.specs.Overlays.{outcomes_of}
-use Rattle.ghg_engine.proofs.Next.{around, if_some, next_from}
+use Rattle.ghg_engine.specs.Changes.{IsBetween}
+use Rattle.ghg_engine.proofs.AtPlace.{goes_on, is_at_place, next_between}
+use Rattle.ghg_engine.proofs.Before.{of_some}
+use Rattle.ghg_engine.proofs.Next.{around, both_some, if_some, next_from}
 use Rattle.ghg_engine.proofs.Turns.{IsSoFar, at_next, ends_evaluated, ends_over, next_ready, none_yet, nothing_fresh, nothing_so_far, one_so_far}
 use Rattle.ghg_engine.proofs.evaluation.evaluate_all.Goals as goal
 
@@ -20,17 +25,17 @@ spent None before after h some = absurd (omega (arith, h.0))
 spent (Some x) before after h some = h
 
 pub unwrap-ticket-requires : goal.unwrap-ticket-requires
-unwrap-ticket-requires g c = there c.ticket.result c.loop-node.permits c.ticket.new.self c.ticket.ensures (omega (arith, c.loop-node.invariant.1))
+unwrap-ticket-requires g c = there c.ticket.result c.loop-place.permits c.ticket.new.self c.ticket.ensures (omega (arith, c.loop-place.invariant.1))
 
-pub loop-node-init : goal.loop-node-init
-loop-node-init g c =
+pub loop-place-init : goal.loop-place-init
+loop-place-init g c =
     let m = g.R.Records.content c.args.records.now in
     let found = ap₂ (λ f k. found_in f (cell_at k)) c.over-cells.ensures.fresh c.over-cells.ensures.kept ∙ nothing_fresh (cell_at c.args.kept.now) in (
       nothing_so_far m c.args.nodes.now c.requires.order (outcomes_of c.over-cells.result) (fresh_at c.over-cells.result.fresh)
           (subst (AreKept m c.args.nodes.now) (sym found) c.requires.kept) c.over-cells.ensures.fresh,
       omega (arith, c.requires.paid),
       c.over-cells.ensures.kept,
-      c.in_ok-from.ensures,
+      both_some _ _ c.in_ok-from.from c.in_ok-from.ensures.lines c.in_ok-from.ensures.first,
       c.in_ok-known.ensures,
     )
 
@@ -38,60 +43,69 @@ pub evaluate-requires-clause-ready : goal.evaluate-requires-clause-ready
 evaluate-requires-clause-ready g c =
     let m = g.R.Records.content c.args.records.now in
     let nodes = c.args.nodes.now in
-    let i = c.loop-node.node-index in
-    let n = c.node-item.result in
-    next_ready m c.requires.workbook (take i nodes) n (drop (i + 1) nodes) (outcomes_of c.loop-node.cells) (fresh_at c.loop-node.cells.fresh) c.loop-node.least
-    (at_next m nodes i n c.loop-node-test.true c.node-item.is (outcomes_of c.loop-node.cells) (fresh_at c.loop-node.cells.fresh) c.loop-node.least c.loop-node.invariant.0)
+    let i = c.loop-place.place in
+    let n = c.index-nodes-place.result in
+    next_ready m c.requires.workbook (take i nodes) n (drop (i + 1) nodes) (outcomes_of c.loop-place.cells) (fresh_at c.loop-place.cells.fresh) c.loop-place.least
+    (at_next m nodes i n c.loop-place-test.true c.index-nodes-place.is (outcomes_of c.loop-place.cells) (fresh_at c.loop-place.cells.fresh) c.loop-place.least c.loop-place.invariant.0)
+
+pub go_on-requires-clause-from : goal.go_on-requires-clause-from
+go_on-requires-clause-from g c = is_at_place (λ x. g.C.Cells.content x.now) (g.R.Records.content c.args.records.now) c.args.keys.now c.args.nodes.now c.loop-place.place
+    c.loop-place.from c.loop-place.invariant.3
 
 pub evaluate-requires-clause-before : goal.evaluate-requires-clause-before
 evaluate-requires-clause-before g c =
     let m = g.R.Records.content c.args.records.now in
     let nodes = c.args.nodes.now in
-    let i = c.loop-node.node-index in
-    let n = c.node-item.result in
-    let found = outcomes_of c.loop-node.cells in
-    let fresh = fresh_at c.loop-node.cells.fresh in
-    if_some _ c.loop-node.invariant.3 (λ (b : Before _) h. next_from (g.C.Cells.content b.cells.now) m c.requires.workbook c.requires.acyclic b.changed (take i nodes) n (drop (i + 1) nodes) nodes
-    (around nodes i n c.loop-node-test.true c.node-item.is) found fresh c.loop-node.least
-    (at_next m nodes i n c.loop-node-test.true c.node-item.is found fresh c.loop-node.least c.loop-node.invariant.0) c.args.keys.now h.0 h.1)
+    let i = c.loop-place.place in
+    let n = c.index-nodes-place.result in
+    let found = outcomes_of c.loop-place.cells in
+    let fresh = fresh_at c.loop-place.cells.fresh in
+    if_some c.go_on.new.from (goes_on (λ x. g.C.Cells.content x.now) m c.args.keys.now nodes i c.loop-place.from c.go_on.new.from c.loop-place.invariant.3 c.in_ok-go_on.ensures) (λ (b : Before _) h. next_from (g.C.Cells.content b.cells.now) m c.requires.workbook c.requires.acyclic b.changed (take i nodes) n (drop (i + 1) nodes) nodes
+    (around nodes i n c.loop-place-test.true c.index-nodes-place.is) found fresh c.loop-place.least
+    (at_next m nodes i n c.loop-place-test.true c.index-nodes-place.is found fresh c.loop-place.least c.loop-place.invariant.0) c.args.keys.now h.0.0 h.0.1
+    (of_some _ (slice_get nodes i) n (slice_get_read nodes _ i n refl c.loop-place-test.true c.index-nodes-place.is) h.1))
 
 pub insert-requires : goal.insert-requires
 insert-requires g c =
     let nodes = c.args.nodes.now in
-    let i = c.loop-node.node-index in
-    let n = c.node-item.result in
-    none_yet (g.R.Records.content c.args.records.now) (take i nodes) n (drop (i + 1) nodes) (outcomes_of c.loop-node.cells) (fresh_at c.loop-node.cells.fresh) c.loop-node.least
-    (subst StandOnce (around nodes i n c.loop-node-test.true c.node-item.is) c.requires.order.once)
-    (at_next _ nodes i n c.loop-node-test.true c.node-item.is (outcomes_of c.loop-node.cells) (fresh_at c.loop-node.cells.fresh) c.loop-node.least c.loop-node.invariant.0)
+    let i = c.loop-place.place in
+    let n = c.index-nodes-place.result in
+    none_yet (g.R.Records.content c.args.records.now) (take i nodes) n (drop (i + 1) nodes) (outcomes_of c.loop-place.cells) (fresh_at c.loop-place.cells.fresh) c.loop-place.least
+    (subst StandOnce (around nodes i n c.loop-place-test.true c.index-nodes-place.is) c.requires.order.once)
+    (at_next _ nodes i n c.loop-place-test.true c.index-nodes-place.is (outcomes_of c.loop-place.cells) (fresh_at c.loop-place.cells.fresh) c.loop-place.least c.loop-place.invariant.0)
 
-pub loop-node-preserved : goal.loop-node-preserved
-loop-node-preserved g c =
+pub loop-place-preserved : goal.loop-place-preserved
+loop-place-preserved g c =
     let m = g.R.Records.content c.args.records.now in
     let nodes = c.args.nodes.now in
-    let i = c.loop-node.node-index in
-    let n = c.node-item.result in
-    let more = ap (λ k. take i nodes ++ k ∷ []) c.node-item.is ∙ sym (take_more nodes i n c.loop-node-test.true) in
-    let one = spent c.ticket.result c.loop-node.permits c.ticket.new.self c.ticket.ensures (omega (arith, c.loop-node.invariant.1)) in
-    let found = outcomes_of c.loop-node.cells in
-    let fresh = fresh_at c.loop-node.cells.fresh in
+    let i = c.loop-place.place in
+    let n = c.index-nodes-place.result in
+    let more = ap (λ k. take i nodes ++ k ∷ []) c.index-nodes-place.is ∙ sym (take_more nodes i n c.loop-place-test.true) in
+    let one = spent c.ticket.result c.loop-place.permits c.ticket.new.self c.ticket.ensures (omega (arith, c.loop-place.invariant.1)) in
+    let found = outcomes_of c.loop-place.cells in
+    let fresh = fresh_at c.loop-place.cells.fresh in
     let found_then = outcomes_of c.insert.new.self in
     let fresh_then = fresh_at c.insert.new.self.fresh in
     let e = c.in_ok-evaluated.evaluated in (
       subst (λ ns. IsSoFar m ns (drop (i + 1) nodes) found_then fresh_then c.least_with-least.result) more
           (subst (IsSoFar m (take i nodes ++ n ∷ []) (drop (i + 1) nodes) found_then fresh_then) (sym c.least_with-least.ensures)
-          (one_so_far m (take i nodes) n (drop (i + 1) nodes) found fresh found_then fresh_then c.loop-node.least e
-          (at_next m nodes i n c.loop-node-test.true c.node-item.is found fresh c.loop-node.least c.loop-node.invariant.0)
+          (one_so_far m (take i nodes) n (drop (i + 1) nodes) found fresh found_then fresh_then c.loop-place.least e
+          (at_next m nodes i n c.loop-place-test.true c.index-nodes-place.is found fresh c.loop-place.least c.loop-place.invariant.0)
           c.in_ok-evaluated.ensures.outcome c.in_ok-insert.ensures.outcomes c.in_ok-insert.ensures.fresh)),
-      omega (arith, c.loop-node.invariant.1, one, c.loop-node-test.true),
-      c.in_ok-insert.ensures.kept ∙ c.loop-node.invariant.2,
-      c.loop-node.invariant.3,
+      omega (arith, c.loop-place.invariant.1, one, c.loop-place-test.true),
+      c.in_ok-insert.ensures.kept ∙ c.loop-place.invariant.2,
+      if_some c.go_on.new.from (goes_on (λ x. g.C.Cells.content x.now) m c.args.keys.now nodes i c.loop-place.from c.go_on.new.from c.loop-place.invariant.3 c.in_ok-go_on.ensures) (λ (b : Before _) h. (
+        h.0,
+        subst (λ year. IsBetween year (i + 1) nodes) (sym (of_some _ (slice_get nodes i) n (slice_get_read nodes _ i n refl c.loop-place-test.true c.index-nodes-place.is) h.1))
+            (next_between nodes i n c.loop-place-test.true c.index-nodes-place.is c.requires.order.by_year),
+      )),
       c.evaluate.ensures.known,
     )
 
 pub returns-in-None : goal.returns-in-None
-returns-in-None g c = ends_evaluated (g.R.Records.content c.args.records.now) c.args.nodes.now c.loop-node.node-index c.loop-node-test.false
-    (outcomes_of c.loop-node.cells) (fresh_at c.loop-node.cells.fresh) c.loop-node.least c.loop-node.invariant.0 (fresh_at c.into_fresh.result) (ap fresh_at c.into_fresh.ensures) c.in-None.is
+returns-in-None g c = ends_evaluated (g.R.Records.content c.args.records.now) c.args.nodes.now c.loop-place.place c.loop-place-test.false
+    (outcomes_of c.loop-place.cells) (fresh_at c.loop-place.cells.fresh) c.loop-place.least c.loop-place.invariant.0 (fresh_at c.into_fresh.result) (ap fresh_at c.into_fresh.ensures) c.in-None.is
 
 pub returns : goal.returns
-returns g c = ends_over (g.R.Records.content c.args.records.now) c.args.nodes.now c.loop-node.node-index c.loop-node-test.false
-    (outcomes_of c.loop-node.cells) (fresh_at c.loop-node.cells.fresh) c.loop-node.least c.loop-node.invariant.0 c.in-Some.node c.in-Some.is
+returns g c = ends_over (g.R.Records.content c.args.records.now) c.args.nodes.now c.loop-place.place c.loop-place-test.false
+    (outcomes_of c.loop-place.cells) (fresh_at c.loop-place.cells.fresh) c.loop-place.least c.loop-place.invariant.0 c.in-Some.node c.in-Some.is

@@ -13,7 +13,7 @@ pub returns-then-are_few : goal.returns-then-are_few
 returns-then-are_few g c =
     let year = c.args.year in
     inl (resummed (fresh_at c.args.cells.now.fresh) (cell_at c.args.cells.now.kept.now) (compilation (g.C.Cells.content c.args.before.now.cells.now)) c.args.node.now
-    (addends_for c.args.addends.now year) (addends_exchange c.args.changed.now year) c.requires.before c.gather.new.self (c.in_ok-gather.ensures c.if-branch.true)
+    (addends_for c.args.addends.now year) (addends_exchange c.args.changed.now year) c.requires.before c.gather.new.self (c.in_ok-gather.ensures.changes c.if-branch.true)
     c.input-was.result.now (sym c.value.ensures.value ∙ ap option_copied c.in-Some.is ∙ ap Some (sym c.input-was.ensures))
     c.of.result c.total_from-value.result
     (λ rest within is. c.total_from-value.ensures rest within (ap (λ ls. summed (ls ++ rest)) c.deref.ensures.value ∙ is)
