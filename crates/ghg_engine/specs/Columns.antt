@@ -40,7 +40,8 @@ covers run other = length other.values == 0
 
 -- the first has no years, or none lies between it and the second
 abbrev pub touches : Run → Run → Bool
-touches run next = length run.values == 0 || (nat_le next.first (end_of run) && nat_le run.first (end_of next))
+touches run next = length run.values == 0
+    || (nat_le next.first (end_of run) && nat_le run.first (end_of next))
 
 -- the second begins in the years of the first or directly behind them, and ends behind them; the first has
 -- room for those of its years that are behind
