@@ -1,22 +1,19 @@
 -- Names, and the lines of which equivalents are among nodes.
-use Rattle.std.proofs.Common.{◌≡◌, ◌==◌, ◌≤◌, ℕ, Bool, true, not, Contains, List, [], ◌∷◌, filter, filter_map, nat_eq, refl, sym, ap, ap₂, ◌∙◌, subst}
+use Rattle.std.proofs.Common.{◌≡◌, ◌==◌, ◌≤◌, ℕ, true, Contains, List, [], ◌∷◌, filter_map, nat_eq, refl, sym, ap₂, ◌∙◌, subst}
 use Rattle.std.specs.List.{take_while}
-use Rattle.std.specs.BTreeSet.{BTreeSet, IsFromIterResult, contains}
+use Rattle.std.specs.BTreeSet.{BTreeSet, IsFromIterResult}
 use Rattle.std.specs.Cmp.Lexicographic.{nat_list_cmp_total, pointwise, texts_ties}
-use Rattle.std.proofs.lemmas.List.Kept.{IsStrictlySortedBy-filter}
 use Rattle.std.proofs.lemmas.Map.Lookups.{exact_bytes}
 use Rattle.ghg_units.specs.declared.node.Node.{Node}
 use Rattle.ghg_definitions.specs.Data.{Name, name_cmp}
 use Rattle.ghg_definitions.specs.Nodes.{year_in}
 use Rattle.ghg_definitions.proofs.Alike.{first_so, second_so}
 use Rattle.ghg_definitions.proofs.Keys.{equal_by, names_same}
-use Rattle.ghg_definitions.proofs.Listed.{from_filter, listed_filter}
 use Rattle.ghg_affected.proofs.Bools.{true_not_false}
 use Rattle.ghg_graph.specs.NodeOrders.{AreByYear}
 use Rattle.ghg_graph.proofs.Membership.{key_listed, listed_key}
-use Rattle.ghg_engine.specs.Changes.{AreKeptLines, equivalent_line}
-use Rattle.ghg_engine.proofs.Before.{not_true}
-use Rattle.ghg_engine.proofs.OfYear.{equivalents_of}
+use Rattle.ghg_engine.specs.Changes.{AreKeptLines, unmoved_line}
+use Rattle.ghg_engine.proofs.OfYear.{unmoved_of}
 
 -- names that the code finds equal are one
 pub one_name : (a b : Name) → pointwise nat_eq a b ≡ true → a ≡ b
@@ -28,19 +25,14 @@ same_list [] (y ∷ ys) e = absurd (true_not_false (sym e))
 same_list (x ∷ xs) [] e = absurd (true_not_false (sym e))
 same_list (x ∷ xs) (y ∷ ys) e = ap₂ (λ (z : Name) (zs : List Name). z ∷ zs) (one_name x y (first_so (pointwise nat_eq x y) _ e)) (same_list xs ys (second_so (pointwise nat_eq x y) _ e))
 
--- those of a set of lines that are not moved
+-- the lines of a set
 pub kept_lines_are : (ns : List Node) (year : ℕ) (moved s : BTreeSet Name) (names : List Name) → AreByYear ns → ((n : Node) → Contains ns n → year ≤ year_in n)
-    → IsFromIterResult name_cmp (filter_map equivalent_line (take_while (λ n. year_in n == year) ns)) s
-    → names ≡ filter (λ name. not (contains name_cmp moved name)) s.keys → AreKeptLines ns year moved names
+    → IsFromIterResult name_cmp (filter_map (unmoved_line moved) (take_while (λ n. year_in n == year) ns)) s
+    → names ≡ s.keys → AreKeptLines ns year moved names
 kept_lines_are ns year moved s names by_year behind is all = subst (AreKeptLines ns year moved) (sym all) (record {
-  order = IsStrictlySortedBy-filter name_cmp p s.keys is.1;
+  order = is.1;
   named = λ name. (
-    λ i.
-        let at = from_filter p name s.keys i in
-        ((equivalents_of year ns by_year behind name).0 (key_listed exact_bytes name _ (sym (is.0 name) ∙ listed_key nat_list_cmp_total name s.keys at.0)), not_true _ at.1),
-    λ h. listed_filter p name s.keys (key_listed exact_bytes name s.keys (is.0 name ∙ listed_key nat_list_cmp_total name _ ((equivalents_of year ns by_year behind name).1 h.0))) (ap not h.1),
+    λ i. (unmoved_of year moved ns by_year behind name).0 (key_listed exact_bytes name _ (sym (is.0 name) ∙ listed_key nat_list_cmp_total name s.keys i)),
+    λ h. key_listed exact_bytes name s.keys (is.0 name ∙ listed_key nat_list_cmp_total name _ ((unmoved_of year moved ns by_year behind name).1 h)),
   );
 })
-  where
-    p : Name → Bool
-    p name = not (contains name_cmp moved name)

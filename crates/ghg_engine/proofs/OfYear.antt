@@ -1,18 +1,19 @@
 -- The nodes of a year stand together.
-use Rattle.std.proofs.Common.{◌≡◌, ◌↔◌, inl, inr, ℕ, zero, suc, ◌-◌, ◌==◌, ◌<◌, ◌≤◌, Bool, true, false, cond, List, [], ◌∷◌, ◌++◌, Contains, filter_map, length, take, drop, Some, refl, sym, ap, ◌∙◌, subst, arith}
+use Rattle.std.proofs.Common.{◌≡◌, ◌↔◌, inl, inr, ℕ, zero, suc, ◌-◌, ◌==◌, ◌<◌, ◌≤◌, Bool, true, false, cond, List, [], ◌∷◌, ◌++◌, Contains, filter_map, length, take, drop, None, Some, refl, sym, ap, ◌∙◌, subst, arith}
+use Rattle.std.specs.BTreeSet.{BTreeSet, contains}
 use Rattle.std.specs.List.{take_while}
 use Rattle.std.proofs.lemmas.Bool.Decides.{Decides-eqb}
 use Rattle.std.proofs.lemmas.List.{length-drop, take-append-drop, take_all}
 use Rattle.std.proofs.lemmas.List.Sums.{take_while-cons}
 use Rattle.ghg_units.specs.declared.node.Node.{Node}
 use Rattle.ghg_units.specs.declared.node.Node.TheVariants as node
-use Rattle.ghg_definitions.specs.Data.{Name}
+use Rattle.ghg_definitions.specs.Data.{Name, name_cmp}
 use Rattle.ghg_definitions.specs.Listed.{IsListed}
 use Rattle.ghg_definitions.specs.Nodes.{year_in}
 use Rattle.ghg_definitions.proofs.Listed.{contained, from_filter_map, in_either, listed, listed_filter_map, listed_right}
 use Rattle.ghg_affected.proofs.Bools.{true_not_false}
 use Rattle.ghg_graph.specs.NodeOrders.{AreByYear}
-use Rattle.ghg_engine.specs.Changes.{IsBetween, equivalent_line}
+use Rattle.ghg_engine.specs.Changes.{IsBetween, unmoved_line}
 
 module _ (year : ℕ) where
   abbrev of_year : Node → Bool
@@ -50,23 +51,28 @@ module _ (year : ℕ) where
           let same : year_in n ≡ year = omega (arith, first, later, is) in
           absurd (true_not_false (sym ((Decides-eqb (year_in n) year).1 same) ∙ off))
 
--- the line of an equivalent
-of_equivalent : (k : Node) (name : Name) → equivalent_line k ≡ Some name → k ≡ node.Equiv name (year_in k)
-of_equivalent (node.Equiv other year) name e = let same : other ≡ name = cc in ap (λ n. node.Equiv n year) same
-of_equivalent (node.Line other year) name e = absurd (cc)
-of_equivalent (node.Total c year) name e = absurd (cc)
-of_equivalent (node.Gross year) name e = absurd (cc)
+-- the line of an equivalent, which is not moved
+of_unmoved : (moved : BTreeSet Name) (k : Node) (name : Name) → unmoved_line moved k ≡ Some name → (k ≡ node.Equiv name (year_in k)) × (contains name_cmp moved name ≡ false)
+of_unmoved moved (node.Equiv other year) name e = by (contains name_cmp moved other) refl e
+  where
+    by : (b : Bool) → contains name_cmp moved other ≡ b → cond b None (Some other) ≡ Some name → (node.Equiv other year ≡ node.Equiv name year) × (contains name_cmp moved name ≡ false)
+    by true on e = absurd (cc)
+    by false off e = let same : other ≡ name = cc in (ap (λ n. node.Equiv n year) same, ap (contains name_cmp moved) (sym same) ∙ off)
+of_unmoved moved (node.Line other year) name e = absurd (cc)
+of_unmoved moved (node.Total c year) name e = absurd (cc)
+of_unmoved moved (node.Gross year) name e = absurd (cc)
 
 -- the lines of equivalents of the year that stand first are those of all
-pub equivalents_of : (year : ℕ) (ns : List Node) → AreByYear ns → ((n : Node) → Contains ns n → year ≤ year_in n) → (name : Name)
-    → IsListed name (filter_map equivalent_line (take_while (λ n. year_in n == year) ns)) ↔ Contains ns (node.Equiv name year)
-equivalents_of year ns by_year behind name = (
+pub unmoved_of : (year : ℕ) (moved : BTreeSet Name) (ns : List Node) → AreByYear ns → ((n : Node) → Contains ns n → year ≤ year_in n) → (name : Name)
+    → IsListed name (filter_map (unmoved_line moved) (take_while (λ n. year_in n == year) ns)) ↔ (Contains ns (node.Equiv name year) × (contains name_cmp moved name ≡ false))
+unmoved_of year moved ns by_year behind name = (
   λ i.
-      let from = from_filter_map equivalent_line name (take_while (λ n. year_in n == year) ns) i in
+      let from = from_filter_map (unmoved_line moved) name (take_while (λ n. year_in n == year) ns) i in
       let at = from_first year from.0 ns from.1 in
-      subst (Contains ns) (of_equivalent from.0 name from.2 ∙ ap (node.Equiv name) at.1) (contained ns from.0 at.0),
-  λ c. listed_filter_map equivalent_line (node.Equiv name year) name (take_while (λ n. year_in n == year) ns)
-      (among_first year (node.Equiv name year) ns by_year behind (listed ns (node.Equiv name year) c) refl) refl,
+      let line = of_unmoved moved from.0 name from.2 in
+      (subst (Contains ns) (line.0 ∙ ap (node.Equiv name) at.1) (contained ns from.0 at.0), line.1),
+  λ h. listed_filter_map (unmoved_line moved) (node.Equiv name year) name (take_while (λ n. year_in n == year) ns)
+      (among_first year (node.Equiv name year) ns by_year behind (listed ns (node.Equiv name year) h.0) refl) (ap (λ b. cond b None (Some name)) h.1),
 )
 
 -- ---- places

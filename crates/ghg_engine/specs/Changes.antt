@@ -127,11 +127,6 @@ pub record IsResummed (found fresh before : Outcomes) (n : Node) (ns : List Node
 
 -- ---- lines that change
 
--- the line of an equivalent
-abbrev pub equivalent_line : Node → Option Name
-equivalent_line (node.Equiv name year) = Some name
-equivalent_line _ = None
-
 -- the line emits a gas at another category than before, or did only before, or does only now
 abbrev pub is_moved : Data → Data → Name → Bool
 is_moved old new name = not (option_eq is_same (emitted_at old name) (emitted_at new name))
@@ -144,6 +139,11 @@ moved_line old new _ = None
 -- the set has the lines of the keys that are moved
 abbrev pub AreMoved : Data → Data → List RecordKey → BTreeSet Name → Type 0
 AreMoved old new keys moved = IsFromIterResult name_cmp (filter_map (moved_line old new) keys) moved
+
+-- the line of an equivalent, if it is not moved
+abbrev pub unmoved_line : BTreeSet Name → Node → Option Name
+unmoved_line moved (node.Equiv name year) = if contains name_cmp moved name then None else Some name
+unmoved_line moved _ = None
 
 -- the names in order of the lines of which the equivalent of a year is in the list, without the moved ones
 pub record AreKeptLines (ns : List Node) (year : ℕ) (moved : BTreeSet Name) (names : List Name)

@@ -1,14 +1,14 @@
 //! The lines of which totals may add something else than before.
 
-ghost use Rattle.std.specs.Prelude.{◌≡◌, ◌≤◌, ◌<◌, ◌+◌, ◌-◌, ◌^◌, ◌==◌, filter, filter_map, length, max, min, not, IfOk, OnOk};
-ghost use Rattle.std.specs.BTreeSet.{IsFromIterResult, contains};
+ghost use Rattle.std.specs.Prelude.{◌≡◌, ◌≤◌, ◌<◌, ◌+◌, ◌-◌, ◌^◌, ◌==◌, filter, filter_map, length, max, min, IfOk, OnOk};
+ghost use Rattle.std.specs.BTreeSet.{IsFromIterResult};
 ghost use Rattle.std.specs.List.{Contains, take_while};
 ghost use Rattle.ghg_affected.specs.Subtotals.{children, gross_parts};
 ghost use Rattle.ghg_definitions.specs.Compilation.{emits};
 ghost use Rattle.ghg_definitions.specs.Data.{name_cmp};
 ghost use Rattle.ghg_definitions.specs.Nodes.{year_in};
 ghost use Rattle.ghg_graph.specs.NodeOrders.{AreByYear};
-ghost use Rattle.ghg_engine.specs.Changes.{AreChangedLines, AreGrouped, AreKeptLines, AreMoved, IsAtNode, IsAtPlace, IsBetween, MovesTheSame, equivalent_line, moved_line};
+ghost use Rattle.ghg_engine.specs.Changes.{AreChangedLines, AreGrouped, AreKeptLines, AreMoved, IsAtNode, IsAtPlace, IsBetween, MovesTheSame, moved_line, unmoved_line};
 ghost use Rattle.ghg_engine.specs.Grouping.{AreGroupsOf, group_at};
 
 use crate::groups::{Groups, emitted_at};
@@ -44,8 +44,8 @@ impl GroupedLines {
         Ok(GroupedLines { names, groups })
     }
 
-    // Gives way to other lines. Where these are the same ones, none is looked up.
-    fn become_those<R: Records>(
+    // Has other lines from now on. Where they are the same ones, none is looked up.
+    fn set_names<R: Records>(
         &mut self,
         alloc: Global,
         records: &R,
@@ -149,7 +149,7 @@ impl ChangedLines {
             return Ok(());
         }
         let names = kept_lines(alloc, &nodes[place..], year, &self.moved)?;
-        self.kept.become_those(alloc, new, names)?;
+        self.kept.set_names(alloc, new, names)?;
         self.year = year;
         Ok(())
     }
@@ -230,46 +230,44 @@ fn kept_lines(
     requires behind { (k : Node) → Contains nodes.now k → year ≤ year_in k }
     ensures { IfOk result (λ names. AreKeptLines nodes.now year moved.now names.items) }
 {
-    let lines = equivalent_lines(alloc, nodes, year)?;
-    without(alloc, &lines, moved)
+    let lines = unmoved_lines(alloc, nodes, year, moved)?;
+    names_of(alloc, &lines)
 }
 
-// The names of a set that another one does not have.
-fn without(
+// The lines of equivalents among the nodes of a year that stand first, without the moved ones. No node behind
+// these is looked at.
+fn unmoved_lines(
     alloc: Global,
-    names: &BTreeSet<Name>,
-    others: &BTreeSet<Name>,
-) -> Result<Vec<Name>, AllocError>
-    ensures { IfOk result (λ left. left.items ≡
-        filter (λ name. not (contains name_cmp others.now name)) names.now.keys) }
-{
-    names
-        .iter()
-        .filter(|name| !others.contains(*name))
-        .copied()
-        .collect(alloc)
-}
-
-// The lines of equivalents among the nodes of a year that stand first. No node behind them is looked at.
-fn equivalent_lines(alloc: Global, nodes: &[Node], year: u32) -> Result<BTreeSet<Name>, AllocError>
-    ensures { IfOk result (IsFromIterResult name_cmp (filter_map equivalent_line
+    nodes: &[Node],
+    year: u32,
+    moved: &BTreeSet<Name>,
+) -> Result<BTreeSet<Name>, AllocError>
+    ensures { IfOk result (IsFromIterResult name_cmp (filter_map (unmoved_line moved.now)
         (take_while (λ n. year_in n == year) nodes.now))) }
 {
     nodes
         .iter()
         .take_while(|node| year_of(node) == year)
-        .filter_map(|node| equivalent_line(node))
+        .filter_map(|node| unmoved_line(moved, node))
         .collect(alloc)
 }
 
-// The line of an equivalent.
-fn equivalent_line(node: &Node) -> Option<Name>
-    ensures { result ≡ equivalent_line node.now }
+// The line of an equivalent, if it is not moved.
+fn unmoved_line(moved: &BTreeSet<Name>, node: &Node) -> Option<Name>
+    ensures { result ≡ unmoved_line moved.now node.now }
 {
     match node {
+        Node::Equiv(name, _) if moved.contains(name) => None,
         Node::Equiv(name, _) => Some(*name),
         _ => None,
     }
+}
+
+// The names of a set.
+fn names_of(alloc: Global, names: &BTreeSet<Name>) -> Result<Vec<Name>, AllocError>
+    ensures { IfOk result (λ all. all.items ≡ names.now.keys) }
+{
+    names.iter().copied().collect(alloc)
 }
 
 // Those of the lines that emit a gas.

@@ -29,10 +29,10 @@ returns-clause-at g c =
     let later : old.year < year = omega (arith, from_old, c.year_of-year.ensures, c.if-year-self.false) in (
     record {
       of_year = record {
-        kept = subst (λ (names : List Name). AreKeptLines nodes year old.moved names) (sym c.in_ok-become_those.ensures.names)
+        kept = subst (λ (names : List Name). AreKeptLines nodes year old.moved names) (sym c.in_ok-set_names.ensures.names)
             (kept_behind nodes place old.year year old.moved c.in_ok-names.names.items c.requires.at.between later
             (subst (λ ns. AreKeptLines ns year old.moved c.in_ok-names.names.items) (rest_is nodes place) c.in_ok-names.ensures));
-        grouped = c.in_ok-become_those.ensures.grouped;
+        grouped = c.in_ok-set_names.ensures.grouped;
       };
       year = subst (λ o. IfSome o (λ k. year ≡ year_in k)) (sym (slice_get_read nodes _ place n refl c.requires.place c.index-nodes-place.is)) c.year_of-year.ensures;
     }
