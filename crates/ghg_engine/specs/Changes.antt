@@ -200,7 +200,8 @@ pub record IsAtNode (m : Data) (ns : List Node) (place : ℕ) (changed : Changed
 abbrev pub GoesOn : {C : Type 0} → Data → List Node → ℕ → Option (Before C) → Option (Before C) → Type 0
 GoesOn m ns place None new = new ≡ None
 GoesOn m ns place (Some from) new =
-    IfSome new (λ b. (b.cells ≡ from.cells) × MovesTheSame from.changed b.changed × IsAtNode m ns place b.changed)
+    IfSome new (λ b. (b.cells ≡ from.cells) × MovesTheSame from.changed b.changed
+        × IsAtNode m ns place b.changed)
 
 -- those that a total adds by its groups
 abbrev pub addends_exchange : ChangedAddends → ℕ → Exchange

@@ -99,8 +99,8 @@ impl ChangedAddends<'_> {
 }
 
 impl ChangedLines {
-    /// Those where the records differ at the keys alone, and the nodes are evaluated anew. The year at hand is
-    /// that of the first node.
+    /// Those where the records differ at the keys alone, and the nodes are evaluated anew. The year at hand
+    /// is that of the first node.
     pub(crate) fn of<R: Records, S: Records>(
         alloc: Global,
         old: &R,
