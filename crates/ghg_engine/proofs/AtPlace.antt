@@ -115,5 +115,5 @@ module _ {C : Type 0} (content : Bor C → Data) (m : Data) (keys : List RecordK
 
     pub goes_on : (old new : Option (Before C)) → IfSome old at_place → GoesOn m ns place old new → IfSome new at_node
     goes_on None new h none = subst (λ o. IfSome o at_node) (sym none) tt
-    goes_on (Some a) None h on = tt
+    goes_on (Some a) None h on = absurd on
     goes_on (Some a) (Some b) h on = gone_on a b h.0 on.0 on.1 on.2

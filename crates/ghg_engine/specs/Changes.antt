@@ -199,9 +199,9 @@ pub record IsAtNode (m : Data) (ns : List Node) (place : ℕ) (changed : Changed
 -- the same cells of before, with the same moved lines, now for the node at the place
 abbrev pub GoesOn : {C : Type 0} → Data → List Node → ℕ → Option (Before C) → Option (Before C) → Type 0
 GoesOn m ns place None new = new ≡ None
-GoesOn m ns place (Some from) new =
-    IfSome new (λ b. (b.cells ≡ from.cells) × MovesTheSame from.changed b.changed
-        × IsAtNode m ns place b.changed)
+GoesOn m ns place (Some from) None = ⊥
+GoesOn m ns place (Some from) (Some b) =
+    (b.cells ≡ from.cells) × MovesTheSame from.changed b.changed × IsAtNode m ns place b.changed
 
 -- those that a total adds by its groups
 abbrev pub addends_exchange : ChangedAddends → ℕ → Exchange
