@@ -1,10 +1,13 @@
 -- Runs of values in which that of one year is changed.
-use Rattle.std.proofs.Common.{◌≡◌, ◌≢◌, ℕ, zero, suc, ◌-◌, ◌<◌, ◌≤◌, ◌==◌, ◌&&◌, Bool, true, false, cond, nat_le, leb-false, leb-true, le-leb, eqb-true, List, [], ◌∷◌, ◌++◌, length, set, is_some, Option, Some, None, refl, sym, ap, ◌∙◌, arith}
+use Rattle.std.proofs.Common.{◌≡◌, ◌≢◌, ℕ, zero, suc, ◌+◌, ◌-◌, ◌<◌, ◌≤◌, ◌==◌, Bool, true, false, cond, nat_le, leb-false, leb-true, le-leb, eqb-true, List, [], ◌∷◌, ◌++◌, get_or, length, set, take, is_some, Option, Some, None, refl, sym, ap, ap₂, ◌∙◌, arith}
 use Rattle.std.specs.List.{slice_get}
+use Rattle.std.specs.Option.{option_or}
 use Rattle.std.proofs.lemmas.Bool.{eqb-false}
-use Rattle.std.proofs.lemmas.Option.{slice_get_past, slice_get_within}
+use Rattle.std.proofs.lemmas.List.{take_more}
+use Rattle.std.proofs.lemmas.Option.{slice_get_within}
 use Rattle.ghg_cell.specs.declared.input.Input.{Input}
-use Rattle.ghg_engine.specs.Columns.{HasIn, Run, has_place, value_in}
+use Rattle.ghg_definitions.proofs.Alike.{first_so, second_so}
+use Rattle.ghg_engine.specs.Columns.{HasAmong, HasIn, Run, has_place, value_among, value_in}
 
 -- ---- lists in which one element is written or added
 
@@ -35,20 +38,9 @@ added_elsewhere (y ∷ ys) (suc j) x apart = added_elsewhere ys j x (λ e. apart
 pub value_within : (first year : ℕ) (xs : List Input) → first ≤ year → value_in (record { first = first; values = xs; spare = 0 }) year ≡ slice_get xs (year - first)
 value_within first year xs le = ap (λ b. cond b (slice_get xs (year - first)) None) (le-leb first year le)
 
--- where there is no place there is no value
-pub no_place : (run : Run) (year : ℕ) → has_place run year ≡ false → value_in run year ≡ None
-no_place run year none = by (nat_le run.first year) none
-  where
-    past : (b : Bool) → nat_le (year - run.first) (length run.values) ≡ b → b ≡ false → slice_get run.values (year - run.first) ≡ None
-    past true is e = absurd (cc)
-    past false is e = slice_get_past run.values (year - run.first) (behind (leb-false _ _ is))
-      where
-        behind : length run.values < year - run.first → length run.values ≤ year - run.first
-        behind l = omega (arith, l)
-
-    by : (b : Bool) → b && nat_le (year - run.first) (length run.values) ≡ false → cond b (slice_get run.values (year - run.first)) None ≡ None
-    by true e = past (nat_le (year - run.first) (length run.values)) refl e
-    by false e = refl
+-- where a year has a value or is the next
+pub place_within : (run : Run) (year : ℕ) → has_place run year ≡ true → (run.first ≤ year) × (year - run.first ≤ length run.values)
+place_within run year place = (leb-true _ _ (first_so (nat_le run.first year) _ place), leb-true _ _ (second_so (nat_le run.first year) _ place))
 
 -- a year that has a value is one of the run's
 pub is_within : (first year : ℕ) (xs : List Input) → is_some (value_in (record { first = first; values = xs; spare = 0 }) year) ≡ true → (first ≤ year) × (year - first < length xs)
@@ -83,3 +75,71 @@ has_written first year xs x le l = changed first xs (set xs (year - first) x) (y
 
 pub has_added : (first year : ℕ) (xs : List Input) (x : Input) → first ≤ year → year - first ≡ length xs → HasIn (record { first = first; values = xs; spare = 0 }) (record { first = first; values = xs ++ x ∷ []; spare = 0 }) year (Some x)
 has_added first year xs x le at = changed first xs (xs ++ x ∷ []) (length xs) (Some x) (added_there xs x) (λ j. added_elsewhere xs j x) year le (sym at)
+
+-- the run of one value
+pub one_year : (run : Run) (year : ℕ) (x : Input) → run.first ≡ year → run.values ≡ x ∷ [] → (y : ℕ) → value_in run y ≡ cond (y == year) (Some x) None
+one_year run year x first values y =
+    ap₂ (λ (f : ℕ) (xs : List Input). value_in (record { first = f; values = xs; spare = 0 }) y) first values
+    ∙ has_added year year [] x (omega arith) (omega arith) y
+    ∙ ap (cond (y == year) (Some x)) (nowhere (nat_le year y))
+  where
+    nowhere : (b : Bool) → ◌≡◌ {A = Option Input} (cond b None None) None
+    nowhere true = refl
+    nowhere false = refl
+
+-- ---- several runs
+
+pub or_further : {A : Type 0} (o p q : Option A) → option_or (option_or o p) q ≡ option_or o (option_or p q)
+or_further None p q = refl
+or_further (Some x) p q = refl
+
+or_none : {A : Type 0} (o : Option A) → o ≡ option_or o None
+or_none None = refl
+or_none (Some x) = refl
+
+-- what the last of the runs has comes first
+pub among_last : (runs : List Run) (run : Run) (y : ℕ) → value_among (runs ++ run ∷ []) y ≡ option_or (value_in run y) (value_among runs y)
+among_last [] run y = or_none (value_in run y)
+among_last (first ∷ runs) run y = ap (λ o. option_or o (value_in first y)) (among_last runs run y) ∙ or_further (value_in run y) (value_among runs y) (value_in first y)
+
+-- the first n of them
+pub among_first : (runs : List Run) (n : ℕ) (run : Run) (y : ℕ) → 0 < n → n ≤ length runs → run ≡ get_or runs (n - 1) run → value_among (take n runs) y ≡ option_or (value_in run y) (value_among (take (n - 1) runs) y)
+among_first runs n run y some low is =
+    let one_more : n ≡ n - 1 + 1 = omega (arith, some) in
+    ap (λ rs. value_among rs y) (ap (λ k. take k runs) one_more ∙ take_more runs (n - 1) run (omega (arith, some, low)) ∙ ap (λ (r : Run). take (n - 1) runs ++ r ∷ []) (sym is))
+    ∙ among_last (take (n - 1) runs) run y
+
+module _ (runs : List Run) (after : Run) (year : ℕ) (x : Input) where
+  in_front : (o p : Option Input) (b : Bool) → option_or (cond b (Some x) o) p ≡ cond b (Some x) (option_or o p)
+  in_front o p true = refl
+  in_front o p false = refl
+
+  -- the last run is changed
+  pub has_in_last : (before : Run) → HasIn before after year (Some x) → HasAmong (runs ++ before ∷ []) (runs ++ after ∷ []) year (Some x)
+  has_in_last before has y =
+      among_last runs after y ∙ ap (λ o. option_or o (value_among runs y)) (has y)
+      ∙ in_front (value_in before y) (value_among runs y) (y == year)
+      ∙ ap (cond (y == year) (Some x)) (sym (among_last runs before y))
+
+  -- a run of one value comes behind the others
+  pub has_in_next : ((y : ℕ) → value_in after y ≡ cond (y == year) (Some x) None) → HasAmong runs (runs ++ after ∷ []) year (Some x)
+  has_in_next alone y =
+      among_last runs after y ∙ ap (λ o. option_or o (value_among runs y)) (alone y)
+      ∙ in_front None (value_among runs y) (y == year)
+
+-- the last of them is another
+pub at_end : (runs : List Run) (i : ℕ) (last after : Run) → i + 1 ≡ length runs → last ≡ get_or runs i last → (runs ≡ take i runs ++ last ∷ []) × (set runs i after ≡ take i runs ++ after ∷ [])
+at_end [] i last after e is = absurd (omega (arith, e))
+at_end (run ∷ []) zero last after e is = (ap (λ (r : Run). r ∷ []) (sym is), refl)
+at_end (run ∷ next ∷ runs) zero last after e is = absurd (omega (arith, e))
+at_end (run ∷ runs) (suc i) last after e is = let rest = at_end runs i last after (omega (arith, e)) is in (ap (λ (rs : List Run). run ∷ rs) rest.0, ap (λ (rs : List Run). run ∷ rs) rest.1)
+
+module _ (runs : List Run) (i : ℕ) (last : Run) (end : i + 1 ≡ length runs) (is : last ≡ get_or runs i last) where
+  pub set_itself : set runs i last ≡ runs
+  set_itself = let both = at_end runs i last last end is in both.1 ∙ sym both.0
+
+  pub has_at_end : (after : Run) (year : ℕ) (x : Input) → HasIn last after year (Some x) → HasAmong runs (set runs i after) year (Some x)
+  has_at_end after year x has y =
+      let both = at_end runs i last after end is in
+      ap (λ (rs : List Run). value_among rs y) both.1 ∙ has_in_last (take i runs) after year x last has y
+      ∙ ap (λ (rs : List Run). cond (y == year) (Some x) (value_among rs y)) (sym both.0)

@@ -11,7 +11,7 @@ use Rattle.ghg_affected.proofs.Bools.{true_not_false}
 use Rattle.ghg_definitions.specs.Formulas.{Outcome}
 use Rattle.ghg_definitions.specs.Trials.{Outcomes, is_over}
 use Rattle.ghg_engine.specs.declared.cells.Cells.{Cells}
-use Rattle.ghg_engine.specs.declared.numbered.SeriesColumn.{SeriesColumn}
+use Rattle.ghg_engine.specs.declared.numbered.SeriesRuns.{SeriesRuns}
 use Rattle.ghg_engine.specs.Cells.{AreWithin, IsReadyFor, KeepsOtherRoom, KeepsRoom, NoneOver, cell_at, found_in}
 use Rattle.ghg_engine.specs.Fresh.{AreReady, fitting, with_value}
 use Rattle.ghg_engine.specs.Numbered.{HaveOneNumber}
@@ -22,10 +22,10 @@ use Rattle.ghg_engine.proofs.Written.{one_moved, one_within, some_behind, withou
 -- ---- columns, for each of which there is room
 
 -- P of the first n of them
-abbrev pub OfFirst : ℕ → (SeriesColumn → Type 0) → List SeriesColumn → Type 0
-OfFirst n P columns = (i : ℕ) (c : SeriesColumn) → i < n → slice_get columns i ≡ Some c → P c
+abbrev pub OfFirst : ℕ → (SeriesRuns → Type 0) → List SeriesRuns → Type 0
+OfFirst n P columns = (i : ℕ) (c : SeriesRuns) → i < n → slice_get columns i ≡ Some c → P c
 
-pub of_one_more : (P Q : SeriesColumn → Type 0) (columns : List SeriesColumn) (n : ℕ) (held : SeriesColumn) → slice_get columns n ≡ Some held → ((c : SeriesColumn) → P c → Q c) → Q held →
+pub of_one_more : (P Q : SeriesRuns → Type 0) (columns : List SeriesRuns) (n : ℕ) (held : SeriesRuns) → slice_get columns n ≡ Some held → ((c : SeriesRuns) → P c → Q c) → Q held →
     OfFirst n P columns → OfFirst (n + 1) Q columns
 of_one_more P Q columns n held there still this so_far i c low at = by (i == n) refl
   where
@@ -36,7 +36,7 @@ of_one_more P Q columns n held there still this so_far i c low at = by (i == n) 
     by true e = subst Q (same_Some held c (sym there ∙ ap (slice_get columns) (sym (eqb-true i n e)) ∙ at)) this
     by false e = still c (so_far i c (less i n (eqb-false i n e) low) at)
 
-pub last_there : (columns : List SeriesColumn) (c : SeriesColumn) → slice_get (columns ++ c ∷ []) (length columns) ≡ Some c
+pub last_there : (columns : List SeriesRuns) (c : SeriesRuns) → slice_get (columns ++ c ∷ []) (length columns) ≡ Some c
 last_there [] c = refl
 last_there (d ∷ columns) c = last_there columns c
 
@@ -45,19 +45,19 @@ module _ (before after : Cells) (front : Outcomes) (cells : cell_at after ≡ fo
   within_behind : (outcomes : Outcomes) → AreWithin outcomes (cell_at before) → AreWithin outcomes (cell_at after)
   within_behind outcomes within n there = ap (λ (f : Outcomes). is_some (f n)) cells ∙ some_behind (front n) (cell_at before n) (within n there)
 
-  pub ready_behind : (columns : List SeriesColumn) → KeepsRoom before after → AreReady before columns → AreReady after columns
+  pub ready_behind : (columns : List SeriesRuns) → KeepsRoom before after → AreReady before columns → AreReady after columns
   ready_behind columns room ready i c at = by (ready i c at)
     where
-      by : IsReadyFor before c.series c.column → IsReadyFor after c.series c.column
-      by (inl has) = inl (room c.series c.column ∙ has)
+      by : IsReadyFor before c.series c.runs.items → IsReadyFor after c.series c.runs.items
+      by (inl has) = inl (room c.series c.runs.items ∙ has)
       by (inr within) = inr (within_behind _ within)
 
   -- the last column is moved
-  module _ (columns : List SeriesColumn) (c : SeriesColumn) (once : HaveOneNumber (columns ++ c ∷ [])) (room : KeepsOtherRoom c.series before after) where
+  module _ (columns : List SeriesRuns) (c : SeriesRuns) (once : HaveOneNumber (columns ++ c ∷ [])) (room : KeepsOtherRoom c.series before after) where
     pub left_ready : AreReady before (columns ++ c ∷ []) → AreReady after columns
     left_ready ready i d at = by (ready i d there)
       where
-        in_front : (ds : List SeriesColumn) (j : ℕ) → j < length ds → slice_get (ds ++ c ∷ []) j ≡ slice_get ds j
+        in_front : (ds : List SeriesRuns) (j : ℕ) → j < length ds → slice_get (ds ++ c ∷ []) j ≡ slice_get ds j
         in_front [] j l = absurd (omega (arith, l))
         in_front (e ∷ ds) zero l = refl
         in_front (e ∷ ds) (suc j) l = in_front ds j (omega (arith, l))
@@ -70,11 +70,11 @@ module _ (before after : Cells) (front : Outcomes) (cells : cell_at after ≡ fo
 
         off : c.series ≡ d.series → ⊥
         off same =
-            let place : i ≡ length columns = once d.series i (length columns) (ap (option_map (λ (e : SeriesColumn). e.series)) there) (series_last c.series c.column columns ∙ ap Some same) in
+            let place : i ≡ length columns = once d.series i (length columns) (ap (option_map (λ (e : SeriesRuns). e.series)) there) (series_last c.series c.runs columns ∙ ap Some same) in
             omega (arith, low, place)
 
-        by : IsReadyFor before d.series d.column → IsReadyFor after d.series d.column
-        by (inl has) = inl (room d.series d.column (other_series c.series d.series off) ∙ has)
+        by : IsReadyFor before d.series d.runs.items → IsReadyFor after d.series d.runs.items
+        by (inl has) = inl (room d.series d.runs.items (other_series c.series d.series off) ∙ has)
         by (inr within) = inr (within_behind _ within)
 
 -- ---- outcomes that stand aside

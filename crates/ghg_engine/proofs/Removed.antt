@@ -16,7 +16,7 @@ use Rattle.ghg_definitions.specs.Trials.{Outcomes}
 use Rattle.ghg_definitions.proofs.Keys.{equal_by}
 use Rattle.ghg_engine.specs.declared.series.Series.{Series}
 use Rattle.ghg_engine.specs.Cells.{found_in, in_columns, node_order, series_of, series_order, without_series}
-use Rattle.ghg_engine.specs.Columns.{Run}
+use Rattle.ghg_engine.specs.Columns.{Run, value_in}
 use Rattle.ghg_engine.proofs.InColumns.{columns_left}
 use Rattle.ghg_engine.proofs.Places.{node_same, series_itself, series_reversed, series_same}
 use Rattle.ghg_engine.proofs.Written.{some_is, without}
@@ -114,7 +114,7 @@ module _ (s : Series) where
       by k false apart false other = refl
 
   pub column_without : (old new : BTreeMap Series Run) → ((q : Series) → get series_order new q ≡ cond (is_at (series_order s) q) None (get series_order old q)) → in_columns new ≡ without_series (in_columns old) s
-  column_without old new updates = fun_ext (columns_left (get series_order old) s (get series_order new) updates)
+  column_without old new updates = fun_ext (columns_left value_in (get series_order old) s (get series_order new) updates)
 
   pub elsewhere : (outcomes : Outcomes) (n : Node) → is_at (series_order s) (series_of n) ≡ false → without_series outcomes s n ≡ outcomes n
   elsewhere outcomes n apart = ap (λ b. cond b None (outcomes n)) apart

@@ -1,15 +1,17 @@
 -- Columns that take over the values of others.
-use Rattle.std.proofs.Common.{◌≡◌, inl, inr, ℕ, zero, suc, ◌+◌, ◌-◌, ◌<◌, ◌≤◌, ◌==◌, ◌&&◌, ◌||◌, Bool, true, false, cond, nat_le, leb-false, leb-true, le-leb, eqb-true, List, [], ◌∷◌, ◌++◌, drop, length, take, is_some, Option, Some, None, refl, sym, ap, ap₂, ◌∙◌, arith}
+use Rattle.std.proofs.Common.{◌≡◌, ℕ, zero, suc, ◌+◌, ◌-◌, ◌<◌, ◌≤◌, ◌==◌, ◌&&◌, ◌||◌, Bool, true, false, cond, nat_le, leb-false, leb-true, le-leb, eq-eqb, eqb-true, List, [], ◌∷◌, ◌++◌, drop, length, take, is_some, Option, Some, None, refl, sym, ap, ap₂, ◌∙◌, arith}
 use Rattle.std.specs.List.{slice_get}
 use Rattle.std.specs.Option.{option_or}
+use Rattle.std.proofs.Math.Nat.{le-max_left, max-eq_left, max-eq_right, min-eq_left, min-eq_right, min-le_left}
 use Rattle.std.proofs.lemmas.Bool.{lt-leb}
-use Rattle.std.proofs.lemmas.List.{length-take-le}
+use Rattle.std.proofs.lemmas.List.{length-append, length-drop, length-take-le}
 use Rattle.std.proofs.lemmas.Option.{slice_get_past}
 use Rattle.ghg_cell.specs.declared.input.Input.{Input}
-use Rattle.ghg_affected.proofs.Bools.{either, or_first, or_second, true_not_false}
+use Rattle.ghg_affected.proofs.Bools.{or_first, or_second, true_not_false}
 use Rattle.ghg_definitions.proofs.Alike.{first_so, second_so}
-use Rattle.ghg_engine.specs.Columns.{HasIn, HasShapeOf, IsOver, Run, comes_before, covers, end_of, goes_behind, takes_in, touches, value_in}
-use Rattle.ghg_engine.proofs.Columns.{is_within, value_within}
+use Rattle.ghg_engine.specs.declared.column.Years.{Years}
+use Rattle.ghg_engine.specs.Columns.{AreOver, HasIn, HasShapeOf, IsOver, Run, capacity_of, covers, end_of, hull, is_replaced_by, joined, length_of, meet_in_turn, takes, touches, value_among, value_in, years_of}
+use Rattle.ghg_engine.proofs.Columns.{is_within, or_further, value_within}
 use Rattle.ghg_engine.proofs.InColumns.{no_value}
 
 none_there : (xs : List Input) → length xs ≡ 0 → xs ≡ []
@@ -29,7 +31,7 @@ has_year run y low high = ap is_some (value_within run.first y run.values low) �
     within a y len low high = omega (arith, low, high)
 
 -- where the first has no value, a run that it covers has none
-pub covers_years : (run other : Run) → covers run other ≡ true → (y : ℕ) → value_in run y ≡ None → value_in other y ≡ None
+pub covers_years : (run other : Run) → covers (years_of run) (years_of other) ≡ true → (y : ℕ) → value_in run y ≡ None → value_in other y ≡ None
 covers_years run other c y none = by (value_in other y) refl
   where
     reached : run.first ≤ other.first → end_of other ≤ end_of run → is_some (value_in other y) ≡ true → is_some (value_in run y) ≡ true
@@ -43,15 +45,31 @@ covers_years run other c y none = by (value_in other y) refl
         before : (e y a len : ℕ) → a ≤ y → y - a < len → a + len ≤ e → y < e
         before e y a len low less high = omega (arith, low, less, high)
 
-    some : (b : Bool) → (length other.values == 0) ≡ b → (b || (nat_le run.first other.first && nat_le (end_of other) (end_of run))) ≡ true → is_some (value_in other y) ≡ true → is_some (value_in run y) ≡ true
-    some true e t there = absurd (true_not_false (sym there ∙ ap is_some (no_value other (none_there other.values (eqb-true (length other.values) 0 e)) y)))
+    some : (b : Bool) → (other.first == end_of other) ≡ b → (b || (nat_le run.first other.first && nat_le (end_of other) (end_of run))) ≡ true → is_some (value_in other y) ≡ true → is_some (value_in run y) ≡ true
+    some true e t there = absurd (true_not_false (sym there ∙ ap is_some (no_value other (none_there other.values (no_length other.first (length other.values) (eqb-true other.first (end_of other) e))) y)))
+      where
+        no_length : (a len : ℕ) → a ≡ a + len → len ≡ 0
+        no_length a len e = omega (arith, e)
     some false e t there = reached (leb-true run.first other.first (first_so _ _ t)) (leb-true (end_of other) (end_of run) (second_so (nat_le run.first other.first) _ t)) there
 
     by : (o : Option Input) → value_in other y ≡ o → o ≡ None
     by None e = refl
-    by (Some x) e = absurd (true_not_false (sym (some (length other.values == 0) refl c (ap is_some e)) ∙ ap is_some none))
+    by (Some x) e = absurd (true_not_false (sym (some (other.first == end_of other) refl c (ap is_some e)) ∙ ap is_some none))
+
+pub covers_all : (run other : Run) → run.first ≤ other.first → end_of other ≤ end_of run → covers (years_of run) (years_of other) ≡ true
+covers_all run other low high = or_second _ _ (ap₂ (λ (a b : Bool). a && b) (le-leb run.first other.first low) (le-leb (end_of other) (end_of run) high))
 
 -- ---- over the own values
+
+pub shape_itself : (run : Run) → HasShapeOf run run
+shape_itself run = record { first = refl; count = refl; spare = refl }
+
+pub shape_further : (first second third : Run) → HasShapeOf first second → HasShapeOf second third → HasShapeOf first third
+shape_further first second third begins goes_on = record {
+  first = goes_on.first ∙ begins.first;
+  count = goes_on.count ∙ begins.count;
+  spare = goes_on.spare ∙ begins.spare;
+}
 
 module _ (next rest before after : Run) (year : ℕ) (x : Input) (there : value_in next year ≡ Some x) (out : HasIn next rest year None) (put : HasIn before after year (Some x)) where
   pub one_over : (y : ℕ) → option_or (value_in rest y) (value_in after y) ≡ option_or (value_in next y) (value_in before y)
@@ -74,6 +92,15 @@ value_covered next before year x there covered = by (value_in before year) refl
     by : (o : Option Input) → value_in before year ≡ o → is_some o ≡ true
     by None e = absurd (true_not_false (sym (ap is_some there) ∙ ap is_some (covered year e)))
     by (Some y) e = refl
+
+-- ---- years
+
+pub years_same : (old new : Run) → new.first ≡ old.first → length new.values ≡ length old.values → years_of new ≡ years_of old
+years_same old new first count = λ i. record { first = first i; end = first i + count i }
+
+-- years that are told by their ends
+pub years_are : (run : Run) (years : Years) → run.first ≡ years.first → end_of run ≡ years.end → years_of run ≡ years
+years_are run years first end = λ i. record { first = first i; end = end i }
 
 -- ---- behind or before the own values
 
@@ -114,13 +141,6 @@ rest_there (suc n) [] i j e = refl
 rest_there (suc n) (x ∷ xs) i zero e = absurd (omega (arith, e))
 rest_there (suc n) (x ∷ xs) i (suc j) e = rest_there n xs i j (omega (arith, e))
 
--- four tests that pass
-all_four : (a b c d : Bool) → a && b && c && d ≡ true → (a ≡ true) × (b ≡ true) × (c ≡ true) × (d ≡ true)
-all_four true true true d e = (refl, refl, refl, e)
-all_four true true false d e = absurd (cc)
-all_four true false c d e = absurd (cc)
-all_four false b c d e = absurd (cc)
-
 -- the values of the years behind, else those of the years before
 appended : (first : ℕ) (xs ys : List Input) (y : ℕ) → value_in (record { first = first; values = xs ++ ys; spare = 0 }) y ≡ option_or (value_in (record { first = first + length xs; values = ys; spare = 0 }) y) (value_in (record { first = first; values = xs; spare = 0 }) y)
 appended first xs ys y = by (nat_le first y) refl (nat_le (first + length xs) y) refl
@@ -150,18 +170,15 @@ appended first xs ys y = by (nat_le first y) refl (nat_le (first + length xs) y)
     by false low true high = absurd (true_not_false (sym (le-leb first y (omega (arith, leb-true (first + length xs) y high))) ∙ low))
     by false low false high = refl
 
-module _ (run next : Run) (behind : goes_behind run next ≡ true) where
+module _ (run next : Run) (from : run.first ≤ next.first) (meeting : next.first ≤ end_of run) (past : end_of run ≤ end_of next) where
   -- the values of the years before
   abbrev kept : List Input
   kept = take (next.first - run.first) run.values
 
-  begins_within : (run.first ≤ next.first) × (next.first ≤ end_of run) × (end_of run ≤ end_of next)
-  begins_within = let tests = all_four _ _ _ _ behind in (leb-true _ _ tests.0, leb-true _ _ tests.1, leb-true _ _ tests.2)
-
   next_begins : run.first + length kept ≡ next.first
   next_begins =
-      let within : next.first - run.first ≤ length run.values = omega (arith, begins_within.0, begins_within.1) in
-      omega (arith, begins_within.0, length-take-le (next.first - run.first) run.values within)
+      let within : next.first - run.first ≤ length run.values = omega (arith, from, meeting) in
+      omega (arith, from, length-take-le (next.first - run.first) run.values within)
 
   kept_there : (y : ℕ) → value_in next y ≡ None → value_in (record { first = run.first; values = kept; spare = 0 }) y ≡ value_in run y
   kept_there y none = by (nat_le run.first y) refl (nat_le next.first y) refl
@@ -170,7 +187,7 @@ module _ (run next : Run) (behind : goes_behind run next ≡ true) where
       by true low true high =
           let reach = behind_first next y (leb-true next.first y high) none in
           slice_get_past kept (y - run.first) (omega (arith, next_begins, leb-true next.first y high))
-          ∙ sym (slice_get_past run.values (y - run.first) (omega (arith, reach, begins_within.2)))
+          ∙ sym (slice_get_past run.values (y - run.first) (omega (arith, reach, past)))
       by true low false high = front_there (next.first - run.first) run.values (y - run.first) (omega (arith, leb-false next.first y high, leb-true run.first y low))
       by false low b high = refl
 
@@ -181,13 +198,20 @@ module _ (run next : Run) (behind : goes_behind run next ≡ true) where
       ∙ ap (λ f. option_or (value_in (record { first = f; values = next.values; spare = 0 }) y) (value_in (record { first = run.first; values = kept; spare = 0 }) y)) next_begins
       ∙ hidden (value_in next y) _ _ (kept_there y)
 
-module _ (run next : Run) (before : comes_before run next ≡ true) where
+  -- what is appended ends where the next one does
+  pub end_appended : (after : Run) → after.first ≡ run.first → after.values ≡ kept ++ next.values → years_of after ≡ joined (years_of run) (years_of next)
+  end_appended after first values = years_are after (joined (years_of run) (years_of next)) (first ∙ sym (min-eq_left from)) (end ∙ sym (max-eq_right past))
+    where
+      count : length after.values ≡ length kept + length next.values
+      count = ap length values ∙ length-append kept next.values
+
+      end : end_of after ≡ end_of next
+      end = omega (arith, first, count, next_begins)
+
+module _ (run next : Run) (from : next.first ≤ run.first) (meeting : run.first ≤ end_of next) where
   -- the values of the years behind
   abbrev later : List Input
   later = drop (end_of next - run.first) run.values
-
-  ends_within : (next.first ≤ run.first) × (run.first ≤ end_of next)
-  ends_within = let tests = all_four _ _ _ _ before in (leb-true _ _ tests.0, leb-true _ _ tests.1)
 
   later_there : (y : ℕ) → option_or (value_in (record { first = end_of next; values = later; spare = 0 }) y) (value_in next y) ≡ option_or (value_in next y) (value_in run y)
   later_there y = by (nat_le (end_of next) y) refl
@@ -208,9 +232,9 @@ module _ (run next : Run) (before : comes_before run next ≡ true) where
       by true e =
           let high = leb-true (end_of next) y e in
           turned _ _ (past_end next y high)
-          ∙ ap (option_or (value_in next y)) (rest_there (end_of next - run.first) run.values (y - end_of next) (y - run.first) (omega (arith, ends_within.1, high))
-          ∙ sym (value_within run.first y run.values (omega (arith, ends_within.1, high))))
-      by false e = sym (alone (value_in next y)) ∙ hidden (value_in next y) _ _ (λ none. sym (before_first run y (omega (arith, ends_within.0, early none (leb-false (end_of next) y e) (nat_le next.first y) refl))))
+          ∙ ap (option_or (value_in next y)) (rest_there (end_of next - run.first) run.values (y - end_of next) (y - run.first) (omega (arith, meeting, high))
+          ∙ sym (value_within run.first y run.values (omega (arith, meeting, high))))
+      by false e = sym (alone (value_in next y)) ∙ hidden (value_in next y) _ _ (λ none. sym (before_first run y (omega (arith, from, early none (leb-false (end_of next) y e) (nat_le next.first y) refl))))
 
   pub over_prepended : (after : Run) → after.first ≡ next.first → after.values ≡ next.values ++ later → IsOver next run after
   over_prepended after first values y =
@@ -218,41 +242,94 @@ module _ (run next : Run) (before : comes_before run next ≡ true) where
       ∙ appended next.first next.values later y
       ∙ later_there y
 
+  pub end_prepended : end_of next ≤ end_of run → (after : Run) → after.first ≡ next.first → after.values ≡ next.values ++ later → years_of after ≡ joined (years_of run) (years_of next)
+  end_prepended within after first values = years_are after (joined (years_of run) (years_of next)) (first ∙ sym (min-eq_right from)) (end ∙ sym (max-eq_left within))
+    where
+      count : length after.values ≡ length next.values + length later
+      count = ap length values ∙ length-append next.values later
+
+      end : end_of after ≡ end_of run
+      end = omega (arith, first, count, length-drop (end_of next - run.first) run.values, within, meeting)
+
+-- ---- in place of the own values
+
+pub over_refilled : (run next after : Run) → covers (years_of next) (years_of run) ≡ true → after.first ≡ next.first → after.values ≡ next.values → IsOver next run after
+over_refilled run next after covered first values y =
+    ap₂ (λ f xs. value_in (record { first = f; values = xs; spare = 0 }) y) first values
+    ∙ alone (value_in next y) ∙ hidden (value_in next y) _ _ (λ none. sym (covers_years next run covered y none))
+  where
+    alone : (o : Option Input) → o ≡ option_or o None
+    alone None = refl
+    alone (Some x) = refl
+
+pub end_refilled : (run next after : Run) → next.first ≤ run.first → end_of run ≤ end_of next → after.first ≡ next.first → after.values ≡ next.values → years_of after ≡ joined (years_of run) (years_of next)
+end_refilled run next after from past first values =
+    years_are after (joined (years_of run) (years_of next)) (first ∙ sym (min-eq_right from)) (end ∙ sym (max-eq_right past))
+  where
+    end : end_of after ≡ end_of next
+    end = ap₂ (λ (f : ℕ) (xs : List Input). f + length xs) first values
+
+pub end_overwritten : (run next after : Run) → run.first ≤ next.first → end_of next ≤ end_of run → HasShapeOf run after → years_of after ≡ joined (years_of run) (years_of next)
+end_overwritten run next after from within shape =
+    years_are after (joined (years_of run) (years_of next)) (shape.first ∙ sym (min-eq_left from)) (end ∙ sym (max-eq_left within))
+  where
+    end : end_of after ≡ end_of run
+    end = ap₂ (λ (f n : ℕ). f + n) shape.first shape.count
+
+-- ---- the hull
+
+-- the hull goes at least as far
+pub hull_first : (years : Years) (runs : List Run) → (hull years runs).first ≤ years.first
+hull_first years [] = omega arith
+hull_first years (run ∷ runs) = let later = hull_first (joined years (years_of run)) runs in let least = min-le_left years.first run.first in omega (arith, later, least)
+
+pub hull_end : (years : Years) (runs : List Run) → years.end ≤ (hull years runs).end
+hull_end years [] = omega arith
+hull_end years (run ∷ runs) = let later = hull_end (joined years (years_of run)) runs in let most = le-max_left years.end (end_of run) in omega (arith, later, most)
+
+pub hull_longer : (years : Years) (runs : List Run) → length_of years ≤ length_of (hull years runs)
+hull_longer years runs = let low = hull_first years runs in let high = hull_end years runs in omega (arith, low, high)
+
 -- ---- runs that touch
 
--- each touches a run without values
-pub touches_none : (run next : Run) → run.values ≡ [] → touches run next ≡ true
-touches_none run next none = ap (λ xs. length xs == 0 || (nat_le next.first (run.first + length xs) && nat_le run.first (end_of next))) none
+-- a single run touches a run without values
+pub touches_none : (run : Run) (runs : List Run) → run.values ≡ [] → nat_le (length runs) 1 ≡ true → touches run runs ≡ true
+touches_none run [] none one = refl
+touches_none run (only ∷ []) none one = or_first _ _ (or_first _ _ (eq-eqb run.first (end_of run) (omega (arith, ap (λ (xs : List Input). length xs) none))))
+touches_none run (next ∷ more ∷ runs) none one = absurd (omega (arith, leb-true (length (next ∷ more ∷ runs)) 1 one))
 
-pub touches_still : (old new next : Run) → new.first ≡ old.first → new.values ≡ old.values → touches new next ≡ touches old next
-touches_still old new next first values = ap₂ (λ f xs. touches (record { first = f; values = xs; spare = 0 }) next) first values
+pub touches_still : (old new : Run) (runs : List Run) → new.first ≡ old.first → new.values ≡ old.values → touches new runs ≡ touches old runs
+touches_still old new runs first values = ap (λ (years : Years). is_replaced_by years runs || meet_in_turn years runs) (years_same old new first (ap length values))
 
 -- ---- how much room there is
 
--- as its first year, its length and its spare room tell
-room_in : Run → ℕ → ℕ → ℕ → Bool
-room_in next first count spare =
-    count == 0 || (nat_le next.first first && nat_le (first + count) (end_of next))
-    || (length next.values == 0 || (nat_le first next.first && nat_le (end_of next) (first + count)))
-    || (nat_le first next.first && nat_le next.first (first + count) && nat_le (first + count) (end_of next) && nat_le (end_of next - (first + count)) spare)
-    || (nat_le next.first first && nat_le first (end_of next) && nat_le (end_of next) (first + count) && nat_le (first - next.first) spare)
+-- as its years and its capacity tell
+room_for : List Run → Years → ℕ → Bool
+room_for runs years capacity = is_replaced_by years runs || (meet_in_turn years runs && nat_le (length_of (hull years runs)) capacity)
 
-pub same_room : (old new : Run) → HasShapeOf old new → (next : Run) → takes_in new next ≡ takes_in old next
-unfolding room_in
-same_room old new shape next = λ i. room_in next (shape.first i) (shape.count i) (shape.spare i)
+pub same_room : (old new : Run) → HasShapeOf old new → (runs : List Run) → takes new runs ≡ takes old runs
+unfolding room_for
+same_room old new shape runs = λ i. room_for runs (years_same old new shape.first shape.count i) (shape.count i + shape.spare i)
 
-pub more_room : (old new : Run) → new.first ≡ old.first → new.values ≡ old.values → old.spare ≤ new.spare → (next : Run) → takes_in old next ≡ true → takes_in new next ≡ true
-more_room old new first values more next takes =
-    same_room (record { first = old.first; values = old.values; spare = new.spare }) new (record { first = first; count = ap length values; spare = refl }) next
-    ∙ by (covers next old || covers old next) _ _ (end_of next - end_of old) (old.first - next.first) takes
+pub more_room : (old new : Run) → new.first ≡ old.first → new.values ≡ old.values → old.spare ≤ new.spare → (runs : List Run) → takes old runs ≡ true → takes new runs ≡ true
+unfolding room_for
+more_room old new first values more runs taken =
+    ap (λ years. room_for runs years (capacity_of new)) (years_same old new first (ap length values))
+    ∙ by (is_replaced_by (years_of old) runs) (meet_in_turn (years_of old) runs) taken
   where
-    still : (b : Bool) (n : ℕ) → b && nat_le n old.spare ≡ true → b && nat_le n new.spare ≡ true
-    still true n t = le-leb n new.spare (omega (arith, leb-true n old.spare t, more))
-    still false n t = t
+    by : (a b : Bool) → a || (b && nat_le (length_of (hull (years_of old) runs)) (capacity_of old)) ≡ true → a || (b && nat_le (length_of (hull (years_of old) runs)) (capacity_of new)) ≡ true
+    by true b t = refl
+    by false true t = le-leb _ _ (omega (arith, leb-true (length_of (hull (years_of old) runs)) (capacity_of old) t, more, ap (λ (xs : List Input). length xs) values))
+    by false false t = t
 
-    by : (a b c : Bool) (n m : ℕ) → a || b && nat_le n old.spare || c && nat_le m old.spare ≡ true → a || b && nat_le n new.spare || c && nat_le m new.spare ≡ true
-    by true b c n m t = refl
-    by false b c n m t = elim (either (b && nat_le n old.spare) (c && nat_le m old.spare) t) [
-      | inl behind ↦ or_first _ _ (still b n behind)
-      | inr before ↦ or_second _ _ (still c m before)
-    ]
+-- ---- several runs
+
+-- the last of runs is the only one where that replaces others
+pub only_over : (runs : List Run) (only run : Run) → is_replaced_by (years_of run) (runs ++ only ∷ []) ≡ true → AreOver (runs ++ only ∷ []) run only
+only_over [] only run covered = over_refilled run only only covered refl refl
+only_over (first ∷ []) only run covered = absurd (cc)
+only_over (first ∷ second ∷ runs) only run covered = absurd (cc)
+
+-- one of them is taken over, and the others behind it
+pub one_more_over : (next : Run) (runs : List Run) (old new : Run) → IsOver next old new → (y : ℕ) → option_or (value_among runs y) (value_in new y) ≡ option_or (value_among (next ∷ runs) y) (value_in old y)
+one_more_over next runs old new over y = ap (option_or (value_among runs y)) (over y) ∙ sym (or_further (value_among runs y) (value_in next y) (value_in old y))

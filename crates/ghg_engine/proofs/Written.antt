@@ -139,6 +139,13 @@ out_elsewhere front n k apart = ap (λ b. cond b None (front k)) apart
 pub out_there : (front : Outcomes) (n : Node) → without front n n ≡ None
 out_there front n = ap (λ b. cond b None (front n)) (node_itself n)
 
+pub without_within : (front : Outcomes) (n : Node) → AreWithin (without front n) front
+without_within front n k = by (same_node k n)
+  where
+    by : (b : Bool) → is_some (cond b None (front k)) ≡ true → is_some (front k) ≡ true
+    by true there = absurd (cc)
+    by false there = there
+
 -- ---- what is known of an option
 
 pub if_some : {A : Type 0} (P : A → Type 0) (o : Option A) (x : A) → o ≡ Some x → IfSome o P → P x

@@ -1,5 +1,5 @@
 -- The outcomes of nodes, and where they are kept.
-use Rattle.std.specs.Prelude.{◌≡◌, ◌⊎◌, Bool, true, false, if◌then◌else◌, is_some, Option, Some, None, Result, Ok, Err}
+use Rattle.std.specs.Prelude.{◌≡◌, ◌⊎◌, ℕ, Bool, true, false, if◌then◌else◌, is_some, nat_le, List, length, Option, Some, None, Result, Ok, Err}
 use Rattle.std.specs.Option.{option_and_then, option_map, option_or}
 use Rattle.std.specs.Borrow.{Bor}
 use Rattle.std.specs.BTreeMap.{BTreeMap, get, is_at}
@@ -17,7 +17,7 @@ use Rattle.ghg_engine.specs.declared.cells.Cells.{Cells}
 use Rattle.ghg_engine.specs.declared.series.Series.{Series}
 use Rattle.ghg_engine.specs.declared.series.Series.TheVariants as series
 use Rattle.ghg_engine.specs.contracts.series.SeriesOrd.TheImpl as derived_of_series
-use Rattle.ghg_engine.specs.Columns.{Run, takes_in, touches, value_in}
+use Rattle.ghg_engine.specs.Columns.{Run, takes, touches, value_among, value_in}
 
 -- ---- outcomes
 
@@ -75,26 +75,26 @@ series_of (node.Equiv name year) = series.Equivalent name
 series_of (node.Total category year) = series.Total category
 series_of (node.Gross year) = series.Gross
 
--- what a series has in the year of the node
+-- what a run has in the year of the node
 abbrev pub in_year_of : Node → Run → Option Outcome
 in_year_of n run = option_map Ok (value_in run (year_in n))
 
--- what one series has for its nodes
-abbrev pub in_series : Series → Run → Outcomes
-in_series s run n = if is_at (series_order s) (series_of n) then in_year_of n run else None
+-- what one run of a series has for its nodes
+abbrev pub in_run : Series → Run → Outcomes
+in_run s run n = if is_at (series_order s) (series_of n) then in_year_of n run else None
 
--- what the columns of series have for nodes
-abbrev pub in_runs : (Series → Option Run) → Outcomes
-in_runs runs n = option_and_then (in_year_of n) (runs (series_of n))
+-- what the runs of one series have for its nodes
+abbrev pub in_series : Series → List Run → Outcomes
+in_series s runs n =
+    if is_at (series_order s) (series_of n) then option_map Ok (value_among runs (year_in n)) else None
+
+-- what series have for nodes, where this is the value of a year in what one series has
+abbrev pub in_values : {A : Type 0} → (A → ℕ → Option Input) → (Series → Option A) → Outcomes
+in_values value held n = option_and_then (λ a. option_map Ok (value a (year_in n))) (held (series_of n))
 
 -- what columns have for nodes
 abbrev pub in_columns : BTreeMap Series Run → Outcomes
-in_columns columns = in_runs (get series_order columns)
-
--- the value stands at the node; or it is handed back, as none stands there, and all is as it was
-abbrev pub IsPut : Outcomes → Outcomes → Node → Input → Option Input → Type 0
-IsPut old new n value None = new ≡ with_outcome old n (Ok value)
-IsPut old new n value (Some rest) = (old n ≡ None) × (new ≡ old) × (rest ≡ value)
+in_columns columns = in_values value_in (get series_order columns)
 
 -- the outcomes but those of the series
 abbrev pub without_series : Outcomes → Series → Outcomes
@@ -113,24 +113,24 @@ abbrev pub has_column : Cells → Series → Bool
 has_column cells s = is_some (get series_order cells.columns s)
 
 -- whether the column of a series, if it has one, can take over the values without memory
-abbrev pub has_room : Option Run → Run → Bool
-has_room None run = false
-has_room (Some column) run = takes_in column run
+abbrev pub has_room : Option Run → List Run → Bool
+has_room None runs = false
+has_room (Some column) runs = takes column runs
 
-abbrev pub room_at : Cells → Series → Run → Bool
-room_at cells s run = has_room (get series_order cells.columns s) run
+abbrev pub room_at : Cells → Series → List Run → Bool
+room_at cells s runs = has_room (get series_order cells.columns s) runs
 
--- whether the values touch the column of a series, if it has one
-abbrev pub touches_column : Option Run → Run → Bool
-touches_column None run = true
-touches_column (Some column) run = touches column run
+-- whether the values touch the column of a series; one that has none is touched by a single run
+abbrev pub touches_column : Option Run → List Run → Bool
+touches_column None runs = nat_le (length runs) 1
+touches_column (Some column) runs = touches column runs
 
-abbrev pub touches_at : Cells → Series → Run → Bool
-touches_at cells s run = touches_column (get series_order cells.columns s) run
+abbrev pub touches_at : Cells → Series → List Run → Bool
+touches_at cells s runs = touches_column (get series_order cells.columns s) runs
 
 -- the values of the series can be taken over without memory: by its column, or since each has a cell
-abbrev pub IsReadyFor : Cells → Series → Run → Type 0
-IsReadyFor cells s run = (room_at cells s run ≡ true) ⊎ AreWithin (in_series s run) (cell_at cells)
+abbrev pub IsReadyFor : Cells → Series → List Run → Type 0
+IsReadyFor cells s runs = (room_at cells s runs ≡ true) ⊎ AreWithin (in_series s runs) (cell_at cells)
 
 -- each outcome and each column stays, no node has a value that had none, and there is no less room; what
 -- touched a column still does
@@ -138,14 +138,15 @@ pub record HasGrown (old new : Cells) : Type 0 where
   pub outcomes : (n : Node) → is_some (cell_at old n) ≡ true → cell_at new n ≡ cell_at old n
   pub values : (n : Node) → has_value (cell_at new n) ≡ true → cell_at new n ≡ cell_at old n
   pub columns : (s : Series) → has_column old s ≡ true → has_column new s ≡ true
-  pub room : (s : Series) (run : Run) → room_at old s run ≡ true → room_at new s run ≡ true
-  pub touching : (s : Series) (run : Run) → touches_at old s run ≡ true → touches_at new s run ≡ true
+  pub room : (s : Series) (runs : List Run) → room_at old s runs ≡ true → room_at new s runs ≡ true
+  pub touching : (s : Series) (runs : List Run) → touches_at old s runs ≡ true → touches_at new s runs ≡ true
 
 -- the columns have as much room as before
 abbrev pub KeepsRoom : Cells → Cells → Type 0
-KeepsRoom old new = (s : Series) (run : Run) → room_at new s run ≡ room_at old s run
+KeepsRoom old new = (s : Series) (runs : List Run) → room_at new s runs ≡ room_at old s runs
 
 -- those of other series have
 abbrev pub KeepsOtherRoom : Series → Cells → Cells → Type 0
 KeepsOtherRoom series old new =
-    (s : Series) (run : Run) → is_at (series_order series) s ≡ false → room_at new s run ≡ room_at old s run
+    (s : Series) (runs : List Run) → is_at (series_order series) s ≡ false
+    → room_at new s runs ≡ room_at old s runs

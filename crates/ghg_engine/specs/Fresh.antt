@@ -7,7 +7,7 @@ use Rattle.ghg_definitions.specs.Formulas.{Outcome}
 use Rattle.ghg_definitions.specs.Trials.{Outcomes, is_over}
 use Rattle.ghg_engine.specs.declared.cells.Cells.{Cells}
 use Rattle.ghg_engine.specs.declared.fresh.FreshCells.{FreshCells}
-use Rattle.ghg_engine.specs.declared.numbered.SeriesColumn.{SeriesColumn}
+use Rattle.ghg_engine.specs.declared.numbered.SeriesRuns.{SeriesRuns}
 use Rattle.ghg_engine.specs.Cells.{AreWithin, IsReadyFor, cell_at, found_in, has_column, node_order, room_at, touches_at, with_outcome}
 use Rattle.ghg_engine.specs.Numbered.{in_numbered}
 
@@ -16,20 +16,20 @@ abbrev pub fresh_at : FreshCells → Outcomes
 fresh_at fresh = found_in (in_numbered fresh.columns) (get node_order fresh.aside)
 
 -- each of the columns can be taken over without memory
-abbrev pub AreReady : Cells → List SeriesColumn → Type 0
+abbrev pub AreReady : Cells → List SeriesRuns → Type 0
 AreReady cells columns =
-    (i : ℕ) (c : SeriesColumn) → slice_get columns i ≡ Some c → IsReadyFor cells c.series c.column
+    (i : ℕ) (c : SeriesRuns) → slice_get columns i ≡ Some c → IsReadyFor cells c.series c.runs.items
 
 -- the series of each of the columns has a column among the cells
-abbrev pub HaveColumns : Cells → List SeriesColumn → Type 0
+abbrev pub HaveColumns : Cells → List SeriesRuns → Type 0
 HaveColumns cells columns =
-    (i : ℕ) (c : SeriesColumn) → slice_get columns i ≡ Some c → has_column cells c.series ≡ true
+    (i : ℕ) (c : SeriesRuns) → slice_get columns i ≡ Some c → has_column cells c.series ≡ true
 
 -- the column of a series now takes in each of the columns that touched it before
-abbrev pub HasGrownFor : Cells → Cells → List SeriesColumn → Type 0
+abbrev pub HasGrownFor : Cells → Cells → List SeriesRuns → Type 0
 HasGrownFor old new columns =
-    (i : ℕ) (c : SeriesColumn) → slice_get columns i ≡ Some c
-    → touches_at old c.series c.column ≡ true → room_at new c.series c.column ≡ true
+    (i : ℕ) (c : SeriesRuns) → slice_get columns i ≡ Some c
+    → touches_at old c.series c.runs.items ≡ true → room_at new c.series c.runs.items ≡ true
 
 -- the fresh cells can be taken over without memory
 pub record HasRoomFor (cells : Cells) (fresh : FreshCells) : Type 0 where

@@ -3,7 +3,7 @@
 ghost use Rattle.std.specs.Prelude.{◌≡◌, is_some, true, IfNone, IfOk, IfSome, IsSome, Ok, OnOk};
 ghost use Rattle.std.specs.BTreeMap as tree;
 ghost use Rattle.std.specs.Option.{option_map};
-ghost use Rattle.ghg_engine.specs.Cells.{AreApart, AreWithin, HasGrown, IsReadyFor, KeepsOtherRoom, KeepsRoom, cell_at, found_in, has_column, in_series, no_outcomes, node_order, outcome_behind, room_at, series_of, touches_at, with_outcome, without_series};
+ghost use Rattle.ghg_engine.specs.Cells.{AreApart, AreWithin, HasGrown, IsReadyFor, KeepsOtherRoom, KeepsRoom, cell_at, found_in, has_column, in_run, in_series, no_outcomes, node_order, outcome_behind, room_at, series_of, touches_at, with_outcome, without_series};
 
 use crate::column::Column;
 use crate::series::{Series, year_of};
@@ -53,16 +53,18 @@ impl Cells {
 
     /// Gives a series a column, if it has none, and makes room for values of it, as far as there is memory:
     /// in its column, where they touch that, or else a place for each aside of it.
-    pub(crate) fn make_room(&mut self, series: &Series, column: &Column) -> Result<(), AllocError>
+    pub(crate) fn make_room(&mut self, series: &Series, runs: &[Column]) -> Result<(), AllocError>
         ensures grown { HasGrown self.old self.new }
         ensures column { OnOk result (has_column self.new series.now ≡ true) }
-        ensures ready { OnOk result (IsReadyFor self.new series.now column.now) }
-        ensures room { OnOk result (touches_at self.old series.now column.now ≡ true →
-            room_at self.new series.now column.now ≡ true) }
+        ensures ready { OnOk result (IsReadyFor self.new series.now runs.now) }
+        ensures room { OnOk result (touches_at self.old series.now runs.now ≡ true →
+            room_at self.new series.now runs.now ≡ true) }
+        ensures cells { OnOk result (touches_at self.old series.now runs.now ≡ true →
+            cell_at self.new ≡ cell_at self.old) }
     {
         self.make_column(series)?;
-        if !self.widen(series, column)? {
-            self.make_places(series, column)?;
+        if !self.widen(series, runs)? {
+            self.make_places(series, runs)?;
         }
         Ok(())
     }
@@ -71,6 +73,7 @@ impl Cells {
     fn make_column(&mut self, series: &Series) -> Result<(), AllocError>
         ensures grown { HasGrown self.old self.new }
         ensures column { OnOk result (has_column self.new series.now ≡ true) }
+        ensures cells { cell_at self.new ≡ cell_at self.old }
     {
         if self.columns.contains_key(series) {
             return Ok(());
@@ -81,23 +84,35 @@ impl Cells {
 
     // Makes room in the column of a series for values, if they touch it. It answers whether it has room for
     // them.
-    fn widen(&mut self, series: &Series, next: &Column) -> Result<bool, AllocError>
+    fn widen(&mut self, series: &Series, runs: &[Column]) -> Result<bool, AllocError>
         requires { has_column self.old series.now ≡ true }
         ensures grown { HasGrown self.old self.new }
-        ensures fits { IfOk result (λ fits. fits ≡ room_at self.new series.now next.now) }
-        ensures room { IfOk result (λ fits. touches_at self.old series.now next.now ≡ true → fits ≡ true) }
+        ensures fits { IfOk result (λ fits. fits ≡ room_at self.new series.now runs.now) }
+        ensures room { IfOk result (λ fits. touches_at self.old series.now runs.now ≡ true → fits ≡ true) }
+        ensures cells { cell_at self.new ≡ cell_at self.old }
     {
         let column = self.columns.get_mut(series).unwrap();
-        column.widen(next)
+        column.widen(runs)
     }
 
     // Makes a place for each value of a series.
-    fn make_places(&mut self, series: &Series, column: &Column) -> Result<(), AllocError>
+    fn make_places(&mut self, series: &Series, runs: &[Column]) -> Result<(), AllocError>
         ensures grown { HasGrown self.old self.new }
-        ensures within { OnOk result (AreWithin (in_series series.now column.now) (cell_at self.new)) }
+        ensures within { OnOk result (AreWithin (in_series series.now runs.now) (cell_at self.new)) }
     {
-        for offset in 0..column.len() {
-            self.make_place(&series.node(column.year(offset)))?;
+        for run in runs {
+            self.make_run_places(series, run)?;
+        }
+        Ok(())
+    }
+
+    // Makes a place for each value of a run of years of a series.
+    fn make_run_places(&mut self, series: &Series, run: &Column) -> Result<(), AllocError>
+        ensures grown { HasGrown self.old self.new }
+        ensures within { OnOk result (AreWithin (in_run series.now run.now) (cell_at self.new)) }
+    {
+        for offset in 0..run.len() {
+            self.make_place(&series.node(run.year(offset)))?;
         }
         Ok(())
     }
@@ -117,62 +132,86 @@ impl Cells {
     // ---- without memory
 
     /// Takes over the values of a series, for which there is room. It takes no memory.
-    pub(crate) fn take_column(&mut self, series: Series, column: Column)
-        requires { IsReadyFor self.old series column }
-        ensures cells { cell_at self.new ≡ found_in (in_series series column) (cell_at self.old) }
+    pub(crate) fn take_runs(&mut self, series: Series, runs: Vec<Column>)
+        requires { IsReadyFor self.old series runs.items }
+        ensures cells { cell_at self.new ≡ found_in (in_series series runs.items) (cell_at self.old) }
         ensures room { KeepsOtherRoom series self.old self.new }
     {
-        if self.has_room(&series, &column) {
-            self.take_in(series, column);
+        if self.has_room(&series, &runs) {
+            self.take_in(series, runs);
         } else {
-            self.write_series(series, column);
+            self.write_series(series, runs);
         }
     }
 
     // Whether the column of a series has room for values.
-    fn has_room(&self, series: &Series, next: &Column) -> bool
-        ensures { result ≡ room_at self.now series.now next.now }
+    fn has_room(&self, series: &Series, runs: &[Column]) -> bool
+        ensures { result ≡ room_at self.now series.now runs.now }
     {
         match self.columns.get(series) {
-            Some(column) => column.takes_in(next),
+            Some(column) => column.takes(runs),
             None => false,
         }
     }
 
     // Lets the column of a series take over values. None of them stands aside any more.
-    fn take_in(&mut self, series: Series, next: Column)
-        requires { room_at self.old series next ≡ true }
-        ensures cells { cell_at self.new ≡ found_in (in_series series next) (cell_at self.old) }
+    fn take_in(&mut self, series: Series, runs: Vec<Column>)
+        requires { room_at self.old series runs.items ≡ true }
+        ensures cells { cell_at self.new ≡ found_in (in_series series runs.items) (cell_at self.old) }
         ensures room { KeepsOtherRoom series self.old self.new }
     {
-        self.clear_places(&series, &next);
+        self.clear_places(&series, &runs);
         let column = self.columns.get_mut(&series).unwrap();
-        column.take_in(next);
+        column.take_in(runs);
     }
 
-    // Lets no value of the years of a column stand aside.
-    fn clear_places(&mut self, series: &Series, column: &Column)
-        ensures kept { found_in (in_series series.now column.now) (cell_at self.new) ≡ found_in
-            (in_series series.now column.now) (cell_at self.old) }
+    // Lets no value of the years of runs stand aside.
+    fn clear_places(&mut self, series: &Series, runs: &[Column])
+        ensures kept { found_in (in_series series.now runs.now) (cell_at self.new) ≡ found_in
+            (in_series series.now runs.now) (cell_at self.old) }
         ensures columns { self.new.columns ≡ self.old.columns }
-        ensures clear { AreApart (in_series series.now column.now) (tree.get node_order self.new.aside) }
+        ensures clear { AreApart (in_series series.now runs.now) (tree.get node_order self.new.aside) }
     {
         if self.aside.is_empty() {
             return;
         }
-        for offset in 0..column.len() {
-            self.aside.remove(&series.node(column.year(offset)));
+        for run in runs {
+            self.clear_run_places(series, run);
+        }
+    }
+
+    // Lets no value of the years of a run stand aside.
+    fn clear_run_places(&mut self, series: &Series, run: &Column)
+        ensures kept { found_in (in_run series.now run.now) (cell_at self.new) ≡ found_in
+            (in_run series.now run.now) (cell_at self.old) }
+        ensures columns { self.new.columns ≡ self.old.columns }
+        ensures fewer { AreWithin (tree.get node_order self.new.aside) (tree.get node_order self.old.aside) }
+        ensures clear { AreApart (in_run series.now run.now) (tree.get node_order self.new.aside) }
+    {
+        for offset in 0..run.len() {
+            self.aside.remove(&series.node(run.year(offset)));
         }
     }
 
     // Writes values of a series, each of which has a cell.
-    fn write_series(&mut self, series: Series, column: Column)
-        requires { AreWithin (in_series series column) (cell_at self.old) }
-        ensures cells { cell_at self.new ≡ found_in (in_series series column) (cell_at self.old) }
+    fn write_series(&mut self, series: Series, runs: Vec<Column>)
+        requires { AreWithin (in_series series runs.items) (cell_at self.old) }
+        ensures cells { cell_at self.new ≡ found_in (in_series series runs.items) (cell_at self.old) }
         ensures room { KeepsRoom self.old self.new }
     {
-        let mut column = column;
-        while let Some((year, value)) = column.pop() {
+        for run in runs {
+            self.write_run(&series, run);
+        }
+    }
+
+    // Writes the values of a run of years of a series, each of which has a cell.
+    fn write_run(&mut self, series: &Series, run: Column)
+        requires { AreWithin (in_run series.now run) (cell_at self.old) }
+        ensures cells { cell_at self.new ≡ found_in (in_run series.now run) (cell_at self.old) }
+        ensures room { KeepsRoom self.old self.new }
+    {
+        let mut run = run;
+        while let Some((year, value)) = run.pop() {
             self.write(&series.node(year), value);
         }
     }

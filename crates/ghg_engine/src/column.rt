@@ -1,7 +1,7 @@
 //! The values of a series, year by year.
 
-ghost use Rattle.std.specs.Prelude.{◌≡◌, ◌<◌, ◌≤◌, ◌+◌, ◌-◌, [], ◌∷◌, ◌++◌, true, None, Some, drop, is_ok, is_some, length, if◌then◌else◌, vec_capacity, IfNone, IfOk, IfSome, OnSome, SomeIff, option_copied};
-ghost use Rattle.ghg_engine.specs.Columns.{HasIn, HasShapeOf, IsOver, IsPutIn, comes_before, covers, end_of, goes_behind, takes_in, touches, value_in};
+ghost use Rattle.std.specs.Prelude.{◌≡◌, ◌<◌, ◌≤◌, ◌+◌, ◌-◌, [], ◌∷◌, ◌++◌, true, None, Some, drop, is_ok, is_some, length, max, min, if◌then◌else◌, vec_capacity, IfNone, IfOk, IfSome, OnOk, OnSome, SomeIff, option_copied};
+ghost use Rattle.ghg_engine.specs.Columns.{AreOver, HasIn, HasShapeOf, Joins, IsOver, capacity_of, covers, end_of, has_place, hull, is_replaced_by, joined, length_of, meet_in_turn, meets, takes, touches, value_in, years_of};
 
 use ghg_cell::Value;
 use std::alloc::{AllocError, Global};
@@ -16,6 +16,46 @@ const MORE_YEARS: usize = 8;
 
 /// For how many years behind its first a new column makes room at most: those of the longest inventory.
 const MOST_YEARS_BEHIND: u32 = 150;
+
+// Consecutive years: from the first on, up to the one before the end.
+#[derive(Clone, Copy)]
+struct Years {
+    first: u64,
+    end: u64,
+}
+
+impl Years {
+    // How many they are.
+    fn len(&self) -> u64
+        ensures { result ≡ length_of self.now }
+    {
+        self.end.saturating_sub(self.first)
+    }
+
+    // Whether others are none, or all among these.
+    fn covers(&self, others: &Years) -> bool
+        ensures { result ≡ covers self.now others.now }
+    {
+        others.first == others.end || self.first <= others.first && others.end <= self.end
+    }
+
+    // Whether no other year lies between these and others.
+    fn meets(&self, others: &Years) -> bool
+        ensures { result ≡ meets self.now others.now }
+    {
+        others.first <= self.end && self.first <= others.end
+    }
+
+    // The years from the first of these and others to the last.
+    fn joined(&self, others: &Years) -> Years
+        ensures { result ≡ joined self.now others.now }
+    {
+        Years {
+            first: self.first.min(others.first),
+            end: self.end.max(others.end),
+        }
+    }
+}
 
 /// Values of consecutive years. Contracts see the first of these years, the values from that year on, and for
 /// how many more there is room without memory.
@@ -93,22 +133,28 @@ impl Column {
         self.values.get(offset)
     }
 
-    /// Gives a year its value, if it has one or is the next. Else the value is handed back.
-    pub(crate) fn put(&mut self, year: u32, value: Value) -> Result<Option<Value>, AllocError>
-        ensures { IfOk result (IsPutIn self.old self.new year value) }
+    /// Whether a year has a value or is the next.
+    pub(crate) fn has_place(&self, year: u32) -> bool
+        ensures { result ≡ has_place self.now year }
     {
-        let Some(offset) = self.offset(year) else {
-            return Ok(Some(value));
-        };
-        if offset > self.values.len() {
-            return Ok(Some(value));
+        match self.offset(year) {
+            Some(offset) => offset <= self.values.len(),
+            None => false,
         }
+    }
+
+    /// Gives a year that has a value, or is the next, its value.
+    pub(crate) fn put(&mut self, year: u32, value: Value) -> Result<(), AllocError>
+        requires { has_place self.old year ≡ true }
+        ensures { OnOk result (HasIn self.old self.new year (Some value)) }
+    {
+        let offset = (year - self.first) as usize;
         if offset == self.values.len() {
             append(&mut self.values, value)?;
         } else {
             self.values[offset] = value;
         }
-        Ok(None)
+        Ok(())
     }
 
     /// Gives a year that has a value another one. It takes no memory.
@@ -121,55 +167,97 @@ impl Column {
         self.values[offset] = value;
     }
 
-    // ---- the values of another column
+    // ---- the values of other columns
 
-    /// Makes room for the values of another column, if it has no years, or none lies between the two. It
-    /// answers whether it can take them in.
-    pub(crate) fn widen(&mut self, next: &Column) -> Result<bool, AllocError>
+    /// Makes room for the values of other columns, if each meets its years and those of the columns before
+    /// that one. It answers whether it can take them in.
+    pub(crate) fn widen(&mut self, runs: &[Column]) -> Result<bool, AllocError>
         ensures first { self.new.first ≡ self.old.first }
         ensures values { self.new.values ≡ self.old.values }
         ensures spare { self.old.spare ≤ self.new.spare }
-        ensures fits { IfOk result (λ fits. fits ≡ takes_in self.new next.now) }
-        ensures room { IfOk result (λ fits. touches self.old next.now ≡ true → fits ≡ true) }
+        ensures fits { IfOk result (λ fits. fits ≡ takes self.new runs.now) }
+        ensures room { IfOk result (λ fits. touches self.old runs.now ≡ true → fits ≡ true) }
     {
-        if self.touches(next) && !next.covers(self) {
-            let years = self.years_beyond(next);
-            self.values.reserve_exact(years)?;
+        if self.is_replaced_by(runs) {
+            return Ok(true);
         }
-        Ok(self.takes_in(next))
+        let Some(hull) = self.hull(runs) else {
+            return Ok(false);
+        };
+        self.values
+            .reserve_exact(hull.len() as usize - self.values.len())?;
+        Ok(true)
     }
 
-    /// Whether it can take over the values of another column without memory: in place of its own, over its
-    /// own, behind them or before them.
-    pub(crate) fn takes_in(&self, next: &Column) -> bool
-        ensures { result ≡ takes_in self.now next.now }
+    /// Whether it can take over the values of other columns without memory: of a single one in place of its
+    /// own, or of one after the other, where each meets its years and those of the columns before that one.
+    pub(crate) fn takes(&self, runs: &[Column]) -> bool
+        ensures { result ≡ takes self.now runs.now }
     {
-        next.covers(self)
-            || self.covers(next)
-            || self.has_room_behind(next)
-            || self.has_room_before(next)
+        if self.is_replaced_by(runs) {
+            return true;
+        }
+        match self.hull(runs) {
+            Some(hull) => hull.len() <= self.values.capacity() as u64,
+            None => false,
+        }
     }
 
-    /// Takes over the values of another column. It takes no memory.
-    pub(crate) fn take_in(&mut self, next: Column)
-        requires { takes_in self.old next ≡ true }
-        ensures { IsOver next self.old self.new }
+    /// Takes over the values of other columns, one after the other. It takes no memory.
+    pub(crate) fn take_in(&mut self, runs: Vec<Column>)
+        requires { takes self.old runs.items ≡ true }
+        ensures { AreOver runs.items self.old self.new }
     {
-        if next.covers(self) {
-            *self = next;
-        } else if self.covers(&next) {
-            self.overwrite_years(next);
-        } else if self.has_room_behind(&next) {
-            self.append(next);
+        if self.is_replaced_by(&runs) {
+            self.replace(runs);
         } else {
-            self.prepend(next);
+            self.join_all(runs);
+        }
+    }
+
+    // Takes the values of the only one of columns in place of its own.
+    fn replace(&mut self, runs: Vec<Column>)
+        requires { is_replaced_by (years_of self.old) runs.items ≡ true }
+        ensures { AreOver runs.items self.old self.new }
+    {
+        let mut runs = runs;
+        if let Some(only) = runs.pop() {
+            *self = only;
+        }
+    }
+
+    // Takes over the values of columns that meet it, one after the other, within the room that it has.
+    fn join_all(&mut self, runs: Vec<Column>)
+        requires meet { meet_in_turn (years_of self.old) runs.items ≡ true }
+        requires room { length_of (hull (years_of self.old) runs.items) ≤ capacity_of self.old }
+        ensures { AreOver runs.items self.old self.new }
+    {
+        for next in runs {
+            self.join(next);
+        }
+    }
+
+    // Takes over the values of a column that meets it, within the room that it has.
+    fn join(&mut self, next: Column)
+        requires meets { meets (years_of self.old) (years_of next) ≡ true }
+        requires room { length_of (joined (years_of self.old) (years_of next)) ≤ capacity_of self.old }
+        ensures { Joins self.old next self.new }
+    {
+        let own = self.years();
+        let others = next.years();
+        match (own.first <= others.first, others.end <= own.end) {
+            (true, true) => self.overwrite_years(next),
+            (true, false) => self.append(next),
+            (false, true) => self.prepend(next),
+            (false, false) => self.refill(next),
         }
     }
 
     // Writes the values of another column over those of the same years.
     fn overwrite_years(&mut self, next: Column)
-        requires { covers self.old next ≡ true }
-        ensures { IsOver next self.old self.new }
+        requires first { self.old.first ≤ next.first }
+        requires end { end_of next ≤ end_of self.old }
+        ensures { Joins self.old next self.new }
     {
         let mut next = next;
         while let Some((year, value)) = next.pop() {
@@ -177,22 +265,28 @@ impl Column {
         }
     }
 
-    // Takes over the values of a column that begins in its years or directly behind them, for which there is
-    // room.
+    // Takes over the values of a column that begins in its years or directly behind them, and ends with them
+    // or behind them.
     fn append(&mut self, next: Column)
-        requires { goes_behind self.old next ≡ true }
-        ensures { IsOver next self.old self.new }
+        requires first { self.old.first ≤ next.first }
+        requires meets { next.first ≤ end_of self.old }
+        requires end { end_of self.old ≤ end_of next }
+        requires room { end_of next - self.old.first ≤ capacity_of self.old }
+        ensures { Joins self.old next self.new }
     {
         let mut next = next;
         self.values.truncate((next.first - self.first) as usize);
         self.values.append(&mut next.values).unwrap();
     }
 
-    // Takes over the values of a column that ends in its years or directly before them, for which there is
-    // room.
+    // Takes over the values of a column that ends in its years or directly before them, and begins with them
+    // or before them.
     fn prepend(&mut self, next: Column)
-        requires { comes_before self.old next ≡ true }
-        ensures { IsOver next self.old self.new }
+        requires first { next.first ≤ self.old.first }
+        requires meets { self.old.first ≤ end_of next }
+        requires end { end_of next ≤ end_of self.old }
+        requires room { end_of self.old - next.first ≤ capacity_of self.old }
+        ensures { Joins self.old next self.new }
     {
         let mut next = next;
         drop_first(&mut self.values, (next.end() - self.first as u64) as usize);
@@ -202,54 +296,53 @@ impl Column {
         self.first = next.first;
     }
 
-    // Whether another column begins in its years or directly behind them, ends behind them, and finds room.
-    fn has_room_behind(&self, next: &Column) -> bool
-        ensures { result ≡ goes_behind self.now next.now }
+    // Takes the values of a column that has each of its years in place of its own, within its room.
+    fn refill(&mut self, next: Column)
+        requires first { next.first ≤ self.old.first }
+        requires end { end_of self.old ≤ end_of next }
+        requires room { length next.values ≤ capacity_of self.old }
+        ensures { Joins self.old next self.new }
     {
-        self.first <= next.first
-            && next.first as u64 <= self.end()
-            && self.end() <= next.end()
-            && next.end() - self.end() <= self.spare()
+        let mut next = next;
+        self.values.clear();
+        self.values.append(&mut next.values).unwrap();
+        self.first = next.first;
     }
 
-    // Whether another column ends in its years or directly before them, begins before them, and finds room.
-    fn has_room_before(&self, next: &Column) -> bool
-        ensures { result ≡ comes_before self.now next.now }
+    // Whether columns are a single one that has each of its years.
+    fn is_replaced_by(&self, runs: &[Column]) -> bool
+        ensures { result ≡ is_replaced_by (years_of self.now) runs.now }
     {
-        next.first <= self.first
-            && self.first as u64 <= next.end()
-            && next.end() <= self.end()
-            && (self.first - next.first) as u64 <= self.spare()
+        match runs {
+            [only] => only.years().covers(&self.years()),
+            _ => false,
+        }
     }
 
-    // Whether it has no years, or none lies between it and another column.
-    fn touches(&self, next: &Column) -> bool
-        ensures { result ≡ touches self.now next.now }
+    // Its years and those of columns, if each of these meets its years and those of the columns before it.
+    fn hull(&self, runs: &[Column]) -> Option<Years>
+        ensures { SomeIff result (meet_in_turn (years_of self.now) runs.now ≡ true) (hull
+            (years_of self.now) runs.now) }
     {
-        self.values.len() == 0 || next.first as u64 <= self.end() && self.first as u64 <= next.end()
+        let mut hull = self.years();
+        for next in runs {
+            let years = next.years();
+            if !hull.meets(&years) {
+                return None;
+            }
+            hull = hull.joined(&years);
+        }
+        Some(hull)
     }
 
-    // How many years of another column are before or behind its own.
-    fn years_beyond(&self, next: &Column) -> usize
-        ensures { result ≡ (self.now.first - next.now.first) + (end_of next.now - end_of self.now) }
+    // The years that have values.
+    fn years(&self) -> Years
+        ensures { result ≡ years_of self.now }
     {
-        let before = self.first.saturating_sub(next.first) as usize;
-        let behind = next.end().saturating_sub(self.end()) as usize;
-        before + behind
-    }
-
-    // For how many more years there is room.
-    fn spare(&self) -> u64
-        ensures { result ≡ self.now.spare }
-    {
-        (self.values.capacity() - self.values.len()) as u64
-    }
-
-    // Whether it has each year that another column has.
-    fn covers(&self, other: &Column) -> bool
-        ensures { result ≡ covers self.now other.now }
-    {
-        other.values.len() == 0 || self.first <= other.first && other.end() <= self.end()
+        Years {
+            first: self.first as u64,
+            end: self.end(),
+        }
     }
 
     // The year behind the last.

@@ -8,15 +8,15 @@ ghost use Rattle.ghg_engine.specs.Fresh.{AreReady, HasGrownFor, HasRoomFor, Have
 ghost use Rattle.ghg_engine.specs.Numbered.{in_numbered};
 
 use crate::cells::Cells;
-use crate::numbered::{NumberedColumns, Room, SeriesColumn};
+use crate::numbered::{NumberedColumns, Room, SeriesRuns};
 use ghg_cell::Value;
 use ghg_interval::Over;
 use ghg_units::Node;
 use std::alloc::{AllocError, Global};
 use std::collections::BTreeMap;
 
-/// The outcomes of nodes, each of which is evaluated once, mostly year by year. What is over stands aside,
-/// and so does a value for which its column has no place.
+/// The outcomes of nodes, each of which is evaluated once, mostly year by year. The values of a series stand in
+/// a column for each run of years. What is over stands aside.
 #[derive(Drop)]
 pub(crate) struct FreshCells {
     columns: NumberedColumns,
@@ -58,10 +58,7 @@ impl FreshCells {
         ensures { OnOk result (fresh_at self.new ≡ with_outcome (fresh_at self.old) node.now outcome) }
     {
         match outcome {
-            Ok(value) => match self.columns.put(node, value)? {
-                None => Ok(()),
-                Some(value) => put_aside(&mut self.aside, node, Ok(value)),
-            },
+            Ok(value) => self.columns.put(node, value),
             Err(Over) => put_aside(&mut self.aside, node, Err(Over)),
         }
     }
@@ -111,7 +108,7 @@ fn make_columns(columns: &NumberedColumns, cells: &mut Cells) -> Result<(), Allo
 {
     for number in 0..columns.len() {
         let held = columns.at(number);
-        cells.make_room(&held.series, &held.column)?;
+        cells.make_room(&held.series, &held.runs)?;
     }
     Ok(())
 }
@@ -134,8 +131,8 @@ fn move_columns(columns: NumberedColumns, cells: &mut Cells)
     ensures { cell_at cells.new ≡ found_in (in_numbered columns) (cell_at cells.old) }
 {
     let mut columns = columns.into_columns();
-    while let Some(SeriesColumn { series, column }) = columns.pop() {
-        cells.take_column(series, column);
+    while let Some(SeriesRuns { series, runs }) = columns.pop() {
+        cells.take_runs(series, runs);
     }
 }
 

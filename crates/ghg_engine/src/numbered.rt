@@ -1,9 +1,10 @@
 //! Columns of series that have numbers.
 
-ghost use Rattle.std.specs.Prelude.{◌≡◌, ◌<◌, ◌++◌, ◌∷◌, [], length, None, IfNone, IfOk, IfSome, Ok, OnOk, Some};
+ghost use Rattle.std.specs.Prelude.{◌≡◌, ◌<◌, ◌++◌, ◌∷◌, [], length, None, IfNone, IfOk, IfSome, Ok, OnOk, Some, option_copied};
 ghost use Rattle.std.specs.List.{slice_get};
-ghost use Rattle.ghg_engine.specs.Cells.{IsPut};
-ghost use Rattle.ghg_engine.specs.Numbered.{HaveOneNumber, in_numbered, run_of, series_at};
+ghost use Rattle.ghg_engine.specs.Cells.{with_outcome};
+ghost use Rattle.ghg_engine.specs.Columns.{HasAmong, value_among};
+ghost use Rattle.ghg_engine.specs.Numbered.{HaveOneNumber, in_numbered, runs_of, series_at};
 
 use crate::column::Column;
 use crate::series::{Series, year_of};
@@ -27,19 +28,20 @@ impl Room {
     }
 }
 
-/// A series and its values.
+/// A series and its values: a column for each run of years, mostly a single one. Where two have a year, the
+/// later one counts.
 #[derive(Drop)]
-pub(crate) struct SeriesColumn {
+pub(crate) struct SeriesRuns {
     pub(crate) series: Series,
-    pub(crate) column: Column,
+    pub(crate) runs: Vec<Column>,
 }
 
 /// The columns of series, which have the numbers from zero on in the order in which they were put first. A
-/// right guess at the number of a series spares the search for it. Contracts see the columns in that order.
+/// right guess at the number of a series spares the search for it. Contracts see the series in that order.
 #[derive(Drop)]
 pub(crate) struct NumberedColumns {
     alloc: Global,
-    columns: Vec<SeriesColumn>,
+    columns: Vec<SeriesRuns>,
     numbers: BTreeMap<Series, usize>,
     // The number of the series that is likely to be written next.
     next: usize,
@@ -48,10 +50,10 @@ pub(crate) struct NumberedColumns {
 
 impl Model for NumberedColumns {
     ghost use Rattle.std.specs.Prelude.{List};
-    ghost use Rattle.ghg_engine.specs.declared.numbered.SeriesColumn.{SeriesColumn};
+    ghost use Rattle.ghg_engine.specs.declared.numbered.SeriesRuns.{SeriesRuns};
     ghost use Rattle.ghg_engine.specs.Numbered.{AreNumbered};
 
-    ghost Value = { List SeriesColumn };
+    ghost Value = { List SeriesRuns };
 
     ghost view = { λ c. c.columns.items };
 
@@ -80,23 +82,23 @@ impl NumberedColumns {
     {
         let number = self.number(&Series::of(node), *guess)?;
         *guess = number;
-        self.columns[number].column.get(year_of(node))
+        value_among(&self.columns[number].runs, year_of(node))
     }
 
-    /// Puts a value into the column of its node, if it has the year or has it next. Else the value is handed
-    /// back. A series that has a number, and is put in the order of the numbers, costs no search.
-    pub(crate) fn put(&mut self, node: &Node, value: Value) -> Result<Option<Value>, AllocError>
-        ensures { IfOk result (IsPut (in_numbered self.old) (in_numbered self.new) node.now value) }
+    /// Gives a node its value: in the last column of its series, if that has the year or has it next, else in
+    /// a new one. A series that has a number, and is put in the order of the numbers, costs no search.
+    pub(crate) fn put(&mut self, node: &Node, value: Value) -> Result<(), AllocError>
+        ensures { OnOk result (in_numbered self.new ≡ with_outcome (in_numbered self.old) node.now
+            (Ok value)) }
     {
         let series = Series::of(node);
+        let year = year_of(node);
         let Some(number) = self.number(&series, self.next) else {
-            let year = year_of(node);
-            let column = Column::of(self.alloc, year, value, self.room.last_from(year))?;
-            self.add(&series, column)?;
-            return Ok(None);
+            let runs = one_run(self.alloc, year, value, self.room.last_from(year))?;
+            return self.add(&series, runs);
         };
         self.begin_behind(number);
-        self.columns[number].column.put(year_of(node), value)
+        put_among(&mut self.columns[number].runs, self.alloc, year, value)
     }
 
     /// How many series have numbers.
@@ -106,8 +108,8 @@ impl NumberedColumns {
         self.columns.len()
     }
 
-    /// The series with a number, and its column.
-    pub(crate) fn at(&self, number: usize) -> &SeriesColumn
+    /// The series with a number, and its columns.
+    pub(crate) fn at(&self, number: usize) -> &SeriesRuns
         requires { number < length self.now }
         ensures { slice_get self.now number ≡ Some result.now }
     {
@@ -115,7 +117,7 @@ impl NumberedColumns {
     }
 
     /// The columns, in the order of their numbers.
-    pub(crate) fn into_columns(self) -> Vec<SeriesColumn>
+    pub(crate) fn into_columns(self) -> Vec<SeriesRuns>
         ensures columns { result.items ≡ self }
         ensures numbers { HaveOneNumber result.items }
     {
@@ -124,7 +126,7 @@ impl NumberedColumns {
 
     // The number of a series.
     fn number(&self, series: &Series, guess: usize) -> Option<usize>
-        ensures none { IfNone result (run_of self.now series.now ≡ None) }
+        ensures none { IfNone result (runs_of self.now series.now ≡ None) }
         ensures number { IfSome result (λ i. series_at self.now i ≡ Some series.now) }
     {
         match self.columns.get(guess) {
@@ -141,18 +143,18 @@ impl NumberedColumns {
         self.next = if next < self.columns.len() { next } else { 0 };
     }
 
-    // Gives a series without a number the next one, and a column.
-    fn add(&mut self, series: &Series, column: Column) -> Result<(), AllocError>
-        requires { run_of self.old series.now ≡ None }
+    // Gives a series without a number the next one, and its columns.
+    fn add(&mut self, series: &Series, runs: Vec<Column>) -> Result<(), AllocError>
+        requires { runs_of self.old series.now ≡ None }
         ensures { OnOk result (self.new ≡ self.old ++ record {
           series = series.now;
-          column = column;
+          runs = runs;
         } ∷ []) }
     {
         let number = self.columns.len();
-        self.columns.push(SeriesColumn {
+        self.columns.push(SeriesRuns {
             series: *series,
-            column,
+            runs,
         })?;
         match self.numbers.insert(*series, number) {
             Ok(_) => Ok(()),
@@ -161,5 +163,45 @@ impl NumberedColumns {
                 Err(error.into())
             }
         }
+    }
+}
+
+// The value of a year in the last of the columns that has one.
+fn value_among(runs: &[Column], year: u32) -> Option<&Value>
+    ensures { option_copied result ≡ value_among runs.now year }
+{
+    for number in (0..runs.len()).rev() {
+        if let Some(value) = runs[number].get(year) {
+            return Some(value);
+        }
+    }
+    None
+}
+
+// A column that has the value of one year, and room for the years up to the last.
+fn one_run(alloc: Global, year: u32, value: Value, last: u32) -> Result<Vec<Column>, AllocError>
+    ensures { IfOk result (λ runs. HasAmong [] runs.items year (Some value)) }
+{
+    let mut runs = Vec::with_capacity(alloc, 1)?;
+    runs.push(Column::of(alloc, year, value, last)?)?;
+    Ok(runs)
+}
+
+// Gives a year its value: in the last of the columns, if that has the year or has it next, else in a new one.
+fn put_among(
+    runs: &mut Vec<Column>,
+    alloc: Global,
+    year: u32,
+    value: Value,
+) -> Result<(), AllocError>
+    ensures { OnOk result (HasAmong runs.old.items runs.new.items year (Some value)) }
+{
+    if let Some(last) = runs.last_mut()
+        && last.has_place(year)
+    {
+        last.put(year, value)
+    } else {
+        runs.push(Column::of(alloc, year, value, year)?)?;
+        Ok(())
     }
 }

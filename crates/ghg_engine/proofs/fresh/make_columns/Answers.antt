@@ -1,7 +1,8 @@
-use Rattle.std.proofs.Common.{◌≡◌, ◌<◌, true, arith}
+use Rattle.std.proofs.Common.{◌≡◌, ◌<◌, List, true, sym, subst, arith}
 use Rattle.std.proofs.lemmas.Option.{slice_get_within}
-use Rattle.ghg_engine.specs.declared.numbered.SeriesColumn.{SeriesColumn}
+use Rattle.ghg_engine.specs.declared.numbered.SeriesRuns.{SeriesRuns}
 use Rattle.ghg_engine.specs.Cells.{IsReadyFor, has_column, room_at, touches_at}
+use Rattle.ghg_engine.specs.Columns.{Run}
 use Rattle.ghg_engine.proofs.Grown.{grown_further, not_grown, ready_still}
 use Rattle.ghg_engine.proofs.Moved.{of_one_more}
 use Rattle.ghg_engine.proofs.fresh.make_columns.Goals as goal
@@ -17,16 +18,18 @@ loop-number-preserved c =
     let grown = c.make_room.ensures.grown in
     let columns = c.args.columns.now in
     let n = c.loop-number.number in
-    let held = c.at-held.result.now in (
+    let held = c.at-held.result.now in
+    let all = c.deref.ensures.value in (
       grown_further old before after c.loop-number.invariant.0 grown,
-      of_one_more (λ (d : SeriesColumn). has_column before d.series ≡ true) (λ (d : SeriesColumn). has_column after d.series ≡ true) columns n held c.at-held.ensures
+      of_one_more (λ (d : SeriesRuns). has_column before d.series ≡ true) (λ (d : SeriesRuns). has_column after d.series ≡ true) columns n held c.at-held.ensures
           (λ d has. grown.columns d.series has) c.in_ok-make_room.ensures.column c.loop-number.invariant.1,
-      of_one_more (λ (d : SeriesColumn). touches_at old d.series d.column ≡ true → room_at before d.series d.column ≡ true)
-          (λ (d : SeriesColumn). touches_at old d.series d.column ≡ true → room_at after d.series d.column ≡ true) columns n held c.at-held.ensures
-          (λ d has meets. grown.room d.series d.column (has meets))
-          (λ meets. c.in_ok-make_room.ensures.room (c.loop-number.invariant.0.touching held.series held.column meets)) c.loop-number.invariant.2,
-      of_one_more (λ (d : SeriesColumn). IsReadyFor before d.series d.column) (λ (d : SeriesColumn). IsReadyFor after d.series d.column) columns n held c.at-held.ensures
-          (λ d ready. ready_still before after grown d.series d.column ready) c.in_ok-make_room.ensures.ready c.loop-number.invariant.3,
+      of_one_more (λ (d : SeriesRuns). touches_at old d.series d.runs.items ≡ true → room_at before d.series d.runs.items ≡ true)
+          (λ (d : SeriesRuns). touches_at old d.series d.runs.items ≡ true → room_at after d.series d.runs.items ≡ true) columns n held c.at-held.ensures
+          (λ d has meets. grown.room d.series d.runs.items (has meets))
+          (λ meets. subst (λ (runs : List Run). room_at after held.series runs ≡ true) all
+          (c.in_ok-make_room.ensures.room (subst (λ (runs : List Run). touches_at before held.series runs ≡ true) (sym all) (c.loop-number.invariant.0.touching held.series held.runs.items meets)))) c.loop-number.invariant.2,
+      of_one_more (λ (d : SeriesRuns). IsReadyFor before d.series d.runs.items) (λ (d : SeriesRuns). IsReadyFor after d.series d.runs.items) columns n held c.at-held.ensures
+          (λ d ready. ready_still before after grown d.series d.runs.items ready) (subst (λ (runs : List Run). IsReadyFor after held.series runs) all c.in_ok-make_room.ensures.ready) c.loop-number.invariant.3,
     )
 
 pub returns-in_err-make_room-clause-grown : goal.returns-in_err-make_room-clause-grown

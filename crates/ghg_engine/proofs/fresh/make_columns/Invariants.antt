@@ -7,5 +7,5 @@ abbrev pub invariant-loop-number : goal.invariant-loop-number
 invariant-loop-number l =
     HasGrown l.fn.cells l.cells
     × OfFirst l.number (λ c. has_column l.cells c.series ≡ true) l.columns
-    × OfFirst l.number (λ c. touches_at l.fn.cells c.series c.column ≡ true → room_at l.cells c.series c.column ≡ true) l.columns
-    × OfFirst l.number (λ c. IsReadyFor l.cells c.series c.column) l.columns
+    × OfFirst l.number (λ c. touches_at l.fn.cells c.series c.runs.items ≡ true → room_at l.cells c.series c.runs.items ≡ true) l.columns
+    × OfFirst l.number (λ c. IsReadyFor l.cells c.series c.runs.items) l.columns

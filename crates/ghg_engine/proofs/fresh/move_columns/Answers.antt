@@ -10,8 +10,8 @@ no_items : {A : Type 0} (xs : List A) → length xs ≡ 0 → xs ≡ []
 no_items [] e = refl
 no_items (x ∷ xs) e = absurd (omega (arith, e))
 
-pub take_column-requires : goal.take_column-requires
-take_column-requires c =
+pub take_runs-requires : goal.take_runs-requires
+take_runs-requires c =
     let left = c.pop.new.self.items in
     let held = c.in-Some.field-0 in
     let all = c.in-Some.ensures.items in
@@ -23,12 +23,12 @@ loop-series-preserved c =
     let held = c.in-Some.field-0 in
     let all = c.in-Some.ensures.items in
     let before = c.loop-series.cells in
-    let after = c.take_column.new.self in
+    let after = c.take_runs.new.self in
     let once = subst HaveOneNumber all c.loop-series.invariant.0 in (
       one_number_still left held once,
-      ap (found_in (in_numbered left)) c.take_column.ensures.cells ∙ last_moved left held once (cell_at before)
+      ap (found_in (in_numbered left)) c.take_runs.ensures.cells ∙ last_moved left held once (cell_at before)
           ∙ ap (λ cs. found_in (in_numbered cs) (cell_at before)) (sym all) ∙ c.loop-series.invariant.1,
-      left_ready before after (in_series held.series held.column) c.take_column.ensures.cells left held once c.take_column.ensures.room (subst (AreReady before) all c.loop-series.invariant.2),
+      left_ready before after (in_series held.series held.runs.items) c.take_runs.ensures.cells left held once c.take_runs.ensures.room (subst (AreReady before) all c.loop-series.invariant.2),
     )
 
 pub returns : goal.returns

@@ -1,39 +1,31 @@
-use Rattle.std.proofs.Common.{◌≡◌, ◌<◌, ◌∙◌, length, None, refl, ap, arith, subst}
+use Rattle.std.proofs.Common.{◌≡◌, ◌+◌, ◌++◌, ◌∷◌, [], List, take, refl, sym, subst, ◌∙◌}
 use Rattle.std.specs.BTreeMap.{get}
-use Rattle.std.specs.Option.{option_or}
-use Rattle.ghg_units.specs.declared.node.Node.{Node}
-use Rattle.ghg_definitions.specs.Trials.{Outcomes}
-use Rattle.ghg_engine.specs.Cells.{found_in, in_columns, in_series, node_order}
-use Rattle.ghg_engine.proofs.Taken.{AreDone, all_done, none_done, one_done, value_there}
-use Rattle.ghg_engine.proofs.Written.{hidden_behind, out_elsewhere, out_there, updated_without}
+use Rattle.std.proofs.lemmas.List.{take_all, take_more}
+use Rattle.ghg_engine.specs.Cells.{AreApart, cell_at, in_series, node_order}
+use Rattle.ghg_engine.specs.Columns.{Run}
+use Rattle.ghg_engine.proofs.Taken.{apart_still, hidden_by_all, none_apart, one_more_apart}
 use Rattle.ghg_engine.proofs.cells.Cells.clear_places.Goals as goal
 
-pub loop-offset-init : goal.loop-offset-init
-loop-offset-init c = (refl, refl, none_done c.args.series.now c.args.column.now (λ k. get node_order c.args.self.now.aside k ≡ None))
+pub loop-run-init : goal.loop-run-init
+loop-run-init c = (refl, refl, none_apart c.args.series.now (get node_order c.args.self.now.aside))
 
-pub loop-offset-preserved : goal.loop-offset-preserved
-loop-offset-preserved c =
+pub loop-run-preserved : goal.loop-run-preserved
+loop-run-preserved c =
     let s = c.args.series.now in
-    let run = c.args.column.now in
-    let i = c.loop-offset.offset in
-    let n = c.node.result in
-    let of_series = c.node.ensures.series in
-    let in_year = c.node.ensures.year ∙ c.year.ensures in
-    let within : i < length run.values = omega (arith, c.loop-offset-test.true, c.len-offset-end.ensures) in
-    let aside = get node_order c.loop-offset.self.aside in
-    let left = get node_order c.remove.new.self in
-    let columns = in_columns c.loop-offset.self.columns in
-    let rest = updated_without aside left n c.remove.ensures.updates.0 in (
-      hidden_behind (in_series s run) (found_in aside columns) (found_in left columns) n (value_there s run i n of_series in_year within)
-          (λ k apart. ap (λ o. option_or o (columns k)) (ap (λ (f : Outcomes). f k) rest ∙ out_elsewhere aside n k apart)) ∙ c.loop-offset.invariant.0,
-      c.loop-offset.invariant.1,
-      one_done s run i n of_series in_year (λ k. aside k ≡ None) (λ k. left k ≡ None) c.loop-offset.invariant.2
-          (λ k apart none. ap (λ (f : Outcomes). f k) rest ∙ out_elsewhere aside n k apart ∙ none) (ap (λ (f : Outcomes). f n) rest ∙ out_there aside n),
+    let runs = c.args.runs.now in
+    let run = c.run-item.result in
+    let i = c.loop-run.run-index in
+    let before = c.loop-run.self in
+    let after = c.clear_run_places.new.self in
+    let so_far = take i runs in
+    let more : take (i + 1) runs ≡ so_far ++ run ∷ [] = take_more runs i run c.loop-run-test.true ∙ subst (λ x. so_far ++ x ∷ [] ≡ so_far ++ run ∷ []) c.run-item.is refl in (
+      hidden_by_all s runs i run c.loop-run-test.true c.run-item.is (cell_at before) (cell_at after) c.clear_run_places.ensures.kept ∙ c.loop-run.invariant.0,
+      c.clear_run_places.ensures.columns ∙ c.loop-run.invariant.1,
+      subst (λ (rs : List Run). AreApart (in_series s rs) (get node_order after.aside)) (sym more)
+          (one_more_apart s so_far run (get node_order after.aside)
+          (apart_still (in_series s so_far) (get node_order before.aside) (get node_order after.aside) c.clear_run_places.ensures.fewer c.loop-run.invariant.2) c.clear_run_places.ensures.clear),
     )
 
 pub returns-clause-clear : goal.returns-clause-clear
 returns-clause-clear c =
-    let run = c.args.column.now in
-    let all : c.loop-offset.offset ≡ length run.values = omega (arith, c.loop-offset-test.false, c.len-offset-end.ensures, c.loop-offset.auto.offset-end) in
-    let none = λ (k : Node). get node_order c.loop-offset.self.aside k ≡ None in
-    all_done c.args.series.now run none (subst (λ i. AreDone c.args.series.now run i none) all c.loop-offset.invariant.2)
+    subst (λ (rs : List Run). AreApart (in_series c.args.series.now rs) (get node_order c.loop-run.self.aside)) (take_all c.loop-run.run-index c.args.runs.now c.loop-run-test.false) c.loop-run.invariant.2

@@ -1,31 +1,31 @@
-use Rattle.std.proofs.Common.{◌≡◌, is_some, length, true, ap, arith, subst, ◌∙◌}
-use Rattle.ghg_units.specs.declared.node.Node.{Node}
-use Rattle.ghg_engine.specs.Cells.{cell_at}
-use Rattle.ghg_engine.proofs.Grown.{grown_further, not_grown}
-use Rattle.ghg_engine.proofs.Taken.{AreDone, all_done, none_done, one_done}
+use Rattle.std.proofs.Common.{◌≡◌, ◌+◌, ◌++◌, ◌∷◌, [], List, take, refl, sym, subst, ◌∙◌}
+use Rattle.std.proofs.lemmas.List.{take_all, take_more}
+use Rattle.ghg_engine.specs.Cells.{AreWithin, cell_at, in_series}
+use Rattle.ghg_engine.specs.Columns.{Run}
+use Rattle.ghg_engine.proofs.Grown.{grown_further, not_grown, within_still}
+use Rattle.ghg_engine.proofs.Taken.{none_within, one_more_within}
 use Rattle.ghg_engine.proofs.cells.Cells.make_places.Goals as goal
 
-pub loop-offset-init : goal.loop-offset-init
-loop-offset-init c = (not_grown c.args.self.now, none_done c.args.series.now c.args.column.now (λ k. is_some (cell_at c.args.self.now k) ≡ true))
+pub loop-run-init : goal.loop-run-init
+loop-run-init c = (not_grown c.args.self.now, none_within c.args.series.now (cell_at c.args.self.now))
 
-pub loop-offset-preserved : goal.loop-offset-preserved
-loop-offset-preserved c =
+pub loop-run-preserved : goal.loop-run-preserved
+loop-run-preserved c =
     let s = c.args.series.now in
-    let run = c.args.column.now in
-    let before = c.loop-offset.self in
-    let after = c.make_place.new.self in (
-      grown_further c.args.self.now before after c.loop-offset.invariant.0 c.make_place.ensures.grown,
-      one_done s run c.loop-offset.offset c.node.result c.node.ensures.series (c.node.ensures.year ∙ c.year.ensures)
-          (λ k. is_some (cell_at before k) ≡ true) (λ k. is_some (cell_at after k) ≡ true) c.loop-offset.invariant.1
-          (λ k apart there. ap is_some (c.make_place.ensures.grown.outcomes k there) ∙ there) c.in_ok-make_place.ensures.place,
+    let before = c.loop-run.self in
+    let after = c.make_run_places.new.self in
+    let grown = c.make_run_places.ensures.grown in
+    let so_far = take c.loop-run.run-index c.args.runs.now in
+    let more : take (c.loop-run.run-index + 1) c.args.runs.now ≡ so_far ++ c.run-item.result ∷ [] =
+    take_more c.args.runs.now c.loop-run.run-index c.run-item.result c.loop-run-test.true ∙ subst (λ x. so_far ++ x ∷ [] ≡ so_far ++ c.run-item.result ∷ []) c.run-item.is refl in (
+      grown_further c.args.self.now before after c.loop-run.invariant.0 grown,
+      subst (λ (rs : List Run). AreWithin (in_series s rs) (cell_at after)) (sym more)
+          (one_more_within s so_far c.run-item.result (cell_at after) (within_still before after grown (in_series s so_far) c.loop-run.invariant.1) c.in_ok-make_run_places.ensures.within),
     )
 
-pub returns-in_err-make_place-clause-grown : goal.returns-in_err-make_place-clause-grown
-returns-in_err-make_place-clause-grown c = grown_further c.args.self.now c.loop-offset.self c.make_place.new.self c.loop-offset.invariant.0 c.make_place.ensures.grown
+pub returns-in_err-make_run_places-clause-grown : goal.returns-in_err-make_run_places-clause-grown
+returns-in_err-make_run_places-clause-grown c = grown_further c.args.self.now c.loop-run.self c.make_run_places.new.self c.loop-run.invariant.0 c.make_run_places.ensures.grown
 
 pub returns-clause-within : goal.returns-clause-within
 returns-clause-within c =
-    let run = c.args.column.now in
-    let all : c.loop-offset.offset ≡ length run.values = omega (arith, c.loop-offset-test.false, c.len-offset-end.ensures, c.loop-offset.auto.offset-end) in
-    let there = λ (k : Node). is_some (cell_at c.loop-offset.self k) ≡ true in
-    all_done c.args.series.now run there (subst (λ i. AreDone c.args.series.now run i there) all c.loop-offset.invariant.1)
+    subst (λ (rs : List Run). AreWithin (in_series c.args.series.now rs) (cell_at c.loop-run.self)) (take_all c.loop-run.run-index c.args.runs.now c.loop-run-test.false) c.loop-run.invariant.1

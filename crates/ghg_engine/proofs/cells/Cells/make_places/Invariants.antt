@@ -1,7 +1,6 @@
-use Rattle.std.proofs.Common.{◌≡◌, is_some, true}
-use Rattle.ghg_engine.specs.Cells.{HasGrown, cell_at}
-use Rattle.ghg_engine.proofs.Taken.{AreDone}
+use Rattle.std.proofs.Common.{take}
+use Rattle.ghg_engine.specs.Cells.{AreWithin, HasGrown, cell_at, in_series}
 use Rattle.ghg_engine.proofs.cells.Cells.make_places.Given as goal
 
-abbrev pub invariant-loop-offset : goal.invariant-loop-offset
-invariant-loop-offset l = HasGrown l.fn.self l.self × AreDone l.series l.column l.offset (λ k. is_some (cell_at l.self k) ≡ true)
+abbrev pub invariant-loop-run : goal.invariant-loop-run
+invariant-loop-run l = HasGrown l.fn.self l.self × AreWithin (in_series l.series (take l.run-index l.runs)) (cell_at l.self)

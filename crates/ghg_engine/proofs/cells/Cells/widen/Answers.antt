@@ -25,4 +25,15 @@ returns-clause-grown c =
     (room_grows s after old.columns new.columns updates before found
     (more_room before after c.widen.ensures.first c.widen.ensures.values c.widen.ensures.spare))
     (touching_stays s after old.columns new.columns updates
-    (λ run meets. touches_still before after run c.widen.ensures.first c.widen.ensures.values ∙ sym (ap (λ o. touches_column o run) found) ∙ meets))
+    (λ runs meets. touches_still before after runs c.widen.ensures.first c.widen.ensures.values ∙ sym (ap (λ o. touches_column o runs) found) ∙ meets))
+
+pub returns-clause-cells : goal.returns-clause-cells
+returns-clause-cells c =
+    let old = c.args.self.now in
+    let s = c.args.series.now in
+    let before = c.unwrap-column.result.now in
+    let after = c.widen.new.self in
+    let columns = c.get_mut.follows.lender after in
+    let found = sym c.get_mut.ensures.value ∙ ap option_copied_mut c.unwrap-column.ensures in
+    let updates = ((c.get_mut.follows.holds after).3 (some_is _ before found)).0 in
+    ap (found_in (get node_order old.aside)) (column_still s before after old.columns columns updates found c.widen.ensures.first c.widen.ensures.values)

@@ -3,6 +3,7 @@ use Rattle.std.specs.BTreeMap.{get}
 use Rattle.std.specs.Option.{option_copied_mut}
 use Rattle.ghg_definitions.specs.Formulas.{Outcome}
 use Rattle.ghg_engine.specs.Cells.{found_in, in_columns, node_order, series_order}
+use Rattle.ghg_engine.specs.Columns.{value_in}
 use Rattle.ghg_engine.proofs.Grown.{room_stays}
 use Rattle.ghg_engine.proofs.InColumns.{column_with, was_there}
 use Rattle.ghg_engine.proofs.Takes.{same_room}
@@ -28,7 +29,7 @@ returns-in-Some-get_mut-clause-cells c =
     let after = c.overwrite.new.self in
     let found = sym c.get_mut-in_default.ensures.value ∙ ap option_copied_mut c.in-Some-get_mut.is in
     let updates = ((c.get_mut-in_default.follows.holds after).3 (some_is _ before found)).0 in
-    let put = column_with (get series_order c.args.self.now.columns) c.of.result (get series_order (c.get_mut-in_default.follows.lender after)) before after updates (was_there (get series_order c.args.self.now.columns) c.of.result before found)
+    let put = column_with value_in (get series_order c.args.self.now.columns) c.of.result (get series_order (c.get_mut-in_default.follows.lender after)) before after updates (was_there value_in (get series_order c.args.self.now.columns) c.of.result before found)
     c.year_of.result n (sym c.of.ensures) (sym c.year_of.ensures) c.args.value c.overwrite.ensures.value in
     ap₂ found_in (ap (get node_order) c.get_mut.follows.holds-at-none) put ∙ put_through aside columns n x (sym c.get_mut.ensures.value ∙ ap option_copied_mut c.in_default.is)
 

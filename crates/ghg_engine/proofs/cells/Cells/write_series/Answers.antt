@@ -1,30 +1,50 @@
-use Rattle.std.proofs.Common.{is_some, Ok, sym, ap, ap₂, subst, ◌∙◌}
-use Rattle.ghg_definitions.specs.Formulas.{Outcome}
+use Rattle.std.proofs.Common.{◌≡◌, ◌∷◌, [], List, length, refl, sym, ap, subst, ◌∙◌, arith}
+use Rattle.std.specs.Vec.Iter.{into_iter_items}
+use Rattle.ghg_definitions.specs.Trials.{Outcomes}
 use Rattle.ghg_engine.specs.Cells.{AreWithin, cell_at, found_in, in_series}
-use Rattle.ghg_engine.proofs.InColumns.{no_series, series_has, series_without}
-use Rattle.ghg_engine.proofs.Written.{one_moved, one_within, without}
+use Rattle.ghg_engine.specs.Columns.{Run}
+use Rattle.ghg_engine.proofs.Taken.{first_moved, first_within, none_in_series, others_within}
 use Rattle.ghg_engine.proofs.cells.Cells.write_series.Goals as goal
 
-pub write-requires : goal.write-requires
-write-requires c =
-    c.loop-year.invariant.0 c.node.result
-    (ap is_some (series_has c.args.series c.loop-year.column c.loop-year.column c.in-Some.year c.node.result c.node.ensures.series c.node.ensures.year c.in-Some.value c.in-Some.ensures.value))
+nothing_left : {A : Type 0} (xs : List A) → length xs ≡ 0 → xs ≡ []
+nothing_left [] e = refl
+nothing_left (x ∷ xs) e = absurd (omega (arith, e))
 
-pub loop-year-preserved : goal.loop-year-preserved
-loop-year-preserved c =
+pub loop-run-init : goal.loop-run-init
+loop-run-init c =
     let s = c.args.series in
-    let before = c.loop-year.column in
-    let after = c.pop.new.self in
-    let kept = cell_at c.loop-year.self in
-    let n = c.node.result in
-    let x : Outcome = Ok c.in-Some.value in
-    let there = series_has s before after c.in-Some.year n c.node.ensures.series c.node.ensures.year c.in-Some.value c.in-Some.ensures.value in
-    let rest = series_without s before after c.in-Some.year n c.node.ensures.series c.node.ensures.year c.in-Some.ensures.rest in (
-      subst (λ f. AreWithin f (cell_at c.write.new.self)) (sym rest)
-          (subst (AreWithin (without (in_series s before) n)) (sym c.write.ensures.cells) (one_within (in_series s before) kept n x there c.loop-year.invariant.0)),
-      ap₂ found_in rest c.write.ensures.cells ∙ one_moved (in_series s before) kept n x there ∙ c.loop-year.invariant.1,
-      λ s run. c.write.ensures.room s run ∙ c.loop-year.invariant.2 s run,
+    let kept = cell_at c.args.self.now in
+    let all = c.into_iter-run-iterator.ensures.into_iter_gives.0 in (
+      subst (λ (rs : List Run). AreWithin (in_series s rs) kept) (sym all) c.requires,
+      ap (λ (rs : List Run). found_in (in_series s rs) kept) all,
+      λ t runs. refl,
+      grind (arith, c.into_iter-run-iterator.ensures),
+    )
+
+pub write_run-requires : goal.write_run-requires
+write_run-requires c =
+    let s = c.args.series in
+    let kept = cell_at c.loop-run.self in
+    first_within s c.in-Some.run' (into_iter_items c.next.new.self) kept
+    (subst (λ (rs : List Run). AreWithin (in_series s rs) kept) c.in-Some.ensures.steps.0 c.loop-run.invariant.0)
+
+pub loop-run-preserved : goal.loop-run-preserved
+loop-run-preserved c =
+    let s = c.args.series in
+    let run = c.in-Some.run' in
+    let rest = into_iter_items c.next.new.self in
+    let kept = cell_at c.loop-run.self in
+    let steps = c.in-Some.ensures.steps.0 in
+    let put = c.write_run.ensures.cells in (
+      subst (AreWithin (in_series s rest)) (sym put) (others_within s run rest kept (subst (λ (rs : List Run). AreWithin (in_series s rs) kept) steps c.loop-run.invariant.0)),
+      ap (found_in (in_series s rest)) put ∙ first_moved s run rest kept ∙ ap (λ (rs : List Run). found_in (in_series s rs) kept) (sym steps) ∙ c.loop-run.invariant.1,
+      λ t runs. c.write_run.ensures.room t runs ∙ c.loop-run.invariant.2 t runs,
+      grind (arith, c.loop-run.invariant.3, c.in-Some.ensures.steps.1, ap (λ (rs : List Run). length rs) steps),
     )
 
 pub returns-clause-cells : goal.returns-clause-cells
-returns-clause-cells c = ap (λ f. found_in f (cell_at c.loop-year.self)) (sym (no_series c.args.series c.loop-year.column c.in_default.ensures.none)) ∙ c.loop-year.invariant.1
+returns-clause-cells c =
+    let s = c.args.series in
+    let kept = cell_at c.loop-run.self in
+    let none = nothing_left (into_iter_items c.loop-run.run-iterator) (sym c.loop-run.invariant.3 ∙ c.in-None.ensures.steps.0) in
+    ap (λ (f : Outcomes). found_in f kept) (sym (ap (in_series s) none ∙ none_in_series s)) ∙ c.loop-run.invariant.1

@@ -1,12 +1,11 @@
 use Rattle.std.proofs.Common.{◌≡◌, length}
+use Rattle.std.specs.Vec.Iter.{into_iter_items, into_iter_len}
 use Rattle.ghg_engine.specs.Cells.{AreWithin, KeepsRoom, cell_at, found_in, in_series}
 use Rattle.ghg_engine.proofs.cells.Cells.write_series.Given as goal
 
-abbrev pub invariant-loop-year : goal.invariant-loop-year
-invariant-loop-year l =
-    AreWithin (in_series l.series l.column) (cell_at l.self)
-    × (found_in (in_series l.series l.column) (cell_at l.self) ≡ found_in (in_series l.series l.fn.column) (cell_at l.fn.self))
+abbrev pub invariant-loop-run : goal.invariant-loop-run
+invariant-loop-run l =
+    AreWithin (in_series l.series (into_iter_items l.run-iterator)) (cell_at l.self)
+    × (found_in (in_series l.series (into_iter_items l.run-iterator)) (cell_at l.self) ≡ found_in (in_series l.series l.fn.runs.items) (cell_at l.fn.self))
     × KeepsRoom l.fn.self l.self
-
-abbrev pub decreases-loop-year : goal.decreases-loop-year
-decreases-loop-year l = length l.column.values
+    × (into_iter_len l.run-iterator ≡ length (into_iter_items l.run-iterator))

@@ -1,4 +1,4 @@
-use Rattle.std.proofs.Common.{◌≡◌, Err, None, Ok, Option, Some, refl, sym, ap, ap₂, ◌∙◌}
+use Rattle.std.proofs.Common.{◌≡◌, Err, None, Ok, Option, Some, refl, sym, ap, ◌∙◌}
 use Rattle.std.specs.BTreeMap.{get}
 use Rattle.std.specs.Option.{option_or}
 use Rattle.ghg_definitions.specs.Formulas.{Outcome}
@@ -12,23 +12,13 @@ none_in_front : (o p : Option Outcome) → option_or o p ≡ None → o ≡ None
 none_in_front None p e = refl
 none_in_front (Some x) p e = absurd (cc)
 
-pub returns-in-None : goal.returns-in-None
-returns-in-None c =
+pub returns-in-Ok : goal.returns-in-Ok
+returns-in-Ok c =
     let columns = in_numbered c.args.self.now.columns in
     let aside = get node_order c.args.self.now.aside in
     let n = c.args.node.now in
     let x : Outcome = Ok c.in-Ok.value in
-    let put = rw c.in-None.is at c.in_ok-put-in-Ok.ensures in
-    ap (λ front. found_in front aside) put ∙ put_in_front columns aside n x ∙ ap (with_outcome (found_in columns aside) n) (sym c.in-Ok.is)
-
-pub returns-in-Some : goal.returns-in-Some
-returns-in-Some c =
-    let columns = in_numbered c.args.self.now.columns in
-    let aside = get node_order c.args.self.now.aside in
-    let n = c.args.node.now in
-    let x : Outcome = Ok c.in-Some.value in
-    let back = rw c.in-Some.is at c.in_ok-put-in-Ok.ensures in
-    on_ok c.put_aside.result (λ e. ap₂ found_in back.1 e ∙ put_through columns aside n x back.0 ∙ ap (with_outcome (found_in columns aside) n) (ap Ok back.2 ∙ sym c.in-Ok.is)) c.put_aside.ensures
+    on_ok c.put.result (λ put. ap (λ front. found_in front aside) put ∙ put_in_front columns aside n x ∙ ap (with_outcome (found_in columns aside) n) (sym c.in-Ok.is)) c.put.ensures
 
 pub returns-in-Err : goal.returns-in-Err
 returns-in-Err c =
@@ -36,5 +26,5 @@ returns-in-Err c =
     let aside = get node_order c.args.self.now.aside in
     let n = c.args.node.now in
     let x : Outcome = Err (record {}) in
-    on_ok c.put_aside-in-Err.result (λ e. ap (found_in columns) e ∙ put_through columns aside n x (none_in_front (columns n) (aside n) c.requires)
-    ∙ ap (with_outcome (found_in columns aside) n) (sym c.in-Err.is)) c.put_aside-in-Err.ensures
+    on_ok c.put_aside.result (λ e. ap (found_in columns) e ∙ put_through columns aside n x (none_in_front (columns n) (aside n) c.requires)
+    ∙ ap (with_outcome (found_in columns aside) n) (sym c.in-Err.is)) c.put_aside.ensures

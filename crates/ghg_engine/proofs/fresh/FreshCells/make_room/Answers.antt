@@ -9,10 +9,10 @@ pub returns-clause-columns : goal.returns-clause-columns
 returns-clause-columns c = on_ok c.make_places.result (λ within i held at. c.make_places.ensures.grown.columns held.series (c.in_ok-make_columns.ensures.columns i held at)) c.make_places.ensures.within
 
 pub returns-clause-touching : goal.returns-clause-touching
-returns-clause-touching c = on_ok c.make_places.result (λ within i held at meets. c.make_places.ensures.grown.room held.series held.column (c.in_ok-make_columns.ensures.touching i held at meets)) c.make_places.ensures.within
+returns-clause-touching c = on_ok c.make_places.result (λ within i held at meets. c.make_places.ensures.grown.room held.series held.runs.items (c.in_ok-make_columns.ensures.touching i held at meets)) c.make_places.ensures.within
 
 pub returns-clause-room : goal.returns-clause-room
 returns-clause-room c = on_ok c.make_places.result (λ within. record {
-  columns = λ i held at. ready_still c.make_columns.new.cells c.make_places.new.cells c.make_places.ensures.grown held.series held.column (c.in_ok-make_columns.ensures.ready i held at);
+  columns = λ i held at. ready_still c.make_columns.new.cells c.make_places.new.cells c.make_places.ensures.grown held.series held.runs.items (c.in_ok-make_columns.ensures.ready i held at);
   aside = within;
 }) c.make_places.ensures.within

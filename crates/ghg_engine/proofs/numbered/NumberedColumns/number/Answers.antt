@@ -1,5 +1,5 @@
 use Rattle.std.proofs.Common.{is_eq, sym, ap, ◌∙◌, Some}
-use Rattle.ghg_engine.specs.Numbered.{run_of, series_at}
+use Rattle.ghg_engine.specs.Numbered.{runs_of, series_at}
 use Rattle.ghg_engine.proofs.Places.{series_same}
 use Rattle.ghg_engine.proofs.UnderNumbers.{if_none, none_numbered, read_at}
 use Rattle.ghg_engine.proofs.numbered.NumberedColumns.number.Goals as goal
@@ -13,5 +13,5 @@ returns-in-Some-clause-number c =
 
 pub returns-in_default-clause-none : goal.returns-in_default-clause-none
 returns-in_default-clause-none c = if_none c.copied.result (λ none.
-    ap (λ columns. run_of columns c.args.series.now) (sym c.self.view_is)
+    ap (λ columns. runs_of columns c.args.series.now) (sym c.self.view_is)
     ∙ none_numbered c.self.inside.columns.items c.self.inside.numbers c.self.invariant c.args.series.now (sym c.get-in_default.ensures.value ∙ sym c.copied.ensures ∙ none))
