@@ -1,23 +1,22 @@
 -- Fresh cells that are moved to those that are kept.
-use Rattle.std.proofs.Common.{◌≡◌, ◌<◌, ◌+◌, ℕ, zero, suc, inl, inr, Bool, true, false, cond, ◌==◌, eqb-true, is_some, length, List, [], ◌∷◌, ◌++◌, Option, Some, None, Ok, Err, refl, sym, ap, subst, ◌∙◌, arith}
+use Rattle.std.proofs.Common.{◌≡◌, ◌<◌, ◌+◌, ℕ, zero, suc, inl, inr, Bool, true, false, cond, ◌==◌, eqb-true, is_some, length, List, [], ◌∷◌, ◌++◌, Option, Some, None, Err, refl, sym, ap, subst, ◌∙◌, arith}
 use Rattle.std.proofs.Math.Path.{fun_ext}
-use Rattle.std.specs.List.{slice_get}
+use Rattle.std.specs.BTreeMap.{is_at}
+use Rattle.std.specs.BTreeSet.{BTreeSet, contains}
+use Rattle.std.specs.List.{list_any, slice_get}
 use Rattle.std.specs.Option.{option_map, option_or}
 use Rattle.std.proofs.lemmas.Bool.{eqb-false}
 use Rattle.std.proofs.lemmas.Option.{same_Some, slice_get_within}
 use Rattle.ghg_units.specs.declared.node.Node.{Node}
-use Rattle.ghg_affected.specs.Equalities.{same_node}
-use Rattle.ghg_affected.proofs.Bools.{true_not_false}
 use Rattle.ghg_definitions.specs.Formulas.{Outcome}
 use Rattle.ghg_definitions.specs.Trials.{Outcomes, is_over}
 use Rattle.ghg_engine.specs.declared.cells.Cells.{Cells}
 use Rattle.ghg_engine.specs.declared.numbered.SeriesRuns.{SeriesRuns}
-use Rattle.ghg_engine.specs.Cells.{AreWithin, IsReadyFor, KeepsOtherRoom, KeepsRoom, NoneOver, cell_at, found_in}
-use Rattle.ghg_engine.specs.Fresh.{AreReady, fitting, with_value}
+use Rattle.ghg_engine.specs.Cells.{AreWithin, IsReadyFor, KeepsOtherRoom, NoneOver, cell_at, found_in, no_outcomes, node_order, with_outcome}
+use Rattle.ghg_engine.specs.Fresh.{AreReady, over_at}
 use Rattle.ghg_engine.specs.Numbered.{HaveOneNumber}
-use Rattle.ghg_engine.proofs.Places.{node_same}
 use Rattle.ghg_engine.proofs.UnderNumbers.{other_series, series_last}
-use Rattle.ghg_engine.proofs.Written.{one_moved, one_within, some_behind, without}
+use Rattle.ghg_engine.proofs.Written.{some_behind, updated_with}
 
 -- ---- columns, for each of which there is room
 
@@ -45,13 +44,6 @@ module _ (before after : Cells) (front : Outcomes) (cells : cell_at after ≡ fo
   within_behind : (outcomes : Outcomes) → AreWithin outcomes (cell_at before) → AreWithin outcomes (cell_at after)
   within_behind outcomes within n there = ap (λ (f : Outcomes). is_some (f n)) cells ∙ some_behind (front n) (cell_at before n) (within n there)
 
-  pub ready_behind : (columns : List SeriesRuns) → KeepsRoom before after → AreReady before columns → AreReady after columns
-  ready_behind columns room ready i c at = by (ready i c at)
-    where
-      by : IsReadyFor before c.series c.runs.items → IsReadyFor after c.series c.runs.items
-      by (inl has) = inl (room c.series c.runs.items ∙ has)
-      by (inr within) = inr (within_behind _ within)
-
   -- the last column is moved
   module _ (columns : List SeriesRuns) (c : SeriesRuns) (once : HaveOneNumber (columns ++ c ∷ [])) (room : KeepsOtherRoom c.series before after) where
     pub left_ready : AreReady before (columns ++ c ∷ []) → AreReady after columns
@@ -77,49 +69,29 @@ module _ (before after : Cells) (front : Outcomes) (cells : cell_at after ≡ fo
         by (inl has) = inl (room d.series d.runs.items (other_series c.series d.series off) ∙ has)
         by (inr within) = inr (within_behind _ within)
 
--- ---- outcomes that stand aside
+-- ---- nodes that are over
 
-fits_alone : (o : Option Outcome) → is_over o ≡ false → cond (is_over o) None o ≡ o
-fits_alone o e = ap (λ b. cond b None o) e
+pub none_over_yet : (over : BTreeSet Node) → over.keys ≡ [] → over_at over ≡ no_outcomes
+none_over_yet over none = fun_ext (λ k. ap (λ (ks : List Node). cond (list_any (is_at (node_order k)) ks) is_over_there None) none)
+  where
+    is_over_there : Option Outcome
+    is_over_there = Some (Err (record {}))
 
-module _ (aside kept : Outcomes) (n : Node) (x : Outcome) (there : aside n ≡ Some x) where
-  fitting_without : fitting (without aside n) ≡ without (fitting aside) n
-  fitting_without = fun_ext (λ k. by k (same_node k n))
-    where
-      by : (k : Node) (b : Bool) → cond (is_over (cond b None (aside k))) None (cond b None (aside k)) ≡ cond b None (fitting aside k)
-      by k true = refl
-      by k false = refl
+pub one_more_over : (old new : BTreeSet Node) (n : Node) → ((k : Node) → contains node_order new k ≡ cond (is_at (node_order n) k) true (contains node_order old k)) → over_at new ≡ with_outcome (over_at old) n (Err (record {}))
+one_more_over old new n updates = updated_with (over_at old) (over_at new) n (Err (record {})) (λ k. ap told (updates k) ∙ by k (is_at (node_order n) k))
+  where
+    told : Bool → Option Outcome
+    told b = cond b (Some (Err (record {}))) None
 
-  over_left_out : is_over (aside n) ≡ true → without (fitting aside) n ≡ fitting aside
-  over_left_out over = fun_ext (λ k. by k (same_node k n) refl)
-    where
-      by : (k : Node) (b : Bool) → same_node k n ≡ b → cond b None (fitting aside k) ≡ fitting aside k
-      by k true same = sym (ap (λ j. fitting aside j) (node_same k n same) ∙ ap (λ b. cond b None (aside n)) over)
-      by k false apart = refl
-
-  pub value_moved : found_in (fitting (without aside n)) (with_value kept n x) ≡ found_in (fitting aside) kept
-  value_moved = by x there
-    where
-      by : (y : Outcome) → aside n ≡ Some y → found_in (fitting (without aside n)) (with_value kept n y) ≡ found_in (fitting aside) kept
-      by (Ok y) is = ap (λ f. found_in f (with_value kept n (Ok y))) fitting_without
-          ∙ one_moved (fitting aside) kept n (Ok y) (fits_alone (aside n) (ap is_over is) ∙ is)
-      by (Err over) is = ap (λ f. found_in f kept) (fitting_without ∙ over_left_out (ap is_over is))
-
-  pub within_left : AreWithin aside kept → AreWithin (without aside n) (with_value kept n x)
-  within_left within = by x there
-    where
-      left : (k : Node) (b : Bool) → is_some (cond b None (aside k)) ≡ true → is_some (kept k) ≡ true
-      left k true t = absurd (true_not_false (sym t))
-      left k false t = within k t
-
-      by : (y : Outcome) → aside n ≡ Some y → AreWithin (without aside n) (with_value kept n y)
-      by (Ok y) is = one_within aside kept n (Ok y) is within
-      by (Err over) is = λ k t. left k (same_node k n) t
+    by : (k : Node) (b : Bool) → told (cond b true (contains node_order old k)) ≡ cond b (Some (Err (record {}))) (over_at old k)
+    by k true = refl
+    by k false = refl
 
 -- where none is over, all are moved
-pub all_fit : (columns aside kept : Outcomes) → NoneOver (found_in columns aside) → found_in columns (found_in (fitting aside) kept) ≡ found_in (found_in columns aside) kept
-all_fit columns aside kept none_over = fun_ext (λ k. by k (columns k) (none_over k))
+pub all_moved : (columns : Outcomes) (over : BTreeSet Node) (kept : Outcomes) → NoneOver (found_in columns (over_at over)) → found_in columns kept ≡ found_in (found_in columns (over_at over)) kept
+all_moved columns over kept none_over = fun_ext (λ k. by k (columns k) (contains node_order over k) (none_over k))
   where
-    by : (k : Node) (o : Option Outcome) → is_over (option_or o (aside k)) ≡ false → option_or o (option_or (fitting aside k) (kept k)) ≡ option_or (option_or o (aside k)) (kept k)
-    by k None e = ap (λ p. option_or p (kept k)) (fits_alone (aside k) e)
-    by k (Some x) e = refl
+    by : (k : Node) (o : Option Outcome) (b : Bool) → is_over (option_or o (cond b (Some (Err (record {}))) None)) ≡ false → option_or o (kept k) ≡ option_or (option_or o (cond b (Some (Err (record {}))) None)) (kept k)
+    by k None true e = absurd (cc)
+    by k None false e = refl
+    by k (Some x) b e = refl

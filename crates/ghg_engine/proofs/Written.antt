@@ -1,17 +1,16 @@
 -- Outcomes in which one node's is written or taken out.
-use Rattle.std.proofs.Common.{rules, ◌≡◌, ◌<◌, Bool, true, false, cond, if◌then◌else◌, is_some, IsSome, List, [], ◌∷◌, length, Option, Some, None, Result, Ok, Err, refl, sym, ap, ap₂, subst, ◌∙◌, arith}
+use Rattle.std.proofs.Common.{rules, ◌≡◌, Bool, true, false, cond, if◌then◌else◌, is_some, IsSome, Option, Some, None, Result, Ok, Err, refl, sym, ap, ap₂, subst, ◌∙◌}
 use Rattle.std.specs.Prelude.{IfSome, OnOk, is_err}
 use Rattle.std.proofs.Math.Path.{fun_ext}
-use Rattle.std.specs.BTreeMap.{BTreeMap, get, is_at}
+use Rattle.std.specs.BTreeMap.{is_at}
 use Rattle.std.specs.Cmp.{eq_by_cmp_equiv}
-use Rattle.std.specs.Map.{lookup}
 use Rattle.std.specs.Option.{option_or}
 use Rattle.ghg_units.specs.declared.node.Node.{Node}
 use Rattle.ghg_affected.specs.Equalities.{same_node}
 use Rattle.ghg_definitions.specs.Formulas.{Outcome}
 use Rattle.ghg_definitions.specs.Trials.{Outcomes}
 use Rattle.ghg_definitions.proofs.NodeOrder.{nodes_total}
-use Rattle.ghg_engine.specs.Cells.{AreWithin, found_in, no_outcomes, node_order, with_outcome}
+use Rattle.ghg_engine.specs.Cells.{AreWithin, found_in, node_order, with_outcome}
 use Rattle.ghg_engine.proofs.NodeKeys.{node_ties}
 use Rattle.ghg_engine.proofs.Places.{node_itself, node_same}
 
@@ -96,18 +95,6 @@ module _ (fresh kept : Outcomes) (n : Node) (x : Outcome) (there : fresh n ≡ S
 
   pub one_within : AreWithin fresh kept → AreWithin (without fresh n) (with_outcome kept n x)
   one_within within = subst (AreWithin (without fresh n)) written (rest_within fresh kept alone (without fresh n) (λ k. same_node k n) alone_is (λ k. refl) within)
-
--- ---- where none is left
-
-pub none_left : {A : Type 0} (xs : List A) → (0 < length xs → false ≡ true) → xs ≡ []
-none_left [] h = refl
-none_left (x ∷ xs) h = absurd (clash (h (omega arith)))
-  where
-    clash : ◌≡◌ {A = Bool} false true → ⊥
-    clash e = cc
-
-pub no_entries : (map : BTreeMap Node Outcome) → map.entries ≡ [] → get node_order map ≡ no_outcomes
-no_entries map e = fun_ext (λ k. ap (lookup (is_at (node_order k))) e)
 
 pub some_is : {A : Type 0} (o : Option A) (x : A) → o ≡ Some x → IsSome o
 some_is None x is = absurd (cc)

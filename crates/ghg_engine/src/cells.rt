@@ -117,8 +117,8 @@ impl Cells {
         Ok(())
     }
 
-    /// Makes a place for the value of a node.
-    pub(crate) fn make_place(&mut self, node: &Node) -> Result<(), AllocError>
+    // Makes a place for the value of a node.
+    fn make_place(&mut self, node: &Node) -> Result<(), AllocError>
         ensures grown { HasGrown self.old self.new }
         ensures place { OnOk result (is_some (cell_at self.new node.now) ≡ true) }
     {
@@ -216,8 +216,8 @@ impl Cells {
         }
     }
 
-    /// Gives a node that has a cell another value. It takes no memory.
-    pub(crate) fn write(&mut self, node: &Node, value: Value)
+    // Gives a node that has a cell another value. It takes no memory.
+    fn write(&mut self, node: &Node, value: Value)
         requires { is_some (cell_at self.old node.now) ≡ true }
         ensures cells { cell_at self.new ≡ with_outcome (cell_at self.old) node.now (Ok value) }
         ensures room { KeepsRoom self.old self.new }

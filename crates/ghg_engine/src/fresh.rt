@@ -1,10 +1,9 @@
 //! Cells of nodes that are evaluated anew.
 
-ghost use Rattle.std.specs.Prelude.{◌≡◌, is_some, true, None, OnOk};
-ghost use Rattle.std.specs.BTreeMap as tree;
+ghost use Rattle.std.specs.Prelude.{◌≡◌, None, OnOk};
 ghost use Rattle.std.specs.Option.{option_map};
-ghost use Rattle.ghg_engine.specs.Cells.{AreWithin, HasGrown, KeepsRoom, NoneOver, cell_at, found_in, no_outcomes, node_order, outcome_behind, with_outcome};
-ghost use Rattle.ghg_engine.specs.Fresh.{AreReady, HasGrownFor, HasRoomFor, HaveColumns, fitting, fresh_at, with_value};
+ghost use Rattle.ghg_engine.specs.Cells.{HasGrown, NoneOver, cell_at, found_in, no_outcomes, outcome_behind, with_outcome};
+ghost use Rattle.ghg_engine.specs.Fresh.{AreReady, HasGrownFor, HasRoomFor, HaveColumns, fresh_at};
 ghost use Rattle.ghg_engine.specs.Numbered.{in_numbered};
 
 use crate::cells::Cells;
@@ -13,14 +12,15 @@ use ghg_cell::Value;
 use ghg_interval::Over;
 use ghg_units::Node;
 use std::alloc::{AllocError, Global};
-use std::collections::BTreeMap;
+use std::collections::BTreeSet;
 
-/// The outcomes of nodes, each of which is evaluated once, mostly year by year. The values of a series stand in
-/// a column for each run of years. What is over stands aside.
+/// The outcomes of nodes, each of which is evaluated once, mostly year by year. The values of a series stand
+/// in a column for each run of years.
 #[derive(Drop)]
 pub(crate) struct FreshCells {
     columns: NumberedColumns,
-    aside: BTreeMap<Node, Result<Value, Over>>,
+    // The nodes that are over.
+    over: BTreeSet<Node>,
 }
 
 impl FreshCells {
@@ -30,7 +30,7 @@ impl FreshCells {
     {
         FreshCells {
             columns: NumberedColumns::new(alloc, room),
-            aside: BTreeMap::new(alloc),
+            over: BTreeSet::new(alloc),
         }
     }
 
@@ -38,12 +38,9 @@ impl FreshCells {
     pub(crate) fn get(&self, node: &Node, guess: &mut usize) -> Option<Result<&Value, Over>>
         ensures { option_map outcome_behind result ≡ fresh_at self.now node.now }
     {
-        if let Some(value) = self.columns.get(node, guess) {
-            return Some(Ok(value));
-        }
-        match self.aside.get(node) {
-            Some(Ok(value)) => Some(Ok(value)),
-            Some(Err(Over)) => Some(Err(Over)),
+        match self.columns.get(node, guess) {
+            Some(value) => Some(Ok(value)),
+            None if self.over.contains(node) => Some(Err(Over)),
             None => None,
         }
     }
@@ -59,7 +56,10 @@ impl FreshCells {
     {
         match outcome {
             Ok(value) => self.columns.put(node, value),
-            Err(Over) => put_aside(&mut self.aside, node, Err(Over)),
+            Err(Over) => {
+                self.over.insert(*node)?;
+                Ok(())
+            }
         }
     }
 
@@ -71,8 +71,7 @@ impl FreshCells {
         ensures touching { OnOk result (HasGrownFor cells.old cells.new self.now.columns) }
         ensures room { OnOk result (HasRoomFor cells.new self.now) }
     {
-        make_columns(&self.columns, cells)?;
-        make_places(&self.aside, cells)
+        make_columns(&self.columns, cells)
     }
 
     /// Moves the cells to others, in place of those of the same nodes. It takes no memory.
@@ -81,23 +80,8 @@ impl FreshCells {
         requires none_over { NoneOver (fresh_at self) }
         ensures { cell_at cells.new ≡ found_in (fresh_at self) (cell_at cells.old) }
     {
-        let FreshCells { columns, aside } = self;
-        write_aside(aside, cells);
-        move_columns(columns, cells);
+        move_columns(self.columns, cells);
     }
-}
-
-// Gives a node its outcome aside of the columns.
-fn put_aside(
-    aside: &mut BTreeMap<Node, Result<Value, Over>>,
-    node: &Node,
-    outcome: Result<Value, Over>,
-) -> Result<(), AllocError>
-    ensures { OnOk result (tree.get node_order aside.new ≡ with_outcome
-        (tree.get node_order aside.old) node.now outcome) }
-{
-    aside.insert(*node, outcome)?;
-    Ok(())
 }
 
 fn make_columns(columns: &NumberedColumns, cells: &mut Cells) -> Result<(), AllocError>
@@ -113,19 +97,6 @@ fn make_columns(columns: &NumberedColumns, cells: &mut Cells) -> Result<(), Allo
     Ok(())
 }
 
-fn make_places(
-    aside: &BTreeMap<Node, Result<Value, Over>>,
-    cells: &mut Cells,
-) -> Result<(), AllocError>
-    ensures grown { HasGrown cells.old cells.new }
-    ensures within { OnOk result (AreWithin (tree.get node_order aside.now) (cell_at cells.new)) }
-{
-    for node in aside.keys() {
-        cells.make_place(node)?;
-    }
-    Ok(())
-}
-
 fn move_columns(columns: NumberedColumns, cells: &mut Cells)
     requires { AreReady cells.old columns }
     ensures { cell_at cells.new ≡ found_in (in_numbered columns) (cell_at cells.old) }
@@ -133,28 +104,5 @@ fn move_columns(columns: NumberedColumns, cells: &mut Cells)
     let mut columns = columns.into_columns();
     while let Some(SeriesRuns { series, runs }) = columns.pop() {
         cells.take_runs(series, runs);
-    }
-}
-
-// Writes the values among outcomes that stand aside.
-fn write_aside(aside: BTreeMap<Node, Result<Value, Over>>, cells: &mut Cells)
-    requires { AreWithin (tree.get node_order aside) (cell_at cells.old) }
-    ensures cells { cell_at cells.new ≡ found_in (fitting (tree.get node_order aside)) (cell_at cells.old) }
-    ensures room { KeepsRoom cells.old cells.new }
-{
-    let mut aside = aside;
-    while let Some((node, outcome)) = aside.pop_first() {
-        write_value(&node, outcome, cells);
-    }
-}
-
-// Writes the outcome of a node that has a cell, if it is a value.
-fn write_value(node: &Node, outcome: Result<Value, Over>, cells: &mut Cells)
-    requires { is_some (cell_at cells.old node.now) ≡ true }
-    ensures cells { cell_at cells.new ≡ with_value (cell_at cells.old) node.now outcome }
-    ensures room { KeepsRoom cells.old cells.new }
-{
-    if let Ok(value) = outcome {
-        cells.write(node, value);
     }
 }
