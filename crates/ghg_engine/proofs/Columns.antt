@@ -135,8 +135,13 @@ at_end (run ∷ next ∷ runs) zero last after e is = absurd (omega (arith, e))
 at_end (run ∷ runs) (suc i) last after e is = let rest = at_end runs i last after (omega (arith, e)) is in (ap (λ (rs : List Run). run ∷ rs) rest.0, ap (λ (rs : List Run). run ∷ rs) rest.1)
 
 module _ (runs : List Run) (i : ℕ) (last : Run) (end : i + 1 ≡ length runs) (is : last ≡ get_or runs i last) where
-  pub set_itself : set runs i last ≡ runs
-  set_itself = let both = at_end runs i last last end is in both.1 ∙ sym both.0
+  -- it has the same values
+  pub same_at_end : (after : Run) → after.first ≡ last.first → after.values ≡ last.values → (y : ℕ) → value_among (set runs i after) y ≡ value_among runs y
+  same_at_end after first values y =
+      let both = at_end runs i last after end is in
+      ap (λ (rs : List Run). value_among rs y) both.1 ∙ among_last (take i runs) after y
+      ∙ ap₂ (λ (f : ℕ) (xs : List Input). option_or (value_in (record { first = f; values = xs; spare = 0 }) y) (value_among (take i runs) y)) first values
+      ∙ sym (among_last (take i runs) last y) ∙ ap (λ (rs : List Run). value_among rs y) (sym both.0)
 
   pub has_at_end : (after : Run) (year : ℕ) (x : Input) → HasIn last after year (Some x) → HasAmong runs (set runs i after) year (Some x)
   has_at_end after year x has y =

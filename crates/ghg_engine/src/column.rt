@@ -167,6 +167,14 @@ impl Column {
         self.values[offset] = value;
     }
 
+    /// Gives back the memory that it has for more years.
+    pub(crate) fn shrink(&mut self)
+        ensures first { self.new.first ≡ self.old.first }
+        ensures values { self.new.values ≡ self.old.values }
+    {
+        self.values.shrink_to_fit();
+    }
+
     // ---- the values of other columns
 
     /// Makes room for the values of other columns, if each meets its years and those of the columns before

@@ -188,6 +188,7 @@ fn one_run(alloc: Global, year: u32, value: Value, last: u32) -> Result<Vec<Colu
 }
 
 // Gives a year its value: in the last of the columns, if that has the year or has it next, else in a new one.
+// The one that was the last then keeps no memory for more years.
 fn put_among(
     runs: &mut Vec<Column>,
     alloc: Global,
@@ -196,12 +197,12 @@ fn put_among(
 ) -> Result<(), AllocError>
     ensures { OnOk result (HasAmong runs.old.items runs.new.items year (Some value)) }
 {
-    if let Some(last) = runs.last_mut()
-        && last.has_place(year)
-    {
-        last.put(year, value)
-    } else {
-        runs.push(Column::of(alloc, year, value, year)?)?;
-        Ok(())
+    if let Some(last) = runs.last_mut() {
+        if last.has_place(year) {
+            return last.put(year, value);
+        }
+        last.shrink();
     }
+    runs.push(Column::of(alloc, year, value, year)?)?;
+    Ok(())
 }
