@@ -14,13 +14,13 @@ use Rattle.ghg_definitions.proofs.Listed.{contained, in_either, listed, listed_r
 use Rattle.ghg_graph.specs.NodeOrders.{AreByYear}
 use Rattle.ghg_graph.proofs.Numbering.{take_next}
 use Rattle.ghg_engine.specs.declared.evaluation.Before.{Before}
-use Rattle.ghg_engine.specs.Changes.{AreChangedLines, AreEmitters, AreKeptLines, AreMoved, GoesOn, IsAtNode, IsAtPlace, IsBefore, IsBetween, MovesTheSame}
+use Rattle.ghg_engine.specs.Changes.{AreChangedLines, AreEmitters, AreMoved, AreStayingLines, GoesOn, HasComeTo, IsBefore, IsBetween, IsFirstYear, IsOfNodeAt, MovesTheSame}
 use Rattle.ghg_engine.proofs.Next.{around}
 use Rattle.ghg_engine.proofs.OfYear.{behind_place, from_place}
 use Rattle.ghg_engine.proofs.Turns.{drop_next}
 
 -- before the first node
-pub first_between : (n : Node) (ns : List Node) → AreByYear (n ∷ ns) → IsBetween (year_in n) 0 (n ∷ ns)
+first_between : (n : Node) (ns : List Node) → AreByYear (n ∷ ns) → IsBetween (year_in n) 0 (n ∷ ns)
 first_between n ns by_year = record {
   before = λ k c. absurd (listed [] k c);
   behind = λ k c. elim (listed (n ∷ ns) k c) [
@@ -28,6 +28,10 @@ first_between n ns by_year = record {
     | inr i ↦ by_year.0 k (contained ns k i)
   ];
 }
+
+pub between_first : (year : ℕ) (ns : List Node) → AreByYear ns → IsFirstYear year ns → IsBetween year 0 ns
+between_first year [] by_year is = record { before = λ k c. absurd (listed [] k c); behind = λ k c. absurd (listed [] k c) }
+between_first year (n ∷ ns) by_year is = subst (λ y. IsBetween y 0 (n ∷ ns)) (sym is) (first_between n ns by_year)
 
 -- nodes on both sides of one
 earlier_before : (xs : List Node) (n : Node) (ys : List Node) → AreByYear (xs ++ n ∷ ys) → (k : Node) → IsListed k xs → year_in k ≤ year_in n
@@ -69,13 +73,13 @@ behind_node ns place n within is by_year k c = elim (listed (n ∷ drop (place +
 -- ---- the lines that stay
 
 -- those of a later year are those from the place on
-pub kept_behind : (ns : List Node) (place year next : ℕ) (moved : BTreeSet Name) (names : List Name) → IsBetween year place ns → year < next
-    → AreKeptLines (drop place ns) next moved names → AreKeptLines ns next moved names
-kept_behind ns place year next moved names between later kept = record {
-  order = kept.order;
+pub staying_behind : (ns : List Node) (place year next : ℕ) (moved : BTreeSet Name) (names : List Name) → IsBetween year place ns → year < next
+    → AreStayingLines (drop place ns) next moved names → AreStayingLines ns next moved names
+staying_behind ns place year next moved names between later staying = record {
+  order = staying.order;
   named = λ name. (
-    λ i. let at = (kept.named name).0 i in (from_place place ns (node.Equiv name next) at.0, at.1),
-    λ h. (kept.named name).1 (behind_place year place ns between (node.Equiv name next) later h.0, h.1),
+    λ i. let at = (staying.named name).0 i in (from_place place ns (node.Equiv name next) at.0, at.1),
+    λ h. (staying.named name).1 (behind_place year place ns between (node.Equiv name next) later h.0, h.1),
   );
 }
 
@@ -93,11 +97,11 @@ module _ {C : Type 0} (content : Bor C → Data) (m : Data) (keys : List RecordK
     abbrev at_node : Before C → Type 0
     at_node b = AreFrom b × IfSome (slice_get ns place) (λ n. b.changed.year ≡ year_in n)
 
-    pub is_at_place : (o : Option (Before C)) → IfSome o at_place → IfSome o (λ b. IsAtPlace m ns place b.changed)
+    pub is_at_place : (o : Option (Before C)) → IfSome o at_place → IfSome o (λ b. HasComeTo m ns place b.changed)
     is_at_place None h = tt
     is_at_place (Some b) h = record { of_year = h.0.1.of_year; between = h.1 }
 
-    gone_on : (a b : Before C) → AreFrom a → b.cells ≡ a.cells → MovesTheSame a.changed b.changed → IsAtNode m ns place b.changed → at_node b
+    gone_on : (a b : Before C) → AreFrom a → b.cells ≡ a.cells → MovesTheSame a.changed b.changed → IsOfNodeAt m ns place b.changed → at_node b
     gone_on a b from cells same at = (
       (
         subst (λ x. IsBefore (content x) m keys ns) (sym cells) from.0,

@@ -1,5 +1,5 @@
 -- What totals were in data before.
-use Rattle.std.proofs.Common.{◌≡◌, ◌↔◌, inl, inr, ℕ, Bool, true, false, not, cond, is_some, List, [], ◌∷◌, ◌++◌, map, filter, filter_map, Contains, Option, Some, None, Ok, Err, refl, sym, ap, ap₂, ◌∙◌, subst}
+use Rattle.std.proofs.Common.{◌≡◌, ◌↔◌, inl, inr, ℕ, Bool, true, false, not, cond, is_some, List, [], ◌∷◌, ◌++◌, map, filter, Contains, Option, Some, None, Ok, Err, refl, sym, ap, ap₂, ◌∙◌, subst}
 use Rattle.std.specs.BTreeSet.{BTreeSet, IsOrdered, contains}
 use Rattle.std.specs.FinMap.{get}
 use Rattle.std.specs.Cmp.Lexicographic.{nat_list_cmp_total}
@@ -36,7 +36,7 @@ use Rattle.ghg_definitions.proofs.Consequences.{points_within}
 use Rattle.ghg_definitions.proofs.Depth.{or_else}
 use Rattle.ghg_definitions.proofs.Grounded.{acyclic_grounded, line_listed}
 use Rattle.ghg_definitions.proofs.Lines.{lines_sorted}
-use Rattle.ghg_definitions.proofs.Listed.{contained, from_filter, from_map, in_either, listed_filter, listed_filter_map, listed_left, listed_map, listed_right}
+use Rattle.ghg_definitions.proofs.Listed.{contained, from_filter, from_map, in_either, listed_filter, listed_left, listed_map, listed_right}
 use Rattle.ghg_definitions.proofs.NodeLists.{category_same, emitting}
 use Rattle.ghg_definitions.proofs.OneTrial.{compilation_trial}
 use Rattle.ghg_affected.specs.Subtotals.{addends, is_total, subtotals}
@@ -46,7 +46,7 @@ use Rattle.ghg_affected.proofs.Closed.{inputs_are_nodes}
 use Rattle.ghg_affected.proofs.Subtotals.{totals_are_of_subtotals}
 use Rattle.ghg_graph.proofs.Emitting.{same_names}
 use Rattle.ghg_graph.proofs.Membership.{key_listed, listed_key}
-use Rattle.ghg_engine.specs.Changes.{AreChangedLines, AreEmitters, AreKeptLines, AreMoved, Exchange, IsReadyFrom, IsResummed, Stays, addends_exchange, has_outcome, input_at, is_moved, moved_line, or_nothing}
+use Rattle.ghg_engine.specs.Changes.{AreChangedLines, AreEmitters, AreMoved, AreStayingLines, Exchange, IsReadyFrom, IsResummed, Stays, addends_exchange, has_outcome, input_at, is_moved, or_nothing}
 use Rattle.ghg_engine.specs.Evaluation.{IsReady}
 use Rattle.ghg_engine.specs.declared.changed_lines.ChangedAddends.{ChangedAddends}
 use Rattle.ghg_engine.specs.declared.changed_lines.ChangedLines.{ChangedLines}
@@ -139,8 +139,8 @@ module _ (moved : BTreeSet Name) (ordered : IsOrdered name_cmp moved) where
   abbrev is_moved_line : Name → Bool
   is_moved_line name = contains name_cmp moved name
 
-  abbrev is_kept : Name → Bool
-  is_kept name = not (contains name_cmp moved name)
+  abbrev is_staying : Name → Bool
+  is_staying name = not (contains name_cmp moved name)
 
   -- those of the lines at categories that pass which are moved
   module _ (m : Data) (lines : GroupedLines) (are : AreEmitters m moved lines) (test : Category → Bool) where
@@ -165,7 +165,7 @@ module _ (moved : BTreeSet Name) (ordered : IsOrdered name_cmp moved) where
 
     -- they and the others add up to all
     whole_sum : (h : Node → Input) (parts : List Node) (year : ℕ)
-        → summed (map h ((parts ++ map (λ name. node.Equiv name year) (filter is_kept (gas_lines_at test m))) ++ map (λ name. node.Equiv name year) (names_at test m lines.names.items)))
+        → summed (map h ((parts ++ map (λ name. node.Equiv name year) (filter is_staying (gas_lines_at test m))) ++ map (λ name. node.Equiv name year) (names_at test m lines.names.items)))
         ≡ summed (map h (parts ++ map (λ name. node.Equiv name year) (gas_lines_at test m)))
     unfolding summed
     whole_sum h parts year = ap reported (
@@ -184,13 +184,13 @@ module _ (moved : BTreeSet Name) (ordered : IsOrdered name_cmp moved) where
         to name = node.Equiv name year
 
         others : List Name
-        others = filter is_kept (gas_lines_at test m)
+        others = filter is_staying (gas_lines_at test m)
 
         moved_ones : List Name
         moved_ones = filter is_moved_line (gas_lines_at test m)
 
     whole_listed : (parts : List Node) (year : ℕ) (k : Node)
-        → IsListed k ((parts ++ map (λ name. node.Equiv name year) (filter is_kept (gas_lines_at test m))) ++ map (λ name. node.Equiv name year) (names_at test m lines.names.items))
+        → IsListed k ((parts ++ map (λ name. node.Equiv name year) (filter is_staying (gas_lines_at test m))) ++ map (λ name. node.Equiv name year) (names_at test m lines.names.items))
         ↔ IsListed k (parts ++ map (λ name. node.Equiv name year) (gas_lines_at test m))
     whole_listed parts year k = (into, back)
       where
@@ -200,13 +200,13 @@ module _ (moved : BTreeSet Name) (ordered : IsOrdered name_cmp moved) where
         all : List Name
         all = gas_lines_at test m
 
-        into : IsListed k ((parts ++ map to (filter is_kept all)) ++ map to (names_at test m lines.names.items)) → IsListed k (parts ++ map to all)
-        into i = elim (in_either k (parts ++ map to (filter is_kept all)) (map to (names_at test m lines.names.items)) i) [
-          | inl j ↦ elim (in_either k parts (map to (filter is_kept all)) j) [
+        into : IsListed k ((parts ++ map to (filter is_staying all)) ++ map to (names_at test m lines.names.items)) → IsListed k (parts ++ map to all)
+        into i = elim (in_either k (parts ++ map to (filter is_staying all)) (map to (names_at test m lines.names.items)) i) [
+          | inl j ↦ elim (in_either k parts (map to (filter is_staying all)) j) [
             | inl one ↦ listed_left k parts (map to all) one
             | inr one ↦
-                let from = from_map to k (filter is_kept all) one in
-                listed_right k parts (map to all) (subst (λ n. IsListed n (map to all)) (sym from.2) (listed_map to from.0 all (from_filter is_kept from.0 all from.1).0))
+                let from = from_map to k (filter is_staying all) one in
+                listed_right k parts (map to all) (subst (λ n. IsListed n (map to all)) (sym from.2) (listed_map to from.0 all (from_filter is_staying from.0 all from.1).0))
           ]
           | inr one ↦
               let from = from_map to k (names_at test m lines.names.items) one in
@@ -214,16 +214,16 @@ module _ (moved : BTreeSet Name) (ordered : IsOrdered name_cmp moved) where
               (listed_map to from.0 all (from_filter is_moved_line from.0 all (subst (IsListed from.0) moved_names from.1)).0))
         ]
 
-        back : IsListed k (parts ++ map to all) → IsListed k ((parts ++ map to (filter is_kept all)) ++ map to (names_at test m lines.names.items))
+        back : IsListed k (parts ++ map to all) → IsListed k ((parts ++ map to (filter is_staying all)) ++ map to (names_at test m lines.names.items))
         back i = elim (in_either k parts (map to all) i) [
-          | inl one ↦ listed_left k (parts ++ map to (filter is_kept all)) _ (listed_left k parts (map to (filter is_kept all)) one)
+          | inl one ↦ listed_left k (parts ++ map to (filter is_staying all)) _ (listed_left k parts (map to (filter is_staying all)) one)
           | inr one ↦
               let from = from_map to k all one in
               elim (or_else (is_moved_line from.0)) [
-                | inl on ↦ listed_right k (parts ++ map to (filter is_kept all)) _ (subst (λ n. IsListed n (map to (names_at test m lines.names.items))) (sym from.2)
+                | inl on ↦ listed_right k (parts ++ map to (filter is_staying all)) _ (subst (λ n. IsListed n (map to (names_at test m lines.names.items))) (sym from.2)
                     (listed_map to from.0 _ (subst (IsListed from.0) (sym moved_names) (listed_filter is_moved_line from.0 all from.1 on))))
-                | inr off ↦ listed_left k (parts ++ map to (filter is_kept all)) _ (listed_right k parts (map to (filter is_kept all)) (subst (λ n. IsListed n (map to (filter is_kept all))) (sym from.2)
-                    (listed_map to from.0 _ (listed_filter is_kept from.0 all from.1 (ap not off)))))
+                | inr off ↦ listed_left k (parts ++ map to (filter is_staying all)) _ (listed_right k parts (map to (filter is_staying all)) (subst (λ n. IsListed n (map to (filter is_staying all))) (sym from.2)
+                    (listed_map to from.0 _ (listed_filter is_staying from.0 all from.1 (ap not off)))))
               ]
         ]
 
@@ -243,8 +243,7 @@ module _ (old new : Data) (keys : List RecordKey) (moved : BTreeSet Name) (are :
     (records : (k : RecordKey) → (IsListed k keys → ⊥) → get old k ≡ get new k) where
   -- a moved line is in the set, where its record has one of the keys
   in_set : (name : Name) → is_moved old new name ≡ true → IsListed (key.Line name) keys → contains name_cmp moved name ≡ true
-  in_set name on i = are.0 name ∙ listed_key nat_list_cmp_total name (filter_map (moved_line old new) keys)
-      (listed_filter_map (moved_line old new) (key.Line name) name keys i (ap (λ b. cond b (Some name) None) on))
+  in_set name on i = (are.named name).1 (i, on)
 
   -- a line that is not in the set emits a gas where it did, or emits none still
   same_place : (name : Name) → not (contains name_cmp moved name) ≡ true → emitted_at old name ≡ emitted_at new name
@@ -257,8 +256,8 @@ module _ (old new : Data) (keys : List RecordKey) (moved : BTreeSet Name) (are :
   same_at : (test : Category → Bool) (name : Name) → not (contains name_cmp moved name) ≡ true → emits_at test old name ≡ emits_at test new name
   same_at test name off = ap (λ at. option_map_or test at false) (same_place name off)
 
-  kept_alike : (test : Category → Bool) → filter (λ k. not (contains name_cmp moved k)) (gas_lines_at test old) ≡ filter (λ k. not (contains name_cmp moved k)) (gas_lines_at test new)
-  kept_alike test = same_names (filter p (gas_lines_at test old)) (filter p (gas_lines_at test new))
+  staying_alike : (test : Category → Bool) → filter (λ k. not (contains name_cmp moved k)) (gas_lines_at test old) ≡ filter (λ k. not (contains name_cmp moved k)) (gas_lines_at test new)
+  staying_alike test = same_names (filter p (gas_lines_at test old)) (filter p (gas_lines_at test new))
       (IsStrictlySortedBy-filter name_cmp p (gas_lines_at test old) (sorted_at test old))
       (IsStrictlySortedBy-filter name_cmp p (gas_lines_at test new) (sorted_at test new))
       (λ k i.
@@ -271,15 +270,15 @@ module _ (old new : Data) (keys : List RecordKey) (moved : BTreeSet Name) (are :
       p : Name → Bool
       p k = not (contains name_cmp moved k)
 
--- ---- kept lines of which equivalents are evaluated anew
+-- ---- staying lines of which equivalents are evaluated anew
 
 module _ (m : Data) (fresh : Outcomes) (nodes : List Node) (among : (k : Node) → is_some (fresh k) ≡ true → (is_node m k ≡ true) × Contains nodes k)
-    (year : ℕ) (moved : BTreeSet Name) (names : List Name) (named : AreKeptLines nodes year moved names) where
+    (year : ℕ) (moved : BTreeSet Name) (names : List Name) (named : AreStayingLines nodes year moved names) where
   abbrev unmoved : Name → Bool
   unmoved name = not (contains name_cmp moved name)
 
-  kept_names : filter (λ name. has_outcome fresh (node.Equiv name year)) names ≡ filter (λ name. has_outcome fresh (node.Equiv name year)) (filter unmoved (gas_lines m))
-  kept_names = same_names (filter q names) (filter q (filter unmoved (gas_lines m)))
+  staying_names : filter (λ name. has_outcome fresh (node.Equiv name year)) names ≡ filter (λ name. has_outcome fresh (node.Equiv name year)) (filter unmoved (gas_lines m))
+  staying_names = same_names (filter q names) (filter q (filter unmoved (gas_lines m)))
       (IsStrictlySortedBy-filter name_cmp q names named.order)
       (IsStrictlySortedBy-filter name_cmp q (filter unmoved (gas_lines m)) (IsStrictlySortedBy-filter name_cmp unmoved (gas_lines m)
       (IsStrictlySortedBy-filter name_cmp (emits m) (line_names m) (lines_sorted m))))
@@ -296,13 +295,13 @@ module _ (m : Data) (fresh : Outcomes) (nodes : List Node) (among : (k : Node) �
       q : Name → Bool
       q name = has_outcome fresh (node.Equiv name year)
 
-  pub kept_anew : (parts : List Node) (own : Category → Bool)
+  pub staying_anew : (parts : List Node) (own : Category → Bool)
       → filter (has_outcome fresh) (parts ++ map (λ name. node.Equiv name year) (names_at own m names))
       ≡ filter (has_outcome fresh) (parts ++ map (λ name. node.Equiv name year) (filter unmoved (gas_lines_at own m)))
-  kept_anew parts own =
+  staying_anew parts own =
       filter-append (has_outcome fresh) parts (map to (names_at own m names))
       ∙ ap (λ ks. filter (has_outcome fresh) parts ++ ks) (filter_of_map to (has_outcome fresh) (names_at own m names)
-      ∙ ap (map to) (filters_swap q at names ∙ ap (filter at) kept_names ∙ filters_swap at q (filter unmoved (gas_lines m)) ∙ ap (filter q) (filters_swap at unmoved (gas_lines m)))
+      ∙ ap (map to) (filters_swap q at names ∙ ap (filter at) staying_names ∙ filters_swap at q (filter unmoved (gas_lines m)) ∙ ap (filter q) (filters_swap at unmoved (gas_lines m)))
       ∙ sym (filter_of_map to (has_outcome fresh) (filter unmoved (gas_lines_at own m))))
       ∙ sym (filter-append (has_outcome fresh) parts (map to (filter unmoved (gas_lines_at own m))))
     where
@@ -328,8 +327,8 @@ module _ (old new : Data) (workbook : IsWorkbook new) (acyclic : IsAcyclic new) 
   abbrev year : ℕ
   year = year_in n
 
-  kept_lines : AreKeptLines from.nodes (year_in n) changed.moved changed.kept.names.items
-  kept_lines = subst (λ y. AreKeptLines from.nodes y changed.moved changed.kept.names.items) from.year lines.of_year.kept
+  staying_lines : AreStayingLines from.nodes (year_in n) changed.moved changed.staying.names.items
+  staying_lines = subst (λ y. AreStayingLines from.nodes y changed.moved changed.staying.names.items) from.year lines.of_year.staying
 
   -- what the node adds, by lines at categories that pass
   module _ (parts : List Node) (own : Category → Bool) (ns : List Node)
@@ -340,31 +339,31 @@ module _ (old new : Data) (workbook : IsWorkbook new) (acyclic : IsAcyclic new) 
     abbrev to : Name → Node
     to name = node.Equiv name year
 
-    exchanged : (e : Exchange) → e.kept ≡ parts ++ map to (names_at own new changed.kept.names.items)
+    exchanged : (e : Exchange) → e.staying ≡ parts ++ map to (names_at own new changed.staying.names.items)
         → e.gone ≡ map to (names_at own old changed.gone.names.items) → e.come ≡ map to (names_at own new changed.come.names.items)
         → IsResummed found fresh (compilation old) n ns e
-    exchanged e kept gone come = record {
-      kept = parts ++ map to (rest own);
+    exchanged e staying gone come = record {
+      staying = parts ++ map to (rest own);
       was = λ b is. ap (λ ks. summed (map (input_at (compilation old)) ((parts ++ map to (rest own)) ++ ks))) gone
           ∙ ap (λ names. summed (map (input_at (compilation old)) ((parts ++ map to names) ++ map to (names_at own old changed.gone.names.items))))
-          (sym (kept_alike old new from.keys changed.moved lines.are_moved from.before.records own))
-          ∙ whole_sum changed.moved lines.are_moved.1 old changed.gone lines.gone own (input_at (compilation old)) parts year
+          (sym (staying_alike old new from.keys changed.moved lines.are_moved from.before.records own))
+          ∙ whole_sum changed.moved lines.are_moved.order old changed.gone lines.gone own (input_at (compilation old)) parts year
           ∙ was b is;
       adds = record {
         sums = λ given. ap (λ ks. summed (map given ((parts ++ map to (rest own)) ++ ks))) come
-            ∙ whole_sum changed.moved lines.are_moved.1 new changed.come lines.come own given parts year
+            ∙ whole_sum changed.moved lines.are_moved.order new changed.come lines.come own given parts year
             ∙ ap (λ ks. summed (map given ks)) (sym all);
         nodes = λ k. (
           λ i. subst (IsListed k) (sym all) ((listed_whole k).0 (subst (λ ks. IsListed k ((parts ++ map to (rest own)) ++ ks)) come i)),
           λ i. subst (λ ks. IsListed k ((parts ++ map to (rest own)) ++ ks)) (sym come) ((listed_whole k).1 (subst (IsListed k) all i)),
         );
       };
-      changed = ap (filter (has_outcome fresh)) kept ∙ kept_anew new fresh from.nodes from.among year changed.moved changed.kept.names.items kept_lines parts own;
+      changed = ap (filter (has_outcome fresh)) staying ∙ staying_anew new fresh from.nodes from.among year changed.moved changed.staying.names.items staying_lines parts own;
       others = λ k i none. stays k (subst (IsListed k) (sym all) ((listed_whole k).0 (listed_left k (parts ++ map to (rest own)) _ i))) none;
     }
       where
         listed_whole : (k : Node) → IsListed k ((parts ++ map to (rest own)) ++ map to (names_at own new changed.come.names.items)) ↔ IsListed k (parts ++ map to (gas_lines_at own new))
-        listed_whole k = whole_listed changed.moved lines.are_moved.1 new changed.come lines.come own parts year k
+        listed_whole k = whole_listed changed.moved lines.are_moved.order new changed.come lines.come own parts year k
 
   stays_by : (k : Node) → is_node new k ≡ true → (Contains from.nodes k → ⊥) → found k ≡ compilation new k → Stays (compilation old k) (found k)
   stays_by k is off now =
@@ -379,17 +378,17 @@ module _ (old new : Data) (workbook : IsWorkbook new) (acyclic : IsAcyclic new) 
   -- by the groups
   module _ (parts : List Category) (own : Category → Bool) (formed : subtotals new n ≡ addends new parts own year)
       (formed_before : subtotals old n ≡ addends old parts own year) (total : is_total n ≡ true) (ns : List Node) (all : ns ≡ subtotals new n) where
-    pub from_ready : (a : ChangedAddends) → a.kept.categories.now ≡ parts → a.kept.own.now ≡ names_at own new changed.kept.names.items
+    pub from_ready : (a : ChangedAddends) → a.staying.categories.now ≡ parts → a.staying.own.now ≡ names_at own new changed.staying.names.items
         → a.gone.now ≡ names_at own old changed.gone.names.items → a.come.now ≡ names_at own new changed.come.names.items
         → IsResummed found fresh (compilation old) n ns (addends_exchange a year)
-    from_ready a same_parts kept gone come =
+    from_ready a same_parts staying gone come =
         exchanged totals own ns (all ∙ formed)
         (λ b is. ap (λ ks. summed (map (input_at (compilation old)) ks)) (sym formed_before) ∙ total_was old from.before.acyclic from.before.fits n total b is)
         (λ k i none.
         let c = subst (λ ks. Contains ks k) all (contained ns k i) in
         stays_by k (subtotals_are_nodes new n ready.node k c) (from.others k c none) (ready.subtotals_are k c))
         (addends_exchange a year)
-        (ap₂ (λ (ds : List Category) (names : List Name). map (λ c. node.Total c year) ds ++ map (λ name. node.Equiv name year) names) same_parts kept)
+        (ap₂ (λ (ds : List Category) (names : List Name). map (λ c. node.Total c year) ds ++ map (λ name. node.Equiv name year) names) same_parts staying)
         (ap (map (λ name. node.Equiv name year)) gone) (ap (map (λ name. node.Equiv name year)) come)
       where
         totals : List Node
@@ -399,13 +398,13 @@ module _ (old new : Data) (workbook : IsWorkbook new) (acyclic : IsAcyclic new) 
   pub lines_ready : (test : Category → Bool)
       → (sheet_of old).formula n ≡ Summed (map (λ name. node.Equiv name year) (gas_lines_at test old))
       → (sheet_of new).formula n ≡ Summed (map (λ name. node.Equiv name year) (gas_lines_at test new))
-      → (e : Exchange) → e.kept ≡ map (λ name. node.Equiv name year) (names_at test new changed.kept.names.items)
+      → (e : Exchange) → e.staying ≡ map (λ name. node.Equiv name year) (names_at test new changed.staying.names.items)
       → e.gone ≡ map (λ name. node.Equiv name year) (names_at test old changed.gone.names.items) → e.come ≡ map (λ name. node.Equiv name year) (names_at test new changed.come.names.items)
       → IsResummed found fresh (compilation old) n (map (λ name. node.Equiv name year) (gas_lines_at test new)) e
-  lines_ready test was is e kept gone come =
+  lines_ready test was is e staying gone come =
       exchanged [] test (map (λ name. node.Equiv name year) (gas_lines_at test new)) refl
       (λ b value. line_sum_was old from.before.acyclic from.before.fits n (map (λ name. node.Equiv name year) (gas_lines_at test old)) was b value)
       (λ k i none.
       let input : IsInput (sheet_of new) k n = record { node = ready.node; among = subst (λ φ. Contains (inputs φ) k) (sym is) (contained (map (λ name. node.Equiv name year) (gas_lines_at test new)) k i) } in
       stays_by k (inputs_are_nodes new workbook k n input) (from.other_inputs k input none) (ready.inputs_are k input))
-      e kept gone come
+      e staying gone come

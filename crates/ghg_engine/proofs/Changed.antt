@@ -6,14 +6,13 @@ use Rattle.std.proofs.lemmas.List.Elements.{filter-append}
 use Rattle.std.proofs.lemmas.List.Folds.{list_any-append}
 use Rattle.ghg_cell.specs.declared.input.Input.{Input}
 use Rattle.ghg_units.specs.declared.node.Node.{Node}
-use Rattle.ghg_definitions.specs.Data.{Name}
 use Rattle.ghg_definitions.specs.Listed.{IsListed}
 use Rattle.ghg_definitions.specs.Trials.{Outcomes, is_over}
 use Rattle.ghg_definitions.proofs.Listed.{from_any, from_filter, listed_any, listed_filter, listed_map}
 use Rattle.ghg_graph.proofs.EquationParameters.{at_place}
 use Rattle.ghg_graph.proofs.Numbering.{take_next}
 use Rattle.ghg_engine.specs.declared.changes.Changes.{Changes}
-use Rattle.ghg_engine.specs.Changes.{AreChanges, Exchange, HasMoreChanges, HasMoreCome, HasMoreEntering, HasMoreGone, HasMoreKept, entering, has_outcome, input_at, leaving}
+use Rattle.ghg_engine.specs.Changes.{AreChanges, Exchange, HasMoreChanges, HasMoreCome, HasMoreEntering, HasMoreGone, HasMoreStaying, entering, has_outcome, input_at, leaving}
 
 -- ---- lists that are made part by part
 
@@ -121,11 +120,11 @@ over_right over ns ms on = list_any-append over ns ms ∙ ap (λ b. list_any ove
     so false = refl
 
 -- the same of what is evaluated anew
-pub over_kept_left : (over anew : Node → Bool) (ns ms : List Node) → list_any over (filter anew ns) ≡ true → list_any over (filter anew (ns ++ ms)) ≡ true
-over_kept_left over anew ns ms on = ap (list_any over) (filter-append anew ns ms) ∙ over_left over (filter anew ns) (filter anew ms) on
+pub over_anew_left : (over anew : Node → Bool) (ns ms : List Node) → list_any over (filter anew ns) ≡ true → list_any over (filter anew (ns ++ ms)) ≡ true
+over_anew_left over anew ns ms on = ap (list_any over) (filter-append anew ns ms) ∙ over_left over (filter anew ns) (filter anew ms) on
 
-pub over_kept_right : (over anew : Node → Bool) (ns ms : List Node) → list_any over (filter anew ms) ≡ true → list_any over (filter anew (ns ++ ms)) ≡ true
-over_kept_right over anew ns ms on = ap (list_any over) (filter-append anew ns ms) ∙ over_right over (filter anew ns) (filter anew ms) on
+pub over_anew_right : (over anew : Node → Bool) (ns ms : List Node) → list_any over (filter anew ms) ≡ true → list_any over (filter anew (ns ++ ms)) ≡ true
+over_anew_right over anew ns ms on = ap (list_any over) (filter-append anew ns ms) ∙ over_right over (filter anew ns) (filter anew ms) on
 
 -- the node of the one at a place
 pub node_at : {A : Type 0} (to : A → Node) (xs : List A) (i : ℕ) (x : A) → i < length xs → x ≡ get_or xs i x → IsListed (to x) (map to xs)
@@ -136,27 +135,27 @@ pub node_found : {A : Type 0} (to : A → Node) (xs : List A) (i : ℕ) (d : A) 
 node_found to xs i d within = listed_map to (get_or xs i d) xs (at_place xs i d within)
 
 -- the one at a place, where it passes
-pub passing_at : (to : Name → Node) (q : Name → Bool) (names : List Name) (i : ℕ) (name : Name) → i < length names → name ≡ get_or names i name → q name ≡ true → IsListed (to name) (map to (filter q names))
-passing_at to q names i name within is on = listed_map to name (filter q names) (listed_filter q name names (subst (λ k. IsListed k names) (sym is) (at_place names i name within)) on)
+pub passing_at : {A : Type 0} (to : A → Node) (q : A → Bool) (xs : List A) (i : ℕ) (x : A) → i < length xs → x ≡ get_or xs i x → q x ≡ true → IsListed (to x) (map to (filter q xs))
+passing_at to q xs i x within is on = listed_map to x (filter q xs) (listed_filter q x xs (subst (λ y. IsListed y xs) (sym is) (at_place xs i x within)) on)
 
 -- ---- the whole
 
 module _ (before found fresh : Outcomes) where
-  pub kept_further : (ns ms : List Node) (x y z : Changes) → HasMoreKept before found fresh ns x y → HasMoreKept before found fresh ms y z → HasMoreKept before found fresh (ns ++ ms) x z
-  kept_further ns ms x y z one two = subst (λ ks. HasMoreChanges before found ks ks x z) (sym (filter-append (has_outcome fresh) ns ms))
+  pub staying_further : (ns ms : List Node) (x y z : Changes) → HasMoreStaying before found fresh ns x y → HasMoreStaying before found fresh ms y z → HasMoreStaying before found fresh (ns ++ ms) x z
+  staying_further ns ms x y z one two = subst (λ ks. HasMoreChanges before found ks ks x z) (sym (filter-append (has_outcome fresh) ns ms))
       (more_changes before found (filter (has_outcome fresh) ns) (filter (has_outcome fresh) ms) (filter (has_outcome fresh) ns) (filter (has_outcome fresh) ms) x y z one two)
 
-  pub then_come : (e : Exchange) (x y z : Changes) → HasMoreKept before found fresh e.kept x y → HasMoreCome found e.come y z → HasMoreEntering before found fresh e x z
-  then_come e x y z kept comes = record {
-    gone_more = ap (λ (v : Vec Input Global). v.items) comes.gone_same ∙ kept.gone_more;
-    come_more = both_behind found (filter (has_outcome fresh) e.kept) e.come x.come.items y.come.items z.come.items kept.come_more comes.come_more;
-    none_over = list_any-append (λ k. is_over (found k)) (filter (has_outcome fresh) e.kept) e.come ∙ ap₂ (λ (a b : Bool). a || b) kept.none_over comes.none_over;
+  pub then_come : (e : Exchange) (x y z : Changes) → HasMoreStaying before found fresh e.staying x y → HasMoreCome found e.come y z → HasMoreEntering before found fresh e x z
+  then_come e x y z stays comes = record {
+    gone_more = ap (λ (v : Vec Input Global). v.items) comes.gone_same ∙ stays.gone_more;
+    come_more = both_behind found (filter (has_outcome fresh) e.staying) e.come x.come.items y.come.items z.come.items stays.come_more comes.come_more;
+    none_over = list_any-append (λ k. is_over (found k)) (filter (has_outcome fresh) e.staying) e.come ∙ ap₂ (λ (a b : Bool). a || b) stays.none_over comes.none_over;
   }
 
   pub all_changes : (e : Exchange) (x y z : Changes) → x.gone.items ≡ [] → x.come.items ≡ []
       → HasMoreEntering before found fresh e x y → HasMoreGone before e.gone y z → AreChanges before found fresh e z
   all_changes e x y z gone come enters goes = record {
-    gone_are = both_behind before (filter (has_outcome fresh) e.kept) e.gone x.gone.items y.gone.items z.gone.items enters.gone_more goes.gone_more
+    gone_are = both_behind before (filter (has_outcome fresh) e.staying) e.gone x.gone.items y.gone.items z.gone.items enters.gone_more goes.gone_more
         ∙ ap (λ ls. ls ++ map (input_at before) (leaving fresh e)) gone;
     come_are = ap (λ (v : Vec Input Global). v.items) goes.come_same ∙ enters.come_more
         ∙ ap (λ ls. ls ++ map (input_at found) (entering fresh e)) come;

@@ -1,19 +1,25 @@
 -- Lines in the groups of their categories.
-use Rattle.std.proofs.Common.{◌≡◌, Bool, true, false, cond, List, [], ◌∷◌, ◌++◌, filter, if◌then◌else◌, Option, Some, None, Result, Ok, Err, OnOk, Vec, Global, vec_len, refl, sym, ap, ◌∙◌}
-use Rattle.std.specs.Option.{UnwrapsOrElse, option_map_or}
+use Rattle.std.proofs.Common.{◌≡◌, ℕ, Bool, true, false, cond, List, [], ◌∷◌, ◌++◌, filter, map, if◌then◌else◌, Option, Some, None, Result, Ok, Err, OnOk, Vec, Global, vec_len, refl, sym, ap, ◌∙◌}
+use Rattle.std.specs.Option.{UnwrapsOrElse, option_map, option_map_or}
+use Rattle.std.specs.List.{cons_option}
 use Rattle.std.specs.BTreeMap.{is_at}
-use Rattle.std.proofs.lemmas.List.{append-nil}
+use Rattle.std.proofs.lemmas.List.{map-append}
 use Rattle.std.proofs.lemmas.Map.Text.{is_eq-slice_cmp}
 use Rattle.std.proofs.lemmas.List.Elements.{filter-append}
 use Rattle.ghg_categories.specs.declared.category.Category.{Category}
 use Rattle.ghg_categories.specs.Tree.{code_of, is_same}
+use Rattle.ghg_units.specs.declared.node.Node.TheVariants.{Equiv}
 use Rattle.ghg_definitions.specs.Compilation.{gas_lines}
 use Rattle.ghg_definitions.specs.Data.{Data, Name, category}
 use Rattle.ghg_definitions.proofs.NodeLists.{category_same}
 use Rattle.ghg_graph.proofs.Pushed.{item_pushed, items_in}
 use Rattle.ghg_affected.specs.Subtotals.{is_above_parts}
 use Rattle.ghg_engine.specs.declared.groups.Groups.{Groups}
-use Rattle.ghg_engine.specs.Grouping.{AreGroupsOf, IsGrouping, code_order, group_at}
+use Rattle.ghg_engine.specs.declared.changed_lines.GroupedLines.{GroupedLines}
+use Rattle.ghg_engine.specs.declared.groups.PlacedLine.{PlacedLine}
+use Rattle.ghg_engine.specs.Changes.{AreGrouped}
+use Rattle.ghg_engine.specs.Grouping.{AreGroupsOf, IsGrouping, code_order, group_at, names_at, placed_at, placed_lines}
+use Rattle.ghg_engine.specs.Parts.{counted_nodes, counts_in}
 
 -- the name, where the test passes
 abbrev pub name_if : Bool → Name → List Name
@@ -24,39 +30,77 @@ same_is a c e = (category_same a c).0 e
 
 -- ---- the lines so far
 
-abbrev pub passes : Data → (Category → Bool) → Name → Bool
-passes m test name = option_map_or test (category m name) false
-
-filter_one : (p : Name → Bool) (name : Name) → filter p (name ∷ []) ≡ name_if (p name) name
-filter_one p name = by (p name)
+one_more : (test : Category → Bool) (lines : List PlacedLine) (l : PlacedLine) → placed_at test (lines ++ l ∷ []) ≡ placed_at test lines ++ name_if (test l.category) l.name
+one_more test lines l =
+    ap (map name_of) (filter-append passes lines (l ∷ []))
+    ∙ map-append name_of (filter passes lines) (filter passes (l ∷ []))
+    ∙ ap (λ names. placed_at test lines ++ names) (one (test l.category))
   where
-    by : (b : Bool) → (if b then name ∷ [] else []) ≡ name_if b name
-    by true = refl
-    by false = refl
+    name_of : PlacedLine → Name
+    name_of x = x.name
 
-one_more : (m : Data) (test : Category → Bool) (names : List Name) (name : Name) (c : Category) → category m name ≡ Some c → filter (passes m test) (names ++ name ∷ []) ≡ filter (passes m test) names ++ name_if (test c) name
-one_more m test names name c is = filter-append (passes m test) names (name ∷ []) ∙ ap (λ ys. filter (passes m test) names ++ ys) (filter_one (passes m test) name ∙ ap (λ o. name_if (option_map_or test o false) name) is)
+    passes : PlacedLine → Bool
+    passes x = test x.category
 
-none_more : (m : Data) (test : Category → Bool) (names : List Name) (name : Name) → category m name ≡ None → filter (passes m test) (names ++ name ∷ []) ≡ filter (passes m test) names
-none_more m test names name is = filter-append (passes m test) names (name ∷ []) ∙ ap (λ ys. filter (passes m test) names ++ ys) (filter_one (passes m test) name ∙ ap (λ o. name_if (option_map_or test o false) name) is) ∙ append-nil _
+    one : (b : Bool) → map name_of (cond b (l ∷ []) []) ≡ name_if b l.name
+    one true = refl
+    one false = refl
 
-pub grouped_more : (m : Data) (names : List Name) (name : Name) (c : Category) (old new : Groups) → AreGroupsOf m names old → category m name ≡ Some c →
-    ((d : Category) → group_at new.at d ≡ group_at old.at d ++ name_if (is_same c d) name) → new.above.items ≡ old.above.items ++ name_if (is_above_parts c) name → AreGroupsOf m (names ++ name ∷ []) new
-grouped_more m names name c old new held is at above = record {
-  at = λ d. at d ∙ ap (λ xs. xs ++ name_if (is_same c d) name) (held.at d) ∙ sym (one_more m (λ k. is_same k d) names name c is);
-  above = above ∙ ap (λ xs. xs ++ name_if (is_above_parts c) name) held.above ∙ sym (one_more m is_above_parts names name c is);
+pub grouped_more : (lines : List PlacedLine) (l : PlacedLine) (old new : Groups) → AreGroupsOf lines old →
+    ((d : Category) → group_at new.at d ≡ group_at old.at d ++ name_if (is_same l.category d) l.name) → new.above.items ≡ old.above.items ++ name_if (is_above_parts l.category) l.name → AreGroupsOf (lines ++ l ∷ []) new
+grouped_more lines l old new held at above = record {
+  at = λ d. at d ∙ ap (λ xs. xs ++ name_if (is_same l.category d) l.name) (held.at d) ∙ sym (one_more (λ k. is_same k d) lines l);
+  above = above ∙ ap (λ xs. xs ++ name_if (is_above_parts l.category) l.name) held.above ∙ sym (one_more is_above_parts lines l);
 }
 
-pub grouped_same : (m : Data) (names : List Name) (name : Name) (groups : Groups) → AreGroupsOf m names groups → category m name ≡ None → AreGroupsOf m (names ++ name ∷ []) groups
-grouped_same m names name groups held is = record {
-  at = λ d. held.at d ∙ sym (none_more m (λ k. is_same k d) names name is);
-  above = held.above ∙ sym (none_more m is_above_parts names name is);
-}
+-- ---- lines of data
 
-pub grouped_all : (m : Data) (names : List Name) (groups : Groups) → AreGroupsOf m names groups → names ≡ gas_lines m → IsGrouping m groups
-grouped_all m names groups held is = record {
-  at = λ c. held.at c ∙ ap (filter (passes m (λ k. is_same k c))) is;
-  above = held.above ∙ ap (filter (passes m is_above_parts)) is;
+module _ (m : Data) (test : Category → Bool) where
+  pub names_placed : (names : List Name) → placed_at test (placed_lines m names) ≡ names_at test m names
+  names_placed [] = refl
+  names_placed (name ∷ names) = by (category m name) (names_placed names)
+    where
+      by : (o : Option Category) → placed_at test (placed_lines m names) ≡ names_at test m names
+          → placed_at test (cons_option (option_map (λ c. record { name = name; category = c }) o) (placed_lines m names)) ≡ cond (option_map_or test o false) (name ∷ names_at test m names) (names_at test m names)
+      by None rest = rest
+      by (Some c) rest = at (test c)
+        where
+          at : (b : Bool) → map (λ (l : PlacedLine). l.name) (cond b (record { name = name; category = c } ∷ filter (λ l. test l.category) (placed_lines m names)) (filter (λ l. test l.category) (placed_lines m names)))
+              ≡ cond b (name ∷ names_at test m names) (names_at test m names)
+          at true = ap (λ ys. name ∷ ys) rest
+          at false = rest
+
+pub counted_placed : (m : Data) (top : Option Category) (year : ℕ) (names : List Name) → counted_nodes top (placed_lines m names) year ≡ map (λ name. Equiv name year) (names_at (counts_in top) m names)
+counted_placed m top year [] = refl
+counted_placed m top year (name ∷ names) = by (category m name) (counted_placed m top year names)
+  where
+    by : (o : Option Category) → counted_nodes top (placed_lines m names) year ≡ map (λ name. Equiv name year) (names_at (counts_in top) m names)
+        → counted_nodes top (cons_option (option_map (λ c. record { name = name; category = c }) o) (placed_lines m names)) year
+        ≡ map (λ name. Equiv name year) (cond (option_map_or (counts_in top) o false) (name ∷ names_at (counts_in top) m names) (names_at (counts_in top) m names))
+    by None rest = rest
+    by (Some c) rest = at (counts_in top c)
+      where
+        at : (b : Bool) → map (λ (l : PlacedLine). Equiv l.name year) (cond b (record { name = name; category = c } ∷ filter (λ l. counts_in top l.category) (placed_lines m names)) (filter (λ l. counts_in top l.category) (placed_lines m names)))
+            ≡ map (λ name. Equiv name year) (cond b (name ∷ names_at (counts_in top) m names) (names_at (counts_in top) m names))
+        at true = ap (λ ks. Equiv name year ∷ ks) rest
+        at false = rest
+
+-- ---- lines that are grouped
+
+module _ (m : Data) (lines : GroupedLines) (grouped : AreGrouped m lines) where
+  pub group_names : (c : Category) → group_at lines.groups.at c ≡ names_at (λ k. is_same k c) m lines.names.items
+  group_names c = grouped.groups.at c ∙ ap (placed_at (λ k. is_same k c)) grouped.placed ∙ names_placed m (λ k. is_same k c) lines.names.items
+
+  pub above_names : lines.groups.above.items ≡ names_at is_above_parts m lines.names.items
+  above_names = grouped.groups.above ∙ ap (placed_at is_above_parts) grouped.placed ∙ names_placed m is_above_parts lines.names.items
+
+  pub counted_names : (top : Option Category) (year : ℕ) → counted_nodes top lines.placed.items year ≡ map (λ name. Equiv name year) (names_at (counts_in top) m lines.names.items)
+  counted_names top year = ap (λ ls. counted_nodes top ls year) grouped.placed ∙ counted_placed m top year lines.names.items
+
+pub grouped_all : (m : Data) (names : List Name) (placed : List PlacedLine) (groups : Groups) → placed ≡ placed_lines m names → AreGroupsOf placed groups → names ≡ gas_lines m → IsGrouping m groups
+grouped_all m names placed groups is held all = record {
+  at = λ c. held.at c ∙ ap (placed_at (λ k. is_same k c)) is ∙ names_placed m (λ k. is_same k c) names ∙ ap (names_at (λ k. is_same k c) m) all;
+  above = held.above ∙ ap (placed_at is_above_parts) is ∙ names_placed m is_above_parts names ∙ ap (names_at is_above_parts m) all;
 }
 
 -- ---- one more in the group of a category
@@ -75,8 +119,8 @@ pushed old new before now at a c name is same unwraps items =
 
 -- ---- where nothing is put
 
-pub nothing_grouped : (m : Data) (groups : Groups) → ((c : Category) → group_at groups.at c ≡ []) → groups.above.items ≡ [] → AreGroupsOf m [] groups
-nothing_grouped m groups at above = record { at = at; above = above }
+pub nothing_grouped : (groups : Groups) → ((c : Category) → group_at groups.at c ≡ []) → groups.above.items ≡ [] → AreGroupsOf [] groups
+nothing_grouped groups at above = record { at = at; above = above }
 
 pub on_ok : {A E P Q : Type 0} (r : Result A E) → (P → Q) → OnOk r P → OnOk r Q
 on_ok (Ok x) f p = f p

@@ -2,6 +2,7 @@ pub mod NodeKeys
 pub mod Counted
 pub mod Places
 pub mod SubtotalNodes
+pub mod Settled
 pub mod Turns
 pub mod Columns
 pub mod Written

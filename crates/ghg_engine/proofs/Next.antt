@@ -12,7 +12,6 @@ use Rattle.ghg_definitions.specs.Nodes.{year_in}
 use Rattle.ghg_definitions.specs.Rings.{IsAcyclic}
 use Rattle.ghg_definitions.specs.Sound.{IsWorkbook}
 use Rattle.ghg_definitions.specs.Trials.{IsInput, Outcomes}
-use Rattle.ghg_definitions.proofs.Depth.{or_else}
 use Rattle.ghg_definitions.proofs.Listed.{contained, in_either, listed, listed_left}
 use Rattle.ghg_definitions.proofs.OneTrial.{compilation_trial}
 use Rattle.ghg_affected.specs.Equalities.{same_node}
@@ -24,11 +23,13 @@ use Rattle.ghg_graph.specs.Corrections.{ListsAffected}
 use Rattle.ghg_graph.proofs.Corrected.{kept_record}
 use Rattle.ghg_graph.proofs.Numbering.{take_next}
 use Rattle.ghg_engine.specs.declared.changed_lines.ChangedLines.{ChangedLines}
+use Rattle.ghg_engine.specs.Breaking.{is_settled}
 use Rattle.ghg_engine.specs.Changes.{AreChangedLines, IsBefore, IsReadyFrom}
 use Rattle.ghg_engine.specs.Compiled.{IsCompiled}
 use Rattle.ghg_engine.proofs.Compiled.{compiled_alike}
 use Rattle.ghg_engine.proofs.Patched.{unaffected_kept}
 use Rattle.ghg_engine.proofs.Places.{node_itself, node_same}
+use Rattle.ghg_engine.proofs.Settled.{input_open, subtotal_open}
 use Rattle.ghg_engine.proofs.SubtotalNodes.{subtotals_are_nodes}
 use Rattle.ghg_engine.proofs.Turns.{IsSoFar}
 
@@ -61,32 +62,28 @@ pub around : (ns : List Node) (i : ℕ) (n : Node) → i < length ns → n ≡ g
 around ns i n within is = sym (take-append-drop (i + 1) ns) ∙ ap (λ t. t ++ drop (i + 1) ns) (take_next ns i n within is) ∙ append_assoc (take i ns) (n ∷ []) (drop (i + 1) ns)
 
 module _ (old m : Data) (workbook : IsWorkbook m) (acyclic : IsAcyclic m) (changed : ChangedLines) (done : List Node) (n : Node) (rest nodes : List Node) (all : nodes ≡ done ++ n ∷ rest)
-    (found fresh : Outcomes) (least : Option Node) (so_far : IsSoFar m done (n ∷ rest) found fresh least) where
+    (found fresh : Outcomes) (least : Option Node) (so_far : IsSoFar m done (n ∷ rest) found fresh least) (open_now : is_settled least n ≡ false) where
   has_at : (k : Node) → is_node m k ≡ true → compilation m k ≡ None → ⊥
   has_at k node none = some_not_none (compilation m k) (ap is_some ((compilation_trial m acyclic).by_formula k node)) none
 
   fresh_among : (k : Node) → is_some (fresh k) ≡ true → (is_node m k ≡ true) × Contains nodes k
   fresh_among k some = elim (listed_or_not k done) [
-    | inl i ↦
-        let same = so_far.fresh_are k (contained done k i) in (
-          elim (or_else (is_node m k)) [
-            | inl there ↦ there
-            | inr none ↦ absurd (some_not_none (fresh k) some (same ∙ (compilation_trial m acyclic).nowhere_else k none))
-          ],
-          subst (λ ns. Contains ns k) (sym all) (contained (done ++ n ∷ rest) k (listed_left k done (n ∷ rest) i)),
-        )
+    | inl i ↦ (
+      so_far.are_nodes k (contained done k i),
+      subst (λ ns. Contains ns k) (sym all) (contained (done ++ n ∷ rest) k (listed_left k done (n ∷ rest) i)),
+    )
     | inr off ↦ absurd (some_not_none (fresh k) some (so_far.no_others k (λ c. off (listed done k c))))
   ]
 
   none_among : (k : Node) → Contains (subtotals m n) k → fresh k ≡ None → Contains nodes k → ⊥
   none_among k c none there = elim (in_either k done (n ∷ rest) (listed (done ++ n ∷ rest) k (subst (λ ns. Contains ns k) all there))) [
-    | inl i ↦ has_at k (subtotals_are_nodes m n so_far.in_turn.0 k c) (sym (so_far.fresh_are k (contained done k i)) ∙ none)
+    | inl i ↦ has_at k (subtotals_are_nodes m n so_far.in_turn.0 k c) (sym (so_far.fresh_are k (contained done k i) (subtotal_open m least n open_now k c)) ∙ none)
     | inr i ↦ so_far.behind.0 k c (contained (n ∷ rest) k i)
   ]
 
   no_input_among : (k : Node) → IsInput (sheet_of m) k n → fresh k ≡ None → Contains nodes k → ⊥
   no_input_among k input none there = elim (in_either k done (n ∷ rest) (listed (done ++ n ∷ rest) k (subst (λ ns. Contains ns k) all there))) [
-    | inl i ↦ has_at k (inputs_are_nodes m workbook k n input) (sym (so_far.fresh_are k (contained done k i)) ∙ none)
+    | inl i ↦ has_at k (inputs_are_nodes m workbook k n input) (sym (so_far.fresh_are k (contained done k i) (input_open m least k n input)) ∙ none)
     | inr i ↦ so_far.in_turn.1 k input (contained (n ∷ rest) k i)
   ]
 

@@ -121,9 +121,9 @@ module _ (fresh kept before : Outcomes) (n : Node) (ns : List Node) (e : Exchang
 
   -- what enters is added
   entering_listed : (k : Node) → IsListed k (entering fresh e) → IsListed k ns
-  entering_listed k i = (from.adds.nodes k).0 (elim (in_either k (filter (has_outcome fresh) e.kept) e.come i) [
-    | inl j ↦ listed_left k from.kept e.come (from_filter (has_outcome fresh) k from.kept (subst (IsListed k) from.changed j)).0
-    | inr j ↦ listed_right k from.kept e.come j
+  entering_listed k i = (from.adds.nodes k).0 (elim (in_either k (filter (has_outcome fresh) e.staying) e.come i) [
+    | inl j ↦ listed_left k from.staying e.come (from_filter (has_outcome fresh) k from.staying (subst (IsListed k) from.changed j)).0
+    | inr j ↦ listed_right k from.staying e.come j
   ])
 
   -- one of what enters is over, so the sum is
@@ -133,45 +133,45 @@ module _ (fresh kept before : Outcomes) (n : Node) (ns : List Node) (e : Exchang
       sum_with_over (found_in fresh kept) ns r (listed_any (λ k. is_over (found_in fresh kept k)) one.0 ns (entering_listed one.0 one.1) one.2) outcome breaks
 
   module _ (changes : Changes) (are : AreChanges before (found_in fresh kept) fresh e changes) where
-    gone_are : changes.gone.items ≡ map (input_at before) (filter p from.kept ++ e.gone)
+    gone_are : changes.gone.items ≡ map (input_at before) (filter p from.staying ++ e.gone)
     gone_are = are.gone_are ∙ ap (λ ks. map (input_at before) (ks ++ e.gone)) from.changed
 
-    come_are : changes.come.items ≡ map (input_at found) (filter p from.kept ++ e.come)
+    come_are : changes.come.items ≡ map (input_at found) (filter p from.staying ++ e.come)
     come_are = are.come_are ∙ ap (λ ks. map (input_at found) (ks ++ e.come)) from.changed
 
     abbrev others : List Input
-    others = map (input_at before) (filter off from.kept)
+    others = map (input_at before) (filter off from.staying)
 
-    rest_stays : (k : Node) → IsListed k (filter off from.kept) → Stays (before k) (found k)
+    rest_stays : (k : Node) → IsListed k (filter off from.staying) → Stays (before k) (found k)
     rest_stays k i =
-        let at = from_filter (λ k. not (is_some (fresh k))) k from.kept i in
+        let at = from_filter (λ k. not (is_some (fresh k))) k from.staying i in
         from.others k at.0 (none_of (fresh k) at.1)
 
-    rest_is : others ≡ map (input_at found) (filter off from.kept)
-    rest_is = map_agree (input_at before) (input_at found) (filter off from.kept) (λ k i. ap (λ o. or_nothing (value_of o)) (rest_stays k i).same)
+    rest_is : others ≡ map (input_at found) (filter off from.staying)
+    rest_is = map_agree (input_at before) (input_at found) (filter off from.staying) (λ k i. ap (λ o. or_nothing (value_of o)) (rest_stays k i).same)
 
     enters_fitting : (k : Node) → IsListed k (entering fresh e) → is_over (found k) ≡ false
     enters_fitting k i = never_so (is_over (found k)) (λ over. true_not_false (sym (listed_any (λ j. is_over (found_in fresh kept j)) k (entering fresh e) i over) ∙ are.none_over))
 
-    kept_fitting : (k : Node) → IsListed k from.kept → (o : Option Outcome) → fresh k ≡ o → is_over (found k) ≡ false
-    kept_fitting k i None none = let s = from.others k i none in ap is_over (sym s.same) ∙ s.fits
-    kept_fitting k i (Some x) some = enters_fitting k (listed_left k (filter (has_outcome fresh) e.kept) e.come
-        (subst (IsListed k) (sym from.changed) (listed_filter (has_outcome fresh) k from.kept i (ap is_some some))))
+    staying_fitting : (k : Node) → IsListed k from.staying → (o : Option Outcome) → fresh k ≡ o → is_over (found k) ≡ false
+    staying_fitting k i None none = let s = from.others k i none in ap is_over (sym s.same) ∙ s.fits
+    staying_fitting k i (Some x) some = enters_fitting k (listed_left k (filter (has_outcome fresh) e.staying) e.come
+        (subst (IsListed k) (sym from.changed) (listed_filter (has_outcome fresh) k from.staying i (ap is_some some))))
 
     fits : (k : Node) → IsListed k ns → is_over (found k) ≡ false
-    fits k i = elim (in_either k from.kept e.come ((from.adds.nodes k).1 i)) [
-      | inl j ↦ kept_fitting k j (fresh k) refl
-      | inr j ↦ enters_fitting k (listed_right k (filter (has_outcome fresh) e.kept) e.come j)
+    fits k i = elim (in_either k from.staying e.come ((from.adds.nodes k).1 i)) [
+      | inl j ↦ staying_fitting k j (fresh k) refl
+      | inr j ↦ enters_fitting k (listed_right k (filter (has_outcome fresh) e.staying) e.come j)
     ]
 
     pub resummed : (b : Input) → value_of (before n) ≡ Some b → (r : Evaluated) → (outcome : Outcome)
         → ((rest : List Input) → AllByRecursion PointLiesWithin rest → summed (changes.gone.items ++ rest) ≡ Ok b → outcome ≡ summed (changes.come.items ++ rest))
         → r.outcome ≡ outcome → r.breaks ≡ is_over (Some outcome) → IsFittingSum (found_in fresh kept) ns r
     resummed b is r outcome total same breaks =
-        let was = ap (λ ls. summed (ls ++ others)) gone_are ∙ parts_summed (input_at before) (has_outcome fresh) from.kept e.gone ∙ from.was b is in
-        let now = total others (all_within (input_at before) (filter off from.kept) (λ k i. (rest_stays k i).within)) was
+        let was = ap (λ ls. summed (ls ++ others)) gone_are ∙ parts_summed (input_at before) (has_outcome fresh) from.staying e.gone ∙ from.was b is in
+        let now = total others (all_within (input_at before) (filter off from.staying) (λ k i. (rest_stays k i).within)) was
         ∙ ap₂ (λ xs ys. summed (xs ++ ys)) come_are rest_is
-        ∙ parts_summed (input_at found) (has_outcome fresh) from.kept e.come
+        ∙ parts_summed (input_at found) (has_outcome fresh) from.staying e.come
         ∙ from.adds.sums (input_at found) in
         fitting_sum (found_in fresh kept) ns (map (input_at found) ns) r
         (record { gathered = gathered_inputs (found_in fresh kept) ns fits; count = λ t. length-map ns (input_at found) })

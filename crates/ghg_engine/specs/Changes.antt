@@ -1,7 +1,7 @@
 -- Totals from what they were, and what changed.
-use Rattle.std.specs.Prelude.{◌≡◌, ◌↔◌, ◌≤◌, ℕ, Bool, true, false, not, if◌then◌else◌, is_some, List, ◌++◌, map, take, drop, filter, filter_map, Option, Some, None, IfSome, Ok}
+use Rattle.std.specs.Prelude.{◌≡◌, ◌↔◌, ◌≤◌, ℕ, Bool, true, false, not, if◌then◌else◌, is_some, List, ◌++◌, map, take, drop, filter, Option, Some, None, IfSome, Ok}
 use Rattle.std.specs.Option.{option_eq}
-use Rattle.std.specs.BTreeSet.{BTreeSet, IsFromIterResult, contains}
+use Rattle.std.specs.BTreeSet.{BTreeSet, IsOrdered, contains}
 use Rattle.std.specs.List.{Contains, list_any, slice_get}
 use Rattle.std.specs.List.Sorted.{IsStrictlySortedBy}
 use Rattle.std.specs.FinMap.{get}
@@ -30,8 +30,8 @@ use Rattle.ghg_engine.specs.declared.changes.Changes.{Changes}
 use Rattle.ghg_engine.specs.declared.evaluation.Before.{Before}
 use Rattle.ghg_engine.specs.declared.parts.Part.TheVariants as part
 use Rattle.ghg_engine.specs.Evaluation.{AreKept}
-use Rattle.ghg_engine.specs.Grouping.{AreGroupsOf, emitted_at, names_at}
-use Rattle.ghg_engine.specs.Parts.{addends_for, counts_in, nodes_for}
+use Rattle.ghg_engine.specs.Grouping.{AreGroupsOf, emitted_at, placed_lines}
+use Rattle.ghg_engine.specs.Parts.{addends_for, counted_nodes, nodes_for}
 
 -- ---- what is gathered
 
@@ -49,7 +49,7 @@ has_outcome outcomes n = is_some (outcomes n)
 -- nodes that a sum adds before and now, nodes that are taken out of it, and nodes that are put in; one may be
 -- both taken out and put in
 pub record Exchange : Type 0 where
-  pub kept : List Node
+  pub staying : List Node
   pub gone : List Node
   pub come : List Node
 
@@ -59,11 +59,11 @@ AnyIsOver outcomes ns = list_any (λ n. is_over (outcomes n)) ns ≡ true
 
 -- what leaves the sum: what nodes gave that are evaluated anew, and the nodes that are gone
 abbrev pub leaving : Outcomes → Exchange → List Node
-leaving fresh e = filter (has_outcome fresh) e.kept ++ e.gone
+leaving fresh e = filter (has_outcome fresh) e.staying ++ e.gone
 
 -- what enters it
 abbrev pub entering : Outcomes → Exchange → List Node
-entering fresh e = filter (has_outcome fresh) e.kept ++ e.come
+entering fresh e = filter (has_outcome fresh) e.staying ++ e.come
 
 -- the changes have what leaves the sum, as it was before, and what enters it, of which none is over
 pub record AreChanges (before found fresh : Outcomes) (e : Exchange) (changes : Changes) : Type 0 where
@@ -80,14 +80,14 @@ pub record HasMoreChanges (before found : Outcomes) (gone come : List Node) (old
   pub none_over : list_any (λ k. is_over (found k)) come ≡ false
 
 -- the same of those of the nodes, before and now, that have fresh outcomes
-abbrev pub HasMoreKept : Outcomes → Outcomes → Outcomes → List Node → Changes → Changes → Type 0
-HasMoreKept before found fresh ns old new =
+abbrev pub HasMoreStaying : Outcomes → Outcomes → Outcomes → List Node → Changes → Changes → Type 0
+HasMoreStaying before found fresh ns old new =
     HasMoreChanges before found (filter (has_outcome fresh) ns) (filter (has_outcome fresh) ns) old new
 
--- what those of the kept nodes of an exchange gave that have fresh outcomes, and what enters the sum
+-- what those of the staying nodes of an exchange gave that have fresh outcomes, and what enters the sum
 abbrev pub HasMoreEntering : Outcomes → Outcomes → Outcomes → Exchange → Changes → Changes → Type 0
 HasMoreEntering before found fresh e old new =
-    HasMoreChanges before found (filter (has_outcome fresh) e.kept) (entering fresh e) old new
+    HasMoreChanges before found (filter (has_outcome fresh) e.staying) (entering fresh e) old new
 
 -- behind what was gone comes what the nodes gave before
 pub record HasMoreGone (before : Outcomes) (ns : List Node) (old new : Changes) : Type 0 where
@@ -118,12 +118,12 @@ pub record AddTheSame (ks ns : List Node) : Type 0 where
 -- and the others stay
 pub record IsResummed (found fresh before : Outcomes) (n : Node) (ns : List Node) (e : Exchange)
     : Type 0 where
-  pub kept : List Node
+  pub staying : List Node
   pub was : (b : Input) → value_of (before n) ≡ Some b →
-      summed (map (input_at before) (kept ++ e.gone)) ≡ Ok b
-  pub adds : AddTheSame (kept ++ e.come) ns
-  pub changed : filter (has_outcome fresh) e.kept ≡ filter (has_outcome fresh) kept
-  pub others : (k : Node) → IsListed k kept → fresh k ≡ None → Stays (before k) (found k)
+      summed (map (input_at before) (staying ++ e.gone)) ≡ Ok b
+  pub adds : AddTheSame (staying ++ e.come) ns
+  pub changed : filter (has_outcome fresh) e.staying ≡ filter (has_outcome fresh) staying
+  pub others : (k : Node) → IsListed k staying → fresh k ≡ None → Stays (before k) (found k)
 
 -- ---- lines that change
 
@@ -137,8 +137,10 @@ moved_line old new (key.Line name) = if is_moved old new name then Some name els
 moved_line old new _ = None
 
 -- the set has the lines of the keys that are moved
-abbrev pub AreMoved : Data → Data → List RecordKey → BTreeSet Name → Type 0
-AreMoved old new keys moved = IsFromIterResult name_cmp (filter_map (moved_line old new) keys) moved
+pub record AreMoved (old new : Data) (keys : List RecordKey) (moved : BTreeSet Name) : Type 0 where
+  pub order : IsOrdered name_cmp moved
+  pub named : (name : Name) → (contains name_cmp moved name ≡ true) ↔
+      (IsListed (key.Line name) keys × (is_moved old new name ≡ true))
 
 -- the line of an equivalent, if it is not moved
 abbrev pub unmoved_line : BTreeSet Name → Node → Option Name
@@ -146,27 +148,29 @@ unmoved_line moved (node.Equiv name year) = if contains name_cmp moved name then
 unmoved_line moved _ = None
 
 -- the names in order of the lines of which the equivalent of a year is in the list, without the moved ones
-pub record AreKeptLines (ns : List Node) (year : ℕ) (moved : BTreeSet Name) (names : List Name)
+pub record AreStayingLines (ns : List Node) (year : ℕ) (moved : BTreeSet Name) (names : List Name)
     : Type 0 where
   pub order : IsStrictlySortedBy name_cmp names
   pub named : (name : Name) → IsListed name names ↔
       (Contains ns (node.Equiv name year) × (contains name_cmp moved name ≡ false))
 
-abbrev pub AreGrouped : Data → GroupedLines → Type 0
-AreGrouped m lines = AreGroupsOf m lines.names.items lines.groups
+-- the lines stand where they do in the data, and their groups are those of where they stand
+pub record AreGrouped (m : Data) (lines : GroupedLines) : Type 0 where
+  pub placed : lines.placed.items ≡ placed_lines m lines.names.items
+  pub groups : AreGroupsOf lines.placed.items lines.groups
 
 -- those of the moved lines that emit a gas, and their groups
 pub record AreEmitters (m : Data) (moved : BTreeSet Name) (lines : GroupedLines) : Type 0 where
   pub names : lines.names.items ≡ filter (emits m) moved.keys
   pub grouped : AreGrouped m lines
 
--- the kept lines are those of the year at hand, in their groups
+-- the staying lines are those of the year at hand, in their groups
 pub record AreOfYear (m : Data) (ns : List Node) (changed : ChangedLines) : Type 0 where
-  pub kept : AreKeptLines ns changed.year changed.moved changed.kept.names.items
-  pub grouped : AreGrouped m changed.kept
+  pub staying : AreStayingLines ns changed.year changed.moved changed.staying.names.items
+  pub grouped : AreGrouped m changed.staying
 
--- the kept lines are those of the year at hand, and the others the moved ones that emitted a gas, and those
--- that do
+-- the staying lines are those of the year at hand, and the others the moved ones that emitted a gas, and
+-- those that do
 pub record AreChangedLines (old new : Data) (keys : List RecordKey) (ns : List Node) (changed : ChangedLines)
     : Type 0 where
   pub are_moved : AreMoved old new keys changed.moved
@@ -180,19 +184,23 @@ pub record MovesTheSame (old new : ChangedLines) : Type 0 where
   pub gone : new.gone ≡ old.gone
   pub come : new.come ≡ old.come
 
--- no node up to the place is of a later year, and none from there on is of an earlier one
+-- the year is that of the first node, if there is one
+abbrev pub IsFirstYear : ℕ → List Node → Type 0
+IsFirstYear year ns = IfSome (slice_get ns 0) (λ n. year ≡ year_in n)
+
+-- no node before the place is of a later year, and none from there on is of an earlier one
 pub record IsBetween (year place : ℕ) (ns : List Node) : Type 0 where
   pub before : (k : Node) → Contains (take place ns) k → year_in k ≤ year
   pub behind : (k : Node) → Contains (drop place ns) k → year ≤ year_in k
 
--- the kept lines are those of the year at hand, and that year is between the nodes before the place and the
--- others
-pub record IsAtPlace (m : Data) (ns : List Node) (place : ℕ) (changed : ChangedLines) : Type 0 where
+-- the staying lines are those of the year at hand, and that year is between the nodes before the place and
+-- the others
+pub record HasComeTo (m : Data) (ns : List Node) (place : ℕ) (changed : ChangedLines) : Type 0 where
   pub of_year : AreOfYear m ns changed
   pub between : IsBetween changed.year place ns
 
 -- the year at hand is that of the node at the place
-pub record IsAtNode (m : Data) (ns : List Node) (place : ℕ) (changed : ChangedLines) : Type 0 where
+pub record IsOfNodeAt (m : Data) (ns : List Node) (place : ℕ) (changed : ChangedLines) : Type 0 where
   pub of_year : AreOfYear m ns changed
   pub year : IfSome (slice_get ns place) (λ n. changed.year ≡ year_in n)
 
@@ -201,22 +209,22 @@ abbrev pub GoesOn : {C : Type 0} → Data → List Node → ℕ → Option (Befo
 GoesOn m ns place None new = new ≡ None
 GoesOn m ns place (Some from) None = ⊥
 GoesOn m ns place (Some from) (Some b) =
-    (b.cells ≡ from.cells) × MovesTheSame from.changed b.changed × IsAtNode m ns place b.changed
+    (b.cells ≡ from.cells) × MovesTheSame from.changed b.changed × IsOfNodeAt m ns place b.changed
 
 -- those that a total adds by its groups
 abbrev pub addends_exchange : ChangedAddends → ℕ → Exchange
 addends_exchange changed year = record {
-  kept = addends_for changed.kept year;
+  staying = addends_for changed.staying year;
   gone = nodes_for part.Equivalent changed.gone.now year;
   come = nodes_for part.Equivalent changed.come.now year;
 }
 
 -- those that count in the total of a category, or in the gross total where none is given
-abbrev pub counted_exchange : Data → Data → ChangedLines → Option Category → ℕ → Exchange
-counted_exchange old new changed top year = record {
-  kept = nodes_for part.Equivalent (names_at (counts_in top) new changed.kept.names.items) year;
-  gone = nodes_for part.Equivalent (names_at (counts_in top) old changed.gone.names.items) year;
-  come = nodes_for part.Equivalent (names_at (counts_in top) new changed.come.names.items) year;
+abbrev pub counted_exchange : ChangedLines → Option Category → ℕ → Exchange
+counted_exchange changed top year = record {
+  staying = counted_nodes top changed.staying.placed.items year;
+  gone = counted_nodes top changed.gone.placed.items year;
+  come = counted_nodes top changed.come.placed.items year;
 }
 
 -- ---- the data before

@@ -1,6 +1,6 @@
 -- Lines by the categories at which they stand.
-use Rattle.std.specs.Prelude.{◌≡◌, ◌↔◌, Bool, true, false, is_some, List, [], filter, Option, option_and_then}
-use Rattle.std.specs.Option.{option_map_or}
+use Rattle.std.specs.Prelude.{◌≡◌, ◌↔◌, Bool, true, false, is_some, List, [], filter, filter_map, map, Option, option_and_then}
+use Rattle.std.specs.Option.{option_map, option_map_or}
 use Rattle.std.specs.BTreeMap.{get}
 use Rattle.std.specs.FinMap.{get as record_under}
 use Rattle.std.specs.List.Sorted.{IsStrictlySortedBy}
@@ -15,6 +15,7 @@ use Rattle.ghg_definitions.specs.Listed.{IsListed}
 use Rattle.ghg_affected.specs.Subtotals.{is_above_parts}
 use Rattle.ghg_engine.specs.declared.groups.ByCategory.{ByCategory}
 use Rattle.ghg_engine.specs.declared.groups.Groups.{Groups}
+use Rattle.ghg_engine.specs.declared.groups.PlacedLine.{PlacedLine}
 
 -- the order of the codes' bytes
 abbrev pub code_order : Category → Category → Ordering
@@ -29,13 +30,27 @@ pub record IsGrouping (m : Data) (groups : Groups) : Type 0 where
   pub at : (c : Category) → group_at groups.at c ≡ gas_lines_at (λ k. is_same k c) m
   pub above : groups.above.items ≡ gas_lines_at is_above_parts m
 
--- the same of those of the names that stand at categories that pass
+-- those of the names that stand at categories that pass
 abbrev pub names_at : (Category → Bool) → Data → List Name → List Name
 names_at test m names = filter (λ name. option_map_or test (category m name) false) names
 
-pub record AreGroupsOf (m : Data) (names : List Name) (groups : Groups) : Type 0 where
-  pub at : (c : Category) → group_at groups.at c ≡ names_at (λ k. is_same k c) m names
-  pub above : groups.above.items ≡ names_at is_above_parts m names
+-- ---- lines where they stand
+
+-- the line with its category, where it has one
+abbrev pub placed_line : Data → Name → Option PlacedLine
+placed_line m name = option_map (λ c. record { name = name; category = c }) (category m name)
+
+abbrev pub placed_lines : Data → List Name → List PlacedLine
+placed_lines m names = filter_map (placed_line m) names
+
+-- the names of those at categories that pass
+abbrev pub placed_at : (Category → Bool) → List PlacedLine → List Name
+placed_at test lines = map (λ l. l.name) (filter (λ l. test l.category) lines)
+
+-- for each category the lines at it, and those above the parts of the gross total
+pub record AreGroupsOf (lines : List PlacedLine) (groups : Groups) : Type 0 where
+  pub at : (c : Category) → group_at groups.at c ≡ placed_at (λ k. is_same k c) lines
+  pub above : groups.above.items ≡ placed_at is_above_parts lines
 
 -- ---- lines more
 

@@ -1,5 +1,5 @@
 -- The parts of sums.
-use Rattle.std.specs.Prelude.{◌≡◌, ℕ, Bool, true, if◌then◌else◌, List, ◌++◌, map, length, Option, Some, None, Ok, Err}
+use Rattle.std.specs.Prelude.{◌≡◌, ℕ, Bool, true, if◌then◌else◌, List, ◌++◌, filter, map, length, Option, Some, None, Ok, Err}
 use Rattle.ghg_categories.specs.declared.category.Category.{Category}
 use Rattle.ghg_categories.specs.Tree.{stands_under}
 use Rattle.ghg_cell.specs.declared.input.Input.{Input}
@@ -8,6 +8,7 @@ use Rattle.ghg_units.specs.declared.node.Node.TheVariants as node
 use Rattle.ghg_definitions.specs.Compilation.{counts_in_gross, gas_lines_at}
 use Rattle.ghg_definitions.specs.Data.{Data, Name}
 use Rattle.ghg_definitions.specs.Formulas.{gather}
+use Rattle.ghg_engine.specs.declared.groups.PlacedLine.{PlacedLine}
 use Rattle.ghg_engine.specs.declared.parts.Addends.{Addends}
 use Rattle.ghg_engine.specs.declared.parts.Part.{Part}
 use Rattle.ghg_engine.specs.declared.parts.Part.TheVariants as part
@@ -31,6 +32,11 @@ addends_for a year = map (λ c. node.Total c year) a.categories.now ++ nodes_for
 abbrev pub counts_in : Option Category → Category → Bool
 counts_in (Some top) c = stands_under c top
 counts_in None c = counts_in_gross c
+
+-- the equivalents of those of the lines that count in it
+abbrev pub counted_nodes : Option Category → List PlacedLine → ℕ → List Node
+counted_nodes top lines year =
+    map (λ l. node.Equiv l.name year) (filter (λ l. counts_in top l.category) lines)
 
 -- the equivalents of all lines that count in it
 abbrev pub all_for : Data → Addends → ℕ → List Node

@@ -8,10 +8,10 @@ ghost use Rattle.ghg_definitions.specs.Compilation.{emits};
 ghost use Rattle.ghg_definitions.specs.Data.{name_cmp};
 ghost use Rattle.ghg_definitions.specs.Nodes.{year_in};
 ghost use Rattle.ghg_graph.specs.NodeOrders.{AreByYear};
-ghost use Rattle.ghg_engine.specs.Changes.{AreChangedLines, AreGrouped, AreKeptLines, AreMoved, IsAtNode, IsAtPlace, IsBetween, MovesTheSame, moved_line, unmoved_line};
-ghost use Rattle.ghg_engine.specs.Grouping.{AreGroupsOf, group_at};
+ghost use Rattle.ghg_engine.specs.Changes.{AreChangedLines, AreGrouped, AreStayingLines, HasComeTo, IsFirstYear, IsOfNodeAt, MovesTheSame, moved_line, unmoved_line};
+ghost use Rattle.ghg_engine.specs.Grouping.{group_at};
 
-use crate::groups::{Groups, emitted_at};
+use crate::groups::{Groups, PlacedLine, emitted_at, placed_lines};
 use crate::nodes::emits;
 use crate::parts::Addends;
 use crate::series::year_of;
@@ -22,26 +22,31 @@ use ghg_units::{Name, Node};
 use std::alloc::{AllocError, Global};
 use std::collections::BTreeSet;
 
-/// Lines by name, and their groups.
+/// Lines by name, where they stand, and their groups.
 #[derive(Drop)]
 pub(crate) struct GroupedLines {
-    pub(crate) names: Vec<Name>,
+    names: Vec<Name>,
+    pub(crate) placed: Vec<PlacedLine>,
     groups: Groups,
 }
 
 impl GroupedLines {
-    // Lines, in the groups of the categories at which they stand in the records.
+    // Lines where they stand in the records, each of which is looked up once.
     fn of<R: Records>(
         alloc: Global,
         records: &R,
         names: Vec<Name>,
     ) -> Result<GroupedLines, AllocError>
         ensures names { IfOk result (λ lines. lines.names ≡ names) }
-        ensures groups { IfOk result (λ lines.
-            AreGroupsOf (R.content records.now) names.items lines.groups) }
+        ensures grouped { IfOk result (AreGrouped (R.content records.now)) }
     {
-        let groups = Groups::of(alloc, records, &names)?;
-        Ok(GroupedLines { names, groups })
+        let placed = placed_lines(alloc, records, &names)?;
+        let groups = Groups::of(alloc, &placed)?;
+        Ok(GroupedLines {
+            names,
+            placed,
+            groups,
+        })
     }
 
     // Has other lines from now on. Where they are the same ones, none is looked up.
@@ -70,7 +75,7 @@ pub(crate) struct ChangedLines {
     /// The year at hand.
     year: u32,
     /// Those of which the equivalent of that year is evaluated anew, and which are not moved.
-    pub(crate) kept: GroupedLines,
+    pub(crate) staying: GroupedLines,
     /// The moved lines that emitted a gas, where they stood before.
     pub(crate) gone: GroupedLines,
     /// The moved lines that emit a gas, where they stand now.
@@ -81,7 +86,7 @@ pub(crate) struct ChangedLines {
 /// and now; lines that are taken out of it; and lines that are put in, which may be the same ones.
 #[derive(Clone, Copy, Drop)]
 pub(crate) struct ChangedAddends<'a> {
-    pub(crate) kept: Addends<'a>,
+    pub(crate) staying: Addends<'a>,
     pub(crate) gone: &'a [Name],
     pub(crate) come: &'a [Name],
 }
@@ -90,11 +95,11 @@ impl ChangedAddends<'_> {
     /// How many lines they are, where those that are put in are the same as those that are taken out, as far
     /// as they go.
     pub(crate) fn len(&self) -> usize
-        ensures { result ≡ min (length self.now.kept.own.now +
+        ensures { result ≡ min (length self.now.staying.own.now +
             max (length self.now.gone.now) (length self.now.come.now)) (2 ^ 64 - 1) }
     {
         let moved = self.gone.len().max(self.come.len());
-        self.kept.own.len().saturating_add(moved)
+        self.staying.own.len().saturating_add(moved)
     }
 }
 
@@ -111,20 +116,20 @@ impl ChangedLines {
         requires { AreByYear nodes.now }
         ensures changed { IfOk result (AreChangedLines (R.content old.now) (S.content new.now)
             keys.now nodes.now) }
-        ensures first { IfOk result (λ changed. IsBetween changed.year 0 nodes.now) }
+        ensures first { IfOk result (λ changed. IsFirstYear changed.year nodes.now) }
     {
         let moved = moved_lines(alloc, old, new, keys)?;
         let year = first_year_of(nodes);
-        let kept = kept_lines(alloc, nodes, year, &moved)?;
+        let staying = staying_lines(alloc, nodes, year, &moved)?;
         let gone = emitters(alloc, old, &moved)?;
         let come = emitters(alloc, new, &moved)?;
-        let kept = GroupedLines::of(alloc, new, kept)?;
+        let staying = GroupedLines::of(alloc, new, staying)?;
         let gone = GroupedLines::of(alloc, old, gone)?;
         let come = GroupedLines::of(alloc, new, come)?;
         Ok(ChangedLines {
             moved,
             year,
-            kept,
+            staying,
             gone,
             come,
         })
@@ -140,29 +145,29 @@ impl ChangedLines {
     ) -> Result<(), AllocError>
         requires place { place < length nodes.now }
         requires by_year { AreByYear nodes.now }
-        requires at { IsAtPlace (R.content new.now) nodes.now place self.old }
-        ensures at { OnOk result (IsAtNode (R.content new.now) nodes.now place self.new) }
+        requires at { HasComeTo (R.content new.now) nodes.now place self.old }
+        ensures at { OnOk result (IsOfNodeAt (R.content new.now) nodes.now place self.new) }
         ensures same { OnOk result (MovesTheSame self.old self.new) }
     {
         let year = year_of(&nodes[place]);
         if year == self.year {
             return Ok(());
         }
-        let names = kept_lines(alloc, &nodes[place..], year, &self.moved)?;
-        self.kept.set_names(alloc, new, names)?;
+        let names = staying_lines(alloc, &nodes[place..], year, &self.moved)?;
+        self.staying.set_names(alloc, new, names)?;
         self.year = year;
         Ok(())
     }
 
     /// What may change of what the total of a category adds.
     pub(crate) fn total(&self, category: Category) -> ChangedAddends<'_>
-        ensures categories { result.kept.categories.now ≡ children category }
-        ensures kept { result.kept.own.now ≡ group_at self.now.kept.groups.at category }
+        ensures categories { result.staying.categories.now ≡ children category }
+        ensures staying { result.staying.own.now ≡ group_at self.now.staying.groups.at category }
         ensures gone { result.gone.now ≡ group_at self.now.gone.groups.at category }
         ensures come { result.come.now ≡ group_at self.now.come.groups.at category }
     {
         ChangedAddends {
-            kept: self.kept.groups.total(category),
+            staying: self.staying.groups.total(category),
             gone: self.gone.groups.total(category).own,
             come: self.come.groups.total(category).own,
         }
@@ -170,13 +175,13 @@ impl ChangedLines {
 
     /// What may change of what the gross total adds.
     pub(crate) fn gross(&self) -> ChangedAddends<'_>
-        ensures categories { result.kept.categories.now ≡ gross_parts }
-        ensures kept { result.kept.own.now ≡ self.now.kept.groups.above.items }
+        ensures categories { result.staying.categories.now ≡ gross_parts }
+        ensures staying { result.staying.own.now ≡ self.now.staying.groups.above.items }
         ensures gone { result.gone.now ≡ self.now.gone.groups.above.items }
         ensures come { result.come.now ≡ self.now.come.groups.above.items }
     {
         ChangedAddends {
-            kept: self.kept.groups.gross(),
+            staying: self.staying.groups.gross(),
             gone: self.gone.groups.gross().own,
             come: self.come.groups.gross().own,
         }
@@ -190,7 +195,8 @@ fn moved_lines<R: Records, S: Records>(
     new: &S,
     keys: &[RecordKey],
 ) -> Result<BTreeSet<Name>, AllocError>
-    ensures { IfOk result (AreMoved (R.content old.now) (S.content new.now) keys.now) }
+    ensures { IfOk result (IsFromIterResult name_cmp
+        (filter_map (moved_line (R.content old.now) (S.content new.now)) keys.now)) }
 {
     keys.iter()
         .filter_map(|key| moved_line(old, new, key))
@@ -209,8 +215,7 @@ fn moved_line<R: Records, S: Records>(old: &R, new: &S, key: &RecordKey) -> Opti
 
 // The year of the first node, if there is one.
 fn first_year_of(nodes: &[Node]) -> u32
-    requires { AreByYear nodes.now }
-    ensures { IsBetween result 0 nodes.now }
+    ensures { IsFirstYear result nodes.now }
 {
     match nodes.first() {
         Some(node) => year_of(node),
@@ -220,7 +225,7 @@ fn first_year_of(nodes: &[Node]) -> u32
 
 // The lines of which the equivalent of a year is among nodes, by name, without the moved ones. None of the
 // nodes is of an earlier year.
-fn kept_lines(
+fn staying_lines(
     alloc: Global,
     nodes: &[Node],
     year: u32,
@@ -228,7 +233,7 @@ fn kept_lines(
 ) -> Result<Vec<Name>, AllocError>
     requires by_year { AreByYear nodes.now }
     requires behind { (k : Node) → Contains nodes.now k → year ≤ year_in k }
-    ensures { IfOk result (λ names. AreKeptLines nodes.now year moved.now names.items) }
+    ensures { IfOk result (λ names. AreStayingLines nodes.now year moved.now names.items) }
 {
     let lines = unmoved_lines(alloc, nodes, year, moved)?;
     names_of(alloc, &lines)

@@ -5,18 +5,17 @@ ghost use Rattle.ghg_units.specs.declared.node.Node.TheVariants as node;
 ghost use Rattle.ghg_definitions.specs.Compilation.{compilation};
 ghost use Rattle.ghg_definitions.specs.Trials.{is_over};
 ghost use Rattle.ghg_engine.specs.Fresh.{fresh_at};
-ghost use Rattle.ghg_engine.specs.Changes.{AnyIsOver, AreChanges, HasMoreCome, HasMoreEntering, HasMoreGone, HasMoreKept, addends_exchange, counted_exchange, entering, has_outcome, input_at};
+ghost use Rattle.ghg_engine.specs.Changes.{AnyIsOver, AreChanges, HasMoreCome, HasMoreEntering, HasMoreGone, HasMoreStaying, addends_exchange, counted_exchange, entering, has_outcome, input_at};
 ghost use Rattle.ghg_engine.specs.declared.parts.Part.TheVariants as part;
-ghost use Rattle.ghg_engine.specs.Grouping.{names_at};
 ghost use Rattle.ghg_engine.specs.Overlays.{outcomes_of};
-ghost use Rattle.ghg_engine.specs.Parts.{addends_for, counts_in, nodes_for};
+ghost use Rattle.ghg_engine.specs.Parts.{addends_for, counted_nodes, nodes_for};
 
 use crate::changed_lines::{ChangedAddends, ChangedLines};
+use crate::groups::PlacedLine;
 use crate::overlay::Overlay;
-use crate::parts::{Addends, counts};
+use crate::parts::{Addends, counts_in};
 use ghg_categories::Category;
 use ghg_cell::{Input, MOST_PARTS};
-use ghg_data::Records;
 use ghg_graph::Cells;
 use ghg_interval::Over;
 use ghg_units::{Name, Node};
@@ -42,9 +41,9 @@ impl Changes {
         }
     }
 
-    /// Gathers what those of the kept addends gave that are evaluated anew, and what they give now; what the
-    /// lines give that have come; and what those gave that are gone. Answers whether none of what is given
-    /// now is over. Where something is, no more is looked at.
+    /// Gathers what those of the staying addends gave that are evaluated anew, and what they give now; what
+    /// the lines give that have come; and what those gave that are gone. Answers whether none of what is
+    /// given now is over. Where something is, no more is looked at.
     pub(crate) fn gather<C: Cells>(
         &mut self,
         cells: &Overlay<'_>,
@@ -66,10 +65,9 @@ impl Changes {
     }
 
     /// Gathers the same of the lines that count in the total of a category, or in the gross total where none
-    /// is given. Each line is looked up. Answers whether none of what is given now is over.
-    pub(crate) fn gather_counted<R: Records, C: Cells>(
+    /// is given. Answers whether none of what is given now is over.
+    pub(crate) fn gather_counted<C: Cells>(
         &mut self,
-        records: &R,
         cells: &Overlay<'_>,
         before: &C,
         changed: &ChangedLines,
@@ -77,17 +75,16 @@ impl Changes {
         year: u32,
     ) -> Result<bool, AllocError>
         ensures changes { IfOk result (λ whole. whole ≡ true → AreChanges (compilation (C.content before.now))
-            (outcomes_of cells.now) (fresh_at cells.now.fresh)
-            (counted_exchange (C.content before.now) (R.content records.now) changed.now top year) self.new) }
+            (outcomes_of cells.now) (fresh_at cells.now.fresh) (counted_exchange changed.now top year)
+            self.new) }
         ensures over { IfOk result (λ whole. whole ≡ false → AnyIsOver (outcomes_of cells.now)
-            (entering (fresh_at cells.now.fresh)
-            (counted_exchange (C.content before.now) (R.content records.now) changed.now top year))) }
+            (entering (fresh_at cells.now.fresh) (counted_exchange changed.now top year))) }
     {
         self.clear();
-        if !self.add_counted_entering(records, cells, before, changed, top, year)? {
+        if !self.add_counted_entering(cells, before, changed, top, year)? {
             return Ok(false);
         }
-        let gone = changed.gone.names.as_slice();
+        let gone = changed.gone.placed.as_slice();
         self.add_counted_gone(before, gone, top, year)?;
         Ok(true)
     }
@@ -122,16 +119,15 @@ impl Changes {
         ensures over { IfOk result (λ whole. whole ≡ false → AnyIsOver (outcomes_of cells.now)
             (entering (fresh_at cells.now.fresh) (addends_exchange changed.now year))) }
     {
-        if !self.add_kept(cells, before, &changed.kept, year)? {
+        if !self.add_staying(cells, before, &changed.staying, year)? {
             return Ok(false);
         }
         self.add_come(cells, changed.come, year)
     }
 
     // The same of those of the lines that count.
-    fn add_counted_entering<R: Records, C: Cells>(
+    fn add_counted_entering<C: Cells>(
         &mut self,
-        records: &R,
         cells: &Overlay<'_>,
         before: &C,
         changed: &ChangedLines,
@@ -140,30 +136,28 @@ impl Changes {
     ) -> Result<bool, AllocError>
         ensures changes { IfOk result (λ whole. whole ≡ true → HasMoreEntering
             (compilation (C.content before.now)) (outcomes_of cells.now) (fresh_at cells.now.fresh)
-            (counted_exchange (C.content before.now) (R.content records.now) changed.now top year)
-            self.old self.new) }
+            (counted_exchange changed.now top year) self.old self.new) }
         ensures over { IfOk result (λ whole. whole ≡ false → AnyIsOver (outcomes_of cells.now)
-            (entering (fresh_at cells.now.fresh)
-            (counted_exchange (C.content before.now) (R.content records.now) changed.now top year))) }
+            (entering (fresh_at cells.now.fresh) (counted_exchange changed.now top year))) }
     {
-        let kept = changed.kept.names.as_slice();
-        let come = changed.come.names.as_slice();
-        if !self.add_counted(records, cells, before, kept, top, year)? {
+        let staying = changed.staying.placed.as_slice();
+        let come = changed.come.placed.as_slice();
+        if !self.add_counted(cells, before, staying, top, year)? {
             return Ok(false);
         }
-        self.add_counted_come(records, cells, come, top, year)
+        self.add_counted_come(cells, come, top, year)
     }
 
     // ---- nodes that the total adds before and now
 
-    fn add_kept<C: Cells>(
+    fn add_staying<C: Cells>(
         &mut self,
         cells: &Overlay<'_>,
         before: &C,
         addends: &Addends<'_>,
         year: u32,
     ) -> Result<bool, AllocError>
-        ensures changes { IfOk result (λ whole. whole ≡ true → HasMoreKept
+        ensures changes { IfOk result (λ whole. whole ≡ true → HasMoreStaying
             (compilation (C.content before.now)) (outcomes_of cells.now) (fresh_at cells.now.fresh)
             (addends_for addends.now year) self.old self.new) }
         ensures over { IfOk result (λ whole. whole ≡ false → AnyIsOver (outcomes_of cells.now)
@@ -182,7 +176,7 @@ impl Changes {
         categories: &[Category],
         year: u32,
     ) -> Result<bool, AllocError>
-        ensures changes { IfOk result (λ whole. whole ≡ true → HasMoreKept
+        ensures changes { IfOk result (λ whole. whole ≡ true → HasMoreStaying
             (compilation (C.content before.now)) (outcomes_of cells.now) (fresh_at cells.now.fresh)
             (map (λ c. node.Total c year) categories.now) self.old self.new) }
         ensures over { IfOk result (λ whole. whole ≡ false → AnyIsOver (outcomes_of cells.now)
@@ -203,7 +197,7 @@ impl Changes {
         names: &[Name],
         year: u32,
     ) -> Result<bool, AllocError>
-        ensures changes { IfOk result (λ whole. whole ≡ true → HasMoreKept
+        ensures changes { IfOk result (λ whole. whole ≡ true → HasMoreStaying
             (compilation (C.content before.now)) (outcomes_of cells.now) (fresh_at cells.now.fresh)
             (nodes_for part.Equivalent names.now year) self.old self.new) }
         ensures over { IfOk result (λ whole. whole ≡ false → AnyIsOver (outcomes_of cells.now)
@@ -218,25 +212,24 @@ impl Changes {
     }
 
     // The equivalents of those of the lines that count.
-    fn add_counted<R: Records, C: Cells>(
+    fn add_counted<C: Cells>(
         &mut self,
-        records: &R,
         cells: &Overlay<'_>,
         before: &C,
-        names: &[Name],
+        lines: &[PlacedLine],
         top: Option<Category>,
         year: u32,
     ) -> Result<bool, AllocError>
-        ensures changes { IfOk result (λ whole. whole ≡ true → HasMoreKept
+        ensures changes { IfOk result (λ whole. whole ≡ true → HasMoreStaying
             (compilation (C.content before.now)) (outcomes_of cells.now) (fresh_at cells.now.fresh)
-            (nodes_for part.Equivalent (names_at (counts_in top) (R.content records.now) names.now) year)
-            self.old self.new) }
+            (counted_nodes top lines.now year) self.old self.new) }
         ensures over { IfOk result (λ whole. whole ≡ false → AnyIsOver (outcomes_of cells.now)
-            (filter (has_outcome (fresh_at cells.now.fresh)) (nodes_for part.Equivalent
-            (names_at (counts_in top) (R.content records.now) names.now) year))) }
+            (filter (has_outcome (fresh_at cells.now.fresh)) (counted_nodes top lines.now year))) }
     {
-        for name in names {
-            if counts(records, top, name) && !self.add(cells, before, &Node::Equiv(*name, year))? {
+        for line in lines {
+            if counts_in(top, line.category)
+                && !self.add(cells, before, &Node::Equiv(line.name, year))?
+            {
                 return Ok(false);
             }
         }
@@ -251,7 +244,7 @@ impl Changes {
         before: &C,
         node: &Node,
     ) -> Result<bool, AllocError>
-        ensures changes { IfOk result (λ whole. whole ≡ true → HasMoreKept
+        ensures changes { IfOk result (λ whole. whole ≡ true → HasMoreStaying
             (compilation (C.content before.now)) (outcomes_of cells.now) (fresh_at cells.now.fresh)
             (node.now ∷ []) self.old self.new) }
         ensures over { IfOk result (λ whole. whole ≡ false → AnyIsOver (outcomes_of cells.now)
@@ -289,16 +282,16 @@ impl Changes {
     fn add_counted_gone<C: Cells>(
         &mut self,
         before: &C,
-        names: &[Name],
+        lines: &[PlacedLine],
         top: Option<Category>,
         year: u32,
     ) -> Result<(), AllocError>
-        ensures { OnOk result (HasMoreGone (compilation (C.content before.now)) (nodes_for part.Equivalent
-            (names_at (counts_in top) (C.content before.now) names.now) year) self.old self.new) }
+        ensures { OnOk result (HasMoreGone (compilation (C.content before.now))
+            (counted_nodes top lines.now year) self.old self.new) }
     {
-        for name in names {
-            if counts(before.book(), top, name) {
-                self.push_gone(before, &Node::Equiv(*name, year))?;
+        for line in lines {
+            if counts_in(top, line.category) {
+                self.push_gone(before, &Node::Equiv(line.name, year))?;
             }
         }
         Ok(())
@@ -334,22 +327,22 @@ impl Changes {
     }
 
     // Those of the lines that count.
-    fn add_counted_come<R: Records>(
+    fn add_counted_come(
         &mut self,
-        records: &R,
         cells: &Overlay<'_>,
-        names: &[Name],
+        lines: &[PlacedLine],
         top: Option<Category>,
         year: u32,
     ) -> Result<bool, AllocError>
         ensures changes { IfOk result (λ whole. whole ≡ true → HasMoreCome (outcomes_of cells.now)
-            (nodes_for part.Equivalent (names_at (counts_in top) (R.content records.now) names.now) year)
-            self.old self.new) }
+            (counted_nodes top lines.now year) self.old self.new) }
         ensures over { IfOk result (λ whole. whole ≡ false → AnyIsOver (outcomes_of cells.now)
-            (nodes_for part.Equivalent (names_at (counts_in top) (R.content records.now) names.now) year)) }
+            (counted_nodes top lines.now year)) }
     {
-        for name in names {
-            if counts(records, top, name) && !self.push_come(cells, &Node::Equiv(*name, year))? {
+        for line in lines {
+            if counts_in(top, line.category)
+                && !self.push_come(cells, &Node::Equiv(line.name, year))?
+            {
                 return Ok(false);
             }
         }

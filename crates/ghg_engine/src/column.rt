@@ -1,7 +1,7 @@
 //! The values of a series, year by year.
 
 ghost use Rattle.std.specs.Prelude.{◌≡◌, ◌<◌, ◌≤◌, ◌+◌, ◌-◌, [], ◌∷◌, ◌++◌, true, None, Some, drop, is_ok, is_some, length, max, min, if◌then◌else◌, vec_capacity, IfNone, IfOk, IfSome, OnOk, OnSome, SomeIff, option_copied};
-ghost use Rattle.ghg_engine.specs.Columns.{AreOver, HasIn, HasShapeOf, Joins, IsOver, capacity_of, covers, end_of, has_place, hull, is_replaced_by, joined, length_of, meet_in_turn, meets, takes, touches, value_in, years_of};
+ghost use Rattle.ghg_engine.specs.Columns.{AreOver, HasIn, HasShapeOf, IsOver, Joins, capacity_of, covers, end_of, has_place, hull, is_replaced_by, joined, length_of, meet_in_turn, meets, takes, touches, value_in, years_of};
 
 use ghg_cell::Value;
 use std::alloc::{AllocError, Global};

@@ -1,6 +1,6 @@
 //! The evaluation of nodes, each once and behind its inputs.
 
-ghost use Rattle.std.specs.Prelude.{◌≡◌, ◌<◌, IfOk, IfSome, MatchResult, OnOk, Some, length};
+ghost use Rattle.std.specs.Prelude.{◌≡◌, ◌<◌, IfOk, IfSome, MatchResult, OnOk, Some, is_some, length};
 ghost use Rattle.ghg_definitions.specs.Compilation.{compilation, first_year, gas_lines, sheet_of};
 ghost use Rattle.ghg_definitions.specs.Data.{span};
 ghost use Rattle.ghg_definitions.specs.Nodes.{lesser_node};
@@ -8,10 +8,9 @@ ghost use Rattle.ghg_definitions.specs.Rings.{IsAcyclic};
 ghost use Rattle.ghg_definitions.specs.Sound.{IsWorkbook};
 ghost use Rattle.ghg_affected.specs.Patches.{least_break};
 ghost use Rattle.ghg_graph.specs.NodeOrders.{AreByYear, AreInOrder};
-ghost use Rattle.ghg_engine.specs.Breaking.{least_with};
+ghost use Rattle.ghg_engine.specs.Breaking.{breaks_by, is_settled, least_with};
 ghost use Rattle.ghg_engine.specs.Cells.{cell_at};
-ghost use Rattle.ghg_engine.specs.Changes.{AreChangedLines, GoesOn, IsAtPlace, IsBefore, IsBetween, IsReadyFrom, IsResummed, addends_exchange, counted_exchange};
-ghost use Rattle.ghg_definitions.specs.Trials.{value_of};
+ghost use Rattle.ghg_engine.specs.Changes.{AreChangedLines, GoesOn, HasComeTo, IsBefore, IsFirstYear, IsReadyFrom, IsResummed, addends_exchange, counted_exchange};
 ghost use Rattle.ghg_engine.specs.Evaluation.{AreEvaluated, AreKept, IsEvaluatedAt, IsEvaluatedSum, IsOutcomeOf, IsReady, IsTotalOf};
 ghost use Rattle.ghg_engine.specs.Factors.{AreKeptFactors};
 ghost use Rattle.ghg_engine.specs.Fresh.{fresh_at};
@@ -35,6 +34,7 @@ use crate::overlay::Overlay;
 use crate::parts::{Addends, Parts, gather_addends, gather_counted};
 use crate::refusal::EngineRefusal;
 use crate::series::year_of;
+use ghg_categories::Category;
 use ghg_cell::{Input, MOST_PARTS, Permits, Ticket, equiv, total, total_from};
 use ghg_data::Records;
 use ghg_definitions::RecordKey;
@@ -46,6 +46,7 @@ use std::cmp::Ordering;
 
 /// The cells of nodes, each evaluated in its turn over the others and over cells that are kept, which are
 /// right at all other nodes of the workbook; or the least of them that is over while none of its inputs is.
+/// Once such a node is found, totals that cannot be the least one any more are not evaluated.
 /// Where the cells of the workbook before are given, from whose records these differ at the keys alone, a
 /// total follows from what it was and what has changed.
 pub(crate) fn evaluate_all<R: Records, C: ghg_graph::Cells>(
@@ -80,21 +81,23 @@ pub(crate) fn evaluate_all<R: Records, C: ghg_graph::Cells>(
     for place in 0..nodes.len() {
         let node = &nodes[place];
         go_on(alloc, records, &mut from, nodes, place)?;
-        let ticket = permits.ticket().unwrap();
-        buffers.parts.begin(year_of(node));
-        let evaluated = evaluate(
-            records,
-            &mut known,
-            layout,
-            &from,
-            &cells,
-            first,
-            node,
-            ticket,
-            &mut buffers,
-        )?;
-        least = least_with(&least, evaluated.breaks, node);
-        cells.insert(node, evaluated.outcome)?;
+        if !is_settled(&least, node) {
+            let ticket = permits.ticket().unwrap();
+            buffers.parts.begin(year_of(node));
+            let evaluated = evaluate(
+                records,
+                &mut known,
+                layout,
+                &from,
+                &cells,
+                first,
+                node,
+                ticket,
+                &mut buffers,
+            )?;
+            least = least_with(&least, evaluated.breaks, node);
+            cells.insert(node, evaluated.outcome)?;
+        }
     }
     match least {
         None => Ok(cells.into_fresh()),
@@ -119,10 +122,11 @@ fn with_lines<'a, R: Records, C: ghg_graph::Cells>(
     requires by_year { AreByYear nodes.now }
     requires before { IfSome before (λ b.
         IsBefore (C.content b.now) (R.content records.now) keys.now nodes.now) }
+    ensures some { IfOk result (λ o. is_some o ≡ is_some before.entry) }
     ensures lines { IfOk result (λ o. IfSome o (λ b.
         IsBefore (C.content b.cells.now) (R.content records.now) keys.now nodes.now
         × AreChangedLines (C.content b.cells.now) (R.content records.now) keys.now nodes.now b.changed)) }
-    ensures first { IfOk result (λ o. IfSome o (λ b. IsBetween b.changed.year 0 nodes.now)) }
+    ensures first { IfOk result (λ o. IfSome o (λ b. IsFirstYear b.changed.year nodes.now)) }
 {
     let Some(cells) = before else {
         return Ok(None);
@@ -142,7 +146,7 @@ fn go_on<R: Records, C: ghg_graph::Cells>(
 ) -> Result<(), AllocError>
     requires place { place < length nodes.now }
     requires by_year { AreByYear nodes.now }
-    requires from { IfSome from.old (λ b. IsAtPlace (R.content records.now) nodes.now place b.changed) }
+    requires from { IfSome from.old (λ b. HasComeTo (R.content records.now) nodes.now place b.changed) }
     ensures { OnOk result (GoesOn (R.content records.now) nodes.now place from.old from.new) }
 {
     match from {
@@ -207,6 +211,28 @@ fn lesser(node: &Node, least: &Option<Node>) -> Node
     match least {
         Some(other) if node.cmp(other) == Ordering::Greater => *other,
         _ => *node,
+    }
+}
+
+// Whether a node is a total that is not evaluated any more: the least node that breaks so far comes no later
+// than the national total of the same year, which is the first of the totals of its year. So neither this
+// node nor a total that adds it is the least.
+fn is_settled(least: &Option<Node>, node: &Node) -> bool
+    ensures { result ≡ is_settled least.now node.now }
+{
+    match node {
+        Node::Line(_, _) | Node::Equiv(_, _) => false,
+        Node::Total(_, year) | Node::Gross(year) => breaks_by(least, *year),
+    }
+}
+
+// Whether the least node that breaks so far comes no later than the national total of a year.
+fn breaks_by(least: &Option<Node>, year: u32) -> bool
+    ensures { result ≡ breaks_by least.now year }
+{
+    match least {
+        Some(least) => least.cmp(&Node::Total(Category::National, year)) != Ordering::Greater,
+        None => false,
     }
 }
 
@@ -325,8 +351,7 @@ fn sum_from<R: Records, C: ghg_graph::Cells>(
     requires lines { IsResummed (outcomes_of cells.now) (fresh_at cells.now.fresh)
         (compilation (C.content before.now.cells.now)) node.now
         (all_for (R.content emitters.now.records.now) addends.now year)
-        (counted_exchange (C.content before.now.cells.now) (R.content emitters.now.records.now)
-        before.now.changed addends.now.top year) }
+        (counted_exchange before.now.changed addends.now.top year) }
     ensures { IfOk result (IsTotalOf (R.content emitters.now.records.now) (outcomes_of cells.now)
         addends.now year) }
 {
@@ -364,8 +389,7 @@ fn sum_changed<R: Records, C: ghg_graph::Cells>(
     requires lines { IsResummed (outcomes_of cells.now) (fresh_at cells.now.fresh)
         (compilation (C.content before.now.cells.now)) node.now
         (all_for (R.content emitters.now.records.now) addends.now year)
-        (counted_exchange (C.content before.now.cells.now) (R.content emitters.now.records.now)
-        before.now.changed addends.now.top year) }
+        (counted_exchange before.now.changed addends.now.top year) }
     ensures { IfOk result (IsTotalOf (R.content emitters.now.records.now) (outcomes_of cells.now)
         addends.now year) }
 {
@@ -376,14 +400,7 @@ fn sum_changed<R: Records, C: ghg_graph::Cells>(
     let Some(value) = before.cells.value(node) else {
         return sum_lines(emitters, cells, addends, year, ticket, parts);
     };
-    if !changes.gather_counted(
-        emitters.records,
-        cells,
-        before.cells,
-        &before.changed,
-        addends.top,
-        year,
-    )? {
+    if !changes.gather_counted(cells, before.cells, &before.changed, addends.top, year)? {
         return Ok(Evaluated::passed_on());
     }
     if changes.are_few() {

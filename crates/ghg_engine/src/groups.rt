@@ -7,7 +7,7 @@ ghost use Rattle.ghg_categories.specs.declared.category.Category.{Category};
 ghost use Rattle.ghg_definitions.specs.Data.{Data, name_cmp};
 ghost use Rattle.ghg_affected.specs.Subtotals.{children, gross_parts, is_above_parts};
 ghost use Rattle.ghg_data.specs.Names.{with_name, without_name};
-ghost use Rattle.ghg_engine.specs.Grouping.{AddsLines, AreGroupsOf, AreInOrder, IsGrouping, emitted_at, group_at};
+ghost use Rattle.ghg_engine.specs.Grouping.{AddsLines, AreGroupsOf, AreInOrder, IsGrouping, emitted_at, group_at, placed_line, placed_lines};
 
 use crate::children::{GROSS_PARTS, children};
 use crate::parts::Addends;
@@ -18,6 +18,37 @@ use ghg_graph::put_name;
 use ghg_units::Name;
 use std::alloc::{AllocError, Global};
 use std::collections::BTreeMap;
+
+/// A line and the category at which it stands.
+#[derive(Clone, Copy, Drop)]
+pub(crate) struct PlacedLine {
+    pub(crate) name: Name,
+    pub(crate) category: Category,
+}
+
+/// Those of the names that are lines, where they stand. Each is looked up.
+pub(crate) fn placed_lines<R: Records>(
+    alloc: Global,
+    records: &R,
+    names: &[Name],
+) -> Result<Vec<PlacedLine>, AllocError>
+    ensures { IfOk result (λ lines. lines.items ≡ placed_lines (R.content records.now) names.now) }
+{
+    names
+        .iter()
+        .filter_map(|name| placed_line(records, name))
+        .collect(alloc)
+}
+
+fn placed_line<R: Records>(records: &R, name: &Name) -> Option<PlacedLine>
+    ensures { result ≡ placed_line (R.content records.now) name.now }
+{
+    let (category, _) = records.line(name)?;
+    Some(PlacedLine {
+        name: *name,
+        category,
+    })
+}
 
 /// Names of lines in a group for each category.
 #[derive(Drop)]
@@ -96,18 +127,12 @@ impl Groups {
     }
 
     /// The groups of lines.
-    pub(crate) fn of<R: Records>(
-        alloc: Global,
-        records: &R,
-        names: &[Name],
-    ) -> Result<Groups, AllocError>
-        ensures { IfOk result (AreGroupsOf (R.content records.now) names.now) }
+    pub(crate) fn of(alloc: Global, lines: &[PlacedLine]) -> Result<Groups, AllocError>
+        ensures { IfOk result (AreGroupsOf lines.now) }
     {
         let mut groups = Groups::new(alloc);
-        for name in names {
-            if let Some((category, _)) = records.line(name) {
-                groups.put(category, name)?;
-            }
+        for line in lines {
+            groups.put(line.category, &line.name)?;
         }
         Ok(groups)
     }

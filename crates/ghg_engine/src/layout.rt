@@ -10,7 +10,7 @@ ghost use Rattle.ghg_data.specs.Shelf.{IsPlanned};
 ghost use Rattle.ghg_graph.specs.Entries.{IsEnteredOrder, are_entries};
 ghost use Rattle.ghg_engine.specs.Layouts.{IsEnteredLayout, IsLayout};
 
-use crate::groups::Groups;
+use crate::groups::{Groups, placed_lines};
 use ghg_data::{Book, Edits, Records, after};
 use ghg_graph::{
     CycleRefusal, LineIndex, acyclic_order, entered_order, with_entered, without_entered,
@@ -51,7 +51,8 @@ impl Layout {
     {
         let lines = acyclic_order(alloc, records)?;
         let index = LineIndex::of(alloc, records, lines)?;
-        let groups = Groups::of(alloc, records, &index.emitters)?;
+        let emitters = placed_lines(alloc, records, &index.emitters)?;
+        let groups = Groups::of(alloc, &emitters)?;
         Ok(Layout { index, groups })
     }
 

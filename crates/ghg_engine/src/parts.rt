@@ -185,9 +185,9 @@ pub(crate) fn gather_counted<R: Records>(
     Ok(true)
 }
 
-/// Whether a line stands at a category that counts in the total of another, or in the gross total where none
-/// is given.
-pub(crate) fn counts<R: Records>(records: &R, top: Option<Category>, name: &Name) -> bool
+// Whether a line stands at a category that counts in the total of another, or in the gross total where none
+// is given.
+fn counts<R: Records>(records: &R, top: Option<Category>, name: &Name) -> bool
     ensures { result ≡ option_map_or (counts_in top) (category (R.content records.now) name.now) false }
 {
     match records.line(name) {
@@ -196,7 +196,9 @@ pub(crate) fn counts<R: Records>(records: &R, top: Option<Category>, name: &Name
     }
 }
 
-fn counts_in(top: Option<Category>, category: Category) -> bool
+/// Whether lines at the second category count in the total of the first, or in the gross total where none is
+/// given.
+pub(crate) fn counts_in(top: Option<Category>, category: Category) -> bool
     ensures { result ≡ counts_in top category }
 {
     match top {

@@ -1,4 +1,4 @@
-use Rattle.std.proofs.Common.{◌∙◌, ◌++◌, List, IfOk, map, refl, sym, ap, ap₂, subst}
+use Rattle.std.proofs.Common.{◌∙◌, ◌++◌, List, IfOk, None, Some, map, refl, sym, ap, ap₂, subst}
 use Rattle.ghg_categories.specs.declared.category.Category.{Category}
 use Rattle.ghg_units.specs.declared.node.Node.TheVariants as node
 use Rattle.ghg_definitions.specs.Compilation.{compilation, counts_in_gross, gas_lines_at, sum_formula}
@@ -13,6 +13,7 @@ use Rattle.ghg_engine.specs.Changes.{IsReadyFrom, IsResummed, addends_exchange, 
 use Rattle.ghg_engine.specs.Parts.{addends_for, all_for, counts_in, nodes_for}
 use Rattle.ghg_engine.specs.Fresh.{fresh_at}
 use Rattle.ghg_engine.proofs.Before.{from_ready, lines_ready, of_some}
+use Rattle.ghg_engine.proofs.Grouped.{above_names, counted_names, group_names}
 use Rattle.ghg_engine.proofs.Ready.{of_formula, of_total}
 use Rattle.ghg_engine.proofs.evaluation.evaluate.Goals as goal
 
@@ -48,8 +49,8 @@ sum_from-requires-clause-before g c =
     (from_ready old m c.requires.workbook c.requires.acyclic changed fresh found n ready ready_from (children c.in-Total.category) (λ k. is_same k c.in-Total.category) refl refl refl _
     (ap₂ (λ (cs : List Category) (names : List Name). map (λ d. node.Total d year) cs ++ map (λ name. node.Equiv name year) names)
     c.total-addends.ensures.categories (c.total-addends.ensures.own ∙ c.requires.layout.groups.at c.in-Total.category))
-    c.total-changed.result c.total-changed.ensures.categories (c.total-changed.ensures.kept ∙ ready_from.lines.of_year.grouped.at c.in-Total.category)
-    (c.total-changed.ensures.gone ∙ ready_from.lines.gone.grouped.at c.in-Total.category) (c.total-changed.ensures.come ∙ ready_from.lines.come.grouped.at c.in-Total.category))
+    c.total-changed.result c.total-changed.ensures.categories (c.total-changed.ensures.staying ∙ group_names m changed.staying ready_from.lines.of_year.grouped c.in-Total.category)
+    (c.total-changed.ensures.gone ∙ group_names old changed.gone ready_from.lines.gone.grouped c.in-Total.category) (c.total-changed.ensures.come ∙ group_names m changed.come ready_from.lines.come.grouped c.in-Total.category))
 
 pub sum_from-requires-clause-lines : goal.sum_from-requires-clause-lines
 sum_from-requires-clause-lines g c =
@@ -63,9 +64,10 @@ sum_from-requires-clause-lines g c =
     let changed = c.in-Some.from.changed in
     let ready = subst (IsReady m found) c.in-Total.is c.requires.ready in
     let ready_from = subst (IsReadyFrom old m changed fresh) c.in-Total.is from in
-    subst (λ k. IsResummed found fresh (compilation old) k (all_for m c.total-addends.result year) (counted_exchange old m changed c.total-addends.result.top year)) (sym c.in-Total.is)
-    (subst (λ top. IsResummed found fresh (compilation old) n (nodes_for Equivalent (gas_lines_at (counts_in top) m) year) (counted_exchange old m changed top year)) (sym c.total-addends.ensures.top)
-    (lines_ready old m c.requires.workbook c.requires.acyclic changed fresh found n ready ready_from (λ k. stands_under k c.in-Total.category) refl refl _ refl refl refl))
+    subst (λ k. IsResummed found fresh (compilation old) k (all_for m c.total-addends.result year) (counted_exchange changed c.total-addends.result.top year)) (sym c.in-Total.is)
+    (subst (λ top. IsResummed found fresh (compilation old) n (nodes_for Equivalent (gas_lines_at (counts_in top) m) year) (counted_exchange changed top year)) (sym c.total-addends.ensures.top)
+    (lines_ready old m c.requires.workbook c.requires.acyclic changed fresh found n ready ready_from (λ k. stands_under k c.in-Total.category) refl refl (counted_exchange changed (Some c.in-Total.category) year) (counted_names m changed.staying ready_from.lines.of_year.grouped (Some c.in-Total.category) year)
+    (counted_names old changed.gone ready_from.lines.gone.grouped (Some c.in-Total.category) year) (counted_names m changed.come ready_from.lines.come.grouped (Some c.in-Total.category) year)))
 
 pub returns-in-Some-clause-outcome : goal.returns-in-Some-clause-outcome
 returns-in-Some-clause-outcome g c =
@@ -107,8 +109,8 @@ sum_from-requires-in-Some-before-clause-before g c =
     (from_ready old m c.requires.workbook c.requires.acyclic changed fresh found n ready ready_from gross_parts is_above_parts refl refl refl _
     (ap₂ (λ (cs : List Category) (names : List Name). map (λ d. node.Total d year) cs ++ map (λ name. node.Equiv name year) names)
     c.gross-addends.ensures.categories (c.gross-addends.ensures.own ∙ c.requires.layout.groups.above))
-    c.gross-changed.result c.gross-changed.ensures.categories (c.gross-changed.ensures.kept ∙ ready_from.lines.of_year.grouped.above)
-    (c.gross-changed.ensures.gone ∙ ready_from.lines.gone.grouped.above) (c.gross-changed.ensures.come ∙ ready_from.lines.come.grouped.above))
+    c.gross-changed.result c.gross-changed.ensures.categories (c.gross-changed.ensures.staying ∙ above_names m changed.staying ready_from.lines.of_year.grouped)
+    (c.gross-changed.ensures.gone ∙ above_names old changed.gone ready_from.lines.gone.grouped) (c.gross-changed.ensures.come ∙ above_names m changed.come ready_from.lines.come.grouped))
 
 pub sum_from-requires-in-Some-before-clause-lines : goal.sum_from-requires-in-Some-before-clause-lines
 sum_from-requires-in-Some-before-clause-lines g c =
@@ -122,9 +124,10 @@ sum_from-requires-in-Some-before-clause-lines g c =
     let changed = c.in-Some-before.from.changed in
     let ready = subst (IsReady m found) c.in-Gross.is c.requires.ready in
     let ready_from = subst (IsReadyFrom old m changed fresh) c.in-Gross.is from in
-    subst (λ k. IsResummed found fresh (compilation old) k (all_for m c.gross-addends.result year) (counted_exchange old m changed c.gross-addends.result.top year)) (sym c.in-Gross.is)
-    (subst (λ top. IsResummed found fresh (compilation old) n (nodes_for Equivalent (gas_lines_at (counts_in top) m) year) (counted_exchange old m changed top year)) (sym c.gross-addends.ensures.top)
-    (lines_ready old m c.requires.workbook c.requires.acyclic changed fresh found n ready ready_from counts_in_gross refl refl _ refl refl refl))
+    subst (λ k. IsResummed found fresh (compilation old) k (all_for m c.gross-addends.result year) (counted_exchange changed c.gross-addends.result.top year)) (sym c.in-Gross.is)
+    (subst (λ top. IsResummed found fresh (compilation old) n (nodes_for Equivalent (gas_lines_at (counts_in top) m) year) (counted_exchange changed top year)) (sym c.gross-addends.ensures.top)
+    (lines_ready old m c.requires.workbook c.requires.acyclic changed fresh found n ready ready_from counts_in_gross refl refl (counted_exchange changed None year) (counted_names m changed.staying ready_from.lines.of_year.grouped None year)
+    (counted_names old changed.gone ready_from.lines.gone.grouped None year) (counted_names m changed.come ready_from.lines.come.grouped None year)))
 
 pub returns-in-Some-before-clause-outcome : goal.returns-in-Some-before-clause-outcome
 returns-in-Some-before-clause-outcome g c =

@@ -8,13 +8,16 @@ use Rattle.ghg_affected.specs.Counts.{StandOnce}
 use Rattle.ghg_engine.specs.Cells.{cell_at, found_in}
 use Rattle.ghg_engine.specs.Fresh.{fresh_at}
 use Rattle.ghg_engine.specs.Evaluation.{AreKept}
+use Rattle.ghg_engine.specs.Known.{IsKnown}
+use Rattle.ghg_engine.specs.declared.overlay.Overlay.{Overlay}
 use Rattle.ghg_engine.specs.Overlays.{outcomes_of}
 use Rattle.ghg_engine.specs.Changes.{IsBetween}
-use Rattle.ghg_engine.proofs.AtPlace.{goes_on, is_at_place, next_between}
+use Rattle.ghg_engine.proofs.AtPlace.{between_first, goes_on, is_at_place, next_between}
 use Rattle.ghg_engine.proofs.Before.{of_some}
 use Rattle.ghg_engine.proofs.Next.{around, both_some, if_some, next_from}
-use Rattle.ghg_engine.proofs.Turns.{IsSoFar, at_next, ends_evaluated, ends_over, next_ready, none_yet, nothing_fresh, nothing_so_far, one_so_far}
+use Rattle.ghg_engine.proofs.Turns.{IsSoFar, at_next, ends_evaluated, ends_over, next_ready, none_yet, nothing_fresh, nothing_so_far, one_so_far, settled_so_far}
 use Rattle.ghg_engine.proofs.evaluation.evaluate_all.Goals as goal
+use Rattle.ghg_engine.proofs.evaluation.evaluate_all.Goals.{then-not-is_settled+in_ok-evaluated+in_ok-insert, else-not-is_settled}
 
 there : {A : Type 0} (o : Option A) (before after : ℕ) → MatchOption o ((before ≡ 0) × (after ≡ 0)) (λ _. after + 1 ≡ before) → 0 < before → IsSome o
 there None before after h some = absurd (omega (arith, h.0))
@@ -35,7 +38,8 @@ loop-place-init g c =
           (subst (AreKept m c.args.nodes.now) (sym found) c.requires.kept) c.over-cells.ensures.fresh,
       omega (arith, c.requires.paid),
       c.over-cells.ensures.kept,
-      both_some _ _ c.in_ok-from.from c.in_ok-from.ensures.lines c.in_ok-from.ensures.first,
+      both_some _ _ c.in_ok-from.from c.in_ok-from.ensures.lines
+          (if_some c.in_ok-from.from c.in_ok-from.ensures.first (λ (b : Before _) h. between_first b.changed.year c.args.nodes.now c.requires.order.by_year h)),
       c.in_ok-known.ensures,
     )
 
@@ -47,6 +51,7 @@ evaluate-requires-clause-ready g c =
     let n = c.index-nodes-place.result in
     next_ready m c.requires.workbook (take i nodes) n (drop (i + 1) nodes) (outcomes_of c.loop-place.cells) (fresh_at c.loop-place.cells.fresh) c.loop-place.least
     (at_next m nodes i n c.loop-place-test.true c.index-nodes-place.is (outcomes_of c.loop-place.cells) (fresh_at c.loop-place.cells.fresh) c.loop-place.least c.loop-place.invariant.0)
+    (sym c.is_settled.ensures ∙ c.if-not-is_settled.true)
 
 pub go_on-requires-clause-from : goal.go_on-requires-clause-from
 go_on-requires-clause-from g c = is_at_place (λ x. g.C.Cells.content x.now) (g.R.Records.content c.args.records.now) c.args.keys.now c.args.nodes.now c.loop-place.place
@@ -62,7 +67,7 @@ evaluate-requires-clause-before g c =
     let fresh = fresh_at c.loop-place.cells.fresh in
     if_some c.go_on.new.from (goes_on (λ x. g.C.Cells.content x.now) m c.args.keys.now nodes i c.loop-place.from c.go_on.new.from c.loop-place.invariant.3 c.in_ok-go_on.ensures) (λ (b : Before _) h. next_from (g.C.Cells.content b.cells.now) m c.requires.workbook c.requires.acyclic b.changed (take i nodes) n (drop (i + 1) nodes) nodes
     (around nodes i n c.loop-place-test.true c.index-nodes-place.is) found fresh c.loop-place.least
-    (at_next m nodes i n c.loop-place-test.true c.index-nodes-place.is found fresh c.loop-place.least c.loop-place.invariant.0) c.args.keys.now h.0.0 h.0.1
+    (at_next m nodes i n c.loop-place-test.true c.index-nodes-place.is found fresh c.loop-place.least c.loop-place.invariant.0) (sym c.is_settled.ensures ∙ c.if-not-is_settled.true) c.args.keys.now h.0.0 h.0.1
     (of_some _ (slice_get nodes i) n (slice_get_read nodes _ i n refl c.loop-place-test.true c.index-nodes-place.is) h.1))
 
 pub insert-requires : goal.insert-requires
@@ -80,26 +85,44 @@ loop-place-preserved g c =
     let nodes = c.args.nodes.now in
     let i = c.loop-place.place in
     let n = c.index-nodes-place.result in
+    let rest = drop (i + 1) nodes in
     let more = ap (λ k. take i nodes ++ k ∷ []) c.index-nodes-place.is ∙ sym (take_more nodes i n c.loop-place-test.true) in
-    let one = spent c.ticket.result c.loop-place.permits c.ticket.new.self c.ticket.ensures (omega (arith, c.loop-place.invariant.1)) in
     let found = outcomes_of c.loop-place.cells in
     let fresh = fresh_at c.loop-place.cells.fresh in
-    let found_then = outcomes_of c.insert.new.self in
-    let fresh_then = fresh_at c.insert.new.self.fresh in
-    let e = c.in_ok-evaluated.evaluated in (
-      subst (λ ns. IsSoFar m ns (drop (i + 1) nodes) found_then fresh_then c.least_with-least.result) more
-          (subst (IsSoFar m (take i nodes ++ n ∷ []) (drop (i + 1) nodes) found_then fresh_then) (sym c.least_with-least.ensures)
-          (one_so_far m (take i nodes) n (drop (i + 1) nodes) found fresh found_then fresh_then c.loop-place.least e
-          (at_next m nodes i n c.loop-place-test.true c.index-nodes-place.is found fresh c.loop-place.least c.loop-place.invariant.0)
-          c.in_ok-evaluated.ensures.outcome c.in_ok-insert.ensures.outcomes c.in_ok-insert.ensures.fresh)),
-      omega (arith, c.loop-place.invariant.1, one, c.loop-place-test.true),
-      c.in_ok-insert.ensures.kept ∙ c.loop-place.invariant.2,
+    let so_far = at_next m nodes i n c.loop-place-test.true c.index-nodes-place.is found fresh c.loop-place.least c.loop-place.invariant.0 in
+    let now = c.if-not-is_settled in (
+      subst (λ ns. IsSoFar m ns rest (outcomes_of now.cells) (fresh_at now.cells.fresh) now.least) more
+          (elim now.branch [
+            | then-not-is_settled+in_ok-evaluated+in_ok-insert w ↦
+                let cells = w.insert.new.self in
+                subst (λ (x : Overlay). IsSoFar m (take i nodes ++ n ∷ []) rest (outcomes_of x) (fresh_at x.fresh) now.least) (sym w.cells-is)
+                (subst (IsSoFar m (take i nodes ++ n ∷ []) rest (outcomes_of cells) (fresh_at cells.fresh)) (sym (w.least-is ∙ w.least_with-least.ensures))
+                (one_so_far m (take i nodes) n rest found fresh (outcomes_of cells) (fresh_at cells.fresh) c.loop-place.least w.in_ok-evaluated.evaluated so_far
+                w.in_ok-evaluated.ensures.outcome w.in_ok-insert.ensures.outcomes w.in_ok-insert.ensures.fresh))
+            | else-not-is_settled w ↦
+                subst (λ (x : Overlay). IsSoFar m (take i nodes ++ n ∷ []) rest (outcomes_of x) (fresh_at x.fresh) now.least) (sym w.cells-is)
+                (subst (IsSoFar m (take i nodes ++ n ∷ []) rest found fresh) (sym w.least-is)
+                (settled_so_far m (take i nodes) n rest found fresh c.loop-place.least so_far (sym c.is_settled.ensures ∙ w.if-not-is_settled.false)))
+          ]),
+      elim now.branch [
+        | then-not-is_settled+in_ok-evaluated+in_ok-insert w ↦
+            let one = spent w.ticket.result c.loop-place.permits w.ticket.new.self w.ticket.ensures (omega (arith, c.loop-place.invariant.1, c.loop-place-test.true)) in
+            omega (arith, c.loop-place.invariant.1, one, w.permits-is)
+        | else-not-is_settled w ↦ omega (arith, c.loop-place.invariant.1, w.permits-is)
+      ],
+      elim now.branch [
+        | then-not-is_settled+in_ok-evaluated+in_ok-insert w ↦ ap (λ (x : Overlay). x.kept.now) w.cells-is ∙ w.in_ok-insert.ensures.kept ∙ c.loop-place.invariant.2
+        | else-not-is_settled w ↦ ap (λ (x : Overlay). x.kept.now) w.cells-is ∙ c.loop-place.invariant.2
+      ],
       if_some c.go_on.new.from (goes_on (λ x. g.C.Cells.content x.now) m c.args.keys.now nodes i c.loop-place.from c.go_on.new.from c.loop-place.invariant.3 c.in_ok-go_on.ensures) (λ (b : Before _) h. (
         h.0,
         subst (λ year. IsBetween year (i + 1) nodes) (sym (of_some _ (slice_get nodes i) n (slice_get_read nodes _ i n refl c.loop-place-test.true c.index-nodes-place.is) h.1))
             (next_between nodes i n c.loop-place-test.true c.index-nodes-place.is c.requires.order.by_year),
       )),
-      c.evaluate.ensures.known,
+      elim now.branch [
+        | then-not-is_settled+in_ok-evaluated+in_ok-insert w ↦ subst (IsKnown m) (sym w.known-is) w.evaluate.ensures.known
+        | else-not-is_settled w ↦ subst (IsKnown m) (sym w.known-is) c.loop-place.invariant.4
+      ],
     )
 
 pub returns-in-None : goal.returns-in-None

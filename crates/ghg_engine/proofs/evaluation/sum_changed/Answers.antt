@@ -27,7 +27,7 @@ returns-then-are_few g c =
     let old = g.C.Cells.content c.args.before.now.cells.now in
     let a = c.args.addends.now in
     let year = c.args.year in
-    let fitting = resummed (fresh_at c.args.cells.now.fresh) (cell_at c.args.cells.now.kept.now) (compilation old) c.args.node.now (all_for m a year) (counted_exchange old m c.args.before.now.changed a.top year) c.requires.lines
+    let fitting = resummed (fresh_at c.args.cells.now.fresh) (cell_at c.args.cells.now.kept.now) (compilation old) c.args.node.now (all_for m a year) (counted_exchange c.args.before.now.changed a.top year) c.requires.lines
     c.gather_counted.new.self (c.in_ok-gather_counted.ensures.changes c.if-not-branch.false) c.input.result.now (sym c.value.ensures.value ∙ ap option_copied c.in-Some.is ∙ ap Some (sym c.input.ensures)) c.of-then-are_few.result c.total_from-value.result
     (λ rest within is. c.total_from-value.ensures rest within (ap (λ ls. summed (ls ++ rest)) c.deref.ensures.value ∙ is)
     ∙ ap (λ ls. summed (ls ++ rest)) c.deref-then-are_few.ensures.value)
@@ -40,5 +40,5 @@ returns-then-not-branch g c =
     let old = g.C.Cells.content c.args.before.now.cells.now in
     let a = c.args.addends.now in
     let year = c.args.year in
-    inr (resummed_over (fresh_at c.args.cells.now.fresh) (cell_at c.args.cells.now.kept.now) (compilation old) c.args.node.now (all_for m a year) (counted_exchange old m c.args.before.now.changed a.top year) c.requires.lines
+    inr (resummed_over (fresh_at c.args.cells.now.fresh) (cell_at c.args.cells.now.kept.now) (compilation old) c.args.node.now (all_for m a year) (counted_exchange c.args.before.now.changed a.top year) c.requires.lines
     (c.in_ok-gather_counted.ensures.over c.if-not-branch.true) c.passed_on.result c.passed_on.ensures.outcome c.passed_on.ensures.breaks)

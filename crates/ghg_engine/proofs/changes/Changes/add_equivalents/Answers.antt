@@ -5,7 +5,7 @@ use Rattle.ghg_units.specs.declared.node.Node.TheVariants.{Equiv}
 use Rattle.ghg_definitions.specs.Compilation.{compilation}
 use Rattle.ghg_definitions.specs.Data.{Name}
 use Rattle.ghg_definitions.specs.Trials.{is_over}
-use Rattle.ghg_engine.specs.Changes.{HasMoreKept, has_outcome}
+use Rattle.ghg_engine.specs.Changes.{HasMoreStaying, has_outcome}
 use Rattle.ghg_engine.specs.Fresh.{fresh_at}
 use Rattle.ghg_engine.specs.Overlays.{outcomes_of}
 use Rattle.ghg_engine.specs.Parts.{nodes_for}
@@ -27,7 +27,7 @@ loop-name-preserved g c =
     c.loop-name.invariant (c.in_ok-add.ensures.changes c.if-not-branch.false)
 
 pub returns-clause-changes : goal.returns-clause-changes
-returns-clause-changes g c = λ e. subst (λ ns. HasMoreKept (compilation (g.C.Cells.content c.args.before.now)) (outcomes_of c.args.cells.now) (fresh_at c.args.cells.now.fresh) (nodes_for Equivalent ns c.args.year) c.args.self.now c.loop-name.self)
+returns-clause-changes g c = λ e. subst (λ ns. HasMoreStaying (compilation (g.C.Cells.content c.args.before.now)) (outcomes_of c.args.cells.now) (fresh_at c.args.cells.now.fresh) (nodes_for Equivalent ns c.args.year) c.args.self.now c.loop-name.self)
     (take_all c.loop-name.name-index c.args.names.now c.loop-name-test.false) c.loop-name.invariant
 
 pub returns-then-not-branch-clause-over : goal.returns-then-not-branch-clause-over

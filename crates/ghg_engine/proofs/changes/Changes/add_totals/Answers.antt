@@ -5,7 +5,7 @@ use Rattle.ghg_units.specs.declared.node.Node.{Node}
 use Rattle.ghg_units.specs.declared.node.Node.TheVariants.{Total}
 use Rattle.ghg_definitions.specs.Compilation.{compilation}
 use Rattle.ghg_definitions.specs.Trials.{is_over}
-use Rattle.ghg_engine.specs.Changes.{HasMoreKept, has_outcome}
+use Rattle.ghg_engine.specs.Changes.{HasMoreStaying, has_outcome}
 use Rattle.ghg_engine.specs.Fresh.{fresh_at}
 use Rattle.ghg_engine.specs.Overlays.{outcomes_of}
 use Rattle.ghg_engine.proofs.Changed.{all_joined, next_found, node_found, nothing_more, over_among, tested_joined}
@@ -25,7 +25,7 @@ loop-category-preserved g c =
     c.loop-category.invariant (c.in_ok-add.ensures.changes c.if-not-branch.false)
 
 pub returns-clause-changes : goal.returns-clause-changes
-returns-clause-changes g c = λ e. subst (λ ns. HasMoreKept (compilation (g.C.Cells.content c.args.before.now)) (outcomes_of c.args.cells.now) (fresh_at c.args.cells.now.fresh) (map (λ d. Total d c.args.year) ns) c.args.self.now c.loop-category.self)
+returns-clause-changes g c = λ e. subst (λ ns. HasMoreStaying (compilation (g.C.Cells.content c.args.before.now)) (outcomes_of c.args.cells.now) (fresh_at c.args.cells.now.fresh) (map (λ d. Total d c.args.year) ns) c.args.self.now c.loop-category.self)
     (take_all c.loop-category.category-index c.args.categories.now c.loop-category-test.false) c.loop-category.invariant
 
 pub returns-then-not-branch-clause-over : goal.returns-then-not-branch-clause-over

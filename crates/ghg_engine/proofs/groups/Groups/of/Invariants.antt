@@ -2,5 +2,5 @@ use Rattle.std.proofs.Common.{take}
 use Rattle.ghg_engine.specs.Grouping.{AreGroupsOf}
 use Rattle.ghg_engine.proofs.groups.Groups.of.Given as goal
 
-abbrev pub invariant-loop-name : goal.invariant-loop-name
-invariant-loop-name g l = AreGroupsOf (g.R.Records.content l.records) (take l.name-index l.names) l.groups
+abbrev pub invariant-loop-line : goal.invariant-loop-line
+invariant-loop-line l = AreGroupsOf (take l.line-index l.lines) l.groups
