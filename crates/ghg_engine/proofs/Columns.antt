@@ -5,9 +5,10 @@ use Rattle.std.specs.Option.{option_or}
 use Rattle.std.proofs.lemmas.Bool.{eqb-false}
 use Rattle.std.proofs.lemmas.List.{take_more}
 use Rattle.std.proofs.lemmas.Option.{slice_get_within}
+use Rattle.ghg_affected.proofs.Bools.{true_not_false}
 use Rattle.ghg_cell.specs.declared.input.Input.{Input}
 use Rattle.ghg_definitions.proofs.Alike.{first_so, second_so}
-use Rattle.ghg_engine.specs.Columns.{HasAmong, HasIn, Run, has_place, value_among, value_in}
+use Rattle.ghg_engine.specs.Columns.{HasAmong, HasIn, Run, has_place, last_has_place, value_among, value_in}
 
 -- ---- lists in which one element is written or added
 
@@ -133,6 +134,19 @@ at_end [] i last after e is = absurd (omega (arith, e))
 at_end (run ∷ []) zero last after e is = (ap (λ (r : Run). r ∷ []) (sym is), refl)
 at_end (run ∷ next ∷ runs) zero last after e is = absurd (omega (arith, e))
 at_end (run ∷ runs) (suc i) last after e is = let rest = at_end runs i last after (omega (arith, e)) is in (ap (λ (rs : List Run). run ∷ rs) rest.0, ap (λ (rs : List Run). run ∷ rs) rest.1)
+
+-- where there is none, no year has a place
+pub some_last : (runs : List Run) (year : ℕ) → last_has_place runs year ≡ true → 0 < length runs
+some_last [] year e = absurd (true_not_false (sym e))
+some_last (run ∷ runs) year e = omega arith
+
+-- it tells whether a year has a place
+pub last_place : (runs : List Run) (i : ℕ) (last : Run) (year : ℕ) → i + 1 ≡ length runs → last ≡ get_or runs i last → last_has_place runs year ≡ has_place last year
+last_place [] i last year e is = absurd (omega (arith, e))
+last_place (run ∷ []) zero last year e is = ap (λ (r : Run). has_place r year) (sym is)
+last_place (run ∷ []) (suc i) last year e is = absurd (omega (arith, e))
+last_place (run ∷ next ∷ runs) zero last year e is = absurd (omega (arith, e))
+last_place (run ∷ next ∷ runs) (suc i) last year e is = last_place (next ∷ runs) i last year (omega (arith, e)) is
 
 module _ (runs : List Run) (i : ℕ) (last : Run) (end : i + 1 ≡ length runs) (is : last ≡ get_or runs i last) where
   -- it has the same values

@@ -32,6 +32,12 @@ HasAmong old new year value = (y : ℕ) → value_among new y ≡ (if y == year 
 abbrev pub has_place : Run → ℕ → Bool
 has_place run year = nat_le run.first year && nat_le (year - run.first) (length run.values)
 
+-- the last of the runs has the year, or has it next
+abbrev pub last_has_place : List Run → ℕ → Bool
+last_has_place [] year = false
+last_has_place (run ∷ []) year = has_place run year
+last_has_place (run ∷ next ∷ runs) year = last_has_place (next ∷ runs) year
+
 -- the year behind the last
 abbrev pub end_of : Run → ℕ
 end_of run = run.first + length run.values

@@ -15,7 +15,7 @@ const _: () = prove!(size_of::<Value>() == 80);
 const MORE_YEARS: usize = 8;
 
 /// For how many years behind its first a new column makes room at most: those of the longest inventory.
-const MOST_YEARS_BEHIND: u32 = 150;
+const MOST_YEARS_BEHIND: usize = 150;
 
 // Consecutive years: from the first on, up to the one before the end.
 #[derive(Clone, Copy)]
@@ -91,18 +91,17 @@ impl Column {
         }
     }
 
-    /// The value of one year, with room for the years up to the last, if that comes behind it.
+    /// The value of one year, with room for so many more years, but no more than an inventory can have.
     pub(crate) fn of(
         alloc: Global,
         year: u32,
         value: Value,
-        last: u32,
+        more: usize,
     ) -> Result<Column, AllocError>
         ensures first { IfOk result (λ column. column.first ≡ year) }
         ensures values { IfOk result (λ column. column.values ≡ value ∷ []) }
     {
-        let more = last.saturating_sub(year).min(MOST_YEARS_BEHIND) as usize;
-        let mut values = Vec::with_capacity(alloc, 1 + more)?;
+        let mut values = Vec::with_capacity(alloc, 1 + more.min(MOST_YEARS_BEHIND))?;
         values.push(value)?;
         Ok(Column {
             first: year,

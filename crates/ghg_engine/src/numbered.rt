@@ -1,9 +1,9 @@
 //! Columns of series that have numbers.
 
-ghost use Rattle.std.specs.Prelude.{◌≡◌, ◌<◌, ◌++◌, ◌∷◌, [], length, None, IfNone, IfOk, IfSome, Ok, OnOk, Some, option_copied};
+ghost use Rattle.std.specs.Prelude.{◌≡◌, ◌<◌, ◌++◌, ◌∷◌, [], true, length, None, IfNone, IfOk, IfSome, Ok, OnOk, Some, option_copied};
 ghost use Rattle.std.specs.List.{slice_get};
 ghost use Rattle.ghg_engine.specs.Cells.{with_outcome};
-ghost use Rattle.ghg_engine.specs.Columns.{HasAmong, value_among};
+ghost use Rattle.ghg_engine.specs.Columns.{HasAmong, last_has_place, value_among};
 ghost use Rattle.ghg_engine.specs.Numbered.{HaveOneNumber, in_numbered, runs_of, series_at};
 
 use crate::column::Column;
@@ -14,6 +14,10 @@ use std::alloc::{AllocError, Global};
 use std::collections::BTreeMap;
 use std::marker::Model;
 
+/// For how many runs of years a series gets room at once. Mostly it has one. But allocators keep smaller
+/// blocks apart when these are freed, and then the memory on both sides of one is not joined again.
+const RUNS: usize = 4;
+
 /// Years for which a column gets room at once, if it begins with the first of them.
 #[derive(Clone, Copy, Drop)]
 pub(crate) struct Room {
@@ -22,9 +26,13 @@ pub(crate) struct Room {
 }
 
 impl Room {
-    // The last year for which a column that begins with a year gets room.
-    fn last_from(&self, year: u32) -> u32 {
-        if year == self.first { self.last } else { year }
+    // For how many more years a column that begins with a year gets room.
+    fn years_behind(&self, year: u32) -> usize {
+        if year == self.first {
+            self.last.saturating_sub(year) as usize
+        } else {
+            0
+        }
     }
 }
 
@@ -94,7 +102,7 @@ impl NumberedColumns {
         let series = Series::of(node);
         let year = year_of(node);
         let Some(number) = self.number(&series, self.next) else {
-            let runs = one_run(self.alloc, year, value, self.room.last_from(year))?;
+            let runs = one_run(self.alloc, year, value, self.room.years_behind(year))?;
             return self.add(&series, runs);
         };
         self.begin_behind(number);
@@ -178,31 +186,36 @@ fn value_among(runs: &[Column], year: u32) -> Option<&Value>
     None
 }
 
-// A column that has the value of one year, and room for the years up to the last.
-fn one_run(alloc: Global, year: u32, value: Value, last: u32) -> Result<Vec<Column>, AllocError>
+// A column that has the value of one year, and room for so many more years.
+fn one_run(alloc: Global, year: u32, value: Value, more: usize) -> Result<Vec<Column>, AllocError>
     ensures { IfOk result (λ runs. HasAmong [] runs.items year (Some value)) }
 {
-    let mut runs = Vec::with_capacity(alloc, 1)?;
-    runs.push(Column::of(alloc, year, value, last)?)?;
+    let mut runs = Vec::with_capacity(alloc, RUNS)?;
+    runs.push(Column::of(alloc, year, value, more)?)?;
     Ok(runs)
 }
 
 // Gives a year its value: in the last of the columns, if that has the year or has it next, else in a new one.
-// The one that was the last then keeps no memory for more years.
+// The one that was the last then keeps no memory for more years, and the new one gets room for as many years
+// behind its first as that one has.
 fn put_among(
     runs: &mut Vec<Column>,
     alloc: Global,
     year: u32,
     value: Value,
 ) -> Result<(), AllocError>
-    ensures { OnOk result (HasAmong runs.old.items runs.new.items year (Some value)) }
+    ensures has { OnOk result (HasAmong runs.old.items runs.new.items year (Some value)) }
+    ensures few { OnOk result (last_has_place runs.old.items year ≡ true →
+        length runs.new.items ≡ length runs.old.items) }
 {
+    let mut more = 0;
     if let Some(last) = runs.last_mut() {
         if last.has_place(year) {
             return last.put(year, value);
         }
         last.shrink();
+        more = last.len().saturating_sub(1);
     }
-    runs.push(Column::of(alloc, year, value, year)?)?;
+    runs.push(Column::of(alloc, year, value, more)?)?;
     Ok(())
 }

@@ -58,4 +58,4 @@ returns c =
     (column_with value_among (runs_of columns) held.series (runs_of after) held.runs.items c.put_among.new.runs.items
     (run_changed held.series c.put_among.new.runs columns once i at) (was_there value_among (runs_of columns) held.series held.runs.items there)
     year n (sym c.of-series.ensures ∙ sym same) (sym c.year_of-year.ensures) x put))
-    c.put_among.ensures
+    c.put_among.ensures.has
