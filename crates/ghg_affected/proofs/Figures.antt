@@ -10,13 +10,13 @@ use Rattle.ghg_units.specs.declared.row.Binding.{Binding}
 use Rattle.ghg_units.specs.declared.row.Binding.TheVariants as bound
 use Rattle.ghg_definitions.specs.declared.record.RecordKey.{RecordKey}
 use Rattle.ghg_definitions.specs.declared.record.RecordKey.TheVariants as key
-use Rattle.ghg_definitions.specs.Compilation.{bound_to, counts_in_gross, first_year, gas_lines, gas_lines_at, is_node, line_formula, sheet_of}
-use Rattle.ghg_definitions.specs.Data.{Data, Name, as_binding, as_line, as_span, binding, line, line_names, span}
+use Rattle.ghg_definitions.specs.Compilation.{bound_to, counts_in_gross, first_year, gas_lines_at, is_node, line_formula, sheet_of}
+use Rattle.ghg_definitions.specs.Data.{Data, Name, as_binding, as_line, as_span, binding, line, span}
 use Rattle.ghg_definitions.specs.Formulas.{inputs, nodes_in}
 use Rattle.ghg_definitions.specs.Rings.{IsAcyclic, IsRing, Leads, Takes, TakesBinding}
 use Rattle.ghg_affected.specs.Dependence.{StandsBy}
 use Rattle.ghg_affected.specs.Figures.{DifferInFigures, NodesStayInPlace, is_figure_key}
-use Rattle.ghg_affected.proofs.Dependence.{emitters_at, emitters_same, same_names, stands_same}
+use Rattle.ghg_affected.proofs.Dependence.{emitters_at, stands_same}
 
 -- a node is there by no figure
 pub stands_by_none : (n : Node) (k : RecordKey) → StandsBy n k → is_figure_key k ≡ false
@@ -38,12 +38,6 @@ stands_by_none (node.Gross when) (key.Uncert name) h = absurd h
 
 module _ (old new : Data) (differ : DifferInFigures old new) where
   -- ---- what there is
-
-  pub same_line_names : line_names old ≡ line_names new
-  same_line_names = same_names old new (λ name. differ.others (key.Line name) refl)
-
-  pub same_gas_lines : gas_lines old ≡ gas_lines new
-  same_gas_lines = emitters_same old new (λ name. differ.others (key.Line name) refl)
 
   pub same_gas_lines_at : (test : Category → Bool) → gas_lines_at test old ≡ gas_lines_at test new
   same_gas_lines_at test = emitters_at old new (λ name. differ.others (key.Line name) refl) test

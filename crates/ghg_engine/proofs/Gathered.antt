@@ -33,10 +33,6 @@ over_at None = refl
 over_at (Some (Ok x)) = refl
 over_at (Some (Err e)) = refl
 
-over_is_err : (x : Outcome) → is_over (Some x) ≡ is_err x
-over_is_err (Ok x) = refl
-over_is_err (Err e) = refl
-
 -- ---- one outcome more
 
 pub gather_more : (xs : List Outcome) (ps : List Input) (x : Outcome) → gather xs ≡ Ok ps → gather (xs ++ x ∷ []) ≡ then x (λ p. Ok (ps ++ p ∷ []))

@@ -6,14 +6,11 @@ use Rattle.ghg_units.specs.declared.node.Node.TheVariants as node
 use Rattle.ghg_definitions.specs.declared.record.Record.{Record}
 use Rattle.ghg_definitions.specs.declared.record.RecordKey.TheVariants as key
 use Rattle.ghg_definitions.specs.Compilation.{compilation, emits, is_in_tree, is_node, is_year_of, overflow}
-use Rattle.ghg_definitions.specs.Data.{Data, as_span, key_cmp, line, span}
+use Rattle.ghg_definitions.specs.Data.{as_span, key_cmp, line, span}
 use Rattle.ghg_definitions.specs.Trials.{is_over}
 use Rattle.ghg_definitions.proofs.Alike.{first_so}
 use Rattle.ghg_definitions.proofs.OneTrial.{compilation_trial, no_break_found}
 use Rattle.ghg_data.proofs.Empty.{is_acyclic}
-
-no_records : Data
-no_records = empty {X = Record} {R = key_cmp}
 
 no_year : (b : Bool) (year : _) → (b && is_year_of (span (empty {X = Record} {R = key_cmp})) year) ≡ false
 no_year b year = ap (λ r. b && is_year_of (as_span r) year) (get-empty key_cmp key.Span) ∙ and_false b

@@ -23,9 +23,6 @@ module _ (year : ℕ) where
   abbrev first_ones : List Node → List Node
   first_ones ns = take_while of_year ns
 
-  is_first : (n : Node) (ns : List Node) → of_year n ≡ true → first_ones (n ∷ ns) ≡ n ∷ first_ones ns
-  is_first n ns on = take_while-cons of_year n ns ∙ ap (λ b. cond b (n ∷ first_ones ns) []) on
-
   from_first : (k : Node) (ns : List Node) → IsListed k (first_ones ns) → IsListed k ns × (year_in k ≡ year)
   from_first k [] i = absurd i
   from_first k (n ∷ ns) i = by (of_year n) refl (λ j. from_first k ns j) (subst (IsListed k) (take_while-cons of_year n ns) i)

@@ -19,9 +19,6 @@ module _ {A : Type 0} (to : A → Node) (p : A → Bool) where
   one_passes : (x : A) → p x ≡ true → passing (x ∷ []) ≡ to x ∷ []
   one_passes x e = ap (λ b. map to (if b then x ∷ [] else [])) e
 
-  none_passes : (x : A) → p x ≡ false → passing (x ∷ []) ≡ []
-  none_passes x e = ap (λ b. map to (if b then x ∷ [] else [])) e
-
   -- the next one of a list
   module _ (cells : Outcomes) (xs : List A) (i : ℕ) (x : A) (within : i < length xs) (is : x ≡ get_or xs i x)
       (before : List Input) where

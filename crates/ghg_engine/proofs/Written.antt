@@ -1,6 +1,6 @@
 -- Outcomes in which one node's is written or taken out.
-use Rattle.std.proofs.Common.{rules, ◌≡◌, Bool, true, false, cond, if◌then◌else◌, is_some, IsSome, Option, Some, None, Result, Ok, Err, refl, sym, ap, ap₂, subst, ◌∙◌}
-use Rattle.std.specs.Prelude.{IfSome, OnOk, is_err}
+use Rattle.std.proofs.Common.{rules, ◌≡◌, Bool, true, false, cond, if◌then◌else◌, is_some, IsSome, Option, Some, None, refl, sym, ap, ap₂, subst, ◌∙◌}
+use Rattle.std.specs.Prelude.{IfSome}
 use Rattle.std.proofs.Math.Path.{fun_ext}
 use Rattle.std.specs.BTreeMap.{is_at}
 use Rattle.std.specs.Cmp.{eq_by_cmp_equiv}
@@ -113,12 +113,6 @@ hidden_behind front before after n there others = fun_ext (λ k. by k (same_node
     by k true same = hidden (front k) (after k) (before k) (ap (λ j. is_some (front j)) (node_same k n same) ∙ there)
     by k false apart = ap (option_or (front k)) (others k apart)
 
--- an outcome is put at the node, or all is as it was
-module _ {A E : Type 0} (old new : Outcomes) (n : Node) (x : Outcome) where
-  pub put_there : (r : Result A E) → OnOk r (new ≡ with_outcome old n x) → OnOk r (is_some (new n) ≡ true)
-  put_there (Ok y) put = ap (λ (f : Outcomes). is_some (f n)) put ∙ ap (λ b. is_some (cond b (Some x) (old n))) (node_itself n)
-  put_there (Err e) put = put
-
 -- what is taken out at a node stays elsewhere
 pub out_elsewhere : (front : Outcomes) (n k : Node) → same_node k n ≡ false → without front n k ≡ front k
 out_elsewhere front n k apart = ap (λ b. cond b None (front k)) apart
@@ -142,7 +136,3 @@ if_some P (Some y) x e h = let same : y ≡ x = cc in subst P same h
 pub none_is : {A : Type 0} (o : Option A) → is_some o ≡ false → o ≡ None
 none_is None e = refl
 none_is (Some x) e = absurd (cc)
-
-pub over_is : (x : Outcome) → is_err x ≡ true → x ≡ Err (record {})
-over_is (Ok x) e = absurd (cc)
-over_is (Err o) e = refl

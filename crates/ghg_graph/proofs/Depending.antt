@@ -9,7 +9,6 @@ use Rattle.std.proofs.lemmas.Map.Views.{tells_apart}
 use Rattle.std.specs.BTreeSet.{BTreeSet, IsOrdered, Updates, btree_set_len, contains}
 use Rattle.std.specs.Cmp.{eq_by_cmp_equiv}
 use Rattle.std.specs.Cmp.Lexicographic.{nat_list_cmp_total}
-use Rattle.std.specs.List.{list_any}
 use Rattle.ghg_definitions.specs.declared.record.RecordKey.{RecordKey}
 use Rattle.ghg_definitions.specs.declared.record.RecordKey.TheVariants as key
 use Rattle.ghg_definitions.specs.Data.{Data, Name, as_binding, as_line, line, line_names, name_cmp}
@@ -68,9 +67,6 @@ module _ (s t : BTreeSet Name) (x : Name) (updates : Updates name_cmp s t x true
           → IsIn s name ⊎ (name ≡ x)
       by true e is = inr (sym (tells_apart exact_bytes x name e))
       by false e is = inl is
-
-same_in : (s t : BTreeSet Name) → t.keys ≡ s.keys → (name : Name) → contains name_cmp t name ≡ contains name_cmp s name
-same_in s t keys name = ap (list_any (λ x. is_eq (name_cmp name x))) keys
 
 -- ---- names that are gathered
 

@@ -138,9 +138,6 @@ module _ {K : Type 0} where
 
 -- ---- segments
 
-pub low_byte : (b : ℕ) → is_segment_byte b ≡ true → nat_lt b 256 ≡ true
-low_byte b e = grind (arith, nat_tests, e)
-
 pub no_slash : (xs : List ℕ) → list_all is_segment_byte xs ≡ true → has_slash xs ≡ false
 no_slash [] e = refl
 no_slash (x ∷ xs) e =

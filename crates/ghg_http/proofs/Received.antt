@@ -13,19 +13,10 @@ use Rattle.ghg_http.specs.declared.decision.Decision.{Decision}
 use Rattle.ghg_http.specs.declared.decision.Decision.TheVariants as decided
 use Rattle.ghg_http.specs.declared.decision.Refusal.{Refusal}
 use Rattle.ghg_http.specs.declared.request.ReceiveError.{ReceiveError}
-use Rattle.ghg_http.specs.declared.request.ReceiveError.TheVariants.{Memory}
 use Rattle.ghg_http.specs.declared.request.Request.{Request}
 use Rattle.ghg_http.specs.declared.request.Request.TheVariants.{Refused, Submit, Show}
 
 -- ---- stopping
-
--- memory ran out with some text read
-pub out_of_memory : (Kind : List ℕ → Type 0) (a b : Tape) (text : List ℕ) → Consumes a b text → Stopped Kind a b Memory
-out_of_memory Kind a b text read = record { text = text; read = read; cause = λ e. absurd cc; kind = λ e. absurd cc }
-
--- and with nothing read
-pub out_of_memory_at_once : (Kind : List ℕ → Type 0) (a : Tape) → Stopped Kind a a Memory
-out_of_memory_at_once Kind a = out_of_memory Kind a a [] (consumes_nothing a)
 
 -- some text was read before
 pub stopped_later : (Kind Late : List ℕ → Type 0) (a b c : Tape) (text : List ℕ) (e : ReceiveError) → Consumes a b text
@@ -88,10 +79,7 @@ none_got a b old new grows same =
     let size = ap length grows.buffer ∙ length-append old grows.got in
     let as_before = ap length same in nil_from_length grows.got (omega (arith, size, as_before))
 
--- nothing was read behind a request: at first, and after a read while the bytes ended early
-pub prompt_empty : IsPrompt []
-prompt_empty = record { front = []; last = []; whole = refl; early = inl refl; few = omega arith }
-
+-- after a read while the bytes ended early nothing was read behind a request
 pub prompt_more : (b c : Tape) (old new : List ℕ) (n : ℕ) → EndsEarly old → Grows b c old new → length new ≡ length old + n
     → n ≤ max_read → IsPrompt new
 prompt_more b c old new n early grows count once = record {

@@ -169,19 +169,3 @@ create_safe old new r s ran before after = record {
 }
 
 -- ---- a call of the keeper
-
--- a call that failed with no statement run, since a transaction is open
-pub misplaced_safe : {A E : Type 0} (s : State) (e : E) (L : Trees → Type 0) → IsTrue s.in_transaction → IsSafe s s (let r : Result A E = Err e in r) L
-misplaced_safe s e L busy = record {
-  told = λ t clean. inl t;
-  crash = λ t clean db left. absurd (let e = rw t.autocommit at busy in cc);
-  durable = λ t db left. absurd (let e = rw t.autocommit at busy in cc);
-}
-
--- an answer that is an error where that of the statement is
-pub safe_as : {A B E F : Type 0} (old new : State) (r : Result A E) (answer : Result B F) (L : Trees → Type 0) → (IsErr r → IsErr answer) → IsSafe old new r L → IsSafe old new answer L
-safe_as old new r answer L errs safe = record {
-  told = λ t clean. elim (safe.told t clean) [ inl told ↦ inl told | inr failed ↦ inr (errs failed.0, failed.1) ];
-  crash = safe.crash;
-  durable = safe.durable;
-}

@@ -7,7 +7,7 @@ use Rattle.ghg_session.specs.declared.session.End.{End}
 use Rattle.ghg_session.specs.declared.session.End.TheVariants as end
 use Rattle.ghg_session.specs.Protocol.{Protocol}
 use Rattle.ghg_session.specs.declared.stop.Stop.{Stop}
-use Rattle.ghg_session.specs.Script.{Reading, after_requests, most_commands, reading, reading_of, with_more}
+use Rattle.ghg_session.specs.Script.{Reading, after_requests, most_commands, reading, with_more}
 use Rattle.ghg_session.specs.Writing.{stop_status}
 
 -- ---- requests, one after the other
@@ -80,10 +80,6 @@ outcome p s reading =
       output = replies p s reading.requests ++ last_line reading.wrong;
       status = status_of reading.wrong;
     }
-
--- the session of these bytes, from a state
-abbrev pub session_of : {State Request : Type 0} → Protocol State Request → State → List ℕ → Outcome
-session_of p s bytes = outcome p s (reading_of p.commands bytes)
 
 -- ---- where a session stands
 

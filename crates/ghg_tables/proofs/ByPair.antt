@@ -1,13 +1,12 @@
 -- Lines in the groups of their pairs.
 use denote.Enum.Bare.{same_true}
-use Rattle.std.proofs.Common.{◌≡◌, Bool, true, false, cond, List, [], ◌∷◌, ◌++◌, filter, if◌then◌else◌, Option, Some, None, Vec, Global, vec_len, refl, sym, ap, ap₂, ◌∙◌}
+use Rattle.std.proofs.Common.{◌≡◌, Bool, true, false, cond, List, [], ◌∷◌, ◌++◌, filter, if◌then◌else◌, Option, Some, Vec, Global, vec_len, refl, sym, ap, ap₂, ◌∙◌}
 use Rattle.std.specs.Option.{UnwrapsOrElse, option_map_or}
 use Rattle.std.specs.BTreeMap.{is_at}
 use Rattle.std.specs.Map.{lookup}
 use Rattle.std.specs.Ordering.{is_eq, ordering_then}
 use Rattle.std.specs.declared.cmp.Ordering.{Ordering}
 use Rattle.std.specs.declared.cmp.Ordering.TheVariants.{Less, Equal, Greater}
-use Rattle.std.proofs.lemmas.List.{append-nil}
 use Rattle.std.proofs.lemmas.Map.Text.{is_eq-slice_cmp}
 use Rattle.std.proofs.lemmas.List.Elements.{filter-append}
 use Rattle.ghg_graph.proofs.Pushed.{item_pushed, items_in}
@@ -62,11 +61,6 @@ pub grouped_more : (m : Data) (names : List Name) (name : Name) (at : Category �
     ((q : Category × Gas) → group_of new q ≡ group_of old q ++ name_if (same_pair at q) name) → IsGroupedSoFar m (names ++ name ∷ []) new
 grouped_more m names name at old new held is groups = record {
   so_far = λ q. groups q ∙ ap (λ xs. xs ++ name_if (same_pair at q) name) (held.so_far q) ∙ sym (one_more m names name (Some at) q is);
-}
-
-pub grouped_same : (m : Data) (names : List Name) (name : Name) (groups : Groups) → IsGroupedSoFar m names groups → emission m name ≡ None → IsGroupedSoFar m (names ++ name ∷ []) groups
-grouped_same m names name groups held is = record {
-  so_far = λ q. held.so_far q ∙ sym (append-nil (filter (stands_at m q) names)) ∙ sym (one_more m names name None q is);
 }
 
 pub grouped_all : (m : Data) (names : List Name) (groups : Groups) → IsGroupedSoFar m names groups → names ≡ line_names m → IsGrouping m groups
