@@ -14,7 +14,7 @@ use Rattle.ghg_definitions.proofs.Listed.{contained, in_either, listed, listed_r
 use Rattle.ghg_graph.specs.NodeOrders.{AreByYear}
 use Rattle.ghg_graph.proofs.Numbering.{take_next}
 use Rattle.ghg_engine.specs.declared.evaluation.Before.{Before}
-use Rattle.ghg_engine.specs.Changes.{AreChangedLines, AreEmitters, AreMoved, AreStayingLines, GoesOn, HasComeTo, IsBefore, IsBetween, IsFirstYear, IsOfNodeAt, MovesTheSame}
+use Rattle.ghg_engine.specs.Changes.{AreChangedLines, AreEmitters, AreMovedLines, AreStayingLines, GoesOn, HasComeTo, IsBefore, IsBetween, IsFirstYear, IsOfNodeAt, MovesTheSame}
 use Rattle.ghg_engine.proofs.Next.{around}
 use Rattle.ghg_engine.proofs.OfYear.{behind_place, from_place}
 use Rattle.ghg_engine.proofs.Turns.{drop_next}
@@ -106,7 +106,7 @@ module _ {C : Type 0} (content : Bor C → Data) (m : Data) (keys : List RecordK
       (
         subst (λ x. IsBefore (content x) m keys ns) (sym cells) from.0,
         record {
-          are_moved = subst (λ x. AreMoved (content x) m keys b.changed.moved) (sym cells) (subst (λ lines. AreMoved (content a.cells) m keys lines) (sym same.moved) from.1.are_moved);
+          are_moved = subst (λ x. AreMovedLines (content x) m keys b.changed.moved) (sym cells) (subst (λ lines. AreMovedLines (content a.cells) m keys lines) (sym same.moved) from.1.are_moved);
           of_year = at.of_year;
           gone = subst (λ x. AreEmitters (content x) b.changed.moved b.changed.gone) (sym cells)
               (subst (λ lines. AreEmitters (content a.cells) b.changed.moved lines) (sym same.gone)

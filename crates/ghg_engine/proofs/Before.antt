@@ -5,7 +5,6 @@ use Rattle.std.specs.FinMap.{get}
 use Rattle.std.specs.Cmp.Lexicographic.{nat_list_cmp_total}
 use Rattle.std.specs.List.Sorted.{IsStrictlySortedBy}
 use Rattle.std.proofs.lemmas.Map.Lookups.{exact_bytes}
-use Rattle.std.specs.Prelude.{IfSome}
 use Rattle.std.specs.Option.{option_eq, option_map_or}
 use Rattle.std.proofs.lemmas.List.Elements.{filter-append}
 use Rattle.std.proofs.lemmas.List.Kept.{IsStrictlySortedBy-filter}
@@ -46,7 +45,7 @@ use Rattle.ghg_affected.proofs.Closed.{inputs_are_nodes}
 use Rattle.ghg_affected.proofs.Subtotals.{totals_are_of_subtotals}
 use Rattle.ghg_graph.proofs.Emitting.{same_names}
 use Rattle.ghg_graph.proofs.Membership.{key_listed, listed_key}
-use Rattle.ghg_engine.specs.Changes.{AreChangedLines, AreEmitters, AreMoved, AreStayingLines, Exchange, IsReadyFrom, IsResummed, Stays, addends_exchange, has_outcome, input_at, is_moved, or_nothing}
+use Rattle.ghg_engine.specs.Changes.{AreChangedLines, AreEmitters, AreMovedLines, AreStayingLines, Exchange, IsReadyFrom, IsResummed, Stays, addends_exchange, has_outcome, input_at, is_moved, or_nothing}
 use Rattle.ghg_engine.specs.Evaluation.{IsReady}
 use Rattle.ghg_engine.specs.declared.changed_lines.ChangedAddends.{ChangedAddends}
 use Rattle.ghg_engine.specs.declared.changed_lines.ChangedLines.{ChangedLines}
@@ -70,9 +69,6 @@ within_of None nested = tt
 within_of (Some (Ok Blank)) nested = tt
 within_of (Some (Ok (Known point range))) nested = nested (record { point = point; range = range }) refl
 within_of (Some (Err over)) nested = tt
-
-pub of_some : {A : Type 0} (P : A → Type 0) (o : Option A) (x : A) → o ≡ Some x → IfSome o P → P x
-of_some P o x is h = subst (λ p. IfSome p P) is h
 
 -- ---- a total of data in which nothing is over
 
@@ -239,7 +235,7 @@ pub not_false : (b : Bool) → not b ≡ false → b ≡ true
 not_false true e = refl
 not_false false e = absurd (true_not_false e)
 
-module _ (old new : Data) (keys : List RecordKey) (moved : BTreeSet Name) (are : AreMoved old new keys moved)
+module _ (old new : Data) (keys : List RecordKey) (moved : BTreeSet Name) (are : AreMovedLines old new keys moved)
     (records : (k : RecordKey) → (IsListed k keys → ⊥) → get old k ≡ get new k) where
   -- a moved line is in the set, where its record has one of the keys
   in_set : (name : Name) → is_moved old new name ≡ true → IsListed (key.Line name) keys → contains name_cmp moved name ≡ true

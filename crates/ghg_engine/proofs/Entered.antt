@@ -29,7 +29,8 @@ use Rattle.ghg_data.proofs.Faults.{IsAmong}
 use Rattle.ghg_graph.specs.Entries.{IsEnteredOrder, are_entries, is_entry}
 use Rattle.ghg_graph.specs.Ordering.{IsLineOrder}
 use Rattle.ghg_engine.specs.declared.groups.Groups.{Groups}
-use Rattle.ghg_engine.specs.Grouping.{AddsLines, AreInOrder, IsGrouping, emitted_at, group_at}
+use Rattle.ghg_engine.specs.Grouping.{AddsLines, IsGrouping, adds_itself, emitted_at, group_at, own_group}
+use Rattle.ghg_engine.proofs.Grouped.{by_total}
 use Rattle.ghg_graph.proofs.Emitting.{same_names}
 use Rattle.ghg_graph.proofs.Entering.{present_in, stand_apart}
 use Rattle.ghg_engine.proofs.InPlaces.{HasLess, HasMore, none_less, none_more, one_less, one_more, placed_if, taken_if}
@@ -118,24 +119,14 @@ module _ (old new : Data) (lines : List Name) (adds : AddsLines old new lines) (
 
 -- ---- the groups with the lines so far
 
-pub record IsGroupedWith (m : Data) (before : Groups) (names : List Name) (groups : Groups) : Type 0 where
-  pub at_with : (c : Category) → HasMore (emits_at (λ k. is_same k c) m) (group_at before.at c) names (group_at groups.at c)
-  pub above_with : HasMore (emits_at is_above_parts m) before.above.items names groups.above.items
-
-pub in_order : (m : Data) (before : Groups) (names : List Name) (groups : Groups) → IsGroupedWith m before names groups → AreInOrder groups
-in_order m before names groups held = record {
-  at = λ c. (held.at_with c).order;
-  above = held.above_with.order;
-}
+abbrev pub IsGroupedWith : Data → Groups → List Name → Groups → Type 0
+IsGroupedWith m before names groups = (top : Option Category) → HasMore (emits_at (adds_itself top) m) (own_group before top) names (own_group groups top)
 
 with_none : (test : Category → Bool) (old new : Data) (names : List Name) → names ≡ gas_lines_at test old → HasMore (emits_at test new) names [] names
 with_none test old new names is = none_more (emits_at test new) names (subst (IsStrictlySortedBy name_cmp) (sym is) (sorted_at test old))
 
 pub grouped_none : (old new : Data) (groups : Groups) → IsGrouping old groups → IsGroupedWith new groups [] groups
-grouped_none old new groups are = record {
-  at_with = λ c. with_none (λ k. is_same k c) old new _ (are.at c);
-  above_with = with_none is_above_parts old new _ are.above;
-}
+grouped_none old new groups are top = with_none (adds_itself top) old new _ (are top)
 
 -- one line more
 one_at : (m : Data) (test : Category → Bool) (before names xs ys : List Name) (name : Name) (at : Option Category) → emitted_at m name ≡ at
@@ -146,42 +137,25 @@ one_at m test before names xs ys name at is more put =
 pub grouped_next : (m : Data) (before : Groups) (names : List Name) (name : Name) (c : Category) (old new : Groups) → IsGroupedWith m before names old → emitted_at m name ≡ Some c
     → ((d : Category) → group_at new.at d ≡ placed_if name (is_same c d) (group_at old.at d)) → new.above.items ≡ placed_if name (is_above_parts c) old.above.items
     → IsGroupedWith m before (names ++ name ∷ []) new
-grouped_next m before names name c old new held is at above = record {
-  at_with = λ d. one_at m (λ k. is_same k d) _ names _ _ name (Some c) is (held.at_with d) (at d);
-  above_with = one_at m is_above_parts _ names _ _ name (Some c) is held.above_with above;
-}
+grouped_next m before names name c old new held is at above top = one_at m (adds_itself top) _ names _ _ name (Some c) is (held top)
+    (by_total (λ t. own_group new t ≡ placed_if name (adds_itself t c) (own_group old t)) at above top)
 
 pub grouped_still : (m : Data) (before : Groups) (names : List Name) (name : Name) (groups : Groups) → IsGroupedWith m before names groups → emitted_at m name ≡ None
     → IsGroupedWith m before (names ++ name ∷ []) groups
-grouped_still m before names name groups held is = record {
-  at_with = λ d. one_at m (λ k. is_same k d) _ names _ _ name None is (held.at_with d) refl;
-  above_with = one_at m is_above_parts _ names _ _ name None is held.above_with refl;
-}
+grouped_still m before names name groups held is top = one_at m (adds_itself top) _ names _ _ name None is (held top) refl
 
 -- all lines
 pub grouped_with : (old new : Data) (before groups : Groups) (lines : List Name) → IsGrouping old before → AddsLines old new lines → IsGroupedWith new before lines groups → IsGrouping new groups
-grouped_with old new before groups lines are adds held = record {
-  at = λ c. all_at old new lines adds (λ k. is_same k c) _ (subst (λ xs. HasMore (emits_at (λ k. is_same k c) new) xs lines (group_at groups.at c)) (are.at c) (held.at_with c));
-  above = all_at old new lines adds is_above_parts _ (subst (λ xs. HasMore (emits_at is_above_parts new) xs lines groups.above.items) are.above held.above_with);
-}
+grouped_with old new before groups lines are adds held top = all_at old new lines adds (adds_itself top) _
+    (subst (λ xs. HasMore (emits_at (adds_itself top) new) xs lines (own_group groups top)) (are top) (held top))
 
 -- ---- the groups without the lines so far
 
-pub record IsGroupedWithout (m : Data) (before : Groups) (names : List Name) (groups : Groups) : Type 0 where
-  pub at_without : (c : Category) → HasLess (emits_at (λ k. is_same k c) m) (group_at before.at c) names (group_at groups.at c)
-  pub above_without : HasLess (emits_at is_above_parts m) before.above.items names groups.above.items
-
-pub left_in_order : (m : Data) (before : Groups) (names : List Name) (groups : Groups) → IsGroupedWithout m before names groups → AreInOrder groups
-left_in_order m before names groups held = record {
-  at = λ c. (held.at_without c).order;
-  above = held.above_without.order;
-}
+abbrev pub IsGroupedWithout : Data → Groups → List Name → Groups → Type 0
+IsGroupedWithout m before names groups = (top : Option Category) → HasLess (emits_at (adds_itself top) m) (own_group before top) names (own_group groups top)
 
 pub ungrouped_none : (m : Data) (groups : Groups) → IsGrouping m groups → IsGroupedWithout m groups [] groups
-ungrouped_none m groups are = record {
-  at_without = λ c. none_less (emits_at (λ k. is_same k c) m) _ (subst (IsStrictlySortedBy name_cmp) (sym (are.at c)) (sorted_at (λ k. is_same k c) m));
-  above_without = none_less (emits_at is_above_parts m) _ (subst (IsStrictlySortedBy name_cmp) (sym are.above) (sorted_at is_above_parts m));
-}
+ungrouped_none m groups are top = none_less (emits_at (adds_itself top) m) _ (subst (IsStrictlySortedBy name_cmp) (sym (are top)) (sorted_at (adds_itself top) m))
 
 -- one line more is gone
 one_gone : (m : Data) (test : Category → Bool) (before names xs ys : List Name) (name : Name) (at : Option Category) → emitted_at m name ≡ at
@@ -192,24 +166,17 @@ one_gone m test before names xs ys name at is less taken =
 pub ungrouped_next : (m : Data) (before : Groups) (names : List Name) (name : Name) (c : Category) (old new : Groups) → IsGroupedWithout m before names old → emitted_at m name ≡ Some c
     → ((d : Category) → group_at new.at d ≡ taken_if name (is_same c d) (group_at old.at d)) → new.above.items ≡ taken_if name (is_above_parts c) old.above.items
     → IsGroupedWithout m before (names ++ name ∷ []) new
-ungrouped_next m before names name c old new held is at above = record {
-  at_without = λ d. one_gone m (λ k. is_same k d) _ names _ _ name (Some c) is (held.at_without d) (at d);
-  above_without = one_gone m is_above_parts _ names _ _ name (Some c) is held.above_without above;
-}
+ungrouped_next m before names name c old new held is at above top = one_gone m (adds_itself top) _ names _ _ name (Some c) is (held top)
+    (by_total (λ t. own_group new t ≡ taken_if name (adds_itself t c) (own_group old t)) at above top)
 
 pub ungrouped_still : (m : Data) (before : Groups) (names : List Name) (name : Name) (groups : Groups) → IsGroupedWithout m before names groups → emitted_at m name ≡ None
     → IsGroupedWithout m before (names ++ name ∷ []) groups
-ungrouped_still m before names name groups held is = record {
-  at_without = λ d. one_gone m (λ k. is_same k d) _ names _ _ name None is (held.at_without d) refl;
-  above_without = one_gone m is_above_parts _ names _ _ name None is held.above_without refl;
-}
+ungrouped_still m before names name groups held is top = one_gone m (adds_itself top) _ names _ _ name None is (held top) refl
 
 -- all lines
 pub grouped_without : (old new : Data) (before groups : Groups) (lines : List Name) → IsGrouping new before → AddsLines old new lines → IsGroupedWithout new before lines groups → IsGrouping old groups
-grouped_without old new before groups lines are adds held = record {
-  at = λ c. all_left old new lines adds (λ k. is_same k c) _ (subst (λ xs. HasLess (emits_at (λ k. is_same k c) new) xs lines (group_at groups.at c)) (are.at c) (held.at_without c));
-  above = all_left old new lines adds is_above_parts _ (subst (λ xs. HasLess (emits_at is_above_parts new) xs lines groups.above.items) are.above held.above_without);
-}
+grouped_without old new before groups lines are adds held top = all_left old new lines adds (adds_itself top) _
+    (subst (λ xs. HasLess (emits_at (adds_itself top) new) xs lines (own_group groups top)) (are top) (held top))
 
 -- ---- lines that edits enter
 

@@ -18,7 +18,7 @@ use Rattle.ghg_engine.specs.declared.groups.Groups.{Groups}
 use Rattle.ghg_engine.specs.declared.changed_lines.GroupedLines.{GroupedLines}
 use Rattle.ghg_engine.specs.declared.groups.PlacedLine.{PlacedLine}
 use Rattle.ghg_engine.specs.Changes.{AreGrouped}
-use Rattle.ghg_engine.specs.Grouping.{AreGroupsOf, IsGrouping, code_order, group_at, names_at, placed_at, placed_lines}
+use Rattle.ghg_engine.specs.Grouping.{AreGroupsOf, IsGrouping, adds_itself, code_order, group_at, names_at, own_group, placed_at, placed_lines}
 use Rattle.ghg_engine.specs.Parts.{counted_nodes, counts_in}
 
 -- the name, where the test passes
@@ -27,6 +27,11 @@ name_if b name = if b then name ∷ [] else []
 
 pub same_is : (a c : Category) → is_same a c ≡ true → a ≡ c
 same_is a c e = (category_same a c).0 e
+
+-- what is so of each category, and of the gross total, is so of each total
+pub by_total : (P : Option Category → Type 0) → ((c : Category) → P (Some c)) → P None → (top : Option Category) → P top
+by_total P at above (Some c) = at c
+by_total P at above None = above
 
 -- ---- the lines so far
 
@@ -48,10 +53,9 @@ one_more test lines l =
 
 pub grouped_more : (lines : List PlacedLine) (l : PlacedLine) (old new : Groups) → AreGroupsOf lines old →
     ((d : Category) → group_at new.at d ≡ group_at old.at d ++ name_if (is_same l.category d) l.name) → new.above.items ≡ old.above.items ++ name_if (is_above_parts l.category) l.name → AreGroupsOf (lines ++ l ∷ []) new
-grouped_more lines l old new held at above = record {
-  at = λ d. at d ∙ ap (λ xs. xs ++ name_if (is_same l.category d) l.name) (held.at d) ∙ sym (one_more (λ k. is_same k d) lines l);
-  above = above ∙ ap (λ xs. xs ++ name_if (is_above_parts l.category) l.name) held.above ∙ sym (one_more is_above_parts lines l);
-}
+grouped_more lines l old new held at above top =
+    by_total (λ t. own_group new t ≡ own_group old t ++ name_if (adds_itself t l.category) l.name) at above top
+    ∙ ap (λ xs. xs ++ name_if (adds_itself top l.category) l.name) (held top) ∙ sym (one_more (adds_itself top) lines l)
 
 -- ---- lines of data
 
@@ -88,20 +92,15 @@ counted_placed m top year (name ∷ names) = by (category m name) (counted_place
 -- ---- lines that are grouped
 
 module _ (m : Data) (lines : GroupedLines) (grouped : AreGrouped m lines) where
-  pub group_names : (c : Category) → group_at lines.groups.at c ≡ names_at (λ k. is_same k c) m lines.names.items
-  group_names c = grouped.groups.at c ∙ ap (placed_at (λ k. is_same k c)) grouped.placed ∙ names_placed m (λ k. is_same k c) lines.names.items
-
-  pub above_names : lines.groups.above.items ≡ names_at is_above_parts m lines.names.items
-  above_names = grouped.groups.above ∙ ap (placed_at is_above_parts) grouped.placed ∙ names_placed m is_above_parts lines.names.items
+  pub own_names : (top : Option Category) → own_group lines.groups top ≡ names_at (adds_itself top) m lines.names.items
+  own_names top = grouped.groups top ∙ ap (placed_at (adds_itself top)) grouped.placed ∙ names_placed m (adds_itself top) lines.names.items
 
   pub counted_names : (top : Option Category) (year : ℕ) → counted_nodes top lines.placed.items year ≡ map (λ name. Equiv name year) (names_at (counts_in top) m lines.names.items)
   counted_names top year = ap (λ ls. counted_nodes top ls year) grouped.placed ∙ counted_placed m top year lines.names.items
 
 pub grouped_all : (m : Data) (names : List Name) (placed : List PlacedLine) (groups : Groups) → placed ≡ placed_lines m names → AreGroupsOf placed groups → names ≡ gas_lines m → IsGrouping m groups
-grouped_all m names placed groups is held all = record {
-  at = λ c. held.at c ∙ ap (placed_at (λ k. is_same k c)) is ∙ names_placed m (λ k. is_same k c) names ∙ ap (names_at (λ k. is_same k c) m) all;
-  above = held.above ∙ ap (placed_at is_above_parts) is ∙ names_placed m is_above_parts names ∙ ap (names_at is_above_parts m) all;
-}
+grouped_all m names placed groups is held all top =
+    held top ∙ ap (placed_at (adds_itself top)) is ∙ names_placed m (adds_itself top) names ∙ ap (names_at (adds_itself top) m) all
 
 -- ---- one more in the group of a category
 
@@ -120,7 +119,7 @@ pushed old new before now at a c name is same unwraps items =
 -- ---- where nothing is put
 
 pub nothing_grouped : (groups : Groups) → ((c : Category) → group_at groups.at c ≡ []) → groups.above.items ≡ [] → AreGroupsOf [] groups
-nothing_grouped groups at above = record { at = at; above = above }
+nothing_grouped groups at above = by_total (λ top. own_group groups top ≡ placed_at (adds_itself top) []) at above
 
 pub on_ok : {A E P Q : Type 0} (r : Result A E) → (P → Q) → OnOk r P → OnOk r Q
 on_ok (Ok x) f p = f p

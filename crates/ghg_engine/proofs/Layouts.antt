@@ -3,16 +3,15 @@ use Rattle.std.proofs.Common.{◌≡◌, Bool, false, [], filter, sym, ap, ◌�
 use Rattle.std.specs.FinMap.{empty}
 use Rattle.std.specs.Option.{option_map_or}
 use Rattle.ghg_categories.specs.declared.category.Category.{Category}
-use Rattle.ghg_categories.specs.Tree.{is_same}
 use Rattle.ghg_definitions.specs.declared.record.Record.{Record}
 use Rattle.ghg_definitions.specs.Compilation.{gas_lines_at}
 use Rattle.ghg_definitions.specs.Data.{category, key_cmp}
-use Rattle.ghg_affected.specs.Subtotals.{is_above_parts}
 use Rattle.ghg_graph.specs.Index.{IsLineIndex}
 use Rattle.ghg_engine.specs.declared.layout.Layout.{Layout}
-use Rattle.ghg_engine.specs.Grouping.{group_at}
+use Rattle.ghg_engine.specs.Grouping.{adds_itself, group_at, own_group}
 use Rattle.ghg_engine.specs.Layouts.{IsLayout}
 use Rattle.ghg_graph.proofs.Indexing.{no_emitters}
+use Rattle.ghg_engine.proofs.Grouped.{by_total}
 
 -- ---- without records
 
@@ -22,8 +21,5 @@ none_at test = ap (filter (λ name. option_map_or test (category (empty {X = Rec
 pub nothing_laid : (layout : Layout) → IsLineIndex (empty {X = Record} {R = key_cmp}) layout.index → ((c : Category) → group_at layout.groups.at c ≡ []) → layout.groups.above.items ≡ [] → IsLayout (empty {X = Record} {R = key_cmp}) layout
 nothing_laid layout index at above = record {
   index = index;
-  groups = record {
-    at = λ c. at c ∙ sym (none_at (λ k. is_same k c));
-    above = above ∙ sym (none_at is_above_parts);
-  };
+  groups = λ top. by_total (λ t. own_group layout.groups t ≡ []) at above top ∙ sym (none_at (adds_itself top));
 }

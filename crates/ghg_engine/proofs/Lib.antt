@@ -38,3 +38,4 @@ mod OfYear
 mod Named
 mod Next
 mod AtPlace
+mod TotalsAt

@@ -1,6 +1,7 @@
 -- What the equation of a line gives, over what its parameters take.
 use Rattle.std.proofs.Common.{◌≡◌, ℕ, Bool, true, false, not, ◌&&◌, ◌||◌, List, [], ◌∷◌, ◌++◌, map, Some, Ok, Err, is_err, refl, sym, ap, ◌∙◌, subst}
 use Rattle.std.proofs.lemmas.List.{map-append}
+use Rattle.std.proofs.Math.Bool.{and-true}
 use Rattle.ghg_cell.specs.declared.input.Input.{Input}
 use Rattle.ghg_cell.specs.Totals.{equation_outcome}
 use Rattle.ghg_cell.specs.Values.{is_blank, then}
@@ -41,11 +42,7 @@ module _ (m : Data) (cells : Outcomes) (name : Name) (year : ℕ) where
     -- none of what is taken is over
     pub line_evaluated : (found : List Input) → gather (parameter_outcomes m cells name year (parameters id)) ≡ Ok found → e.outcome ≡ then (gather (parameter_outcomes m cells name year (parameters id))) (equation_outcome id) →
         e.breaks ≡ is_over (Some e.outcome) → IsEvaluatedAt (sheet_of m) cells (node.Line name year) e
-    line_evaluated found gathered o b = evaluated o (b ∙ sym (ap (λ r. is_over (Some e.outcome) && not (is_err r)) gathered ∙ and_true (is_over (Some e.outcome))))
-      where
-        and_true : (b : Bool) → (b && true) ≡ b
-        and_true true = refl
-        and_true false = refl
+    line_evaluated found gathered o b = evaluated o (b ∙ sym (ap (λ r. is_over (Some e.outcome) && not (is_err r)) gathered ∙ and-true (is_over (Some e.outcome))))
 
     -- one is, and so is the line, which does not break
     pub line_passed_on : gather (parameter_outcomes m cells name year (parameters id)) ≡ Err (record {}) → e.outcome ≡ Err (record {}) → e.breaks ≡ false → IsEvaluatedAt (sheet_of m) cells (node.Line name year) e

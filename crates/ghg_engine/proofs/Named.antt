@@ -16,7 +16,7 @@ use Rattle.ghg_definitions.proofs.Keys.{equal_by, names_same}
 use Rattle.ghg_affected.proofs.Bools.{true_not_false}
 use Rattle.ghg_graph.specs.NodeOrders.{AreByYear}
 use Rattle.ghg_graph.proofs.Membership.{key_listed, listed_key}
-use Rattle.ghg_engine.specs.Changes.{AreMoved, AreStayingLines, is_moved, moved_line, unmoved_line}
+use Rattle.ghg_engine.specs.Changes.{AreMovedLines, AreStayingLines, is_moved, moved_line, unmoved_line}
 use Rattle.ghg_engine.proofs.OfYear.{unmoved_of}
 
 -- names that the code finds equal are one
@@ -38,7 +38,7 @@ of_moved old new (key.Line other) name e = by (is_moved old new other) refl e
     by false off e = absurd (cc)
 of_moved old new _ name e = absurd (cc)
 
-pub moved_are : (old new : Data) (keys : List RecordKey) (s : BTreeSet Name) → IsFromIterResult name_cmp (filter_map (moved_line old new) keys) s → AreMoved old new keys s
+pub moved_are : (old new : Data) (keys : List RecordKey) (s : BTreeSet Name) → IsFromIterResult name_cmp (filter_map (moved_line old new) keys) s → AreMovedLines old new keys s
 moved_are old new keys s is = record {
   order = is.1;
   named = λ name. (

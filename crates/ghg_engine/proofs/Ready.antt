@@ -1,6 +1,7 @@
 -- What is evaluated over the outcomes of the compilation is what it has.
 use Rattle.std.proofs.Common.{◌≡◌, inl, inr, ℕ, Bool, true, false, not, ◌&&◌, ◌||◌, List, [], ◌∷◌, Contains, Some, refl, sym, ap, ap₂, ◌∙◌, subst}
 use Rattle.std.specs.List.{list_any}
+use Rattle.std.proofs.Math.Bool.{and-true}
 use Rattle.ghg_cell.specs.Totals.{summed}
 use Rattle.ghg_cell.specs.Values.{then}
 use Rattle.ghg_units.specs.declared.node.Node.{Node}
@@ -53,13 +54,9 @@ module _ (m : Data) (acyclic : IsAcyclic m) (outcomes : Outcomes) (n : Node) (re
       outcome = same;
       breaks = fitting.sum.breaks
           ∙ ap (λ b. is_over (Some e.outcome) && not b) fitting.none_over
-          ∙ and_true (is_over (Some e.outcome)) ∙ ap is_over (sym same) ∙ sym law.breaks_where_over;
+          ∙ and-true (is_over (Some e.outcome)) ∙ ap is_over (sym same) ∙ sym law.breaks_where_over;
     }
       where
-        and_true : (b : Bool) → (b && true) ≡ b
-        and_true true = refl
-        and_true false = refl
-
         fits : (k : Node) → Contains (subtotals m n) k → is_over (compilation m k) ≡ false
         fits k c = ap is_over (sym (ready.subtotals_are k c)) ∙ never_so (is_over (outcomes k))
             (λ so. true_not_false (sym (listed_any (λ j. is_over (outcomes j)) k (subtotals m n) (listed _ k c) so)

@@ -4,7 +4,7 @@ use Rattle.std.specs.List.{slice_get}
 use Rattle.std.specs.Option.{option_or}
 use Rattle.std.proofs.Math.Nat.{le-max_left, max-eq_left, max-eq_right, min-eq_left, min-eq_right, min-le_left}
 use Rattle.std.proofs.lemmas.Bool.{lt-leb}
-use Rattle.std.proofs.lemmas.List.{length-append, length-drop, length-take-le}
+use Rattle.std.proofs.lemmas.List.{length-append, length-drop, length-take-le, nil_from_length}
 use Rattle.std.proofs.lemmas.Option.{slice_get_past}
 use Rattle.ghg_cell.specs.declared.input.Input.{Input}
 use Rattle.ghg_affected.proofs.Bools.{or_first, or_second, true_not_false}
@@ -13,10 +13,6 @@ use Rattle.ghg_engine.specs.declared.column.Years.{Years}
 use Rattle.ghg_engine.specs.Columns.{AreOver, HasIn, HasShapeOf, IsOver, Run, capacity_of, covers, end_of, hull, is_replaced_by, joined, length_of, meet_in_turn, takes, touches, value_among, value_in, years_of}
 use Rattle.ghg_engine.proofs.Columns.{is_within, or_further, value_within}
 use Rattle.ghg_engine.proofs.InColumns.{no_value}
-
-none_there : (xs : List Input) → length xs ≡ 0 → xs ≡ []
-none_there [] e = refl
-none_there (x ∷ xs) e = absurd (omega (arith, e))
 
 slice_some : (xs : List Input) (i : ℕ) → i < length xs → is_some (slice_get xs i) ≡ true
 slice_some [] i l = absurd (omega (arith, l))
@@ -46,7 +42,7 @@ covers_years run other c y none = by (value_in other y) refl
         before e y a len low less high = omega (arith, low, less, high)
 
     some : (b : Bool) → (other.first == end_of other) ≡ b → (b || (nat_le run.first other.first && nat_le (end_of other) (end_of run))) ≡ true → is_some (value_in other y) ≡ true → is_some (value_in run y) ≡ true
-    some true e t there = absurd (true_not_false (sym there ∙ ap is_some (no_value other (none_there other.values (no_length other.first (length other.values) (eqb-true other.first (end_of other) e))) y)))
+    some true e t there = absurd (true_not_false (sym there ∙ ap is_some (no_value other (nil_from_length other.values (no_length other.first (length other.values) (eqb-true other.first (end_of other) e))) y)))
       where
         no_length : (a len : ℕ) → a ≡ a + len → len ≡ 0
         no_length a len e = omega (arith, e)

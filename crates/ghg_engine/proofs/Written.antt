@@ -129,9 +129,8 @@ without_within front n k = by (same_node k n)
 
 -- ---- what is known of an option
 
-pub if_some : {A : Type 0} (P : A → Type 0) (o : Option A) (x : A) → o ≡ Some x → IfSome o P → P x
-if_some P None x e h = absurd (cc)
-if_some P (Some y) x e h = let same : y ≡ x = cc in subst P same h
+pub of_some : {A : Type 0} (P : A → Type 0) (o : Option A) (x : A) → o ≡ Some x → IfSome o P → P x
+of_some P o x is h = subst (λ p. IfSome p P) is h
 
 pub none_is : {A : Type 0} (o : Option A) → is_some o ≡ false → o ≡ None
 none_is None e = refl

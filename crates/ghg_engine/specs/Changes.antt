@@ -137,7 +137,7 @@ moved_line old new (key.Line name) = if is_moved old new name then Some name els
 moved_line old new _ = None
 
 -- the set has the lines of the keys that are moved
-pub record AreMoved (old new : Data) (keys : List RecordKey) (moved : BTreeSet Name) : Type 0 where
+pub record AreMovedLines (old new : Data) (keys : List RecordKey) (moved : BTreeSet Name) : Type 0 where
   pub order : IsOrdered name_cmp moved
   pub named : (name : Name) → (contains name_cmp moved name ≡ true) ↔
       (IsListed (key.Line name) keys × (is_moved old new name ≡ true))
@@ -173,7 +173,7 @@ pub record AreOfYear (m : Data) (ns : List Node) (changed : ChangedLines) : Type
 -- those that do
 pub record AreChangedLines (old new : Data) (keys : List RecordKey) (ns : List Node) (changed : ChangedLines)
     : Type 0 where
-  pub are_moved : AreMoved old new keys changed.moved
+  pub are_moved : AreMovedLines old new keys changed.moved
   pub of_year : AreOfYear new ns changed
   pub gone : AreEmitters old changed.moved changed.gone
   pub come : AreEmitters new changed.moved changed.come

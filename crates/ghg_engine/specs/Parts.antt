@@ -27,6 +27,11 @@ nodes_for p names year = map (λ name. node_for p name year) names
 abbrev pub addends_for : Addends → ℕ → List Node
 addends_for a year = map (λ c. node.Total c year) a.categories.now ++ nodes_for part.Equivalent a.own.now year
 
+-- the total of a category in a year, or the gross total where none is given
+abbrev pub total_at : Option Category → ℕ → Node
+total_at (Some top) year = node.Total top year
+total_at None year = node.Gross year
+
 -- whether lines at the second category count in the total of the first, or in the gross total where none is
 -- given
 abbrev pub counts_in : Option Category → Category → Bool

@@ -3,13 +3,12 @@
 ghost use Rattle.std.specs.Prelude.{◌≡◌, ◌≤◌, ◌<◌, ◌+◌, ◌-◌, ◌^◌, ◌==◌, filter, filter_map, length, max, min, IfOk, OnOk};
 ghost use Rattle.std.specs.BTreeSet.{IsFromIterResult};
 ghost use Rattle.std.specs.List.{Contains, take_while};
-ghost use Rattle.ghg_affected.specs.Subtotals.{children, gross_parts};
 ghost use Rattle.ghg_definitions.specs.Compilation.{emits};
 ghost use Rattle.ghg_definitions.specs.Data.{name_cmp};
 ghost use Rattle.ghg_definitions.specs.Nodes.{year_in};
 ghost use Rattle.ghg_graph.specs.NodeOrders.{AreByYear};
 ghost use Rattle.ghg_engine.specs.Changes.{AreChangedLines, AreGrouped, AreStayingLines, HasComeTo, IsFirstYear, IsOfNodeAt, MovesTheSame, moved_line, unmoved_line};
-ghost use Rattle.ghg_engine.specs.Grouping.{group_at};
+ghost use Rattle.ghg_engine.specs.Grouping.{own_group, parts_of};
 
 use crate::groups::{Groups, PlacedLine, emitted_at, placed_lines};
 use crate::nodes::emits;
@@ -159,31 +158,17 @@ impl ChangedLines {
         Ok(())
     }
 
-    /// What may change of what the total of a category adds.
-    pub(crate) fn total(&self, category: Category) -> ChangedAddends<'_>
-        ensures categories { result.staying.categories.now ≡ children category }
-        ensures staying { result.staying.own.now ≡ group_at self.now.staying.groups.at category }
-        ensures gone { result.gone.now ≡ group_at self.now.gone.groups.at category }
-        ensures come { result.come.now ≡ group_at self.now.come.groups.at category }
+    /// What may change of what the total of a category adds, or the gross total where none is given.
+    pub(crate) fn addends(&self, top: Option<Category>) -> ChangedAddends<'_>
+        ensures categories { result.staying.categories.now ≡ parts_of top }
+        ensures staying { result.staying.own.now ≡ own_group self.now.staying.groups top }
+        ensures gone { result.gone.now ≡ own_group self.now.gone.groups top }
+        ensures come { result.come.now ≡ own_group self.now.come.groups top }
     {
         ChangedAddends {
-            staying: self.staying.groups.total(category),
-            gone: self.gone.groups.total(category).own,
-            come: self.come.groups.total(category).own,
-        }
-    }
-
-    /// What may change of what the gross total adds.
-    pub(crate) fn gross(&self) -> ChangedAddends<'_>
-        ensures categories { result.staying.categories.now ≡ gross_parts }
-        ensures staying { result.staying.own.now ≡ self.now.staying.groups.above.items }
-        ensures gone { result.gone.now ≡ self.now.gone.groups.above.items }
-        ensures come { result.come.now ≡ self.now.come.groups.above.items }
-    {
-        ChangedAddends {
-            staying: self.staying.groups.gross(),
-            gone: self.gone.groups.gross().own,
-            come: self.come.groups.gross().own,
+            staying: self.staying.groups.addends(top),
+            gone: self.gone.groups.own(top),
+            come: self.come.groups.own(top),
         }
     }
 }

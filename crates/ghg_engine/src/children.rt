@@ -2,11 +2,12 @@
 
 ghost use Rattle.std.specs.Prelude.{◌≡◌};
 ghost use Rattle.ghg_affected.specs.Subtotals.{children};
+ghost use Rattle.ghg_engine.specs.Grouping.{parts_of};
 
 use ghg_categories::Category;
 
-/// The categories whose totals the gross total adds.
-pub(crate) const GROSS_PARTS: [Category; 7] = [
+// The categories whose totals the gross total adds.
+const GROSS_PARTS: [Category; 7] = [
     Category::C1,
     Category::C2,
     Category::C3A,
@@ -16,8 +17,18 @@ pub(crate) const GROSS_PARTS: [Category; 7] = [
     Category::C5,
 ];
 
-/// The categories just under one, in the order of the tree.
-pub(crate) fn children(category: Category) -> &'static [Category]
+/// The categories whose totals the total of a category adds, or the gross total where none is given.
+pub(crate) fn parts_of(top: Option<Category>) -> &'static [Category]
+    ensures { result.now ≡ parts_of top }
+{
+    match top {
+        Some(category) => children(category),
+        None => &GROSS_PARTS,
+    }
+}
+
+// The categories just under one, in the order of the tree.
+fn children(category: Category) -> &'static [Category]
     ensures { result.now ≡ children category }
 {
     use Category::*;

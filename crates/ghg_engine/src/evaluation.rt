@@ -17,7 +17,7 @@ ghost use Rattle.ghg_engine.specs.Fresh.{fresh_at};
 ghost use Rattle.ghg_engine.specs.Known.{IsKnown, IsKnownLine};
 ghost use Rattle.ghg_engine.specs.Layouts.{IsLayout};
 ghost use Rattle.ghg_engine.specs.Overlays.{outcomes_of};
-ghost use Rattle.ghg_engine.specs.Parts.{addends_for, all_for};
+ghost use Rattle.ghg_engine.specs.Parts.{addends_for, all_for, total_at};
 ghost use Rattle.ghg_engine.specs.Proposals.{IfOverflow};
 
 use crate::arguments::Arguments;
@@ -156,8 +156,8 @@ fn go_on<R: Records, C: ghg_graph::Cells>(
 }
 
 // The years of nodes, if the nodes are at least half as many as the lines and emitters of the first year
-// would have in all of them; else the first year alone. So there is not much more room than twice that of the
-// values.
+// would have in all of them; else the first year alone. So there is room for some twice as many values as
+// there are nodes, at most.
 fn room_for(known: &Known, nodes: &[Node]) -> Room {
     let (Some(first), Some(last)) = (nodes.first(), nodes.last()) else {
         return Room { first: 0, last: 0 };
@@ -260,10 +260,6 @@ fn evaluate<R: Records, C: ghg_graph::Cells>(
     ensures known { IsKnown (R.content records.now) known.new }
     ensures outcome { IfOk result (IsOutcomeOf (R.content records.now) node.now) }
 {
-    let emitters = Emitters {
-        records,
-        names: &layout.index.emitters,
-    };
     match node {
         Node::Line(name, year) => {
             let Buffers {
@@ -281,44 +277,58 @@ fn evaluate<R: Records, C: ghg_graph::Cells>(
             let place = turn.next_emitter(*year);
             equivalent(records, known, place, cells, name, *year, ticket, parts)
         }
-        Node::Total(category, year) => {
-            let addends = layout.groups.total(*category);
-            match before {
-                Some(from) => {
-                    let changed = from.changed.total(*category);
-                    sum_from(
-                        &emitters, from, cells, node, &addends, &changed, *year, ticket, buffers,
-                    )
-                }
-                None => sum(
-                    &emitters,
-                    cells,
-                    &addends,
-                    *year,
-                    ticket,
-                    &mut buffers.parts,
-                ),
-            }
+        Node::Total(category, year) => evaluate_total(
+            records,
+            layout,
+            before,
+            cells,
+            node,
+            Some(*category),
+            *year,
+            ticket,
+            buffers,
+        ),
+        Node::Gross(year) => evaluate_total(
+            records, layout, before, cells, node, None, *year, ticket, buffers,
+        ),
+    }
+}
+
+// Evaluates the total of a category in a year, or the gross total where none is given: from what it was,
+// where cells of the workbook before are given.
+fn evaluate_total<R: Records, C: ghg_graph::Cells>(
+    records: &R,
+    layout: &Layout,
+    before: &Option<Before<'_, C>>,
+    cells: &Overlay<'_>,
+    node: &Node,
+    top: Option<Category>,
+    year: u32,
+    ticket: Ticket,
+    buffers: &mut Buffers,
+) -> Result<Evaluated, AllocError>
+    requires workbook { IsWorkbook (R.content records.now) }
+    requires acyclic { IsAcyclic (R.content records.now) }
+    requires layout { IsLayout (R.content records.now) layout.now }
+    requires node { node.now ≡ total_at top year }
+    requires ready { IsReady (R.content records.now) (outcomes_of cells.now) node.now }
+    requires before { IfSome before.now (λ b. IsReadyFrom (C.content b.cells.now) (R.content records.now)
+        b.changed (fresh_at cells.now.fresh) node.now) }
+    ensures { IfOk result (IsOutcomeOf (R.content records.now) node.now) }
+{
+    let emitters = Emitters {
+        records,
+        names: &layout.index.emitters,
+    };
+    let addends = layout.groups.addends(top);
+    match before {
+        Some(from) => {
+            let changed = from.changed.addends(top);
+            sum_from(
+                &emitters, from, cells, node, &addends, &changed, year, ticket, buffers,
+            )
         }
-        Node::Gross(year) => {
-            let addends = layout.groups.gross();
-            match before {
-                Some(from) => {
-                    let changed = from.changed.gross();
-                    sum_from(
-                        &emitters, from, cells, node, &addends, &changed, *year, ticket, buffers,
-                    )
-                }
-                None => sum(
-                    &emitters,
-                    cells,
-                    &addends,
-                    *year,
-                    ticket,
-                    &mut buffers.parts,
-                ),
-            }
-        }
+        None => sum(&emitters, cells, &addends, year, ticket, &mut buffers.parts),
     }
 }
 

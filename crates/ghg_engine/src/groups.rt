@@ -5,11 +5,11 @@ ghost use Rattle.std.specs.List.Sorted.{IsStrictlySortedBy};
 ghost use Rattle.ghg_categories.specs.Tree.{is_same};
 ghost use Rattle.ghg_categories.specs.declared.category.Category.{Category};
 ghost use Rattle.ghg_definitions.specs.Data.{Data, name_cmp};
-ghost use Rattle.ghg_affected.specs.Subtotals.{children, gross_parts, is_above_parts};
+ghost use Rattle.ghg_affected.specs.Subtotals.{is_above_parts};
 ghost use Rattle.ghg_data.specs.Names.{with_name, without_name};
-ghost use Rattle.ghg_engine.specs.Grouping.{AddsLines, AreGroupsOf, AreInOrder, IsGrouping, emitted_at, group_at, placed_line, placed_lines};
+ghost use Rattle.ghg_engine.specs.Grouping.{AddsLines, AreGroupsOf, IsGrouping, emitted_at, group_at, own_group, parts_of, placed_line, placed_lines};
 
-use crate::children::{GROSS_PARTS, children};
+use crate::children::parts_of;
 use crate::parts::Addends;
 use ghg_categories::Category;
 use ghg_data::{Records, take_name};
@@ -168,35 +168,33 @@ impl Groups {
         }
     }
 
-    /// What the total of a category adds.
-    pub(crate) fn total(&self, category: Category) -> Addends<'_>
-        ensures categories { result.categories.now ≡ children category }
-        ensures own { result.own.now ≡ group_at self.now.at category }
-        ensures top { result.top ≡ Some category }
+    /// What the total of a category adds, or the gross total where none is given.
+    pub(crate) fn addends(&self, top: Option<Category>) -> Addends<'_>
+        ensures categories { result.categories.now ≡ parts_of top }
+        ensures own { result.own.now ≡ own_group self.now top }
+        ensures top { result.top ≡ top }
     {
         Addends {
-            categories: children(category),
-            own: self.at.at(category),
-            top: Some(category),
+            categories: parts_of(top),
+            own: self.own(top),
+            top,
         }
     }
 
-    /// What the gross total adds.
-    pub(crate) fn gross(&self) -> Addends<'_>
-        ensures categories { result.categories.now ≡ gross_parts }
-        ensures own { result.own.now ≡ self.now.above.items }
-        ensures top { result.top ≡ None }
+    /// The lines that the total of a category adds itself, or the gross total where none is given.
+    pub(crate) fn own(&self, top: Option<Category>) -> &[Name]
+        ensures { result.now ≡ own_group self.now top }
     {
-        Addends {
-            categories: &GROSS_PARTS,
-            own: self.above.as_slice(),
-            top: None,
+        match top {
+            Some(category) => self.at.at(category),
+            None => self.above.as_slice(),
         }
     }
 
     // Puts a line that stands at a category into its places in its groups.
     fn insert(&mut self, category: Category, name: &Name) -> Result<(), AllocError>
-        requires { AreInOrder self.old }
+        requires at { (c : Category) → IsStrictlySortedBy name_cmp (group_at self.old.at c) }
+        requires above { IsStrictlySortedBy name_cmp self.old.above.items }
         ensures at { OnOk result ((c : Category) → group_at self.new.at c ≡
             (if is_same category c then with_name name.now (group_at self.old.at c)
             else group_at self.old.at c)) }
@@ -212,7 +210,8 @@ impl Groups {
 
     // Takes a line that stands at a category out of its groups.
     fn take(&mut self, category: Category, name: &Name)
-        requires { AreInOrder self.old }
+        requires at { (c : Category) → IsStrictlySortedBy name_cmp (group_at self.old.at c) }
+        requires above { IsStrictlySortedBy name_cmp self.old.above.items }
         ensures at { (c : Category) → group_at self.new.at c ≡
             (if is_same category c then without_name name.now (group_at self.old.at c)
             else group_at self.old.at c) }

@@ -13,7 +13,7 @@ use Rattle.ghg_engine.specs.declared.overlay.Overlay.{Overlay}
 use Rattle.ghg_engine.specs.Overlays.{outcomes_of}
 use Rattle.ghg_engine.specs.Changes.{IsBetween}
 use Rattle.ghg_engine.proofs.AtPlace.{between_first, goes_on, is_at_place, next_between}
-use Rattle.ghg_engine.proofs.Before.{of_some}
+use Rattle.ghg_engine.proofs.Written.{of_some}
 use Rattle.ghg_engine.proofs.Next.{around, both_some, if_some, next_from}
 use Rattle.ghg_engine.proofs.Turns.{IsSoFar, at_next, ends_evaluated, ends_over, next_ready, none_yet, nothing_fresh, nothing_so_far, one_so_far, settled_so_far}
 use Rattle.ghg_engine.proofs.evaluation.evaluate_all.Goals as goal

@@ -1,14 +1,11 @@
-use Rattle.std.proofs.Common.{◌≡◌, ◌∷◌, [], List, length, refl, sym, ap, subst, arith, ◌∙◌}
+use Rattle.std.proofs.Common.{◌≡◌, length, sym, ap, subst, arith, ◌∙◌}
+use Rattle.std.proofs.lemmas.List.{nil_from_length}
 use Rattle.ghg_engine.specs.Cells.{cell_at, found_in, in_series}
 use Rattle.ghg_engine.specs.Fresh.{AreReady}
 use Rattle.ghg_engine.specs.Numbered.{HaveOneNumber, in_numbered}
 use Rattle.ghg_engine.proofs.Moved.{last_there, left_ready}
 use Rattle.ghg_engine.proofs.UnderNumbers.{last_moved, one_number_still}
 use Rattle.ghg_engine.proofs.fresh.move_columns.Goals as goal
-
-no_items : {A : Type 0} (xs : List A) → length xs ≡ 0 → xs ≡ []
-no_items [] e = refl
-no_items (x ∷ xs) e = absurd (omega (arith, e))
 
 pub take_runs-requires : goal.take_runs-requires
 take_runs-requires c =
@@ -34,4 +31,4 @@ loop-series-preserved c =
 pub returns : goal.returns
 returns c =
     let none : length c.loop-series.columns.items ≡ 0 = grind (arith, c.in_default.ensures.cases) in
-    ap (λ cs. found_in (in_numbered cs) (cell_at c.loop-series.cells)) (sym (no_items c.loop-series.columns.items none)) ∙ c.loop-series.invariant.1
+    ap (λ cs. found_in (in_numbered cs) (cell_at c.loop-series.cells)) (sym (nil_from_length c.loop-series.columns.items none)) ∙ c.loop-series.invariant.1

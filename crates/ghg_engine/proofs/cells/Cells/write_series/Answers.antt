@@ -1,14 +1,11 @@
-use Rattle.std.proofs.Common.{◌≡◌, ◌∷◌, [], List, length, refl, sym, ap, subst, ◌∙◌, arith}
+use Rattle.std.proofs.Common.{List, length, refl, sym, ap, subst, ◌∙◌, arith}
 use Rattle.std.specs.Vec.Iter.{into_iter_items}
+use Rattle.std.proofs.lemmas.List.{nil_from_length}
 use Rattle.ghg_definitions.specs.Trials.{Outcomes}
 use Rattle.ghg_engine.specs.Cells.{AreWithin, cell_at, found_in, in_series}
 use Rattle.ghg_engine.specs.Columns.{Run}
 use Rattle.ghg_engine.proofs.Taken.{first_moved, first_within, none_in_series, others_within}
 use Rattle.ghg_engine.proofs.cells.Cells.write_series.Goals as goal
-
-nothing_left : {A : Type 0} (xs : List A) → length xs ≡ 0 → xs ≡ []
-nothing_left [] e = refl
-nothing_left (x ∷ xs) e = absurd (omega (arith, e))
 
 pub loop-run-init : goal.loop-run-init
 loop-run-init c =
@@ -46,5 +43,5 @@ pub returns-clause-cells : goal.returns-clause-cells
 returns-clause-cells c =
     let s = c.args.series in
     let kept = cell_at c.loop-run.self in
-    let none = nothing_left (into_iter_items c.loop-run.run-iterator) (sym c.loop-run.invariant.3 ∙ c.in-None.ensures.steps.0) in
+    let none = nil_from_length (into_iter_items c.loop-run.run-iterator) (sym c.loop-run.invariant.3 ∙ c.in-None.ensures.steps.0) in
     ap (λ (f : Outcomes). found_in f kept) (sym (ap (in_series s) none ∙ none_in_series s)) ∙ c.loop-run.invariant.1

@@ -1,14 +1,11 @@
-use Rattle.std.proofs.Common.{◌≡◌, ◌≤◌, ◌∷◌, [], List, true, length, refl, sym, ap, subst, ◌∙◌, arith}
+use Rattle.std.proofs.Common.{◌≡◌, ◌≤◌, List, true, length, sym, ap, subst, ◌∙◌, arith}
 use Rattle.std.specs.Option.{option_or}
+use Rattle.std.proofs.lemmas.List.{nil_from_length}
 use Rattle.std.specs.Vec.Iter.{into_iter_items}
 use Rattle.ghg_engine.specs.Columns.{Run, capacity_of, hull, joined, length_of, meet_in_turn, meets, value_among, value_in, years_of}
 use Rattle.ghg_definitions.proofs.Alike.{first_so, second_so}
 use Rattle.ghg_engine.proofs.Takes.{hull_longer, one_more_over}
 use Rattle.ghg_engine.proofs.column.Column.join_all.Goals as goal
-
-nothing_left : {A : Type 0} (xs : List A) → length xs ≡ 0 → xs ≡ []
-nothing_left [] e = refl
-nothing_left (x ∷ xs) e = absurd (omega (arith, e))
 
 pub loop-next-init : goal.loop-next-init
 loop-next-init c =
@@ -54,5 +51,5 @@ loop-next-preserved c =
 
 pub returns : goal.returns
 returns c y =
-    let none = nothing_left (into_iter_items c.loop-next.next-iterator) (sym c.loop-next.invariant.3 ∙ c.in-None.ensures.steps.0) in
+    let none = nil_from_length (into_iter_items c.loop-next.next-iterator) (sym c.loop-next.invariant.3 ∙ c.in-None.ensures.steps.0) in
     ap (λ (rs : List Run). option_or (value_among rs y) (value_in c.loop-next.self y)) (sym none) ∙ c.loop-next.invariant.2 y

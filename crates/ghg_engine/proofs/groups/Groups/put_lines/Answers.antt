@@ -1,16 +1,18 @@
-use Rattle.std.proofs.Common.{◌++◌, ◌∷◌, [], ◌∙◌, take, subst, sym}
+use Rattle.std.proofs.Common.{◌++◌, ◌∷◌, [], ◌∙◌, take, subst, sym, Some, None}
 use Rattle.std.proofs.lemmas.List.{take_all}
 use Rattle.ghg_graph.proofs.Numbering.{take_next}
-use Rattle.ghg_engine.proofs.Entered.{IsGroupedWith, grouped_next, grouped_none, grouped_still, grouped_with, in_order}
+use Rattle.ghg_engine.proofs.Entered.{IsGroupedWith, grouped_next, grouped_none, grouped_still, grouped_with}
 use Rattle.ghg_engine.proofs.groups.Groups.put_lines.Goals as goal
 use Rattle.ghg_engine.proofs.groups.Groups.put_lines.Goals.{in-Some+in_ok-insert, in_default}
 
 pub loop-name-init : goal.loop-name-init
 loop-name-init g c = grouped_none c.requires.0 (g.R.Records.content c.args.records.now) c.args.self.now c.requires.1
 
-pub insert-requires : goal.insert-requires
-insert-requires g c =
-    in_order (g.R.Records.content c.args.records.now) c.args.self.now (take c.loop-name.name-index c.args.lines.now) c.loop-name.self c.loop-name.invariant
+pub insert-requires-clause-at : goal.insert-requires-clause-at
+insert-requires-clause-at g c = λ d. (c.loop-name.invariant (Some d)).order
+
+pub insert-requires-clause-above : goal.insert-requires-clause-above
+insert-requires-clause-above g c = (c.loop-name.invariant None).order
 
 pub loop-name-preserved : goal.loop-name-preserved
 loop-name-preserved g c =

@@ -1,16 +1,18 @@
-use Rattle.std.proofs.Common.{◌++◌, ◌∷◌, [], ◌∙◌, take, subst, sym}
+use Rattle.std.proofs.Common.{◌++◌, ◌∷◌, [], ◌∙◌, take, subst, sym, Some, None}
 use Rattle.std.proofs.lemmas.List.{take_all}
 use Rattle.ghg_graph.proofs.Numbering.{take_next}
-use Rattle.ghg_engine.proofs.Entered.{IsGroupedWithout, grouped_without, left_in_order, ungrouped_next, ungrouped_none, ungrouped_still}
+use Rattle.ghg_engine.proofs.Entered.{IsGroupedWithout, grouped_without, ungrouped_next, ungrouped_none, ungrouped_still}
 use Rattle.ghg_engine.proofs.groups.Groups.take_lines.Goals as goal
 use Rattle.ghg_engine.proofs.groups.Groups.take_lines.Goals.{in-Some, in_default}
 
 pub loop-name-init : goal.loop-name-init
 loop-name-init g c = ungrouped_none (g.R.Records.content c.args.records.now) c.args.self.now c.requires
 
-pub take-requires : goal.take-requires
-take-requires g c =
-    left_in_order (g.R.Records.content c.args.records.now) c.args.self.now (take c.loop-name.name-index c.args.lines.now) c.loop-name.self c.loop-name.invariant
+pub take-requires-clause-at : goal.take-requires-clause-at
+take-requires-clause-at g c = λ d. (c.loop-name.invariant (Some d)).order
+
+pub take-requires-clause-above : goal.take-requires-clause-above
+take-requires-clause-above g c = (c.loop-name.invariant None).order
 
 pub loop-name-preserved : goal.loop-name-preserved
 loop-name-preserved g c =
