@@ -97,6 +97,9 @@ pub(crate) fn evaluate_all<R: Records, C: ghg_graph::Cells>(
             )?;
             least = least_with(&least, evaluated.breaks, node);
             cells.insert(node, evaluated.outcome)?;
+        } else {
+            // All later totals are settled too: the workbook before is not read any more.
+            from = None;
         }
     }
     match least {

@@ -2,6 +2,7 @@ use Rattle.std.proofs.Common.{rules, [], ◌∷◌, ◌++◌, ◌≡◌, ◌+◌
 use Rattle.std.proofs.lemmas.List.{take_more}
 use Rattle.std.proofs.lemmas.Option.{slice_get_read}
 use Rattle.std.specs.List.{slice_get}
+use Rattle.std.specs.Prelude.{IfSome}
 use Rattle.std.specs.Option.{IsSome, MatchOption}
 use Rattle.ghg_engine.specs.declared.evaluation.Before.{Before}
 use Rattle.ghg_affected.specs.Counts.{StandOnce}
@@ -12,7 +13,7 @@ use Rattle.ghg_engine.specs.Known.{IsKnown}
 use Rattle.ghg_engine.specs.declared.overlay.Overlay.{Overlay}
 use Rattle.ghg_engine.specs.Overlays.{outcomes_of}
 use Rattle.ghg_engine.specs.Changes.{IsBetween}
-use Rattle.ghg_engine.proofs.AtPlace.{between_first, goes_on, is_at_place, next_between}
+use Rattle.ghg_engine.proofs.AtPlace.{AreFrom, between_first, goes_on, is_at_place, next_between}
 use Rattle.ghg_engine.proofs.Written.{of_some}
 use Rattle.ghg_engine.proofs.Next.{around, both_some, if_some, next_from}
 use Rattle.ghg_engine.proofs.Turns.{IsSoFar, at_next, ends_evaluated, ends_over, next_ready, none_yet, nothing_fresh, nothing_so_far, one_so_far, settled_so_far}
@@ -90,6 +91,7 @@ loop-place-preserved g c =
     let found = outcomes_of c.loop-place.cells in
     let fresh = fresh_at c.loop-place.cells.fresh in
     let so_far = at_next m nodes i n c.loop-place-test.true c.index-nodes-place.is found fresh c.loop-place.least c.loop-place.invariant.0 in
+    let from_next = (λ (b : Before _). AreFrom (λ x. g.C.Cells.content x.now) m c.args.keys.now nodes b × IsBetween b.changed.year (i + 1) nodes) in
     let now = c.if-not-is_settled in (
       subst (λ ns. IsSoFar m ns rest (outcomes_of now.cells) (fresh_at now.cells.fresh) now.least) more
           (elim now.branch [
@@ -114,11 +116,15 @@ loop-place-preserved g c =
         | then-not-is_settled+in_ok-evaluated+in_ok-insert w ↦ ap (λ (x : Overlay). x.kept.now) w.cells-is ∙ w.in_ok-insert.ensures.kept ∙ c.loop-place.invariant.2
         | else-not-is_settled w ↦ ap (λ (x : Overlay). x.kept.now) w.cells-is ∙ c.loop-place.invariant.2
       ],
-      if_some c.go_on.new.from (goes_on (λ x. g.C.Cells.content x.now) m c.args.keys.now nodes i c.loop-place.from c.go_on.new.from c.loop-place.invariant.3 c.in_ok-go_on.ensures) (λ (b : Before _) h. (
-        h.0,
-        subst (λ year. IsBetween year (i + 1) nodes) (sym (of_some _ (slice_get nodes i) n (slice_get_read nodes _ i n refl c.loop-place-test.true c.index-nodes-place.is) h.1))
-            (next_between nodes i n c.loop-place-test.true c.index-nodes-place.is c.requires.order.by_year),
-      )),
+      elim now.branch [
+        | then-not-is_settled+in_ok-evaluated+in_ok-insert w ↦ subst (λ o. IfSome o from_next) (sym w.from-is)
+            (if_some c.go_on.new.from (goes_on (λ x. g.C.Cells.content x.now) m c.args.keys.now nodes i c.loop-place.from c.go_on.new.from c.loop-place.invariant.3 c.in_ok-go_on.ensures) (λ (b : Before _) h. (
+              h.0,
+              subst (λ year. IsBetween year (i + 1) nodes) (sym (of_some _ (slice_get nodes i) n (slice_get_read nodes _ i n refl c.loop-place-test.true c.index-nodes-place.is) h.1))
+                  (next_between nodes i n c.loop-place-test.true c.index-nodes-place.is c.requires.order.by_year),
+            )))
+        | else-not-is_settled w ↦ subst (λ o. IfSome o from_next) (sym w.from-is) tt
+      ],
       elim now.branch [
         | then-not-is_settled+in_ok-evaluated+in_ok-insert w ↦ subst (IsKnown m) (sym w.known-is) w.evaluate.ensures.known
         | else-not-is_settled w ↦ subst (IsKnown m) (sym w.known-is) c.loop-place.invariant.4
