@@ -1,6 +1,6 @@
 -- In a workbook each input of a node is a node.
 use Rattle.std.proofs.Common.{◌≡◌, inl, inr, ℕ, ◌-◌, ◌<◌, ◌≤◌, Bool, true, false, nat_le, leb-false, leb-true, le-leb, List, [], ◌∷◌, map, is_some, Option, Some, None, refl, sym, ap, ◌∙◌, subst, arith, if◌then◌else◌}
-use Rattle.std.specs.List.{find, list_all}
+use Rattle.std.specs.List.{find}
 use Rattle.std.specs.FinMap.{get}
 use Rattle.std.specs.Option.{option_map_or}
 use Rattle.std.specs.Str.{bytes_eq}
@@ -40,6 +40,10 @@ named_by (Some (bound.Prev k)) = k ∷ []
 named_by (Some (bound.Sum ks)) = ks
 named_by _ = []
 
+by_dim : (b rest : Bool) → (if b then false else rest) ≡ true → rest ≡ true
+by_dim true rest h = absurd (cc)
+by_dim false rest h = h
+
 -- are present, where it gives a dimension
 named_present : (m : Data) (d : Dim) (b : Option Binding) (name : Name) → is_bound m d b ≡ true
     → IsListed name (named_by b) → is_some (line m name) ≡ true
@@ -47,24 +51,14 @@ unfolding named_by
 named_present m d None name h i = absurd i
 named_present m d (Some (bound.Activity other)) name h i = absurd i
 named_present m d (Some (bound.Factor other)) name h i = absurd i
-named_present m d (Some (bound.Line k)) name h (inl e) = by (same_dim d dims.Decay) h
-  where
-    by : (b : Bool) → (if b then false else is_line_of m d k) ≡ true → is_some (line m name) ≡ true
-    by true h = absurd (cc)
-    by false h = ap (λ k. is_some (line m k)) e ∙ present (line m k) d h
+named_present m d (Some (bound.Line k)) name h (inl e) =
+    ap (λ k. is_some (line m k)) e ∙ present (line m k) d (by_dim (same_dim d dims.Decay) _ h)
 named_present m d (Some (bound.Line k)) name h (inr i) = absurd i
-named_present m d (Some (bound.Prev k)) name h (inl e) = by (same_dim d dims.Decay) h
-  where
-    by : (b : Bool) → (if b then false else is_line_of m d k) ≡ true → is_some (line m name) ≡ true
-    by true h = absurd (cc)
-    by false h = ap (λ k. is_some (line m k)) e ∙ present (line m k) d h
+named_present m d (Some (bound.Prev k)) name h (inl e) =
+    ap (λ k. is_some (line m k)) e ∙ present (line m k) d (by_dim (same_dim d dims.Decay) _ h)
 named_present m d (Some (bound.Prev k)) name h (inr i) = absurd i
-named_present m d (Some (bound.Sum ks)) name h i = by (same_dim d dims.Decay) h
-  where
-    by : (b : Bool) → (if b then false else list_all (is_line_of m d) ks) ≡ true
-        → is_some (line m name) ≡ true
-    by true h = absurd (cc)
-    by false h = present (line m name) d (all_listed (is_line_of m d) ks name h i)
+named_present m d (Some (bound.Sum ks)) name h i =
+    present (line m name) d (all_listed (is_line_of m d) ks name (by_dim (same_dim d dims.Decay) _ h) i)
 named_present m d (Some (bound.Decay other)) name h i = absurd i
 named_present m d (Some (bound.Key notation)) name h i = absurd i
 

@@ -1,11 +1,14 @@
 -- The formula of a node over inputs depends on the records that it reads.
-use Rattle.std.proofs.Common.{◌≡◌, inl, inr, ℕ, zero, suc, ◌≤◌, Bool, true, false, ◌&&◌, cond, if◌then◌else◌, nat_le, is_some, option_and_then, List, [], ◌∷◌, map, filter, Option, Some, None, refl, sym, ap, ap₂, ◌∙◌, subst, Ordering, Less, Equal, Greater, arith}
+use Rattle.std.proofs.Common.{◌≡◌, inl, inr, ℕ, zero, suc, ◌≤◌, Bool, true, false, ◌&&◌, if◌then◌else◌, nat_le, is_some, option_and_then, List, [], ◌∷◌, map, filter, Option, Some, None, refl, sym, ap, ap₂, ◌∙◌, subst, is_eq, arith}
 use Rattle.std.specs.Cmp.{tied_itself}
 use Rattle.std.specs.Cmp.Lexicographic.{nat_list_cmp_total}
 use Rattle.std.specs.FinMap.{get}
 use Rattle.std.specs.List.Sorted.{IsStrictlySortedBy}
 use Rattle.std.specs.Option.{option_map_or}
-use Rattle.std.specs.Ordering.{ordering_reverse}
+use Rattle.std.specs.List.{list_any}
+use Rattle.std.proofs.lemmas.Bool.Decides.{same_from_decides}
+use Rattle.std.proofs.lemmas.List.Elements.{filter_agree}
+use Rattle.std.proofs.lemmas.Map.Lookups.{btree_set_from_contains, exact_bytes}
 use Rattle.ghg_categories.specs.declared.category.Category.{Category}
 use Rattle.ghg_categories.specs.Tree.{stands_under}
 use Rattle.ghg_cell.specs.declared.input.Input.{Input}
@@ -35,7 +38,8 @@ use Rattle.ghg_affected.proofs.Bools.{true_not_false}
 use Rattle.ghg_definitions.proofs.Grounded.{record_listed}
 use Rattle.ghg_definitions.proofs.Lines.{lines_sorted}
 use Rattle.ghg_definitions.proofs.NodeLists.{record_there}
-use Rattle.ghg_definitions.proofs.Rings.{is_before}
+use Rattle.ghg_definitions.proofs.Keys.{equal_by}
+use Rattle.ghg_definitions.proofs.Listed.{from_any, listed_any}
 
 -- ---- factors
 
@@ -54,7 +58,7 @@ decayed_input m None = refl
 decayed_input m (Some k) = refl
 
 module _ (old new : Data) (name : Name) where
-  abbrev SameFigures : ℕ → Type 0
+  abbrev pub SameFigures : ℕ → Type 0
   SameFigures year = (start : ℕ) → start ≤ year
       → figure old (key.Factor name start) ≡ figure new (key.Factor name start)
 
@@ -77,33 +81,34 @@ module _ (old new : Data) (name : Name) where
   figure_same (suc year) same = either_figure (suc year) _ _ _ _ refl refl (same (suc year) (omega arith))
       (figure_same year (λ start le. same start (omega arith)))
 
-  factor_same : (year : ℕ) → SameFigures year
+  pub factor_same : (year : ℕ) → SameFigures year
       → given old (factor old name year) ≡ given new (factor new name year)
   factor_same year same = recorded_input old (factor_key old name year)
       ∙ ap input_of_figure (figure_same year same) ∙ sym (recorded_input new (factor_key new name year))
 
-  decay_same : (year : ℕ) → SameFigures year
+  pub decay_same : (year : ℕ) → SameFigures year
       → given old (decay old name year) ≡ given new (decay new name year)
   decay_same year same = decayed_input old (factor_key old name year)
       ∙ ap decay_of_figure (figure_same year same) ∙ sym (decayed_input new (factor_key new name year))
 
 -- ---- lines
 
+pub same_notation : (old new : Data) (notation : NotationKey)
+    → given old (by_key notation) ≡ given new (by_key notation)
+same_notation old new No = refl
+same_notation old new Na = refl
+same_notation old new Ie = refl
+same_notation old new Ne = refl
+
+pub same_previous : (old new : Data) (b : Bool) (k : Name) (year : ℕ)
+    → map_operand (given old) (previous b k year) ≡ map_operand (given new) (previous b k year)
+same_previous old new true k year = refl
+same_previous old new false k year = refl
+
 module _ (old new : Data) (name : Name) (year : ℕ)
     (same : (k : RecordKey) → Reads new (node.Line name year) k → get old k ≡ get new k) where
-  first : ℕ
+  abbrev first : ℕ
   first = first_year (span new)
-
-  same_previous : (b : Bool) (k : Name)
-      → map_operand (given old) (previous b k year) ≡ map_operand (given new) (previous b k year)
-  same_previous true k = refl
-  same_previous false k = refl
-
-  same_notation : (notation : NotationKey) → given old (by_key notation) ≡ given new (by_key notation)
-  same_notation No = refl
-  same_notation Na = refl
-  same_notation Ie = refl
-  same_notation Ne = refl
 
   same_bound : (parameter : Name) (b : Option Binding) → binding new name parameter ≡ b
       → map_operand (given old) (bound_to old first year b)
@@ -114,16 +119,14 @@ module _ (old new : Data) (name : Name) (year : ℕ)
       (same (key.Activity other year) (refl, record { parameter = parameter; bound = e }))
   same_bound parameter (Some (bound.Factor other)) e =
       ap Given (factor_same old new other year
-      (λ start le. ap as_figure (same (key.Factor other start)
-      (le, record { parameter = parameter; bound = inl e }))))
+      (λ start le. ap as_figure (same (key.Factor other start) (le, record { parameter = parameter; bound = inl e }))))
   same_bound parameter (Some (bound.Line k)) e = refl
-  same_bound parameter (Some (bound.Prev k)) e = same_previous (nat_le year first) k
+  same_bound parameter (Some (bound.Prev k)) e = same_previous old new (nat_le year first) k year
   same_bound parameter (Some (bound.Sum ks)) e = refl
   same_bound parameter (Some (bound.Decay other)) e =
       ap Given (decay_same old new other year
-      (λ start le. ap as_figure (same (key.Factor other start)
-      (le, record { parameter = parameter; bound = inr e }))))
-  same_bound parameter (Some (bound.Key notation)) e = ap Given (same_notation notation)
+      (λ start le. ap as_figure (same (key.Factor other start) (le, record { parameter = parameter; bound = inr e }))))
+  same_bound parameter (Some (bound.Key notation)) e = ap Given (same_notation old new notation)
 
   same_operands : (qs : List Quantity)
       → map (map_operand (given old)) (map (λ q. bound_to old first year (binding old name q.name)) qs)
@@ -141,7 +144,6 @@ module _ (old new : Data) (name : Name) (year : ℕ)
   same_equation (Some e) = ap (λ (xs : List (Operand Input)). Computed e xs) (same_operands (parameters e))
 
   same_line : formula_with_inputs old (node.Line name year) ≡ formula_with_inputs new (node.Line name year)
-  unfolding first
   same_line =
       ap (λ o. map_formula (given old) (line_formula old (first_year (as_span o)) name year (line old name)))
       (same key.Span tt)
@@ -161,7 +163,7 @@ same_potential old new name year same (Some gas) e =
     (λ start le. ap as_figure (same (key.Factor (potential_name gas) start)
     (le, record { gas = gas; emitted = e; named = refl })))
 
-same_gas : (old new : Data) (name : Name) → get old (key.Line name) ≡ get new (key.Line name)
+pub same_gas : (old new : Data) (name : Name) → get old (key.Line name) ≡ get new (key.Line name)
     → line_gas old name ≡ line_gas new name
 same_gas old new name e = ap (λ o. line_gas_of (as_line o)) e
   where
@@ -179,54 +181,23 @@ same_equivalent old new name year same =
 
 -- ---- the lines that there are
 
-less_not : (o : Ordering) → o ≡ Less → o ≡ Equal → ⊥
-less_not o e f = cc
-
-not_itself : (x : Name) → name_cmp x x ≡ Less → ⊥
-not_itself x e = less_not _ e (tied_itself nat_list_cmp_total x)
-
-not_both_ways : (x y : Name) → name_cmp x y ≡ Less → name_cmp y x ≡ Less → ⊥
-not_both_ways x y e f = by (name_cmp x y) e (nat_list_cmp_total.antisymm x y)
-  where
-    by : (o : Ordering) → o ≡ Less → o ≡ ordering_reverse (name_cmp y x) → ⊥
-    by o e g = clash (sym e ∙ g ∙ ap ordering_reverse f)
-      where
-        clash : ◌≡◌ {A = Ordering} Less Greater → ⊥
-        clash h = cc
+abbrev has : Name → List Name → Bool
+has z zs = list_any (λ x. is_eq (name_cmp z x)) zs
 
 -- lists in order with the same elements are equal
 pub same_lists : (xs ys : List Name) → IsStrictlySortedBy name_cmp xs → IsStrictlySortedBy name_cmp ys
     → ((z : Name) → IsListed z xs → IsListed z ys) → ((z : Name) → IsListed z ys → IsListed z xs) → xs ≡ ys
-unfolding IsStrictlySortedBy
-same_lists [] [] s t to back = refl
-same_lists [] (y ∷ ys) s t to back = absurd (back y (inl refl))
-same_lists (x ∷ xs) [] s t to back = absurd (to x (inl refl))
-same_lists (x ∷ xs) (y ∷ ys) s t to back = ap₂ (λ (z : Name) (zs : List Name). z ∷ zs) heads
-    (same_lists xs ys s.1 t.1
-    (λ z i. elim (to z (inr i)) [
-      | inr j ↦ j
-      | inl e ↦ absurd
-          (not_itself x (is_before x x xs s.0 (subst (λ w. IsListed w xs) (e ∙ sym heads) i)))
-    ])
-    (λ z i. elim (back z (inr i)) [
-      | inr j ↦ j
-      | inl e ↦ absurd
-          (not_itself y (is_before y y ys t.0 (subst (λ w. IsListed w ys) (e ∙ heads) i)))
-    ]))
+same_lists xs ys s t to back =
+    btree_set_from_contains nat_list_cmp_total (record { keys = xs }) (record { keys = ys }) s t
+    (λ z. same_from_decides (has z xs) (has z ys) (λ e. to z (here z xs e), λ i. there z xs (back z i)) (here z ys, there z ys))
+    exact_bytes
   where
-    heads : x ≡ y
-    heads = elim (to x (inl refl)) [
-      | inl e ↦ e
-      | inr i ↦ elim (back y (inl refl)) [
-        | inl e ↦ sym e
-        | inr j ↦ absurd (not_both_ways x y (is_before x y xs s.0 j) (is_before y x ys t.0 i))
-      ]
-    ]
+    here : (z : Name) (zs : List Name) → has z zs ≡ true → IsListed z zs
+    here z zs e = let found = from_any (λ x. is_eq (name_cmp z x)) zs e in
+        subst (λ x. IsListed x zs) (sym (exact_bytes z found.0 (equal_by _ found.2))) found.1
 
-filters_agree : {A : Type 0} (p q : A → Bool) → ((x : A) → p x ≡ q x) → (xs : List A)
-    → filter p xs ≡ filter q xs
-filters_agree p q h [] = refl
-filters_agree p q h (x ∷ xs) = ap₂ (λ b ys. cond b (x ∷ ys) ys) (h x) (filters_agree p q h xs)
+    there : (z : Name) (zs : List Name) → IsListed z zs → has z zs ≡ true
+    there z zs i = listed_any (λ x. is_eq (name_cmp z x)) z zs i (ap is_eq (tied_itself nat_list_cmp_total z))
 
 module _ (old new : Data) (same : (name : Name) → get old (key.Line name) ≡ get new (key.Line name)) where
   pub same_names : line_names old ≡ line_names new
@@ -236,13 +207,13 @@ module _ (old new : Data) (same : (name : Name) → get old (key.Line name) ≡ 
 
   pub emitters_same : gas_lines old ≡ gas_lines new
   emitters_same =
-      filters_agree (emits old) (emits new) (λ name. ap is_some (same_gas old new name (same name)))
+      filter_agree (emits old) (emits new) (λ name. ap is_some (same_gas old new name (same name)))
       (line_names old)
       ∙ ap (filter (emits new)) same_names
 
   pub emitters_at : (test : Category → Bool) → gas_lines_at test old ≡ gas_lines_at test new
   emitters_at test =
-      filters_agree (λ name. option_map_or test (category old name) false)
+      filter_agree (λ name. option_map_or test (category old name) false)
       (λ name. option_map_or test (category new name) false)
       (λ name. ap (λ o. option_map_or test (as_category o) false) (same name)) (gas_lines old)
       ∙ ap (filter (λ name. option_map_or test (category new name) false)) emitters_same

@@ -4,7 +4,5 @@ pub mod Affected
 pub mod Closed
 pub mod Kept
 pub mod Once
-pub mod Children
-pub mod Subtotals
 pub mod Dependence
-pub mod Figures
+pub mod NodeOrder

@@ -1,5 +1,5 @@
 -- No node is listed twice.
-use Rattle.std.proofs.Common.{◌≡◌, inl, inr, ℕ, zero, suc, ◌+◌, ◌<◌, Bool, true, false, cond, not, ◌&&◌, List, [], ◌∷◌, ◌++◌, map, filter, length, reverse, Option, Some, None, refl, sym, ap, ◌∙◌, subst, Ordering, Less, Equal, arith}
+use Rattle.std.proofs.Common.{◌≡◌, inl, inr, ℕ, zero, suc, ◌+◌, ◌<◌, Bool, true, false, cond, not, ◌&&◌, List, [], ◌∷◌, ◌++◌, map, filter, length, Option, Some, None, refl, sym, ap, ◌∙◌, subst, Ordering, Less, Equal, arith}
 use Rattle.std.specs.List.{list_any}
 use Rattle.std.specs.List.Sorted.{IsStrictlySortedBy}
 use Rattle.std.specs.Cmp.{tied_itself}
@@ -98,10 +98,6 @@ once_apart (c ∷ cs) e = (
 pub once_tree : Once tree
 unfolding all_apart
 once_tree = once_apart tree refl
-
-pub once_upwards : Once (reverse tree)
-unfolding all_apart
-once_upwards = once_apart (reverse tree) refl
 
 -- ---- nodes
 

@@ -3,6 +3,5 @@ pub mod Affected
 pub mod Closed
 pub mod Patches
 pub mod Counts
-pub mod Subtotals
 pub mod Dependence
-pub mod Figures
+pub mod NodeOrder

@@ -3,9 +3,7 @@
 ghost use Rattle.ghg_affected.specs.Closed.{InputsAreNodes};
 ghost use Rattle.ghg_affected.specs.Counts.{AffectedNodesStandOnce, NodesStandOnce};
 ghost use Rattle.ghg_affected.specs.Dependence.{FormulasDependOnReads, UntouchedAreUnchanged};
-ghost use Rattle.ghg_affected.specs.Figures.{NodesStayInPlace};
 ghost use Rattle.ghg_affected.specs.Patches.{AffectedNodesAreListed, BreaksAreAffected, OverflowsAreInPatches, UnaffectedKeep};
-ghost use Rattle.ghg_affected.specs.Subtotals.{TotalsAreOfSubtotals};
 
 /// The affected nodes that are listed are all of them, and no other is listed.
 pub fn affected_nodes_are_listed()
@@ -45,17 +43,6 @@ pub fn formulas_depend_on_reads()
 /// Where the records by which a node is there and those that it reads are the old ones, it is not changed.
 pub fn untouched_are_unchanged()
     ensures { UntouchedAreUnchanged }
-{}
-
-/// Where figures alone differ, the nodes are the same and have the same inputs.
-pub fn nodes_stay_in_place()
-    ensures { NodesStayInPlace }
-{}
-
-/// A total, and the gross total, is the sum of its subtotals, where none of these is over: of the totals just
-/// under it and of the equivalents of its own lines. It breaks where that sum is over.
-pub fn totals_are_of_subtotals()
-    ensures { TotalsAreOfSubtotals }
 {}
 
 /// In a workbook each input of a node is a node.

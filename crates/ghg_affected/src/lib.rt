@@ -8,6 +8,6 @@ mod laws;
 
 pub use laws::{
     affected_nodes_are_listed, affected_nodes_stand_once, breaks_are_affected,
-    formulas_depend_on_reads, inputs_are_nodes, nodes_stand_once, nodes_stay_in_place,
-    overflows_are_in_patches, totals_are_of_subtotals, unaffected_keep, untouched_are_unchanged,
+    formulas_depend_on_reads, inputs_are_nodes, nodes_stand_once, overflows_are_in_patches,
+    unaffected_keep, untouched_are_unchanged,
 };

@@ -1,5 +1,5 @@
 -- A look-up after changes.
-use Rattle.std.proofs.Common.{◌≡◌, Bool, true, false, cond, List, [], ◌∷◌, ◌++◌, Option, Some, None, Result, Ok, Err, OnOk, IfOk, refl, sym, ap, ap₂, ◌∙◌, subst}
+use Rattle.std.proofs.Common.{◌≡◌, Bool, true, false, cond, List, [], ◌∷◌, ◌++◌, Option, Some, None, Result, Ok, Err, OnOk, refl, sym, ap, ap₂, ◌∙◌}
 use Rattle.std.specs.Ordering.{eq_by_cmp}
 use Rattle.std.specs.Cmp.{eq_by_cmp_equiv}
 use Rattle.std.specs.FinMap.{find, get, same_map}
@@ -45,7 +45,3 @@ applied-pop m (d ∷ cs) c = ap (λ n. with_record n d.0 d.1) (applied-pop m cs 
 pub on_ok : {T E : Type 0} (r : Result T E) (x : T) (P : Type 0) → r ≡ Ok x → OnOk r P → P
 on_ok (Ok y) x P e h = h
 on_ok (Err y) x P e h = absurd (cc)
-
-pub if_ok : {T E : Type 0} (r : Result T E) (x : T) (P : T → Type 0) → r ≡ Ok x → IfOk r P → P x
-if_ok (Ok y) x P e h = let same : y ≡ x = cc in subst P same h
-if_ok (Err y) x P e h = absurd (cc)

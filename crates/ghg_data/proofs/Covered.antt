@@ -5,7 +5,7 @@ use Rattle.std.specs.FinMap.{contains_key-keys, find as find_key, get, keys}
 use Rattle.std.specs.List.{cons_option, filter_map, find, list_any}
 use Rattle.std.specs.Option.{option_map_or}
 use Rattle.std.specs.Str.{bytes_eq}
-use Rattle.std.proofs.lemmas.Bool.{or_cases, or_left}
+use Rattle.std.proofs.lemmas.Bool.{or_cases, or_left, or_right}
 use Rattle.ghg_equations.specs.declared.eq_id.EqId.{EqId}
 use Rattle.ghg_equations.specs.Table.{Quantity, parameters}
 use Rattle.ghg_definitions.specs.declared.place.Place.{Place}
@@ -117,16 +117,14 @@ pub sound_before : {m : Data} → IsWorkbook m → (p : Place) → is_place m p 
 sound_before {m} w p h = no_fault (is_place m p) (is_sound m p) (subst (IsLeastFault m) w.bindings (least_fault (workbook_consistent w)) p) h
 
 module _ (m : Data) (w : IsWorkbook m) (cs : List Change) where
-  by_line : (p : Place) (e : EqId) → line m p.line ≡ Some e → takes e p.parameter ≡ true → IsAmong p (flat_map (line_places m) (line_names m) ++ flat_map (key_places (applied m cs)) (map (λ d. d.0) cs))
-  by_line p e at taken =
-      among_left p _ (flat_map (key_places (applied m cs)) (map (λ d. d.0) cs)) (among_flat (line_places m) p.line p (line_names m) (line_among m p.line e at)
-      (subst (λ o. IsAmong p (places_in (key.Line p.line) o)) (sym at) (takes_among p.line p.parameter (parameters e) taken)))
+  abbrev pub keyed : List Place
+  keyed = flat_map (key_places (applied m cs)) (map (λ d. d.0) cs)
 
-  by_key : (p : Place) (k : RecordKey) → IsAmong k (map (λ d. d.0) cs) → IsAmong p (key_places (applied m cs) k) → IsAmong p (flat_map (line_places m) (line_names m) ++ flat_map (key_places (applied m cs)) (map (λ d. d.0) cs))
-  by_key p k i h = among_right p (flat_map (line_places m) (line_names m)) _ (among_flat (key_places (applied m cs)) k p (map (λ d. d.0) cs) i h)
+  by_key : (p : Place) (k : RecordKey) → IsAmong k (map (λ d. d.0) cs) → IsAmong p (key_places (applied m cs) k) → IsAmong p keyed
+  by_key p k i h = among_flat (key_places (applied m cs)) k p (map (λ d. d.0) cs) i h
 
   -- the record was changed, or its line is
-  by_uncertainty : (p : Place) → is_uncertainty p ≡ true → is_fault (applied m cs) p ≡ true → IsAmong p (flat_map (line_places m) (line_names m) ++ flat_map (key_places (applied m cs)) (map (λ d. d.0) cs))
+  by_uncertainty : (p : Place) → is_uncertainty p ≡ true → is_fault (applied m cs) p ≡ true → IsAmong p keyed
   by_uncertainty p u h =
       let parts = left_behind (applied m cs) p u h in
       elim (changed_or_kept m cs (key.Uncert p.line)) [
@@ -139,25 +137,39 @@ module _ (m : Data) (w : IsWorkbook m) (cs : List Change) where
             ]
       ]
 
-  by_parameter : (p : Place) → is_uncertainty p ≡ false → is_fault (applied m cs) p ≡ true → IsAmong p (flat_map (line_places m) (line_names m) ++ flat_map (key_places (applied m cs)) (map (λ d. d.0) cs))
-  by_parameter p u h = elim (or_cases (is_some (binding (applied m cs) p.line p.parameter)) _ (sym (place_parameter (applied m cs) p u) ∙ first_so (is_place (applied m cs) p) _ h)) [
-    | inl bound ↦ elim (changed_or_kept m cs (key.Bind p.line p.parameter)) [
-      | inl changed ↦ by_key p (key.Bind p.line p.parameter) changed (inl refl)
-      | inr kept ↦
-          let taken = sound_takes m p u (sound_before w p (place_parameter m p u ∙ or_left _ _ (ap (λ o. is_some (as_binding o)) (sym kept) ∙ bound))) in
-          by_line p taken.0 taken.1 taken.2
+  -- the place was sound, and its binding stays
+  abbrev pub WasSound : Place → Type 0
+  WasSound p = (is_uncertainty p ≡ false) × (get (applied m cs) (key.Bind p.line p.parameter) ≡ get m (key.Bind p.line p.parameter)) × (is_sound m p ≡ true)
+
+  by_parameter : (p : Place) → is_uncertainty p ≡ false → is_fault (applied m cs) p ≡ true → IsAmong p keyed ⊎ WasSound p
+  by_parameter p u h = elim (changed_or_kept m cs (key.Bind p.line p.parameter)) [
+    | inl changed ↦ inl (by_key p (key.Bind p.line p.parameter) changed (inl refl))
+    | inr kept ↦ elim (or_cases (is_some (binding (applied m cs) p.line p.parameter)) _ (sym (place_parameter (applied m cs) p u) ∙ first_so (is_place (applied m cs) p) _ h)) [
+      | inl bound ↦ inr (u, kept, sound_before w p (place_parameter m p u ∙ or_left _ _ (ap (λ o. is_some (as_binding o)) (sym kept) ∙ bound)))
+      | inr taken ↦ elim (changed_or_kept m cs (key.Line p.line)) [
+        | inl changed ↦
+            let e = with_equation (line (applied m cs) p.line) p.parameter taken in
+            inl (by_key p (key.Line p.line) changed (subst (λ o. IsAmong p (places_about (key.Line p.line) o)) (sym e.1) (takes_among p.line p.parameter (parameters e.0) e.2)))
+        | inr stays ↦
+            let before = ap (λ o. option_map_or (λ e. takes e p.parameter) (as_line o) false) (sym stays) ∙ taken in
+            inr (u, kept, sound_before w p (place_parameter m p u ∙ or_right (is_some (binding m p.line p.parameter)) _ before))
+      ]
     ]
-    | inr taken ↦
-        let e = with_equation (line (applied m cs) p.line) p.parameter taken in
-        elim (changed_or_kept m cs (key.Line p.line)) [
-          | inl changed ↦ by_key p (key.Line p.line) changed (subst (λ o. IsAmong p (places_about (key.Line p.line) o)) (sym e.1) (takes_among p.line p.parameter (parameters e.0) e.2))
-          | inr kept ↦ by_line p e.0 (ap as_line (sym kept) ∙ e.1) e.2
-        ]
   ]
 
-  pub covered : (p : Place) → is_fault (applied m cs) p ≡ true → IsAmong p (flat_map (line_places m) (line_names m) ++ flat_map (key_places (applied m cs)) (map (λ d. d.0) cs))
-  covered p h = by (is_uncertainty p) refl
+  -- a changed key is about each fault, unless the place was sound
+  pub keyed_or_sound : (p : Place) → is_fault (applied m cs) p ≡ true → IsAmong p keyed ⊎ WasSound p
+  keyed_or_sound p h = by (is_uncertainty p) refl
     where
-      by : (b : Bool) → is_uncertainty p ≡ b → IsAmong p (flat_map (line_places m) (line_names m) ++ flat_map (key_places (applied m cs)) (map (λ d. d.0) cs))
-      by true u = by_uncertainty p u h
+      by : (b : Bool) → is_uncertainty p ≡ b → IsAmong p keyed ⊎ WasSound p
+      by true u = inl (by_uncertainty p u h)
       by false u = by_parameter p u h
+
+  pub covered : (p : Place) → is_fault (applied m cs) p ≡ true → IsAmong p (flat_map (line_places m) (line_names m) ++ keyed)
+  covered p h = elim (keyed_or_sound p h) [
+    | inl i ↦ among_right p (flat_map (line_places m) (line_names m)) _ i
+    | inr was ↦
+        let taken = sound_takes m p was.0 was.2 in
+        among_left p _ keyed (among_flat (line_places m) p.line p (line_names m) (line_among m p.line taken.0 taken.1)
+        (subst (λ o. IsAmong p (places_in (key.Line p.line) o)) (sym taken.1) (takes_among p.line p.parameter (parameters taken.0) taken.2)))
+  ]

@@ -1,5 +1,5 @@
 -- The dates of a calendar, after a change.
-use Rattle.std.proofs.Common.{◌≡◌, ◌⊎◌, inl, inr, ℕ, zero, suc, map, slice_get, Bool, true, false, cond, ◌&&◌, ◌==◌, List, [], ◌∷◌, Option, Some, None, option_and_then, refl, sym, ap, ap₂, ◌∙◌, subst, eqb-true}
+use Rattle.std.proofs.Common.{◌≡◌, ◌⊎◌, inl, inr, ℕ, map, slice_get, Bool, true, false, cond, ◌&&◌, ◌==◌, List, [], ◌∷◌, Option, Some, None, refl, sym, ap, ap₂, ◌∙◌, subst, eqb-true}
 use Rattle.std.specs.Cmp.{IsEquivalence, eq_by_cmp_equiv}
 use Rattle.std.specs.Cmp.Lexicographic.{nat_list_eq_equiv, texts_ties}
 use Rattle.std.specs.Map.{lookup}
@@ -7,7 +7,6 @@ use Rattle.std.specs.Option.{option_map}
 use Rattle.std.specs.Ordering.{eq_by_cmp}
 use Rattle.std.specs.Str.{bytes_eq}
 use Rattle.std.proofs.lemmas.Option.{same_Some, slice_get-map}
-use Rattle.indexmap.specs.Layout.{set_value_at}
 use Rattle.std.proofs.Math.Bool.{and-false}
 use Rattle.ghg_definitions.specs.declared.record.RecordKey.{RecordKey}
 use Rattle.ghg_definitions.specs.declared.record.RecordKey.TheVariants as key
@@ -16,11 +15,10 @@ use Rattle.ghg_definitions.specs.Listed.{IsListed}
 use Rattle.ghg_definitions.proofs.Keys.{equal_by, key_eq, key_ties, keys_total, names_same}
 use Rattle.ghg_data.specs.contracts.series.SeriesPartialEq.TheImpl as derived
 use Rattle.ghg_data.specs.declared.calendar.Calendar.{Calendar}
-use Rattle.ghg_data.specs.declared.column.Column.{Column}
 use Rattle.ghg_data.specs.declared.series.Series.{Series}
 use Rattle.ghg_data.specs.declared.series.Series.TheVariants as series
 use Rattle.ghg_data.specs.declared.year_set.YearSet.{YearSet}
-use Rattle.ghg_data.specs.Calendar.{IsPlacedIn, has_date, holds_year, place_in}
+use Rattle.ghg_data.specs.Calendar.{has_date, holds_year}
 use Rattle.ghg_data.specs.Series.{EachHasAYear, date_of, dated, same_series}
 use Rattle.ghg_units.specs.Year.{is_year}
 use Rattle.ghg_data.specs.YearSet.{HasNoYear, has_year}
@@ -60,26 +58,22 @@ series_back (series.Factor a) (series.Factor b) = nat_list_eq_equiv.symm a b
 pub series_eq_laws : IsEquivalence series_eq
 series_eq_laws = record { refl = λ s. series_ties s s ∙ series_itself s; symm = series_back; congr = λ s t u e. ap (λ x. series_eq x u) (series_equal s t e) }
 
-found : (s : Series) (es : List (Series × Column)) → lookup (series_eq s) es ≡ lookup (same_series s) es
+found : (s : Series) (es : List (Series × YearSet)) → lookup (series_eq s) es ≡ lookup (same_series s) es
 found s [] = refl
-found s (e ∷ es) = ap₂ (λ (b : Bool) (r : Option Column). cond b (Some e.1) r) (series_ties s e.0) (found s es)
+found s (e ∷ es) = ap₂ (λ (b : Bool) (r : Option YearSet). cond b (Some e.1) r) (series_ties s e.0) (found s es)
 
 -- the column that a series has
-pub had_column : (es : List (Series × Column)) (k : Series) (o : Option Column) → lookup (series_eq k) es ≡ o → lookup (same_series k) es ≡ o
+pub had_column : (es : List (Series × YearSet)) (k : Series) (o : Option YearSet) → lookup (series_eq k) es ≡ o → lookup (same_series k) es ≡ o
 had_column es k o there = sym (found k es) ∙ there
 
 -- a series that has a year is among the keys
-pub date_listed : (es : List (Series × Column)) (s : Series) (y : ℕ) → holds_year (lookup (same_series s) es) y ≡ true → IsListed s (map (λ e. e.0) es)
+pub date_listed : (es : List (Series × YearSet)) (s : Series) (y : ℕ) → holds_year (lookup (same_series s) es) y ≡ true → IsListed s (map (λ e. e.0) es)
 date_listed [] s y e = absurd (cc)
 date_listed (x ∷ es) s y e = by (same_series s x.0) refl e (date_listed es s y)
   where
     by : (b : Bool) → same_series s x.0 ≡ b → holds_year (cond b (Some x.1) (lookup (same_series s) es)) y ≡ true → (holds_year (lookup (same_series s) es) y ≡ true → IsListed s (map (λ e. e.0) es)) → (s ≡ x.0) ⊎ IsListed s (map (λ e. e.0) es)
     by true is f rest = inl (series_same s x.0 is)
     by false is f rest = inr (rest f)
-
--- the place that entries have for a year of a series
-abbrev pub place_among : List (Series × Column) → Series → ℕ → Option ℕ
-place_among es s y = option_and_then (λ column. place_in column y) (lookup (same_series s) es)
 
 -- ---- the date of a key
 
@@ -100,23 +94,11 @@ dates_tie (series.Factor a) (series.Factor b) z y = refl
 date_tied : (k : RecordKey) (t : Series) (z : ℕ) → date_of k ≡ Some (t, z) → (s : Series) (y : ℕ) → eq_by_cmp key_cmp (dated s y) k ≡ same_series t s && (z == y)
 date_tied k t z e s y = ap (eq_by_cmp key_cmp (dated s y)) (key_of_date k t z e) ∙ (eq_by_cmp_equiv keys_total).symm (dated s y) (dated t z) ∙ sym (key_ties (dated t z) (dated s y)) ∙ dates_tie t s z y
 
-turned : (y z : ℕ) → (y == z) ≡ (z == y)
-turned y z = by (y == z) (z == y) refl refl
-  where
-    by : (a b : Bool) → (y == z) ≡ a → (z == y) ≡ b → (y == z) ≡ (z == y)
-    by true b f g = let q : y ≡ z = eqb-true _ _ f in ap (λ x. x == z) q ∙ ap (λ x. z == x) (sym q)
-    by false true f g = let q : z ≡ y = eqb-true _ _ g in ap (λ x. y == x) q ∙ ap (λ x. x == y) (sym q)
-    by false false f g = f ∙ sym g
-
--- when a series and a year are those of a key
-same_date : (k : Series) (z : ℕ) (s : Series) (y : ℕ) → eq_by_cmp key_cmp (dated s y) (dated k z) ≡ same_series k s && (y == z)
-same_date k z s y = (eq_by_cmp_equiv keys_total).symm (dated s y) (dated k z) ∙ sym (key_ties (dated k z) (dated s y)) ∙ dates_tie k s z y ∙ ap (λ b. same_series k s && b) (turned z y)
-
 -- ---- a series is given a column, or none
 
-module _ (old new : List (Series × Column)) (k : Series) (o : Option Column) (given : (q : Series) → lookup (series_eq q) new ≡ cond (series_eq k q) o (lookup (series_eq q) old)) where
+module _ (old new : List (Series × YearSet)) (k : Series) (o : Option YearSet) (given : (q : Series) → lookup (series_eq q) new ≡ cond (series_eq k q) o (lookup (series_eq q) old)) where
   then_has : (s : Series) → lookup (same_series s) new ≡ cond (same_series k s) o (lookup (same_series s) old)
-  then_has s = sym (found s new) ∙ given s ∙ ap₂ (λ (b : Bool) (x : Option Column). cond b o x) (series_ties k s) (found s old)
+  then_has s = sym (found s new) ∙ given s ∙ ap₂ (λ (b : Bool) (x : Option YearSet). cond b o x) (series_ties k s) (found s old)
 
   pub given_years : (has : ℕ → Bool) → ((y : ℕ) → holds_year o y ≡ has y) → (s : Series) (y : ℕ)
       → holds_year (lookup (same_series s) new) y ≡ cond (same_series k s) (has y) (holds_year (lookup (same_series s) old) y)
@@ -126,74 +108,36 @@ module _ (old new : List (Series × Column)) (k : Series) (o : Option Column) (g
       by true = holds y
       by false = refl
 
-  pub given_places : (z : ℕ) (place : Option ℕ) → ((y p : ℕ) → option_and_then (λ column. place_in column y) o ≡ Some p → cond (y == z) place (place_among old k y) ≡ Some p)
-      → (s : Series) (y p : ℕ) → place_among new s y ≡ Some p → cond (eq_by_cmp key_cmp (dated s y) (dated k z)) place (place_among old s y) ≡ Some p
-  given_places z place placed s y p e = ap (λ b. cond b place (place_among old s y)) (same_date k z s y) ∙ by (same_series k s) refl (sym (ap (λ x. option_and_then (λ column. place_in column y) x) (then_has s)) ∙ e)
-    where
-      by : (b : Bool) → same_series k s ≡ b → option_and_then (λ column. place_in column y) (cond b o (lookup (same_series s) old)) ≡ Some p → cond (b && (y == z)) place (place_among old s y) ≡ Some p
-      by true is f = subst (λ (x : Series). cond (y == z) place (place_among old x y) ≡ Some p) (series_same k s is) (placed y p f)
-      by false is f = f
-
   -- each series still has a year, where a column that it is given has one
-  pub each_has_a_year : ((column : Column) → o ≡ Some column → ¬ HasNoYear column.years) → EachHasAYear old → EachHasAYear new
+  pub each_has_a_year : ((column : YearSet) → o ≡ Some column → ¬ HasNoYear column) → EachHasAYear old → EachHasAYear new
   each_has_a_year some each s column e = by (same_series k s) (sym (then_has s) ∙ e)
     where
-      by : (b : Bool) → cond b o (lookup (same_series s) old) ≡ Some column → ¬ HasNoYear column.years
+      by : (b : Bool) → cond b o (lookup (same_series s) old) ≡ Some column → ¬ HasNoYear column
       by true f = some column f
       by false f = each s column f
 
 -- what a series is given has a year, where it is nothing
-pub nothing_given : (column : Column) → None ≡ Some column → ¬ HasNoYear column.years
+pub nothing_given : (column : YearSet) → None ≡ Some column → ¬ HasNoYear column
 nothing_given column e = absurd (cc)
 
 -- and where it is a column
-pub column_given : (given : Column) → ¬ HasNoYear given.years → (column : Column) → Some given ≡ Some column → ¬ HasNoYear column.years
-column_given given some column e = let same : given ≡ column = cc in subst (λ (c : Column). ¬ HasNoYear c.years) same some
+pub column_given : (given : YearSet) → ¬ HasNoYear given → (column : YearSet) → Some given ≡ Some column → ¬ HasNoYear column
+column_given given some column e = let same : given ≡ column = cc in subst (λ (c : YearSet). ¬ HasNoYear c) same some
 
 -- the column of a series is written
-module _ (old new : List (Series × Column)) (k : Series) (before after : Column) (given : (q : Series) → lookup (series_eq q) new ≡ cond (series_eq k q) (Some after) (lookup (series_eq q) old))
+module _ (old new : List (Series × YearSet)) (k : Series) (before after : YearSet) (given : (q : Series) → lookup (series_eq q) new ≡ cond (series_eq k q) (Some after) (lookup (series_eq q) old))
     (there : lookup (series_eq k) old ≡ Some before) where
-  pub column_years : (z : ℕ) (present : Bool) → ((y : ℕ) → has_year after.years y ≡ cond (is_year z && (y == z)) present (has_year before.years y)) → (s : Series) (y : ℕ)
+  pub column_years : (z : ℕ) (present : Bool) → ((y : ℕ) → has_year after y ≡ cond (is_year z && (y == z)) present (has_year before y)) → (s : Series) (y : ℕ)
       → holds_year (lookup (same_series s) new) y ≡ cond (same_series k s) (cond (is_year z && (y == z)) present (holds_year (lookup (same_series k) old) y)) (holds_year (lookup (same_series s) old) y)
   column_years z present years =
       given_years old new k (Some after) given (λ y. cond (is_year z && (y == z)) present (holds_year (lookup (same_series k) old) y))
       (λ y. years y ∙ ap (λ o. cond (is_year z && (y == z)) present (holds_year o y)) (sym (had_column old k (Some before) there)))
 
-  pub column_places : (z : ℕ) (place : Option ℕ) → IsPlacedIn before after z place
-      → (s : Series) (y p : ℕ) → place_among new s y ≡ Some p → cond (eq_by_cmp key_cmp (dated s y) (dated k z)) place (place_among old s y) ≡ Some p
-  column_places z place placed = given_places old new k (Some after) given z place
-      (λ y p e. ap (λ o. cond (y == z) place (option_and_then (λ column. place_in column y) o)) (had_column old k (Some before) there) ∙ placed y p e)
-
-  pub same_years : after.years ≡ before.years → (s : Series) (y : ℕ) → holds_year (lookup (same_series s) new) y ≡ holds_year (lookup (same_series s) old) y
-  same_years same s y =
-      given_years old new k (Some after) given (λ y. holds_year (lookup (same_series k) old) y) (λ y. ap (λ x. has_year x y) same ∙ sym (ap (λ o. holds_year o y) (had_column old k (Some before) there))) s y
-      ∙ by (same_series k s) refl
-    where
-      by : (b : Bool) → same_series k s ≡ b → cond b (holds_year (lookup (same_series k) old) y) (holds_year (lookup (same_series s) old) y) ≡ holds_year (lookup (same_series s) old) y
-      by true is = ap (λ x. holds_year (lookup (same_series x) old) y) (series_same k s is)
-      by false is = refl
-
-  pub fewer_places : ((y p : ℕ) → place_in after y ≡ Some p → place_in before y ≡ Some p) → (s : Series) (y p : ℕ) → place_among new s y ≡ Some p → place_among old s y ≡ Some p
-  fewer_places fewer s y p e = by (same_series k s) refl (sym (ap (λ x. option_and_then (λ column. place_in column y) x) (then_has old new k (Some after) given s)) ∙ e)
-    where
-      by : (b : Bool) → same_series k s ≡ b → option_and_then (λ column. place_in column y) (cond b (Some after) (lookup (same_series s) old)) ≡ Some p → place_among old s y ≡ Some p
-      by true is f = ap (λ x. place_among old x y) (sym (series_same k s is)) ∙ ap (option_and_then (λ column. place_in column y)) (had_column old k (Some before) there) ∙ fewer y p f
-      by false is f = f
-
-  pub write_has_a_year : ¬ HasNoYear after.years → EachHasAYear old → EachHasAYear new
+  pub write_has_a_year : ¬ HasNoYear after → EachHasAYear old → EachHasAYear new
   write_has_a_year some = each_has_a_year old new k (Some after) given (column_given after some)
 
 -- a series without a column has no years and no places
-module _ (old : List (Series × Column)) (k : Series) (none : lookup (series_eq k) old ≡ None) where
-  pub no_place : (z : ℕ) (place : Option ℕ) (s : Series) (y p : ℕ) → place_among old s y ≡ Some p → cond (eq_by_cmp key_cmp (dated s y) (dated k z)) place (place_among old s y) ≡ Some p
-  no_place z place s y p e = ap (λ b. cond b place (place_among old s y)) (same_date k z s y) ∙ by (same_series k s) refl
-    where
-      by : (b : Bool) → same_series k s ≡ b → cond (b && (y == z)) place (place_among old s y) ≡ Some p
-      by true is =
-          let nothing : place_among old s y ≡ None = ap (λ x. place_among old x y) (sym (series_same k s is)) ∙ ap (option_and_then (λ column. place_in column y)) (had_column old k None none) in
-          let clash : None ≡ Some p = sym nothing ∙ e in absurd (cc)
-      by false is = e
-
+module _ (old : List (Series × YearSet)) (k : Series) (none : lookup (series_eq k) old ≡ None) where
   pub no_year : (given : ℕ → Bool) → ((y : ℕ) → given y ≡ false) → (s : Series) (y : ℕ) → holds_year (lookup (same_series s) old) y ≡ cond (same_series k s) (given y) (holds_year (lookup (same_series s) old) y)
   no_year given nothing s y = by (same_series k s) refl
     where
@@ -210,7 +154,7 @@ still_some before after here with some none = some (λ y. by (here y) (has_year 
     by false o e = e
 
 -- what a write leaves of a series that is taken out then
-pub taken_out : (old between new : List (Series × Column)) (k : Series) (column : Column) → ((q : Series) → lookup (series_eq q) between ≡ cond (series_eq k q) (Some column) (lookup (series_eq q) old))
+pub taken_out : (old between new : List (Series × YearSet)) (k : Series) (column : YearSet) → ((q : Series) → lookup (series_eq q) between ≡ cond (series_eq k q) (Some column) (lookup (series_eq q) old))
     → ((q : Series) → lookup (series_eq q) new ≡ cond (series_eq k q) None (lookup (series_eq q) between)) → (q : Series) → lookup (series_eq q) new ≡ cond (series_eq k q) None (lookup (series_eq q) old)
 taken_out old between new k column first then q = then q ∙ ap (cond (series_eq k q) None) (first q) ∙ by (series_eq k q)
   where
@@ -242,38 +186,5 @@ module _ (old : Calendar) (k : RecordKey) (present : Bool) where
 
 -- ---- an entry is written
 
-pub same_value : (es : List (Series × Column)) (i : ℕ) (k : Series) (c d : Column) → slice_get es i ≡ Some (k, c) → slice_get (map (λ e. e.1) es) i ≡ Some d → c ≡ d
+pub same_value : (es : List (Series × YearSet)) (i : ℕ) (k : Series) (c d : YearSet) → slice_get es i ≡ Some (k, c) → slice_get (map (λ e. e.1) es) i ≡ Some d → c ≡ d
 same_value es i k c d at value = same_Some c d (sym (ap (option_map (λ e. e.1)) at) ∙ sym (slice_get-map (λ e. e.1) es i) ∙ value)
-
-module _ (before after : Column) where
-  written : (es : List (Series × Column)) (i : ℕ) → slice_get (map (λ e. e.1) es) i ≡ Some before → (s : Series)
-      → (lookup (same_series s) (set_value_at es i after) ≡ lookup (same_series s) es) ⊎ ((lookup (same_series s) (set_value_at es i after) ≡ Some after) × (lookup (same_series s) es ≡ Some before))
-  written [] i at s = absurd (cc)
-  written (e ∷ es) zero at s = by (same_series s e.0)
-    where
-      by : (b : Bool) → (cond b (Some after) (lookup (same_series s) es) ≡ cond b (Some e.1) (lookup (same_series s) es)) ⊎ ((cond b (Some after) (lookup (same_series s) es) ≡ Some after) × (cond b (Some e.1) (lookup (same_series s) es) ≡ Some before))
-      by true = inr (refl, at)
-      by false = inl refl
-  written (e ∷ es) (suc i) at s = by (same_series s e.0) (written es i at s)
-    where
-      by : (b : Bool) → (lookup (same_series s) (set_value_at es i after) ≡ lookup (same_series s) es) ⊎ ((lookup (same_series s) (set_value_at es i after) ≡ Some after) × (lookup (same_series s) es ≡ Some before))
-          → (cond b (Some e.1) (lookup (same_series s) (set_value_at es i after)) ≡ cond b (Some e.1) (lookup (same_series s) es))
-          ⊎ ((cond b (Some e.1) (lookup (same_series s) (set_value_at es i after)) ≡ Some after) × (cond b (Some e.1) (lookup (same_series s) es) ≡ Some before))
-      by true rest = inl refl
-      by false rest = rest
-
-  module _ (es : List (Series × Column)) (i : ℕ) (at : slice_get (map (λ e. e.1) es) i ≡ Some before) (same : after.years ≡ before.years) where
-    pub written_years : (s : Series) (y : ℕ) → holds_year (lookup (same_series s) (set_value_at es i after)) y ≡ holds_year (lookup (same_series s) es) y
-    written_years s y = elim (written es i at s) [ inl e ↦ ap (λ o. holds_year o y) e | inr h ↦ ap (λ o. holds_year o y) h.0 ∙ ap (λ x. has_year x y) same ∙ sym (ap (λ o. holds_year o y) h.1) ]
-
-    pub written_places : ((y p : ℕ) → place_in after y ≡ Some p → place_in before y ≡ Some p) → (s : Series) (y p : ℕ) → place_among (set_value_at es i after) s y ≡ Some p → place_among es s y ≡ Some p
-    written_places fewer s y p f = elim (written es i at s) [
-      | inl e ↦ sym (ap (option_and_then (λ c. place_in c y)) e) ∙ f
-      | inr h ↦ ap (option_and_then (λ c. place_in c y)) h.1 ∙ fewer y p (sym (ap (option_and_then (λ c. place_in c y)) h.0) ∙ f)
-    ]
-
-    pub written_has_a_year : EachHasAYear es → EachHasAYear (set_value_at es i after)
-    written_has_a_year each s column f = elim (written es i at s) [
-      | inl e ↦ each s column (sym e ∙ f)
-      | inr h ↦ (let is : after ≡ column = same_Some after column (sym h.0 ∙ f) in subst (λ (c : Column). ¬ HasNoYear c.years) is (subst (λ (x : YearSet). ¬ HasNoYear x) (sym same) (each s before h.1)))
-    ]

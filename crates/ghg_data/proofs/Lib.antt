@@ -9,17 +9,11 @@ pub mod Figures
 pub mod InForce
 pub mod EquationParameters
 pub mod Counts
-pub mod LineCounts
 pub mod InTurn
 pub mod Order
-pub mod NamedLines
 pub mod Settled
 pub mod YearBits
-pub mod Keys
 pub mod Dates
-pub mod Places
 pub mod Calendars
 pub mod Changed
 pub mod Considered
-pub mod TakerNumbers
-pub mod TakersOfLines

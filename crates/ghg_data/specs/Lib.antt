@@ -1,4 +1,3 @@
-pub mod BoundSeries
 pub mod Changes
 pub mod Shelf
 pub mod Refusal
@@ -12,7 +11,3 @@ pub mod Series
 pub mod Calendar
 pub mod Brackets
 pub mod Lasting
-pub mod Numbered
-pub mod Takers
-pub mod Taken
-pub mod LineTakers

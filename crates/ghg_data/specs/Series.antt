@@ -6,7 +6,7 @@ use Rattle.ghg_definitions.specs.declared.record.RecordKey.{RecordKey}
 use Rattle.ghg_definitions.specs.declared.record.RecordKey.TheVariants as key
 use Rattle.ghg_data.specs.declared.series.Series.{Series}
 use Rattle.ghg_data.specs.declared.series.Series.TheVariants as series
-use Rattle.ghg_data.specs.declared.column.Column.{Column}
+use Rattle.ghg_data.specs.declared.year_set.YearSet.{YearSet}
 use Rattle.ghg_data.specs.YearSet.{HasNoYear}
 
 abbrev pub same_series : Series → Series → Bool
@@ -29,6 +29,6 @@ date_of (key.Bind line parameter) = None
 date_of (key.Uncert line) = None
 
 -- each of the series has a year
-abbrev pub EachHasAYear : List (Series × Column) → Type 0
-EachHasAYear entries = (s : Series) (column : Column) → lookup (same_series s) entries ≡ Some column
-    → ¬ HasNoYear column.years
+abbrev pub EachHasAYear : List (Series × YearSet) → Type 0
+EachHasAYear entries = (s : Series) (years : YearSet) → lookup (same_series s) entries ≡ Some years
+    → ¬ HasNoYear years

@@ -1,6 +1,6 @@
 //! Bindings: each parameter of a line's equation is bound, to something of its dimension.
 
-ghost use Rattle.std.specs.Prelude.{◌≡◌, true, false, filter, find, fold, flat_map, map, option_copied};
+ghost use Rattle.std.specs.Prelude.{◌≡◌, true, false, find, fold, flat_map, map, option_copied};
 ghost use Rattle.std.specs.List.{AllByRecursion, list_all};
 ghost use Rattle.std.specs.Option.{option_map, option_map_or};
 ghost use Rattle.std.specs.Ordering.{is_gt};
@@ -12,20 +12,15 @@ ghost use Rattle.ghg_definitions.specs.Rules.{gives_decay, gives_dimension, is_b
 ghost use Rattle.ghg_definitions.specs.Sound.{IsConsistent, IsWorkbook};
 ghost use Rattle.ghg_data.specs.Changes.{applied};
 ghost use Rattle.ghg_data.specs.Faults.{considered, dim_of_place, is_fault, key_places, line_places, uncertainty_place};
-ghost use Rattle.ghg_data.specs.LineTakers.{HasTakers, takers_of_line};
-ghost use Rattle.ghg_data.specs.Settling.{HasLooked, has_many_takers, left_places, lost_places, taker_places, takes_line};
-ghost use Rattle.ghg_data.specs.Takers.{takers_of};
+ghost use Rattle.ghg_data.specs.Settling.{HasLooked};
 
 use crate::draft::Draft;
 use crate::edits::Edits;
 use crate::holdings::Holdings;
-use crate::line_takers::LineTakers;
 use crate::measures::{is_line_of, is_of};
 use crate::parameters::{name_of, params_of};
 use crate::series::Series;
-use crate::taken::takes_line;
-use crate::takers::Takers;
-use crate::unsettled::{has_many_takers, loses_dimension, loses_output};
+use crate::unsettled::unsettles;
 use ghg_definitions::{Place, RecordKey};
 use ghg_equations::{Dim, EqId, Param};
 use ghg_units::{Binding, Name, ParamName};
@@ -219,167 +214,23 @@ fn consider_lines(draft: &Draft<'_>, least: &mut Option<Place>, holdings: &Holdi
     }
 }
 
-// Looks at the bindings that take an activity or a factor.
-fn consider_takers(draft: &Draft<'_>, least: &mut Option<Place>, takers: &Takers, series: &Series)
-    ensures { least.new ≡ fold (considered draft.now) least.old
-        (flat_map (key_places draft.now) (takers_of takers.now series.now)) }
-{
-    for number in 0..takers.count(series) {
-        if let Some(key) = takers.key(series, number) {
-            consider_key(draft, least, key);
-        }
-    }
-}
-
-// Looks at the bindings that take an activity or a factor which loses its dimension.
-fn consider_lost(
-    before: &Draft<'_>,
-    draft: &Draft<'_>,
-    least: &mut Option<Place>,
-    takers: &Takers,
-    names: &[Series],
-)
-    ensures { least.new ≡ fold (considered draft.now) least.old
-        (flat_map (lost_places before.now draft.now takers.now) names.now) }
-{
-    for series in names {
-        if loses_dimension(before, draft, series) {
-            consider_takers(draft, least, takers, series);
-        }
-    }
-}
-
-// Looks at each of these parameters of a line which is bound to something that takes another line.
-fn consider_takings(
-    draft: &Draft<'_>,
-    least: &mut Option<Place>,
-    taker: &Name,
-    params: &[Param],
-    line: &Name,
-)
-    requires { AllByRecursion (λ q. is_parameter q.name.now ≡ true) params.now }
-    ensures { least.new ≡ fold (considered draft.now) least.old (filter (takes_line draft.now line.now)
-        (map (λ q. record { line = taker.now; parameter = q.name.now }) params.now)) }
-{
-    for param in params {
-        let place = Place {
-            line: *taker,
-            parameter: name_of(param),
-        };
-        if takes_line(draft, &place, line) {
-            consider(draft, least, &place);
-        }
-    }
-}
-
-// Looks at each parameter that a line had which is bound to something that takes another line.
-fn consider_taker(
-    draft: &Draft<'_>,
-    least: &mut Option<Place>,
-    holdings: &Holdings,
-    taker: &Name,
-    line: &Name,
-)
-    ensures { least.new ≡ fold (considered draft.now) least.old (filter (takes_line draft.now line.now)
-        (line_places holdings.now.content taker.now)) }
-{
-    if let Some(id) = holdings.line(taker) {
-        consider_takings(draft, least, taker, params_of(id), line);
-    }
-}
-
-// Looks at what takes a line, of the lines that may take it. A binding that is edited is looked at with its
-// key, so here those count that take it after the edits.
-fn consider_line_takers<T: LineTakers>(
-    draft: &Draft<'_>,
-    least: &mut Option<Place>,
-    holdings: &Holdings,
-    takers: &T,
-    line: &Name,
-)
-    ensures { least.new ≡ fold (considered draft.now) least.old (taker_places holdings.now.content draft.now
-        (takers_of_line (T.count_of takers.now) (T.taker_at takers.now)) line.now) }
-{
-    for number in 0..takers.count(line) {
-        if let Some(taker) = takers.taker(line, number) {
-            consider_taker(draft, least, holdings, taker, line);
-        }
-    }
-}
-
-// Looks at each parameter that an edited line had, since it may leave a binding behind. Where the line loses
-// its dimension, it looks at what takes it, too.
-fn consider_left<T: LineTakers>(
-    draft: &Draft<'_>,
-    least: &mut Option<Place>,
-    holdings: &Holdings,
-    takers: &T,
-    key: &RecordKey,
-)
-    ensures { least.new ≡ fold (considered draft.now) least.old (left_places holdings.now.content draft.now
-        (takers_of_line (T.count_of takers.now) (T.taker_at takers.now)) key.now) }
-{
-    let RecordKey::Line(name) = key else {
-        return;
-    };
-    let Some(id) = holdings.line(name) else {
-        return;
-    };
-    consider_parameters(draft, least, name, id);
-    if loses_output(draft, name, id) {
-        consider_line_takers(draft, least, holdings, takers, name);
-    }
-}
-
-// Looks at what each edited line may leave unsound.
-fn consider_each_left<T: LineTakers>(
-    draft: &Draft<'_>,
-    least: &mut Option<Place>,
-    holdings: &Holdings,
-    takers: &T,
-    keys: &[RecordKey],
-)
-    ensures { least.new ≡ fold (considered draft.now) least.old
-        (flat_map (left_places holdings.now.content draft.now
-        (takers_of_line (T.count_of takers.now) (T.taker_at takers.now))) keys.now) }
-{
-    for key in keys {
-        consider_left(draft, least, holdings, takers, key);
-    }
-}
-
-// Looks at what no edit is about and the edits may leave unsound: the bindings that take what loses its
-// dimension, and the parameters that edited lines had. Where at least as many numbers of takers are to be
-// looked at as there are lines, it looks at all lines instead.
-fn consider_unsettled<T: LineTakers>(
+// Looks at what no edit is about and the edits may leave unsound: at each parameter of the lines, where a
+// name loses its dimension or a line its equation.
+fn consider_unsettled(
     alloc: Global,
     draft: &Draft<'_>,
     least: &mut Option<Place>,
     holdings: &Holdings,
     edits: &Edits,
-    takers: &T,
 )
     requires workbook { IsWorkbook holdings.now.content }
     requires consistent { IsConsistent draft.now }
     requires draft { draft.now ≡ applied holdings.now.content edits.now }
-    ensures lines { has_many_takers holdings.now.content draft.now (T.count_of takers.now)
-        (map (λ c. c.0) edits.now) ≡ true → least.new ≡ fold (considered draft.now) least.old
-        (flat_map (line_places holdings.now.content) (line_names holdings.now.content)) }
-    ensures takers { has_many_takers holdings.now.content draft.now (T.count_of takers.now)
-        (map (λ c. c.0) edits.now) ≡ false → HasLooked holdings.now.content draft.now
-        (takers_of_line (T.count_of takers.now) (T.taker_at takers.now)) (map (λ c. c.0) edits.now)
-        least.old least.new }
+    ensures { HasLooked draft.now (map (λ c. c.0) edits.now) least.old least.new }
 {
-    if has_many_takers(holdings, draft, takers, edits.keys()) {
+    if unsettles(alloc, holdings, draft, edits) {
         consider_lines(draft, least, holdings);
-        return;
     }
-    let none = Edits::new(alloc, holdings.hasher());
-    let before = Draft::of(holdings, &none);
-    let bound = holdings.takers();
-    consider_lost(&before, draft, least, bound, edits.series_put());
-    consider_lost(&before, draft, least, bound, edits.series_taken());
-    consider_each_left(draft, least, holdings, takers, edits.keys());
 }
 
 // Looks at the places that changed keys are about.
@@ -392,21 +243,14 @@ fn consider_keys(draft: &Draft<'_>, least: &mut Option<Place>, keys: &[RecordKey
 }
 
 /// The least place that is unsound once the edits are made.
-pub(crate) fn unsound_place<T: LineTakers>(
-    alloc: Global,
-    holdings: &Holdings,
-    edits: &Edits,
-    takers: &T,
-) -> Option<Place>
+pub(crate) fn unsound_place(alloc: Global, holdings: &Holdings, edits: &Edits) -> Option<Place>
     requires workbook { IsWorkbook holdings.now.content }
     requires consistent { IsConsistent (applied holdings.now.content edits.now) }
-    requires takers { HasTakers holdings.now.content
-        (takers_of_line (T.count_of takers.now) (T.taker_at takers.now)) }
     ensures { result ≡ unsound_place (applied holdings.now.content edits.now) }
 {
     let draft = Draft::of(holdings, edits);
     let mut least = None;
-    consider_unsettled(alloc, &draft, &mut least, holdings, edits, takers);
+    consider_unsettled(alloc, &draft, &mut least, holdings, edits);
     consider_keys(&draft, &mut least, edits.keys());
     least
 }

@@ -8,13 +8,11 @@ ghost use Rattle.ghg_definitions.specs.Rows.{after};
 ghost use Rattle.ghg_definitions.specs.Rules.{planned};
 ghost use Rattle.ghg_data.specs.Refusal.{IsPlanOf};
 ghost use Rattle.ghg_data.specs.Changes.{AreOfRows, applied};
-ghost use Rattle.ghg_data.specs.LineTakers.{HasTakers, takers_of_line};
 ghost use Rattle.ghg_data.specs.Shelf.{IsPlanned};
 
 use crate::draft::{Draft, span_in};
 use crate::edits::Edits;
 use crate::holdings::Holdings;
-use crate::line_takers::LineTakers;
 use crate::plan::planned_edits;
 use crate::records::Records;
 use crate::refusal::PlanRefusal;
@@ -61,14 +59,6 @@ impl Records for Book {
 
     fn get(&self, key: &RecordKey) -> Option<&Record> {
         self.holdings.get(key)
-    }
-
-    fn get_at(&self, key: &RecordKey, _place: usize) -> Option<&Record> {
-        self.holdings.get(key)
-    }
-
-    fn place(&self, _key: &RecordKey) -> usize {
-        0
     }
 
     fn span(&self) -> Option<Span> {
@@ -128,38 +118,9 @@ impl Book {
         ensures few { IfOk result (AreOfRows rows.now) }
         ensures ready { IfOk result (IsPlanned self.new) }
     {
-        let holdings = &self.holdings;
-        let edits = planned_edits(alloc, holdings, rows, rest, kept_bytes, holdings)?;
+        let edits = planned_edits(alloc, &self.holdings, rows, rest, kept_bytes)?;
         let span = Draft::of(&self.holdings, &edits).span();
-        self.holdings.reserve(&edits, span)?;
-        Ok(edits)
-    }
-
-    /// Plans as `plan` does, and is told which lines may take each line. Where a line is withdrawn, or its
-    /// output gets another dimension, it looks at these. Where they have at least as many numbers as there
-    /// are lines, it looks at all lines, as `plan` does.
-    pub fn plan_with<T: LineTakers>(
-        &mut self,
-        alloc: Global,
-        rows: &[Row],
-        rest: Option<Rule>,
-        kept_bytes: u64,
-        takers: &T,
-    ) -> Result<Edits, PlanRefusal>
-        requires well_formed { AllByRecursion IsWellFormed rows.now }
-        requires takers { HasTakers self.old.content
-            (takers_of_line (T.count_of takers.now) (T.taker_at takers.now)) }
-        ensures kept { self.new.content ≡ self.old.content }
-        ensures planned { IsPlanOf (planned self.old.content rows.now rest kept_bytes)
-            self.old.content result }
-        ensures after { IfOk result (λ edits. applied self.old.content edits ≡ after
-            self.old.content rows.now) }
-        ensures few { IfOk result (AreOfRows rows.now) }
-        ensures ready { IfOk result (IsPlanned self.new) }
-    {
-        let edits = planned_edits(alloc, &self.holdings, rows, rest, kept_bytes, takers)?;
-        let span = Draft::of(&self.holdings, &edits).span();
-        self.holdings.reserve(&edits, span)?;
+        self.holdings.reserve(alloc, &edits, span)?;
         Ok(edits)
     }
 

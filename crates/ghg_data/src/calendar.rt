@@ -1,87 +1,75 @@
-//! The years of the records of each activity and factor, and the places of these records.
+//! The years of the records of each activity and factor, and where these records may stand.
 
-ghost use Rattle.std.specs.Prelude.{◌≡◌, ℕ, ◌+◌, ◌≤◌, ◌<◌, true, false, is_some, map, option_and_then, option_copied, OnOk, Some};
+ghost use Rattle.std.specs.Prelude.{◌≡◌, ℕ, ◌+◌, ◌≤◌, ◌<◌, true, false, is_some, map, option_copied, OnOk};
 ghost use Rattle.std.specs.Map.{lookup};
 ghost use Rattle.indexmap.specs.IndexMap.{spare};
 ghost use Rattle.ghg_data.specs.declared.series.Series.{Series};
-ghost use Rattle.ghg_data.specs.Series.{EachHasAYear, date_of, dated, same_series};
+ghost use Rattle.ghg_data.specs.Series.{EachHasAYear, same_series};
 ghost use Rattle.ghg_data.specs.YearSet.{has_year};
 
-use crate::column::{Column, Window};
 use crate::series::{Series, date_of};
-use crate::slot_room::SlotRoom;
+use crate::slots::Slots;
 use crate::year_set::YearSet;
 use ghg_definitions::RecordKey;
+use ghg_units::Span;
 use indexmap::IndexMap;
 use std::alloc::{AllocError, Global};
 use std::hash::RandomState;
 
-/// A column for each series that has any years, and room for more series.
+/// The years of each series that has any, in the order of the columns of slots, and room for more series.
 #[derive(Drop)]
 pub(crate) struct Calendar {
-    columns: IndexMap<Series, Column, RandomState>,
-    slot_room: SlotRoom,
-    ghost none_empty: { EachHasAYear columns.entries },
+    years: IndexMap<Series, YearSet, RandomState>,
+    slots: Slots,
+    ghost none_empty: { EachHasAYear years.entries },
 }
 
 impl Calendar {
-    ghost use Rattle.std.specs.Prelude.{None};
-    ghost use Rattle.ghg_data.specs.Calendar.{HasNoNewPlace, HasSameDates, HasYearSet, IsNoted, IsPlaced, has_date, place_of};
+    ghost use Rattle.ghg_data.specs.Calendar.{HasSameDates, HasYearSet, IsNoted, has_date};
 
     /// No years of any series. It takes no memory.
     pub(crate) fn new(alloc: Global, hasher: RandomState) -> Calendar
-        ensures dates { (s : Series) (y : ℕ) → has_date result s y ≡ false }
-        ensures places { (s : Series) (y : ℕ) → place_of result s y ≡ None }
+        ensures { (s : Series) (y : ℕ) → has_date result s y ≡ false }
     {
         Calendar {
-            columns: IndexMap::with_hasher(alloc, hasher),
-            slot_room: SlotRoom::new(alloc),
+            years: IndexMap::with_hasher(alloc, hasher),
+            slots: Slots::new(alloc),
         }
     }
 
     /// Makes room for so many more series.
     pub(crate) fn reserve(&mut self, additional: usize) -> Result<(), AllocError>
         ensures dates { HasSameDates self.old self.new }
-        ensures places { HasNoNewPlace self.old self.new }
-        ensures room { OnOk result (additional ≤ spare self.new.columns) }
+        ensures room { OnOk result (additional ≤ spare self.new.years) }
     {
-        self.columns.reserve(additional)
+        self.years.reserve(additional)
     }
 
-    /// Makes room for the slots of so many more series, and for no more.
+    /// Makes room for so many more columns of slots.
     pub(crate) fn reserve_slots(&mut self, additional: usize) -> Result<(), AllocError>
-        ensures { self.new.columns ≡ self.old.columns }
+        ensures { self.new.years ≡ self.old.years }
     {
-        self.slot_room.reserve(additional)
+        self.slots.reserve(additional)
     }
 
-    /// The years for which columns have slots.
-    pub(crate) fn window(&self) -> Window {
-        self.slot_room.window()
+    /// Whether there are slots for each year of a span.
+    pub(crate) fn has_slots(&self, span: &Span) -> bool {
+        self.slots.cover(span)
     }
 
-    /// Gives each column slots for the years of a window, all without a place.
-    pub(crate) fn set_window(&mut self, window: Window) -> Result<(), AllocError>
-        ensures dates { HasSameDates self.old self.new }
-        ensures places { HasNoNewPlace self.old self.new }
-        ensures room { spare self.old.columns ≤ spare self.new.columns }
+    /// Puts slots without places where the slots were, for the years of a span and those of before.
+    pub(crate) fn widen_slots(&mut self, alloc: Global, span: &Span) -> Result<(), AllocError>
+        ensures { self.new.years ≡ self.old.years }
     {
-        // If memory runs out on the way, there are slots for no years.
-        self.slot_room.set_window(Window::none());
-        for index in 0..self.columns.len() {
-            if let Some(column) = self.columns.get_index_mut(index) {
-                column.set_window(window, self.slot_room.alloc)?;
-            }
-        }
-        self.slot_room.set_window(window);
+        self.slots = self.slots.widened(alloc, span, self.years.len())?;
         Ok(())
     }
 
     /// The series that have years, each once.
     pub(crate) fn series(&self) -> &[Series]
-        ensures { result.now ≡ map (λ e. e.0) self.now.columns.entries }
+        ensures { result.now ≡ map (λ e. e.0) self.now.years.entries }
     {
-        self.columns.keys().as_slice()
+        self.years.keys().as_slice()
     }
 
     /// The years of a series.
@@ -89,110 +77,113 @@ impl Calendar {
         ensures { (y : ℕ) → has_year result y ≡ has_date self.now series.now y }
     {
         match self.find(series) {
-            Some(column) => column.years(),
+            Some(years) => *years,
             None => YearSet::empty(),
         }
     }
 
-    /// The place of the record of a key, if its year has a slot.
-    pub(crate) fn place(&self, key: &RecordKey) -> Option<usize>
-        ensures { result ≡ option_and_then (λ d. place_of self.now d.0 d.1) (date_of key.now) }
-    {
-        let (series, year) = date_of(key)?;
-        self.find(&series)?.place(year)
-    }
-
-    // The column of a series.
-    fn find(&self, series: &Series) -> Option<&Column>
-        ensures { option_copied result ≡ lookup (same_series series.now) self.now.columns.entries }
+    // The years of a series, if it has any.
+    fn find(&self, series: &Series) -> Option<&YearSet>
+        ensures { option_copied result ≡ lookup (same_series series.now) self.now.years.entries }
     {
         // A look-up costs a hash of the series, even where there are no entries. The series that came last is
         // tried first, since rows of one name often follow each other.
-        if self.columns.is_empty() {
+        if self.years.is_empty() {
             return None;
         }
-        match self.columns.get_index(self.columns.len().saturating_sub(1)) {
-            Some((last, column)) if last == series => Some(column),
-            _ => self.columns.get(series),
+        match self.years.get_index(self.years.len().saturating_sub(1)) {
+            Some((last, years)) if last == series => Some(years),
+            _ => self.years.get(series),
         }
     }
 
-    /// Notes that a key has a record, and at which place, or that it has none. It takes no memory.
-    pub(crate) fn note(&mut self, key: &RecordKey, place: Option<usize>)
-        requires { 0 < spare self.old.columns }
-        ensures dates { IsNoted self.old self.new key.now (is_some place) }
-        ensures places { IsPlaced self.old self.new key.now place }
-        ensures room { spare self.old.columns ≤ spare self.new.columns + 1 }
-    {
-        let Some((series, year)) = date_of(key) else {
-            return;
-        };
-        match place {
-            Some(place) => self.put(series, year, place),
-            None => self.take(&series, year),
+    // The number of a series, which is that of its column.
+    fn number(&self, series: &Series) -> Option<usize> {
+        let last = self.years.len().checked_sub(1)?;
+        match self.years.get_index(last) {
+            Some((name, _)) if name == series => Some(last),
+            _ => self.years.get_index_of(series),
         }
     }
 
-    /// Notes at which place a key has its record. It takes no memory.
+    /// The place where the record of a key may stand.
+    pub(crate) fn place(&self, key: &RecordKey) -> Option<usize> {
+        let (series, year) = date_of(key)?;
+        self.slots.get(self.number(&series)?, year)
+    }
+
+    /// Writes at which place the record of a key stands. It takes no memory.
     pub(crate) fn set_place(&mut self, key: &RecordKey, place: usize)
-        ensures dates { HasSameDates self.old self.new }
-        ensures places { IsPlaced self.old self.new key.now (Some place) }
-        ensures room { spare self.old.columns ≤ spare self.new.columns }
+        ensures { self.new.years ≡ self.old.years }
     {
         let Some((series, year)) = date_of(key) else {
             return;
         };
-        if let Some(column) = self.columns.get_mut(&series) {
-            column.set_place(year, Some(place));
+        if let Some(column) = self.number(&series) {
+            self.slots.set(column, year, place);
+        }
+    }
+
+    /// Notes that a key has a record, or that it has none. It takes no memory.
+    pub(crate) fn note(&mut self, key: &RecordKey, present: bool)
+        requires { 0 < spare self.old.years }
+        ensures dates { IsNoted self.old self.new key.now present }
+        ensures room { spare self.old.years ≤ spare self.new.years + 1 }
+    {
+        let Some((series, year)) = date_of(key) else {
+            return;
+        };
+        if present {
+            self.put(series, year);
+        } else {
+            self.take(&series, year);
         }
     }
 
     // Gives a series one more year.
-    fn put(&mut self, series: Series, year: u32, place: usize)
-        requires { 0 < spare self.old.columns }
+    fn put(&mut self, series: Series, year: u32)
+        requires { 0 < spare self.old.years }
         ensures dates { HasYearSet self.old self.new series year true }
-        ensures places { IsPlaced self.old self.new (dated series year) (Some place) }
-        ensures room { spare self.old.columns ≤ spare self.new.columns + 1 }
+        ensures room { spare self.old.years ≤ spare self.new.years + 1 }
     {
-        if !self.put_last(&series, year, place) {
-            self.put_any(series, year, place);
+        if !self.put_last(&series, year) {
+            self.put_any(series, year);
         }
     }
 
     // The same, by a search of the series.
-    fn put_any(&mut self, series: Series, year: u32, place: usize)
-        requires { 0 < spare self.old.columns }
+    fn put_any(&mut self, series: Series, year: u32)
+        requires { 0 < spare self.old.years }
         ensures dates { HasYearSet self.old self.new series year true }
-        ensures places { IsPlaced self.old self.new (dated series year) (Some place) }
-        ensures room { spare self.old.columns ≤ spare self.new.columns + 1 }
+        ensures room { spare self.old.years ≤ spare self.new.years + 1 }
     {
-        if let Some(column) = self.columns.get_mut(&series) {
-            column.note(year, Some(place));
+        if let Some(years) = self.years.get_mut(&series) {
+            years.note(year, true);
             return;
         }
-        let mut column = self.slot_room.take();
-        column.note(year, Some(place));
+        let mut years = YearSet::empty();
+        years.note(year, true);
         // A year that no record may be of is in no set.
-        if !column.is_empty() {
-            self.columns.insert(series, column).unwrap();
+        if !years.is_empty() {
+            self.years.insert(series, years).unwrap();
+            self.slots.add_column();
         }
     }
 
     // Gives the series that came last one more year, if it is this one. Answers whether it is.
-    fn put_last(&mut self, series: &Series, year: u32, place: usize) -> bool
+    fn put_last(&mut self, series: &Series, year: u32) -> bool
         ensures dates { result ≡ true → HasYearSet self.old self.new series.now year true }
-        ensures places { result ≡ true → IsPlaced self.old self.new (dated series.now year) (Some place) }
         ensures other { result ≡ false → self.new ≡ self.old }
-        ensures room { spare self.old.columns ≤ spare self.new.columns }
+        ensures room { spare self.old.years ≤ spare self.new.years }
     {
-        let last = self.columns.len().saturating_sub(1);
-        match self.columns.get_index(last) {
+        let last = self.years.len().saturating_sub(1);
+        match self.years.get_index(last) {
             Some((name, _)) if name == series => {}
             _ => return false,
         }
-        match self.columns.get_index_mut(last) {
-            Some(column) => {
-                column.note(year, Some(place));
+        match self.years.get_index_mut(last) {
+            Some(years) => {
+                years.note(year, true);
                 true
             }
             None => false,
@@ -202,16 +193,17 @@ impl Calendar {
     // Takes a year from a series.
     fn take(&mut self, series: &Series, year: u32)
         ensures dates { HasYearSet self.old self.new series.now year false }
-        ensures places { IsPlaced self.old self.new (dated series.now year) None }
-        ensures room { spare self.old.columns ≤ spare self.new.columns }
+        ensures room { spare self.old.years ≤ spare self.new.years }
     {
-        if self.columns.is_empty() {
+        if self.years.is_empty() {
             return;
         }
-        if let Some(column) = self.columns.get_mut(series) {
-            column.note(year, None);
-            if column.is_empty() {
-                self.columns.swap_remove(series);
+        if let Some(years) = self.years.get_mut(series) {
+            years.note(year, false);
+            if years.is_empty() {
+                let column = self.years.get_index_of(series);
+                self.years.swap_remove(series);
+                self.slots.remove_column(column);
             }
         }
     }

@@ -66,16 +66,6 @@ impl<'a> Draft<'a> {
         }
     }
 
-    /// The record under a key, whose change is looked for first at a place.
-    pub(crate) fn get_at(&self, key: &RecordKey, place: usize) -> Option<&Record>
-        ensures { option_copied result ≡ finite.get self.now key.now }
-    {
-        match self.edits.get_at(key, place) {
-            Some(change) => change.as_ref(),
-            None => self.holdings.get(key),
-        }
-    }
-
     /// Whether a key has a record. Those of a series are seen in its years.
     pub(crate) fn has(&self, key: &RecordKey) -> bool
         ensures { result ≡ is_some (finite.get self.now key.now) }
@@ -88,17 +78,11 @@ impl<'a> Draft<'a> {
         }
     }
 
-    /// The place of a key's change.
-    pub(crate) fn place(&self, key: &RecordKey) -> usize {
-        self.edits.place(key)
-    }
-
-    /// The figure of an activity's or a factor's record. The last change is looked at first, since rows of
-    /// one name often follow each other.
+    /// The figure of an activity's or a factor's record.
     pub(crate) fn figure(&self, key: &RecordKey) -> Option<Figure>
         ensures { result ≡ figure self.now key.now }
     {
-        match self.get_at(key, self.edits.len().saturating_sub(1)) {
+        match self.get(key) {
             Some(Record::Activity(figure) | Record::Factor(figure)) => Some(*figure),
             _ => None,
         }

@@ -4,7 +4,6 @@ ghost use Rattle.std.specs.Prelude.{◌≡◌, ℕ, ◌^◌, ◌<◌, ◌&&◌, 
 ghost use Rattle.std.specs.FinMap.{find};
 ghost use Rattle.std.specs.List.{IsDistinct};
 ghost use Rattle.std.specs.Ordering.{eq_by_cmp};
-ghost use Rattle.ghg_definitions.specs.declared.record.RecordKey.TheVariants as key;
 ghost use Rattle.ghg_definitions.specs.Data.{Data, key_cmp};
 ghost use Rattle.ghg_definitions.specs.Listed.{IsListed};
 ghost use Rattle.ghg_definitions.specs.Rows.{with_record};
@@ -19,7 +18,6 @@ use crate::calendar::Calendar;
 use crate::series::Series;
 use crate::year_set::YearSet;
 use ghg_definitions::{Record, RecordKey};
-use ghg_units::Name;
 use indexmap::IndexMap;
 use std::alloc::{AllocError, Global};
 use std::hash::RandomState;
@@ -104,35 +102,14 @@ impl Edits {
     pub(crate) fn get(&self, key: &RecordKey) -> Option<&Option<Record>>
         ensures { option_copied result ≡ find key_cmp key.now self.now }
     {
-        // A look-up costs a hash of the key, even where there are no changes.
+        // A look-up costs a hash of the key, even where there are no changes. The last change is tried first,
+        // since rows of one name often follow each other.
         if self.changes.is_empty() {
             return None;
         }
-        self.changes.get(key)
-    }
-
-    /// The change of a key, which is looked for first at a place.
-    pub(crate) fn get_at(&self, key: &RecordKey, place: usize) -> Option<&Option<Record>>
-        ensures { option_copied result ≡ find key_cmp key.now self.now }
-    {
-        match self.changes.get_index(place) {
-            Some((there, change)) if there == key => Some(change),
-            _ => self.get(key),
-        }
-    }
-
-    /// The place of a key's change; that behind the last where it has none.
-    pub(crate) fn place(&self, key: &RecordKey) -> usize {
-        self.changes.get_index_of(key).unwrap_or(self.changes.len())
-    }
-
-    /// A line's record is removed.
-    pub(crate) fn withdraws_line(&self, name: &Name) -> bool
-        ensures { result ≡ is_taken (find key_cmp (key.Line name.now) self.now) }
-    {
-        match self.get(&RecordKey::Line(*name)) {
-            Some(change) => change.is_none(),
-            None => false,
+        match self.changes.get_index(self.changes.len().saturating_sub(1)) {
+            Some((last, change)) if last == key => Some(change),
+            _ => self.changes.get(key),
         }
     }
 
@@ -146,9 +123,8 @@ impl Edits {
         self.changes.reserve(1)?;
         self.put.reserve(1)?;
         self.taken.reserve(1)?;
-        // These calendars have no slots, so any place serves.
-        self.put.note(&key, change.is_some().then_some(0));
-        self.taken.note(&key, change.is_none().then_some(0));
+        self.put.note(&key, change.is_some());
+        self.taken.note(&key, change.is_none());
         drop(self.changes.insert(key, change).unwrap());
         Ok(())
     }

@@ -6,10 +6,8 @@ ghost use Rattle.std.specs.FinMap.{from_entries};
 ghost use Rattle.indexmap.specs.IndexMap.{spare};
 ghost use Rattle.ghg_definitions.specs.Data.{key_cmp, line, line_names};
 ghost use Rattle.ghg_definitions.specs.Rows.{with_record};
-ghost use Rattle.ghg_data.specs.Calendar.{ArePlacesOf, HasSameDates, IsCalendarOf, IsNoted};
+ghost use Rattle.ghg_data.specs.Calendar.{IsCalendarOf, IsNoted};
 ghost use Rattle.ghg_data.specs.Series.{dated};
-ghost use Rattle.ghg_data.specs.BoundSeries.{series_in};
-ghost use Rattle.ghg_data.specs.Takers.{AreTakersOf, room};
 ghost use Rattle.ghg_data.specs.Changes.{applied};
 ghost use Rattle.ghg_roots.specs.Decay.{decay_bounds};
 ghost use Rattle.ghg_units.specs.WellFormed.{IsHalfLife};
@@ -18,12 +16,10 @@ ghost use Rattle.ghg_data.specs.YearSet.{has_year};
 
 use crate::brackets::Brackets;
 use crate::calendar::Calendar;
-use crate::column::Window;
-use crate::draft::{equation_in, span_in};
+use crate::draft::equation_in;
 use crate::edits::Edits;
 use crate::names::change_names;
 use crate::series::Series;
-use crate::takers::{Takers, series_in};
 use crate::year_set::YearSet;
 use ghg_definitions::{Record, RecordKey};
 use ghg_equations::EqId;
@@ -34,14 +30,13 @@ use std::alloc::{AllocError, Global};
 use std::hash::RandomState;
 use std::marker::Model;
 
-/// Records by their keys with the names of the lines in order, the years and places of the records of each
-/// activity and factor, the bindings that take it and the brackets of half-lives, and room for more.
+/// Records by their keys with the names of the lines in order, the years of the records of each activity and
+/// factor, where these may stand, and the brackets of half-lives; and room for more.
 #[derive(Drop)]
 pub(crate) struct Holdings {
     records: IndexMap<RecordKey, Record, RandomState>,
     lines: Vec<Name>,
     calendar: Calendar,
-    takers: Takers,
     brackets: Brackets,
 }
 
@@ -51,9 +46,8 @@ impl Model for Holdings {
     ghost use Rattle.std.specs.Coded.{codes};
     ghost use Rattle.indexmap.specs.IndexMap.{spare};
     ghost use Rattle.ghg_definitions.specs.Data.{key_cmp, line_names};
-    ghost use Rattle.ghg_data.specs.Calendar.{ArePlacesOf, IsCalendarOf};
+    ghost use Rattle.ghg_data.specs.Calendar.{IsCalendarOf};
     ghost use Rattle.ghg_data.specs.Shelf.{Shelf, shelf_code};
-    ghost use Rattle.ghg_data.specs.Takers.{AreTakersOf, room};
 
     ghost Value = { Shelf };
 
@@ -61,13 +55,11 @@ impl Model for Holdings {
 
     ghost view = { λ h. record {
       content = from_entries h.records.entries;
-      spare = min (spare h.records)
-          (min (vec_capacity h.lines - vec_len h.lines) (min (spare h.calendar.columns) (room h.takers)));
+      spare = min (spare h.records) (min (vec_capacity h.lines - vec_len h.lines) (spare h.calendar.years));
     } };
 
     ghost invariant = { λ h. (h.lines.items ≡ line_names (from_entries h.records.entries)) × IsCalendarOf
-        (λ k. is_some (get {R = key_cmp} (from_entries h.records.entries) k)) h.calendar ×
-        ArePlacesOf h.records.entries h.calendar × AreTakersOf (from_entries h.records.entries) h.takers };
+        (λ k. is_some (get {R = key_cmp} (from_entries h.records.entries) k)) h.calendar };
 }
 
 impl Holdings {
@@ -79,7 +71,6 @@ impl Holdings {
             records: IndexMap::with_hasher(alloc, hasher),
             lines: Vec::new(alloc),
             calendar: Calendar::new(alloc, hasher),
-            takers: Takers::new(alloc, hasher),
             brackets: Brackets::new(),
         }
     }
@@ -97,9 +88,11 @@ impl Holdings {
         if self.records.is_empty() {
             return None;
         }
-        match self.calendar.place(key) {
-            Some(place) => Some(self.records.get_index(place)?.1),
-            None => self.records.get(key),
+        // Where the key has no slot, the first record is tried.
+        let place = self.calendar.place(key).unwrap_or(0);
+        match self.records.get_index(place) {
+            Some((there, record)) if there == key => Some(record),
+            _ => self.records.get(key),
         }
     }
 
@@ -133,13 +126,6 @@ impl Holdings {
         self.calendar.years(series)
     }
 
-    /// The bindings that take each activity and factor.
-    pub(crate) fn takers(&self) -> &Takers
-        ensures { AreTakersOf self.now.content result.now }
-    {
-        &self.takers
-    }
-
     /// The bracket of the yearly decay factor of a half-life.
     pub(crate) fn decay_bracket(&self, half_life: u32) -> Interval
         requires { IsHalfLife half_life }
@@ -150,18 +136,21 @@ impl Holdings {
 
     /// Makes room for changes, after which the inventory has the years of a span. If there are no slots for
     /// these, all slots are made anew.
-    pub(crate) fn reserve(&mut self, edits: &Edits, span: Option<Span>) -> Result<(), AllocError>
+    pub(crate) fn reserve(
+        &mut self,
+        alloc: Global,
+        edits: &Edits,
+        span: Option<Span>,
+    ) -> Result<(), AllocError>
         ensures content { self.new.content ≡ self.old.content }
         ensures room { OnOk result (length edits.now ≤ self.new.spare) }
     {
-        let before = Window::of(span_in(self.get(&RecordKey::Span)));
         let additional = edits.len();
         self.records.reserve(additional)?;
         self.lines.reserve(additional)?;
         self.calendar.reserve(additional)?;
-        self.takers.reserve(additional)?;
-        let after = Window::of(span);
-        reserve_slots(&self.records, &mut self.calendar, edits, before, after)
+        make_slots(alloc, &self.records, &mut self.calendar, span)?;
+        self.calendar.reserve_slots(edits.series_put().len())
     }
 
     /// Makes the changes. It takes no memory.
@@ -170,60 +159,26 @@ impl Holdings {
         ensures { self.new.content ≡ applied self.old.content edits }
     {
         change_names(&mut self.lines, &edits);
-        change_records(
-            &mut self.records,
-            &mut self.calendar,
-            &mut self.takers,
-            edits.into_changes(),
-        );
+        change_records(&mut self.records, &mut self.calendar, edits.into_changes());
     }
 }
 
-// Makes room for the slots of new columns. If there are no slots for the years of the inventory after the
-// edits, all slots are made anew, for its years before and after.
-fn reserve_slots(
-    records: &IndexMap<RecordKey, Record, RandomState>,
-    calendar: &mut Calendar,
-    edits: &Edits,
-    before: Window,
-    after: Window,
-) -> Result<(), AllocError>
-    requires { ArePlacesOf records.now.entries calendar.old }
-    ensures dates { HasSameDates calendar.old calendar.new }
-    ensures places { ArePlacesOf records.now.entries calendar.new }
-    ensures room { spare calendar.old.columns ≤ spare calendar.new.columns }
-{
-    if !calendar.window().covers(&after) {
-        make_slots(records, calendar, before.joined(&after))?;
-    }
-    calendar.reserve_slots(count_new(calendar, edits))
-}
-
-// How many activities and factors are given records while they have none, or may have none left on the way.
-fn count_new(calendar: &Calendar, edits: &Edits) -> usize {
-    edits
-        .series_put()
-        .iter()
-        .filter(|series| {
-            let taken = edits.years_taken(series);
-            let left = calendar.years(series).changed(&YearSet::empty(), &taken);
-            left.is_empty()
-        })
-        .count()
-}
-
-// Gives columns slots for the years of a window, with the places of the records.
+// Makes slots for the years of a span, unless there are.
 fn make_slots(
+    alloc: Global,
     records: &IndexMap<RecordKey, Record, RandomState>,
     calendar: &mut Calendar,
-    window: Window,
+    span: Option<Span>,
 ) -> Result<(), AllocError>
-    requires { ArePlacesOf records.now.entries calendar.old }
-    ensures dates { HasSameDates calendar.old calendar.new }
-    ensures places { ArePlacesOf records.now.entries calendar.new }
-    ensures room { spare calendar.old.columns ≤ spare calendar.new.columns }
+    ensures { calendar.new.years ≡ calendar.old.years }
 {
-    calendar.set_window(window)?;
+    let Some(span) = span else {
+        return Ok(());
+    };
+    if calendar.has_slots(&span) {
+        return Ok(());
+    }
+    calendar.widen_slots(alloc, &span)?;
     for place in 0..records.len() {
         if let Some((key, _)) = records.get_index(place) {
             calendar.set_place(key, place);
@@ -232,89 +187,69 @@ fn make_slots(
     Ok(())
 }
 
-// Makes the changes of records, and notes their years and places and what they take. It takes no memory.
+// Makes the changes of records, and notes their years and places. It takes no memory.
 fn change_records(
     records: &mut IndexMap<RecordKey, Record, RandomState>,
     calendar: &mut Calendar,
-    takers: &mut Takers,
     mut changes: IndexMap<RecordKey, Option<Record>, RandomState>,
 )
     requires room { length changes.entries ≤ spare records.old }
-    requires years_room { length changes.entries ≤ spare calendar.old.columns }
-    requires takers_room { length changes.entries ≤ room takers.old }
+    requires years_room { length changes.entries ≤ spare calendar.old.years }
     requires years { IsCalendarOf (λ k. is_some
         (finite.get {R = key_cmp} (from_entries records.old.entries) k)) calendar.old }
-    requires places { ArePlacesOf records.old.entries calendar.old }
-    requires takers { AreTakersOf (from_entries records.old.entries) takers.old }
     ensures content { from_entries records.new.entries ≡ applied
         (from_entries records.old.entries) changes.entries }
     ensures years { IsCalendarOf (λ k. is_some
         (finite.get {R = key_cmp} (from_entries records.new.entries) k)) calendar.new }
-    ensures places { ArePlacesOf records.new.entries calendar.new }
-    ensures takers { AreTakersOf (from_entries records.new.entries) takers.new }
 {
     while let Some((key, change)) = changes.pop() {
-        let now = series_in(&change);
         match change {
-            Some(entry) => {
-                let before = put_record(records, calendar, key, entry);
-                takers.note(&key, before, now);
-            }
-            None => {
-                let before = take_record(records, calendar, &key);
-                takers.note(&key, before, now);
-            }
+            Some(entry) => put_record(records, calendar, key, entry),
+            None => take_record(records, calendar, &key),
         }
     }
 }
 
-// Gives a key a record. Answers what the one that it had took.
+// Gives a key a record.
 fn put_record(
     records: &mut IndexMap<RecordKey, Record, RandomState>,
     calendar: &mut Calendar,
     key: RecordKey,
     entry: Record,
-) -> Option<Series>
+)
     requires room { 0 < spare records.old }
-    requires years_room { 0 < spare calendar.old.columns }
-    requires places { ArePlacesOf records.old.entries calendar.old }
-    ensures series { result ≡ series_in
-        (finite.get {R = key_cmp} (from_entries records.old.entries) key) }
+    requires years_room { 0 < spare calendar.old.years }
     ensures content { from_entries records.new.entries ≡ with_record
         (from_entries records.old.entries) key (Some entry) }
     ensures dates { IsNoted calendar.old calendar.new key true }
-    ensures places { ArePlacesOf records.new.entries calendar.new }
     ensures room { spare records.old ≤ spare records.new + 1 }
-    ensures years_room { spare calendar.old.columns ≤ spare calendar.new.columns + 1 }
+    ensures years_room { spare calendar.old.years ≤ spare calendar.new.years + 1 }
 {
     let (place, before) = records.insert_full(key, entry).unwrap();
-    calendar.note(&key, Some(place));
-    series_in(&before)
+    drop(before);
+    calendar.note(&key, true);
+    calendar.set_place(&key, place);
 }
 
-// Takes the record of a key. Answers what it took. The last one comes to stand in its place.
+// Takes the record of a key. The last one comes to stand in its place.
 fn take_record(
     records: &mut IndexMap<RecordKey, Record, RandomState>,
     calendar: &mut Calendar,
     key: &RecordKey,
-) -> Option<Series>
-    requires years_room { 0 < spare calendar.old.columns }
-    requires places { ArePlacesOf records.old.entries calendar.old }
-    ensures series { result ≡ series_in
-        (finite.get {R = key_cmp} (from_entries records.old.entries) key.now) }
+)
+    requires years_room { 0 < spare calendar.old.years }
     ensures content { from_entries records.new.entries ≡ with_record
         (from_entries records.old.entries) key.now None }
     ensures dates { IsNoted calendar.old calendar.new key.now false }
-    ensures places { ArePlacesOf records.new.entries calendar.new }
     ensures room { spare records.old ≤ spare records.new + 1 }
-    ensures years_room { spare calendar.old.columns ≤ spare calendar.new.columns + 1 }
+    ensures years_room { spare calendar.old.years ≤ spare calendar.new.years + 1 }
 {
-    calendar.note(key, None);
+    calendar.note(key, false);
     let Some((place, _, before)) = records.swap_remove_full(key) else {
-        return None;
+        return;
     };
+    drop(before);
     if let Some((moved, _)) = records.get_index(place) {
         calendar.set_place(moved, place);
     }
-    series_in(&Some(before))
 }

@@ -24,13 +24,6 @@ pub(crate) fn activity<R: Records>(records: &R, name: &Name, year: u32) -> Input
     input(figure(records, &RecordKey::Activity(*name, year)))
 }
 
-/// The same. The record is looked for first at a place.
-pub(crate) fn activity_at<R: Records>(records: &R, name: &Name, year: u32, place: usize) -> Input
-    ensures { result ≡ activity_input (R.content records.now) name.now year }
-{
-    input(figure_at(records, &RecordKey::Activity(*name, year), place))
-}
-
 /// What a factor's record with the greatest start year that is not after the year gives.
 pub(crate) fn factor<R: Records>(records: &R, name: &Name, year: u32) -> Input
     ensures input { result ≡ factor_input (R.content records.now) name.now year }
@@ -91,18 +84,6 @@ fn figure<'a, R: Records>(records: &'a R, key: &RecordKey) -> Option<&'a Figure>
     ensures workbook { IsWorkbook (R.content records.now) }
 {
     match records.get(key) {
-        Some(Record::Activity(figure)) => Some(figure),
-        Some(Record::Factor(figure)) => Some(figure),
-        _ => None,
-    }
-}
-
-// The same. The record is looked for first at a place.
-fn figure_at<'a, R: Records>(records: &'a R, key: &RecordKey, place: usize) -> Option<&'a Figure>
-    ensures figure { option_copied result ≡ figure (R.content records.now) key.now }
-    ensures keeps { IfSome result (λ f. IsFigure f.now) }
-{
-    match records.get_at(key, place) {
         Some(Record::Activity(figure)) => Some(figure),
         Some(Record::Factor(figure)) => Some(figure),
         _ => None,

@@ -1,8 +1,8 @@
 //! The names of lines, each once and in order.
 
-ghost use Rattle.std.specs.Prelude.{◌≡◌, ◌+◌, ◌≤◌, ◌<◌, ◌++◌, IfOk, length, filter_map, vec_len, vec_capacity};
+ghost use Rattle.std.specs.Prelude.{◌≡◌, ◌+◌, ◌≤◌, ◌<◌, IfOk, length, vec_len, vec_capacity};
 ghost use Rattle.std.specs.List.Sorted.{IsStrictlySortedBy};
-ghost use Rattle.ghg_definitions.specs.Data.{Data, line_name, line_names, name_cmp};
+ghost use Rattle.ghg_definitions.specs.Data.{Data, line_names, name_cmp};
 ghost use Rattle.ghg_data.specs.Changes.{applied};
 ghost use Rattle.ghg_data.specs.Names.{names_after, with_name, without_name};
 
@@ -11,9 +11,6 @@ use crate::holdings::Holdings;
 use ghg_definitions::RecordKey;
 use ghg_units::Name;
 use std::alloc::{AllocError, Global};
-
-// For this many names it takes about as long to sort them as to put one more in its place.
-const NAMES_OF_A_SORT: usize = 16;
 
 /// The names of the lines once the edits are made, in order.
 pub(crate) fn lines_after(
@@ -30,30 +27,9 @@ pub(crate) fn lines_after(
     Ok(lines)
 }
 
-/// Makes the names of the lines those once the edits are made. A few are put in their places one after the
-/// other, and more are sorted together. It takes no memory.
+/// Makes the names of the lines those once the edits are made, one change after the other. Each moves the
+/// names behind it. It takes no memory.
 pub(crate) fn change_names(names: &mut Vec<Name>, edits: &Edits)
-    requires { vec_len names.old + length edits.now ≤ vec_capacity names.old }
-    ensures items { (m : Data) → names.old.items ≡ line_names m → names.new.items ≡ line_names
-        (applied m edits.now) }
-    ensures capacity { vec_capacity names.new ≡ vec_capacity names.old }
-{
-    if count_lines(edits.keys()) <= names.len() / NAMES_OF_A_SORT {
-        change_each(names, edits);
-    } else {
-        change_together(names, edits);
-    }
-}
-
-// How many of the keys are about lines.
-fn count_lines(keys: &[RecordKey]) -> usize {
-    keys.iter()
-        .filter(|key| matches!(key, RecordKey::Line(_)))
-        .count()
-}
-
-// Makes the changes one after the other. Each moves the names behind it.
-fn change_each(names: &mut Vec<Name>, edits: &Edits)
     requires { vec_len names.old + length edits.now ≤ vec_capacity names.old }
     ensures items { (m : Data) → names.old.items ≡ line_names m → names.new.items ≡ line_names
         (applied m edits.now) }
@@ -105,31 +81,5 @@ pub fn take_name(names: &mut Vec<Name>, name: &Name)
 {
     if let Ok(place) = names.binary_search(name) {
         names.remove(place);
-    }
-}
-
-// Makes all changes, and sorts the names once.
-fn change_together(names: &mut Vec<Name>, edits: &Edits)
-    requires { vec_len names.old + length edits.now ≤ vec_capacity names.old }
-    ensures items { (m : Data) → names.old.items ≡ line_names m → names.new.items ≡ line_names
-        (applied m edits.now) }
-    ensures capacity { vec_capacity names.new ≡ vec_capacity names.old }
-{
-    add_lines(names, edits.keys());
-    names.retain(|name| !edits.withdraws_line(name));
-    names.sort_unstable();
-    names.dedup();
-}
-
-// Adds the names of the lines that the keys are about. It takes no memory.
-fn add_lines(names: &mut Vec<Name>, keys: &[RecordKey])
-    requires { vec_len names.old + length keys.now ≤ vec_capacity names.old }
-    ensures items { names.new.items ≡ names.old.items ++ filter_map line_name keys.now }
-    ensures capacity { vec_capacity names.new ≡ vec_capacity names.old }
-{
-    for key in keys {
-        if let RecordKey::Line(name) = key {
-            names.push_reserved(*name);
-        }
     }
 }

@@ -1,16 +1,14 @@
 //! Planning the rows of a submission.
 
-ghost use Rattle.std.specs.Prelude.{◌≡◌, ℕ, ◌+◌, ◌^◌, ◌<◌, ◌≤◌, Ok, Err, Some, None, MatchResult, OnOk, IfOk, length};
+ghost use Rattle.std.specs.Prelude.{◌≡◌, ℕ, ◌+◌, ◌^◌, ◌<◌, ◌≤◌, Ok, Err, Some, None, MatchResult, OnOk, IfOk};
 ghost use Rattle.std.specs.List.{AllByRecursion};
 ghost use Rattle.std.specs.FinMap.{len};
 ghost use Rattle.ghg_units.specs.WellFormed.{IsWellFormed};
-ghost use Rattle.ghg_definitions.specs.Data.{line_names};
 ghost use Rattle.ghg_definitions.specs.Rows.{after, after_row, key_of};
 ghost use Rattle.ghg_definitions.specs.Rules.{judged, planned, row_fault, rows_applied};
 ghost use Rattle.ghg_definitions.specs.Sound.{IsConsistent, IsWorkbook};
 ghost use Rattle.ghg_data.specs.Changes.{AreOfRows, ChangesAlso, applied};
-ghost use Rattle.ghg_data.specs.Counts.{count_after, line_count_after};
-ghost use Rattle.ghg_data.specs.LineTakers.{HasTakers, takers_of_line};
+ghost use Rattle.ghg_data.specs.Counts.{count_after};
 ghost use Rattle.ghg_data.specs.Refusal.{IfRule, IsPlanOf};
 
 use crate::bindings::unsound_place;
@@ -18,34 +16,29 @@ use crate::draft::Draft;
 use crate::edits::Edits;
 use crate::holdings::Holdings;
 use crate::limits::limit_fault;
-use crate::line_takers::LineTakers;
 use crate::refusal::PlanRefusal;
 use crate::rows::{key_of, record_of, row_fault};
-use ghg_units::{Act, Row, RowForm, Rule};
+use ghg_units::{Act, Row, Rule};
 use std::alloc::Global;
 
-// The edits of the rows so far, with the number of records, and of lines among them, that they leave.
+// The edits of the rows so far, with the number of records that they leave.
 #[derive(Drop)]
 struct Progress {
     edits: Edits,
     records: usize,
-    lines: usize,
 }
 
 /// The edits that rows make, where they break no rule; or the first rule that is broken.
 #[tactic(auto, unfolding(ghg_definitions::specs::Rules::planned))]
-pub(crate) fn planned_edits<T: LineTakers>(
+pub(crate) fn planned_edits(
     alloc: Global,
     holdings: &Holdings,
     rows: &[Row],
     rest: Option<Rule>,
     kept_bytes: u64,
-    takers: &T,
 ) -> Result<Edits, PlanRefusal>
     requires workbook { IsWorkbook holdings.now.content }
     requires well_formed { AllByRecursion IsWellFormed rows.now }
-    requires takers { HasTakers holdings.now.content
-        (takers_of_line (T.count_of takers.now) (T.taker_at takers.now)) }
     ensures planned { IsPlanOf (planned holdings.now.content rows.now rest kept_bytes)
         holdings.now.content result }
     ensures after { IfOk result (λ edits. applied holdings.now.content edits ≡ after
@@ -54,7 +47,7 @@ pub(crate) fn planned_edits<T: LineTakers>(
     ensures workbook { IfOk result (λ edits. IsWorkbook (applied holdings.now.content edits)) }
 {
     let progress = progress_of(alloc, holdings, rows)?;
-    judge(alloc, holdings, &progress, rest, kept_bytes, takers)?;
+    judge(alloc, holdings, &progress, rest, kept_bytes)?;
     let Progress { edits, .. } = progress;
     Ok(edits)
 }
@@ -70,12 +63,10 @@ fn progress_of(alloc: Global, holdings: &Holdings, rows: &[Row]) -> Result<Progr
     ensures few { IfOk result (λ p. AreOfRows rows.now p.edits) }
     ensures consistent { IfOk result (λ p. IsConsistent (applied holdings.now.content p.edits)) }
     ensures records { IfOk result (λ p. p.records ≡ len (applied holdings.now.content p.edits)) }
-    ensures lines { IfOk result (λ p. p.lines ≡ length (line_names (applied holdings.now.content p.edits))) }
 {
     let mut progress = Progress {
         edits: Edits::with_capacity(alloc, holdings.hasher(), rows.len())?,
         records: holdings.len(),
-        lines: holdings.lines().len(),
     };
     for row in rows {
         add_row(alloc, holdings, &mut progress, row)?;
@@ -93,10 +84,7 @@ fn add_row(
     requires consistent { IsConsistent (applied holdings.now.content progress.old.edits) }
     requires well_formed { IsWellFormed row.now }
     requires records { progress.old.records ≡ len (applied holdings.now.content progress.old.edits) }
-    requires lines { progress.old.lines ≡ length
-        (line_names (applied holdings.now.content progress.old.edits)) }
     requires fits { progress.old.records + 1 < 2 ^ 64 }
-    requires lines_fit { progress.old.lines + 1 < 2 ^ 64 }
     ensures fault { MatchResult result
         (λ _. row_fault (applied holdings.now.content progress.old.edits) row.now ≡ None)
         (IfRule (λ rule. row_fault (applied holdings.now.content progress.old.edits) row.now ≡ Some rule)) }
@@ -106,10 +94,7 @@ fn add_row(
     ensures consistent { OnOk result (IsConsistent (applied holdings.now.content progress.new.edits)) }
     ensures records { OnOk result (progress.new.records ≡ len
         (applied holdings.now.content progress.new.edits)) }
-    ensures lines { OnOk result (progress.new.lines ≡ length
-        (line_names (applied holdings.now.content progress.new.edits))) }
     ensures bound { progress.new.records ≤ progress.old.records + 1 }
-    ensures lines_bound { progress.new.lines ≤ progress.old.lines + 1 }
 {
     if let Some(rule) = row_fault(&Draft::of(holdings, &progress.edits), row) {
         return Err(PlanRefusal::Rule(rule));
@@ -117,7 +102,6 @@ fn add_row(
     let change = record_of(alloc, &row.form)?;
     progress.edits.put(key_of(&row.form), change)?;
     progress.records = count_after(row.act, progress.records);
-    progress.lines = line_count_after(row, progress.lines);
     Ok(())
 }
 
@@ -133,33 +117,17 @@ fn count_after(act: Act, records: usize) -> usize
     }
 }
 
-// How many lines there are after a row that keeps the rule of presence.
-fn line_count_after(row: &Row, lines: usize) -> usize
-    requires { lines + 1 < 2 ^ 64 }
-    ensures { result ≡ line_count_after row.now lines }
-{
-    match &row.form {
-        RowForm::Line(_, _) => count_after(row.act, lines),
-        _ => lines,
-    }
-}
-
 // Whether the records with all edits made keep the rules that see them whole.
-fn judge<T: LineTakers>(
+fn judge(
     alloc: Global,
     holdings: &Holdings,
     progress: &Progress,
     rest: Option<Rule>,
     kept_bytes: u64,
-    takers: &T,
 ) -> Result<(), PlanRefusal>
     requires workbook { IsWorkbook holdings.now.content }
     requires consistent { IsConsistent (applied holdings.now.content progress.now.edits) }
     requires records { progress.now.records ≡ len (applied holdings.now.content progress.now.edits) }
-    requires lines { progress.now.lines ≡ length
-        (line_names (applied holdings.now.content progress.now.edits)) }
-    requires takers { HasTakers holdings.now.content
-        (takers_of_line (T.count_of takers.now) (T.taker_at takers.now)) }
     ensures judged { MatchResult result
         (λ _. judged rest kept_bytes (applied holdings.now.content progress.now.edits) ≡ Ok
         (applied holdings.now.content progress.now.edits))
@@ -171,11 +139,12 @@ fn judge<T: LineTakers>(
         return Err(PlanRefusal::Rule(rule));
     }
     let edits = &progress.edits;
-    if let Some(place) = unsound_place(alloc, holdings, edits, takers) {
+    if let Some(place) = unsound_place(alloc, holdings, edits) {
         return Err(PlanRefusal::Rule(Rule::BadBinding(place.line, place.parameter)));
     }
     let draft = Draft::of(holdings, edits);
-    if let Some(rule) = limit_fault(&draft, progress.lines, progress.records, kept_bytes) {
+    let lines = draft.lines(alloc)?.len();
+    if let Some(rule) = limit_fault(&draft, lines, progress.records, kept_bytes) {
         return Err(PlanRefusal::Rule(rule));
     }
     Ok(())

@@ -34,15 +34,6 @@ pub trait Records {
         ensures record { option_copied result ≡ get (content self.now) key.now }
         ensures workbook { IsWorkbook (content self.now) };
 
-    /// The same. Where a place of the key is given, it may cost no search.
-    fn get_at(&self, key: &RecordKey, place: usize) -> Option<&Record>
-        ensures record { option_copied result ≡ get (content self.now) key.now }
-        ensures workbook { IsWorkbook (content self.now) };
-
-    /// A place of a key. Keys whose records were entered one after the other mostly have places that follow
-    /// each other.
-    fn place(&self, key: &RecordKey) -> usize;
-
     /// The years of the inventory; `None` exactly where there is no record of them.
     fn span(&self) -> Option<Span>
         ensures span { result ≡ span (content self.now) }
@@ -108,13 +99,6 @@ pub trait Records {
         ensures holds { HoldsSource (content self.now) (activity (content self.now) name.now year) result }
     {
         lookups::activity(self, name, year)
-    }
-
-    /// The same. Where a place of the activity's record is given, it may cost no search.
-    final fn activity_at(&self, name: &Name, year: u32, place: usize) -> Input
-        ensures { result ≡ activity_input (content self.now) name.now year }
-    {
-        lookups::activity_at(self, name, year, place)
     }
 
     /// What a factor gives in a year: the figures in the base unit of the record with the greatest start year

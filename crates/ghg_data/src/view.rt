@@ -55,14 +55,6 @@ impl<'a> Records for After<'a> {
         self.draft.get(key)
     }
 
-    fn get_at(&self, key: &RecordKey, place: usize) -> Option<&Record> {
-        self.draft.get_at(key, place)
-    }
-
-    fn place(&self, key: &RecordKey) -> usize {
-        self.draft.place(key)
-    }
-
     fn span(&self) -> Option<Span> {
         self.draft.span()
     }

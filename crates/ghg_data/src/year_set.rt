@@ -11,28 +11,28 @@ const WORD: u32 = 128;
 
 /// Years up to the last one, each as a bit. The lowest bit is for the last year.
 #[derive(Clone, Copy, Drop)]
-pub(crate) struct YearSet {
+pub struct YearSet {
     late: u128,
     early: u128,
 }
 
 impl YearSet {
     /// No years.
-    pub(crate) fn empty() -> YearSet
+    pub fn empty() -> YearSet
         ensures { HasNoYear result }
     {
         YearSet { late: 0, early: 0 }
     }
 
     /// Whether it holds no year.
-    pub(crate) fn is_empty(&self) -> bool
+    pub fn is_empty(&self) -> bool
         ensures { IsTrue result ↔ HasNoYear self.now }
     {
         self.last_until(LATEST_YEAR).is_none()
     }
 
     /// The set with this year, or without it. A year that no record may be of changes nothing.
-    pub(crate) fn with(&self, year: u32, present: bool) -> YearSet
+    pub fn with(&self, year: u32, present: bool) -> YearSet
         ensures { (y : ℕ) → has_year result y ≡ cond (is_year year && (y == year)) present
             (has_year self.now y) }
     {
@@ -53,8 +53,16 @@ impl YearSet {
         }
     }
 
+    /// Puts a year in, or takes it out. A year that no record may be of changes nothing.
+    pub(crate) fn note(&mut self, year: u32, present: bool)
+        ensures { (y : ℕ) → has_year self.new y ≡ cond (is_year year && (y == year)) present
+            (has_year self.old y) }
+    {
+        *self = self.with(year, present);
+    }
+
     /// The set once some years are put in and others are taken out.
-    pub(crate) fn changed(&self, put: &YearSet, taken: &YearSet) -> YearSet
+    pub fn changed(&self, put: &YearSet, taken: &YearSet) -> YearSet
         ensures { (y : ℕ) → has_year result y ≡ has_year put.now y ||
             (has_year self.now y && not (has_year taken.now y)) }
     {
@@ -77,7 +85,7 @@ impl YearSet {
     }
 
     /// The least year that is after this one.
-    pub(crate) fn first_after(&self, year: u32) -> Option<u32>
+    pub fn first_after(&self, year: u32) -> Option<u32>
         ensures { MatchOption result ((y : ℕ) → year < y → has_year self.now y ≡ false)
             (λ s. (year < s) × (has_year self.now s ≡ true) ×
             ((y : ℕ) → year < y → y < s → has_year self.now y ≡ false)) }

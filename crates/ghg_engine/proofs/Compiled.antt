@@ -11,12 +11,13 @@ use Rattle.ghg_definitions.specs.Trials.{Outcomes}
 use Rattle.ghg_definitions.proofs.Exactness.{compilations_contain}
 use Rattle.ghg_definitions.proofs.OneTrial.{overflows_break}
 use Rattle.ghg_data.proofs.Empty.{is_acyclic, is_workbook}
-use Rattle.ghg_engine.specs.Cells.{no_outcomes}
+use Rattle.ghg_columns.specs.Cells.{no_outcomes}
 use Rattle.ghg_engine.specs.Compiled.{IsCompiled}
 use Rattle.ghg_engine.proofs.Nothing.{nothing_found, nothing_over}
 
 pub is_compiled : (m : Data) → IsWorkbook m → IsAcyclic m → overflow m ≡ None → (outcomes : Outcomes) → ((n : Node) → is_node m n ≡ true → outcomes n ≡ compilation m n) → IsCompiled m outcomes
 is_compiled m workbook acyclic none outcomes are = record {
+  workbook = workbook;
   acyclic = acyclic;
   outcomes_are = are;
   fits = overflows_break m acyclic none;
@@ -32,6 +33,7 @@ nothing_compiled m cells e f =
 -- what else stands at the nodes is compiled too
 pub compiled_alike : (m : Data) (outcomes others : Outcomes) → ((n : Node) → is_node m n ≡ true → others n ≡ outcomes n) → IsCompiled m outcomes → IsCompiled m others
 compiled_alike m outcomes others alike is = record {
+  workbook = is.workbook;
   acyclic = is.acyclic;
   outcomes_are = λ n node. alike n node ∙ is.outcomes_are n node;
   fits = is.fits;

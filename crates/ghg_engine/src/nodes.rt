@@ -4,8 +4,8 @@ ghost use Rattle.std.specs.Prelude.{◌≡◌, is_some};
 ghost use Rattle.ghg_definitions.specs.Compilation.{emits, is_in_tree, is_node, is_year_of};
 ghost use Rattle.ghg_definitions.specs.Data.{line, span};
 
-use crate::series::year_of;
 use ghg_categories::Category;
+use ghg_columns::year_of;
 use ghg_data::Records;
 use ghg_equations::equation;
 use ghg_units::{Name, Node};

@@ -2,16 +2,14 @@
 
 ghost use Rattle.std.specs.Prelude.{◌≡◌};
 
-use crate::fresh::FreshCells;
-use crate::layout::ChangedLayout;
+use ghg_columns::FreshCells;
 use ghg_data::Edits;
 
-/// Edits, and what changes with them in the engine: the cells of the nodes that they affect, and the layout.
+/// Edits, and the cells of the nodes that they affect.
 #[derive(Drop)]
 pub struct Proposal {
     pub(crate) edits: Edits,
     pub(crate) fresh: FreshCells,
-    pub(crate) changed: ChangedLayout,
     pub(crate) cells: u64,
 }
 
@@ -22,11 +20,4 @@ impl Proposal {
     {
         self.cells
     }
-}
-
-/// The cells of the nodes that edits affect, and how many these are.
-#[derive(Drop)]
-pub(crate) struct Fresh {
-    pub(crate) cells: FreshCells,
-    pub(crate) count: u64,
 }

@@ -1,41 +1,29 @@
-//! Cells of lines that edits withdraw.
+//! Cells of lines that are withdrawn.
 
-ghost use Rattle.std.specs.Prelude.{◌≡◌, true};
-ghost use Rattle.ghg_units.specs.declared.node.Node.{Node};
-ghost use Rattle.ghg_definitions.specs.Compilation.{is_node};
-ghost use Rattle.ghg_data.specs.Changes.{applied};
-ghost use Rattle.ghg_data.specs.Shelf.{IsPlanned};
-ghost use Rattle.ghg_engine.specs.Cells.{cell_at};
-ghost use Rattle.ghg_engine.specs.Compiled.{AreOfEither, AreOfLines, without_missing};
+ghost use Rattle.ghg_columns.specs.Cells.{cell_at};
+ghost use Rattle.ghg_engine.specs.Compiled.{AreAlike};
 
-use crate::cells::Cells;
 use crate::nodes::{emits, is_line};
-use crate::series::Series;
-use ghg_data::{Book, Edits, Records, after};
+use ghg_columns::{Cells, Series};
+use ghg_data::Records;
 use ghg_definitions::RecordKey;
 use ghg_units::Name;
 
-/// Drops the cells of lines that edits withdraw, and the equivalents of those that emit no gas with them.
-pub(crate) fn drop_withdrawn(cells: &mut Cells, book: &Book, edits: &Edits)
-    requires planned { IsPlanned book.now edits.now }
-    requires of_lines { AreOfEither book.now.content (applied book.now.content edits.now)
-        (cell_at cells.old) }
-    ensures kept { (n : Node) → is_node (applied book.now.content edits.now) n ≡ true → cell_at cells.new n ≡
-        cell_at cells.old n }
-    ensures of_lines { AreOfLines (applied book.now.content edits.now) (cell_at cells.new) }
+/// Drops the cells of lines that are not among the records any more, and the equivalents of those that emit
+/// no gas any more, where the keys are about them. It takes no memory.
+pub(crate) fn drop_withdrawn<R: Records>(cells: &mut Cells, records: &R, keys: &[RecordKey])
+    ensures { AreAlike (R.content records.now) (cell_at cells.old) (cell_at cells.new) }
 {
-    let records = after(book, edits);
-    for key in edits.keys() {
+    for key in keys {
         if let RecordKey::Line(name) = key {
-            drop_values(cells, &records, name);
-            drop_equivalents(cells, &records, name);
+            drop_values(cells, records, name);
+            drop_equivalents(cells, records, name);
         }
     }
 }
 
 fn drop_values<R: Records>(cells: &mut Cells, records: &R, name: &Name)
-    ensures { cell_at cells.new ≡ without_missing (R.content records.now) (cell_at cells.old)
-        (Series.Line name.now) }
+    ensures { AreAlike (R.content records.now) (cell_at cells.old) (cell_at cells.new) }
 {
     if is_line(records, name) {
         return;
@@ -44,8 +32,7 @@ fn drop_values<R: Records>(cells: &mut Cells, records: &R, name: &Name)
 }
 
 fn drop_equivalents<R: Records>(cells: &mut Cells, records: &R, name: &Name)
-    ensures { cell_at cells.new ≡ without_missing (R.content records.now) (cell_at cells.old)
-        (Series.Equivalent name.now) }
+    ensures { AreAlike (R.content records.now) (cell_at cells.old) (cell_at cells.new) }
 {
     if emits(records, name) {
         return;

@@ -21,8 +21,7 @@ use Rattle.ghg_definitions.proofs.Listed.{from_filter_map, in_either, listed_fil
 use Rattle.ghg_definitions.proofs.Rings.{taken_of, taken_present, takes}
 use Rattle.ghg_data.specs.Changes.{Change, applied}
 use Rattle.ghg_data.proofs.Covered.{changed_or_kept}
-use Rattle.ghg_graph.specs.Changed.{present_line, present_lines}
-use Rattle.ghg_graph.specs.Dependencies.{AreLedTo, AreLedToBy, IsGathered, IsIn, IsQueued, IsLedTo}
+use Rattle.ghg_graph.specs.Dependencies.{AreLedTo, AreLedToBy, IsGathered, IsIn, IsQueued, IsLedTo, present_line, present_lines}
 use Rattle.ghg_graph.specs.Dependencies.IsLedTo.{begun, taken}
 use Rattle.ghg_graph.specs.Links.{IsLeast, IsOrder, Links}
 use Rattle.ghg_graph.specs.Numbers.{AreNamesOf, IsNumbering}
@@ -32,8 +31,7 @@ use Rattle.ghg_graph.specs.declared.rings.CycleRefusal.{CycleRefusal}
 use Rattle.ghg_graph.proofs.EquationParameters.{at_place}
 use Rattle.ghg_graph.proofs.Membership.{key_listed, listed_key}
 use Rattle.ghg_graph.proofs.Named.{if_ring, no_ring, ring_of}
-use Rattle.ghg_graph.proofs.Standing.{key_present}
-use Rattle.ghg_graph.proofs.Numbering.{take_next}
+use Rattle.ghg_graph.proofs.LineNumbers.{take_next}
 
 -- ---- names in a set
 
@@ -255,9 +253,27 @@ module _ (xs : List Name) (none first : Gathered) (queued : IsQueued none) (empt
 
 -- ---- from the changed lines on
 
-module _ (m : Data) (keys : List RecordKey) where
-  pub changed_present : (name : Name) → IsListed name (present_lines m keys) → is_some (line m name) ≡ true
-  changed_present name i = let from = from_filter_map (present_line m) name keys i in key_present m from.0 name from.2
+module _ (m : Data) where
+  -- the line of a key is present
+  named : (other name : Name) → (if is_some (line m other) then Some other else None) ≡ Some name
+      → is_some (line m name) ≡ true
+  named other name e = by (is_some (line m other)) refl e
+    where
+      by : (b : Bool) → is_some (line m other) ≡ b → (if b then Some other else None) ≡ Some name
+          → is_some (line m name) ≡ true
+      by true here e = let same : other ≡ name = cc in subst (λ z. is_some (line m z) ≡ true) same here
+      by false off e = absurd (cc)
+
+  key_present : (k : RecordKey) (name : Name) → present_line m k ≡ Some name → is_some (line m name) ≡ true
+  key_present (key.Line other) name e = named other name e
+  key_present (key.Bind other parameter) name e = named other name e
+  key_present key.Span name e = absurd (cc)
+  key_present (key.Activity other year) name e = absurd (cc)
+  key_present (key.Factor other start) name e = absurd (cc)
+  key_present (key.Uncert other) name e = absurd (cc)
+
+  pub changed_present : (keys : List RecordKey) (name : Name) → IsListed name (present_lines m keys) → is_some (line m name) ≡ true
+  changed_present keys name i = let from = from_filter_map (present_line m) name keys i in key_present from.0 name from.2
 
 -- ---- rings of what is changed
 

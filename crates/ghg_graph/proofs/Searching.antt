@@ -100,9 +100,6 @@ pub record IsNotedIn (links : Links) (start : ℕ) (old new : Search) (head targ
 
 module _ (links : Links) (start : ℕ) (old : Search) (head : ℕ) (search : IsSearch links start old head) (here : head < length old.lines.items) (target : ℕ) (small : target < length links) (taken : IsLink links (get_or old.lines.items head 0) target) where
   module _ (new : Search) (finds : IsFound target head old new) where
-    lines_are : new.lines.items ≡ old.lines.items ++ target ∷ []
-    lines_are = finds.lines
-
     still_passed : (line : ℕ) → IsPassed links old.lines.items line → IsPassed links (old.lines.items ++ target ∷ []) line
     still_passed line p = elim p [ inl clear ↦ inl clear | inr i ↦ inr (listed_left line old.lines.items (target ∷ []) i) ]
 

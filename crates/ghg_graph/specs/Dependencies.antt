@@ -1,13 +1,24 @@
 -- The lines that keys are about, those that they take, those that these take, and so on.
-use Rattle.std.specs.Prelude.{◌≡◌, ◌⊎◌, ◌↔◌, true, List, ◌++◌, length, map}
+use Rattle.std.specs.Prelude.{◌≡◌, ◌⊎◌, ◌↔◌, true, if◌then◌else◌, is_some, List, ◌++◌, length, map, Option, Some, None}
 use Rattle.std.specs.BTreeSet.{BTreeSet, IsOrdered, btree_set_len, contains}
+use Rattle.std.specs.List.{filter_map}
 use Rattle.std.specs.List.Sorted.{IsStrictlySortedBy}
-use Rattle.ghg_definitions.specs.Data.{Data, Name, name_cmp}
+use Rattle.ghg_definitions.specs.declared.record.RecordKey.{RecordKey}
+use Rattle.ghg_definitions.specs.declared.record.RecordKey.TheVariants as key
+use Rattle.ghg_definitions.specs.Data.{Data, Name, line, name_cmp}
 use Rattle.ghg_definitions.specs.Listed.{IsListed}
 use Rattle.ghg_definitions.specs.Rings.{Takes}
 use Rattle.ghg_data.specs.Changes.{Change, applied}
-use Rattle.ghg_graph.specs.Changed.{present_lines}
 use Rattle.ghg_graph.specs.declared.dependencies.Gathered.{Gathered}
+
+-- the line of the key, or of the binding, if it is present
+abbrev pub present_line : Data → RecordKey → Option Name
+present_line m (key.Line name) = if is_some (line m name) then Some name else None
+present_line m (key.Bind name parameter) = if is_some (line m name) then Some name else None
+present_line m _ = None
+
+abbrev pub present_lines : Data → List RecordKey → List Name
+present_lines m keys = filter_map (present_line m) keys
 
 -- the line is one of the first, or one that a line takes to which these lead
 pub data IsLedTo (m : Data) (first : List Name) : Name → Type 0 where

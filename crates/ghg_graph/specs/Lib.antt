@@ -1,5 +1,4 @@
 pub mod Links
-pub mod Gases
 pub mod Stops
 pub mod Walks
 pub mod Trails
@@ -8,19 +7,6 @@ pub mod Refusal
 pub mod Numbers
 pub mod Operands
 pub mod Slots
-pub mod NodeOrders
-pub mod Corrections
-pub mod Years
-pub mod Reached
-pub mod Ascending
-pub mod Takers
-pub mod Index
-pub mod Candidates
-pub mod Changed
-pub mod Figures
-pub mod Differing
 pub mod Falling
-pub mod Entries
 pub mod Moves
-pub mod Tops
 pub mod Dependencies

@@ -28,8 +28,7 @@ crosses test m = not (beq (option_map_or test m.before false) (option_map_or tes
 
 -- other lines emit a gas at categories that pass
 abbrev pub are_moved : Data → Data → (Category → Bool) → Bool
-are_moved old new test =
-    not (pointwise (eq_by_cmp name_cmp) (gas_lines_at test old) (gas_lines_at test new))
+are_moved old new test = not (pointwise (eq_by_cmp name_cmp) (gas_lines_at test old) (gas_lines_at test new))
 
 -- the categories at and under which other lines emit a gas, and whether others count in the gross total
 pub record AreMoved (old new : Data) (m : Moved) : Type 0 where

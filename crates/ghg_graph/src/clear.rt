@@ -1,4 +1,4 @@
-//! Marks of lines that are on no ring.
+//! Lines that are on no ring, told by the numbers of their components.
 
 ghost use Rattle.std.specs.Prelude.{◌≡◌, ◌<◌, IsTrue, length, nat_le, nat_lt, slice_index_or};
 ghost use Rattle.std.specs.List.{list_all};
@@ -9,8 +9,8 @@ ghost use Rattle.ghg_graph.specs.Stops.{AreClear};
 use crate::components::at;
 use crate::links::Links;
 
-/// Marks the lines that take only lines of lesser numbers, where no line takes one of a greater number: round
-/// a ring all numbers are the same.
+/// Marks the lines that depend only on lines of lesser numbers. It marks none where some line depends on one
+/// of a greater number. Where none does, the numbers round a ring are all the same.
 pub(crate) fn mark_clear(links: &Links, numbers: &[usize], marks: &mut Vec<bool>)
     requires { AreClear links.now marks.old.items }
     ensures { AreClear links.now marks.new.items }
@@ -23,7 +23,7 @@ pub(crate) fn mark_clear(links: &Links, numbers: &[usize], marks: &mut Vec<bool>
     }
 }
 
-// Marks the line, where it takes only lines of lesser numbers.
+// Marks the line if it depends only on lines of lesser numbers.
 fn mark_line(links: &Links, numbers: &[usize], marks: &mut Vec<bool>, line: usize)
     requires line { line < length links.now }
     requires falling { IsFalling links.now numbers.now }
@@ -35,7 +35,7 @@ fn mark_line(links: &Links, numbers: &[usize], marks: &mut Vec<bool>, line: usiz
     }
 }
 
-// No line takes one of a greater number.
+// Whether no line depends on one of a greater number.
 fn falls(links: &Links, numbers: &[usize]) -> bool
     ensures { IsTrue result → IsFalling links.now numbers.now }
 {
@@ -47,7 +47,7 @@ fn falls(links: &Links, numbers: &[usize]) -> bool
     true
 }
 
-// The line takes no line of a greater number.
+// Whether the line depends on no line of a greater number.
 fn never_rises_from(links: &Links, numbers: &[usize], line: usize) -> bool
     requires { line < length links.now }
     ensures { result ≡ list_all (λ t. nat_le (slice_index_or numbers.now t 0)
@@ -60,7 +60,7 @@ fn never_rises_from(links: &Links, numbers: &[usize], line: usize) -> bool
         .all(|target| at(numbers, *target) <= own)
 }
 
-// The line takes only lines of lesser numbers.
+// Whether the line depends only on lines of lesser numbers.
 fn falls_from(links: &Links, numbers: &[usize], line: usize) -> bool
     requires { line < length links.now }
     ensures { result ≡ list_all (λ t. nat_lt (slice_index_or numbers.now t 0)

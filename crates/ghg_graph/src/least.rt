@@ -11,7 +11,7 @@ use crate::search::ring_through;
 use crate::walk::Met;
 use std::alloc::{AllocError, Global};
 
-/// A ring that begins with the least line on any, where a ring was met.
+/// A ring that begins with the least line on any ring, given one that depth-first search found.
 pub(crate) fn least_ring(
     alloc: Global,
     links: &Links,

@@ -1,20 +1,11 @@
-//! The nodes of a workbook, what they take, and the order in which each has what it takes before it.
+//! Dependencies of a workbook: the order of its lines, rings, and the inputs of its nodes.
 #![tactic(auto)]
 
-mod candidates;
 mod cells;
-mod changed;
 mod clear;
 mod components;
-mod corrections;
 mod dependencies;
-mod differing;
-mod entered;
-mod equality;
-mod figures;
 mod gases;
-mod in_order;
-mod index;
 mod least;
 mod links;
 mod moves;
@@ -22,23 +13,20 @@ mod nodes;
 mod numbers;
 mod operands;
 mod ordering;
-mod reached;
 mod rings;
 mod search;
 mod slots;
-mod takers;
-mod tops;
 mod walk;
 
 pub use cells::Cells;
-pub use corrections::{affected, are_of_figures};
 pub use dependencies::check_changed;
-pub use entered::{are_entries, entered_order, put_name, with_entered, without_entered};
-pub use gases::{emitters, lasting_potential, potential};
-pub use in_order::nodes_in_order;
-pub use index::{LineIndex, indexes_have_takers};
+pub use gases::{line_gas, potential};
+pub use links::Links;
+pub use moves::{Moved, moved_totals};
 pub use nodes::Nodes;
-pub use operands::{Operand, bound_operand};
-pub use ordering::{acyclic_order, check_acyclic, line_order};
+pub use numbers::{Numbering, add_numbers, equation_of, number_of, numbered};
+pub use operands::{Operand, bound_operand, differ};
+pub use ordering::{check_acyclic, line_order};
 pub use rings::{CycleRefusal, Ring};
 pub use slots::{Slot, counts_in_gross, first_year, inputs_of};
+pub use walk::{Met, Stop, order};

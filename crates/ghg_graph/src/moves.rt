@@ -1,10 +1,9 @@
-//! Lines that come to, leave or change the category at which they emit a gas, and the totals that so add
-//! other lines.
+//! Lines that edits add, withdraw or move to another category, and the totals that then add other lines.
 
-ghost use Rattle.std.specs.Prelude.{◌≡◌, ◌==◌, filter, length, IfOk};
+ghost use Rattle.std.specs.Prelude.{◌≡◌, filter, IfOk};
 ghost use Rattle.std.specs.FinMap.{get};
 ghost use Rattle.std.specs.List.{Contains, filter_map, list_any};
-ghost use Rattle.ghg_categories.specs.Tree.{is_same, stands_under, tree};
+ghost use Rattle.ghg_categories.specs.Tree.{stands_under, tree};
 ghost use Rattle.ghg_definitions.specs.declared.record.RecordKey.{RecordKey};
 ghost use Rattle.ghg_graph.specs.Moves.{AreMoved, crosses, emits_at, move_of};
 ghost use Rattle.ghg_graph.specs.Slots.{is_within};
@@ -17,23 +16,23 @@ use ghg_definitions::RecordKey;
 use ghg_units::Name;
 use std::alloc::{AllocError, Global};
 
-/// The category at which a line emits a gas in the old data, and that in the new ones.
+/// The category at which a line emits a gas, in the old data and in the new ones.
 #[derive(Clone, Copy, Drop)]
 pub(crate) struct Move {
     before: Option<Category>,
     after: Option<Category>,
 }
 
-/// The categories whose totals add other lines than they did, and whether the gross total does.
+/// The categories whose totals add other lines than before, and whether the gross total does.
 #[derive(Drop)]
-pub(crate) struct Moved {
-    tops: Vec<Category>,
-    pub(crate) gross: bool,
+pub struct Moved {
+    pub tops: Vec<Category>,
+    pub gross: bool,
 }
 
-/// What the totals add otherwise, where the records differ at the keys alone. The lines of the keys are gone
-/// over, and no others.
-pub(crate) fn moved_totals<R: Records, S: Records>(
+/// The totals that add other lines than before. The old and the new records differ at the keys alone. Reads
+/// the lines of the keys and no others.
+pub fn moved_totals<R: Records, S: Records>(
     alloc: Global,
     old: &R,
     new: &S,
@@ -76,7 +75,7 @@ fn move_of<R: Records, S: Records>(old: &R, new: &S, key: &RecordKey) -> Option<
     }
 }
 
-// The category at which a line emits a gas, if it does.
+// The category at which a line emits a gas; `None` where it emits none.
 fn emits_at<R: Records>(records: &R, name: &Name) -> Option<Category>
     ensures { result ≡ emits_at (R.content records.now) name.now }
 {
@@ -102,7 +101,7 @@ fn is_moved_under(moves: &[Move], top: Category) -> bool
     is_moved(&Scope::Under(top), moves)
 }
 
-// Whether one of the lines comes into the scope, or leaves it.
+// Whether one of the lines comes into the scope or leaves it.
 fn is_moved(scope: &Scope, moves: &[Move]) -> bool
     ensures { result ≡ list_any (crosses (is_within scope.now)) moves.now }
 {
@@ -113,20 +112,4 @@ fn crosses(scope: &Scope, line: &Move) -> bool
     ensures { result ≡ crosses (is_within scope.now) line.now }
 {
     is_some_within(scope, line.before) != is_some_within(scope, line.after)
-}
-
-impl Moved {
-    /// Whether no category is one of them.
-    pub(crate) fn are_none(&self) -> bool
-        ensures { result ≡ (length self.now.tops.items == 0) }
-    {
-        self.tops.is_empty()
-    }
-
-    /// Whether the total of a category adds other lines than it did.
-    pub(crate) fn has(&self, top: Category) -> bool
-        ensures { result ≡ list_any (is_same top) self.now.tops.items }
-    {
-        self.tops.iter().any(|moved| top == *moved)
-    }
 }

@@ -21,7 +21,7 @@ impl Model for Nodes {
 }
 
 impl Nodes {
-    /// The nodes of a list. It takes no memory.
+    /// The nodes of a list. Allocates no memory.
     pub(crate) fn new(items: Vec<Node>) -> Nodes
         ensures { result ≡ items.items }
     {

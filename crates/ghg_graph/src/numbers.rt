@@ -1,4 +1,4 @@
-//! Lines by numbers: their places in byte order.
+//! Lines by numbers, which are their places in byte order.
 
 ghost use Rattle.std.specs.Prelude.{◌≡◌, ◌<◌, ◌++◌, ◌∷◌, [], ℕ, true, List, flat_map, length, map, option_copied, slice_index, IfOk, MatchOption};
 ghost use Rattle.std.specs.List.{AllByRecursion};
@@ -16,15 +16,15 @@ use ghg_units::{Binding, Name};
 use std::alloc::{AllocError, Global};
 use std::slice;
 
-/// Lines in byte order, and for each the numbers of those of them that it takes.
+/// Lines in byte order, and for each the numbers of those among them that it depends on.
 #[derive(Drop)]
-pub(crate) struct Numbering {
-    pub(crate) lines: Vec<Name>,
-    pub(crate) links: Links,
+pub struct Numbering {
+    pub lines: Vec<Name>,
+    pub links: Links,
 }
 
-/// Some lines of a workbook by numbers.
-pub(crate) fn numbered<R: Records>(
+/// Numbers the lines, and links each to those among them that it depends on.
+pub fn numbered<R: Records>(
     alloc: Global,
     records: &R,
     lines: Vec<Name>,
@@ -49,14 +49,14 @@ fn links_of<R: Records>(alloc: Global, records: &R, lines: &[Name]) -> Result<Li
 }
 
 /// The equation of a line; `None` exactly where the line is not present.
-pub(crate) fn equation_of<R: Records>(records: &R, name: &Name) -> Option<EqId>
+pub fn equation_of<R: Records>(records: &R, name: &Name) -> Option<EqId>
     ensures { result ≡ line (R.content records.now) name.now }
 {
     let (_, id) = records.line(name)?;
     Some(id)
 }
 
-// The numbers of the lines that a line takes.
+// The numbers of the lines that a line depends on.
 fn targets_of<R: Records>(
     alloc: Global,
     records: &R,
@@ -73,7 +73,7 @@ fn targets_of<R: Records>(
     }
 }
 
-// The numbers of the lines that a line takes at these parameters.
+// The numbers of the lines that a line depends on by these parameters.
 fn targets_at<R: Records>(
     alloc: Global,
     records: &R,
@@ -93,7 +93,7 @@ fn targets_at<R: Records>(
     Ok(targets)
 }
 
-/// The lines whose values of the same year a line takes at a parameter.
+/// The lines that a line depends on by a parameter, in the same year.
 pub(crate) fn taken_at<'a, R: Records>(records: &'a R, line: &Name, param: &Param) -> &'a [Name]
     requires { is_parameter param.now.name.now ≡ true }
     ensures { result.now ≡ taken_by (binding (R.content records.now) line.now param.now.name.now) }
@@ -101,7 +101,7 @@ pub(crate) fn taken_at<'a, R: Records>(records: &'a R, line: &Name, param: &Para
     taken_by(records.bound(line, param))
 }
 
-/// The lines whose values of the same year a binding takes.
+/// The lines that a binding names, in the same year.
 pub(crate) fn taken_by(binding: Option<&Binding>) -> &[Name]
     ensures { result.now ≡ taken_by (option_copied binding.entry) }
 {
@@ -112,8 +112,12 @@ pub(crate) fn taken_by(binding: Option<&Binding>) -> &[Name]
     }
 }
 
-// Adds the numbers of those of the names that are lines here.
-fn add_numbers(lines: &[Name], names: &[Name], numbers: &mut Vec<usize>) -> Result<(), AllocError>
+/// Adds the numbers of the names that are among the lines, which stand in byte order.
+pub fn add_numbers(
+    lines: &[Name],
+    names: &[Name],
+    numbers: &mut Vec<usize>,
+) -> Result<(), AllocError>
     requires { IsStrictlySortedBy name_cmp lines.now }
     ensures { IfOk result (λ _. (before : List Name) → AreNumbers lines.now numbers.old.items before
         → AreNumbers lines.now numbers.new.items (before ++ names.now)) }
@@ -125,7 +129,7 @@ fn add_numbers(lines: &[Name], names: &[Name], numbers: &mut Vec<usize>) -> Resu
     Ok(())
 }
 
-// Adds the number of a name if it is a line here, and answers the number to try first for the next name.
+// Adds the number of a name if it is among the lines. Returns the number to try first for the next name.
 fn add_number(
     lines: &[Name],
     next: usize,
@@ -145,9 +149,8 @@ fn add_number(
     }
 }
 
-// The number of a line. That of the line behind the one looked up before is tried first, since sums are often
-// of lines in their order.
-fn number_of(lines: &[Name], next: usize, name: &Name) -> Option<usize>
+/// The number of a name, `next` tried first: sums often name lines in their order.
+pub fn number_of(lines: &[Name], next: usize, name: &Name) -> Option<usize>
     requires { IsStrictlySortedBy name_cmp lines.now }
     ensures { MatchOption result (¬ IsListed name.now lines.now)
         (λ number. (number < length lines.now) × (name_at lines.now number ≡ name.now)) }
@@ -158,7 +161,7 @@ fn number_of(lines: &[Name], next: usize, name: &Name) -> Option<usize>
     }
 }
 
-/// The names of lines, in the order of the numbers.
+/// The names of the lines with these numbers.
 pub(crate) fn names_of(
     alloc: Global,
     lines: &[Name],

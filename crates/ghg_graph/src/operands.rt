@@ -1,4 +1,4 @@
-//! What a binding gives.
+//! The operands of formulas.
 
 ghost use Rattle.std.specs.Prelude.{◌≡◌, map, not, option_copied};
 ghost use Rattle.ghg_units.specs.declared.node.Node.TheVariants as node;
@@ -12,7 +12,7 @@ use ghg_cell::Input;
 use ghg_data::{Records, input_of_key};
 use ghg_units::{Binding, Name, Node, NotationKey};
 
-/// What a parameter takes in a year.
+/// What a parameter is bound to in a year.
 #[derive(Clone, Copy, Drop)]
 pub enum Operand<'a> {
     /// A figure of the records, zero, or a blank.
@@ -23,8 +23,8 @@ pub enum Operand<'a> {
     Sum(&'a [Name], u32),
 }
 
-/// What a binding gives in a year of a span that begins with the first; a blank where there is no binding. It
-/// takes no memory.
+/// What a binding gives in a year of a span whose first year is `first`; a blank where there is no binding.
+/// Allocates no memory.
 pub fn bound_operand<'a, R: Records>(
     records: &R,
     first: u32,
@@ -48,8 +48,8 @@ pub fn bound_operand<'a, R: Records>(
     }
 }
 
-/// Whether what was taken differs from what is.
-pub(crate) fn differ(was: &Operand, is: &Operand) -> bool
+/// Whether two operands differ.
+pub fn differ(was: &Operand, is: &Operand) -> bool
     ensures { result ≡ not (same_operand (operand_of was.now) (operand_of is.now)) }
 {
     match (was, is) {

@@ -1,4 +1,4 @@
-//! Orders of a workbook's lines.
+//! The order of a workbook's lines.
 
 ghost use Rattle.std.specs.Prelude.{◌≡◌, length, IfOk, MatchResult};
 ghost use Rattle.ghg_definitions.specs.Rings.{IsAcyclic};
@@ -15,8 +15,8 @@ use ghg_data::Records;
 use ghg_units::Name;
 use std::alloc::{AllocError, Global};
 
-/// The lines of a workbook, each behind those whose values of the same year it takes; where there is no such
-/// order, a ring that begins with the least line on any.
+/// Returns the lines of a workbook, each after those that it depends on in the same year. Where there is no
+/// such order, returns a ring that begins with the least line on any.
 pub fn line_order<R: Records>(alloc: Global, records: &R) -> Result<Vec<Name>, CycleRefusal>
     ensures { MatchResult result (λ names. IsLineOrder (R.content records.now) names.items)
         (IfRing (IsLeastRingOf (R.content records.now))) }
@@ -26,8 +26,8 @@ pub fn line_order<R: Records>(alloc: Global, records: &R) -> Result<Vec<Name>, C
     named_order(alloc, &numbering)
 }
 
-/// The names of numbered lines in an order, each behind those of them that it takes; where there is no such
-/// order, those of a ring that begins with the least line on any.
+/// Returns the numbered lines, each after those among them that it depends on. Where there is no such order,
+/// returns a ring that begins with the least line on any.
 pub(crate) fn named_order(alloc: Global, numbering: &Numbering) -> Result<Vec<Name>, CycleRefusal>
     requires { length numbering.now.links ≡ length numbering.now.lines.items }
     ensures { MatchResult result
@@ -44,19 +44,8 @@ pub(crate) fn named_order(alloc: Global, numbering: &Numbering) -> Result<Vec<Na
     }
 }
 
-/// The lines of a workbook without a ring, each behind those that it takes.
-pub fn acyclic_order<R: Records>(alloc: Global, records: &R) -> Result<Vec<Name>, AllocError>
-    requires { IsAcyclic (R.content records.now) }
-    ensures { IfOk result (λ names. IsLineOrder (R.content records.now) names.items) }
-{
-    match line_order(alloc, records) {
-        Ok(names) => Ok(names),
-        Err(CycleRefusal::Memory) => Err(AllocError),
-        Err(CycleRefusal::Ring(_)) => unreachable!(),
-    }
-}
-
-/// That no lines of a workbook form a ring; otherwise a ring that begins with the least line on any.
+/// Checks that no lines of a workbook form a ring; otherwise returns a ring that begins with the least line
+/// on any.
 pub fn check_acyclic<R: Records>(alloc: Global, records: &R) -> Result<(), CycleRefusal>
     ensures { MatchResult result (λ _. IsAcyclic (R.content records.now))
         (IfRing (IsLeastRingOf (R.content records.now))) }

@@ -6,8 +6,8 @@ use ghg_units::Name;
 use std::alloc::AllocError;
 use std::marker::Model;
 
-/// Lines of which each takes the value of the next in the same year, and the last that of the first; there is
-/// one at least. Contracts see the list of their names.
+/// Lines of which each depends on the next in the same year, and the last on the first. There is one at
+/// least. Contracts see the list of their names.
 #[derive(Drop)]
 pub struct Ring {
     lines: Vec<Name>,
@@ -24,7 +24,7 @@ impl Model for Ring {
 }
 
 impl Ring {
-    /// The ring of these lines. It takes no memory.
+    /// The ring of these lines. Allocates no memory.
     pub(crate) fn new(lines: Vec<Name>) -> Ring
         requires { 0 < length lines.items }
         ensures { result ≡ lines.items }
@@ -39,7 +39,7 @@ impl Ring {
         self.lines[0]
     }
 
-    /// The lines, of which each takes the next.
+    /// The lines. Each depends on the next.
     pub fn as_slice(&self) -> &[Name]
         ensures { result.now ≡ self.now }
     {

@@ -1,4 +1,4 @@
-//! The search for a ring through one line, from line to line in the order in which they are found.
+//! Breadth-first search for a ring through one line.
 
 ghost use Rattle.std.specs.Prelude.{◌≡◌, ◌<◌, false, length, slice_index_or, IfOk, MatchBool, MatchOption};
 ghost use Rattle.ghg_graph.specs.Links.{IsOnNoRing, IsRingFrom};
@@ -17,8 +17,7 @@ struct Search {
     marks: Vec<bool>,
 }
 
-/// A ring that begins with the line; `None` exactly where the line is on none. It passes over the marked
-/// lines.
+/// A ring that begins with the line; `None` where the line is on none. Passes over the marked lines.
 pub(crate) fn ring_through(
     alloc: Global,
     links: &Links,
@@ -54,7 +53,7 @@ fn opened(alloc: Global, clear: &[bool], start: usize) -> Result<Search, AllocEr
     })
 }
 
-// Looks at the targets of the line at the head, and says whether one is the start.
+// Looks at the targets of the line at the head. Returns whether one is the start.
 fn look(links: &Links, search: &mut Search, head: usize, start: usize) -> Result<bool, AllocError>
     requires search { IsSearch links.now start search.old head }
     requires head { head < length search.old.lines.items }
@@ -71,7 +70,7 @@ fn look(links: &Links, search: &mut Search, head: usize, start: usize) -> Result
     Ok(false)
 }
 
-// Notes a line as found from the one at a place, if it is new.
+// Notes a line as found from the one at a place if it is new.
 fn note(search: &mut Search, line: usize, from: usize) -> Result<(), AllocError>
     requires { line < length search.old.marks.items }
     ensures { IfOk result (λ _. IsNoted

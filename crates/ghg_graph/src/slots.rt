@@ -1,4 +1,4 @@
-//! What a node takes.
+//! The inputs of a node.
 
 ghost use Rattle.std.specs.Prelude.{◌≡◌, true, false, filter, map, option_copied, IfOk};
 ghost use Rattle.std.specs.Option.{option_map_or};
@@ -22,7 +22,7 @@ use ghg_equations::Param;
 use ghg_units::{Binding, Name, Node};
 use std::alloc::{AllocError, Global};
 
-/// What a parameter of a node's formula takes.
+/// An operand of a node's formula.
 #[derive(Drop)]
 pub enum Slot {
     /// A figure of the records, zero, or a blank.
@@ -33,8 +33,9 @@ pub enum Slot {
     Sum(Nodes),
 }
 
-/// What a node takes: a line one slot for each parameter of its equation, in their order; an equivalent its
-/// line and the warming potential of its gas; a total the sum of its lines' equivalents by name.
+/// The inputs of a node. A line has a slot for each parameter of its equation, in their order. An equivalent
+/// has its line and the global warming potential of its gas. A total has the sum of its lines' equivalents by
+/// name.
 pub fn inputs_of<R: Records>(
     alloc: Global,
     records: &R,
@@ -109,7 +110,7 @@ pub fn first_year<R: Records>(records: &R) -> u32
     }
 }
 
-// What a binding gives in a year of a span that begins with the first.
+// What a binding gives in a year of a span whose first year is `first`.
 fn bound_slot<R: Records>(
     alloc: Global,
     records: &R,
@@ -216,7 +217,7 @@ fn stands_within<R: Records>(records: &R, scope: &Scope, name: &Name) -> bool
     }
 }
 
-/// Whether there is a category, and a total of the scope adds the lines there.
+/// Whether there is a category and the scope has it.
 pub(crate) fn is_some_within(scope: &Scope, category: Option<Category>) -> bool
     ensures { result ≡ option_map_or (is_within scope.now) category false }
 {
@@ -235,7 +236,7 @@ fn is_within(scope: &Scope, category: Category) -> bool
     }
 }
 
-/// Whether the gross total counts the lines at a category: land is no part of it.
+/// Whether the gross total counts the lines at a category. It leaves out land.
 pub fn counts_in_gross(category: Category) -> bool
     ensures { result ≡ counts_in_gross category }
 {

@@ -1,4 +1,4 @@
-//! The walk over the lines that places each behind those that it takes, or meets a ring.
+//! Depth-first search over the lines: it orders them, or finds a ring.
 
 ghost use Rattle.std.specs.Prelude.{◌≡◌, ◌<◌, ◌≤◌, ℕ, [], ◌∷◌, ◌++◌, ◌==◌, length, position, reverse, IfOk, MatchOption, MatchResult, slice_index};
 ghost use Rattle.std.specs.List.{Contains};
@@ -9,17 +9,17 @@ ghost use Rattle.ghg_graph.specs.Walks.{IsFirstUnmarked, IsMarked, IsOpened, IsP
 use crate::links::Links;
 use std::alloc::{AllocError, Global};
 
-/// A ring that was met, and for each line whether it was placed by then: such a line is on no ring.
+/// A ring that was found, and for each line whether it was placed by then. Such a line is on no ring.
 #[derive(Drop)]
-pub(crate) struct Met {
-    pub(crate) ring: Vec<usize>,
-    pub(crate) placed: Vec<bool>,
+pub struct Met {
+    pub ring: Vec<usize>,
+    pub placed: Vec<bool>,
 }
 
 /// Why lines were not placed.
 #[derive(Drop)]
-pub(crate) enum Stop {
-    /// A ring that was met.
+pub enum Stop {
+    /// A ring was found.
     Ring(Met),
     /// Out of memory.
     Memory,
@@ -36,12 +36,12 @@ impl From<AllocError> for Stop {
     }
 }
 
-// How far the walk has come.
+// The state of the search.
 #[derive(Drop)]
 struct Walk {
     // The lines that are placed.
     order: Vec<usize>,
-    // The lines that are gone through, each taken by the one before it.
+    // The lines that are being searched. Each depends on the next.
     path: Vec<usize>,
     // For each line, how many of its first targets are known to be placed.
     tried: Vec<usize>,
@@ -50,8 +50,8 @@ struct Walk {
     placed: Vec<bool>,
 }
 
-/// The lines, each behind those that it takes, or a ring.
-pub(crate) fn order(alloc: Global, links: &Links) -> Result<Vec<usize>, Stop>
+/// The lines, each after those that it depends on, or a ring.
+pub fn order(alloc: Global, links: &Links) -> Result<Vec<usize>, Stop>
     ensures { MatchResult result (λ order. IsOrder links.now order.items) (IfMet (IsMet links.now)) }
 {
     let mut walk = started(alloc, links.len())?;
@@ -73,7 +73,7 @@ fn started(alloc: Global, count: usize) -> Result<Walk, AllocError>
     })
 }
 
-// Places the line, and before it the lines that it leads to.
+// Places the line, and before it all that it depends on.
 fn visit(alloc: Global, links: &Links, walk: &mut Walk, start: usize) -> Result<(), Stop>
     requires walk { IsWalk links.now walk.old (reverse walk.old.path.items) }
     requires path { walk.old.path.items ≡ [] }
@@ -91,8 +91,8 @@ fn visit(alloc: Global, links: &Links, walk: &mut Walk, start: usize) -> Result<
     Ok(())
 }
 
-// Goes on from the line, which was the last of the path, to a target that is not placed. Places the line
-// where all are.
+// Goes on from the line, which was the last of the path, to a target that is not placed. Places the line if
+// all are.
 fn turn(alloc: Global, links: &Links, walk: &mut Walk, line: usize) -> Result<(), Stop>
     requires { IsWalk links.now walk.old (line ∷ reverse walk.old.path.items) }
     ensures { MatchResult result (λ _. IsTurned links.now walk.old walk.new) (IfMet (IsMet links.now)) }
@@ -131,7 +131,7 @@ fn next_target(links: &Links, walk: &mut Walk, line: usize) -> Option<usize>
     }
 }
 
-// The place of the first target that is not placed, from one place on.
+// The index of the first target that is not placed, from one index on.
 fn first_unplaced(placed: &[bool], targets: &[usize], from: usize) -> Option<usize>
     requires { (k : ℕ) → k < length targets.now → slice_index targets.now k < length placed.now }
     ensures { MatchOption result

@@ -198,7 +198,8 @@ impl Office {
 
     // Enters a new submission whose body is to be read, and gives its number and how many nodes it affects.
     // With any other reply nothing changes: all memory is taken first, then the row is appended, and what
-    // follows cannot fail.
+    // follows cannot fail. Where the row is not appended, the proposal is dropped: for it the engine made
+    // room, and its data stayed.
     fn enter<K: Keeper, L: Ledger>(
         &mut self,
         alloc: Global,
@@ -229,10 +230,7 @@ impl Office {
                 let seq = self.accepted.push(id, kept);
                 Ok(Acceptance { seq, cells })
             }
-            Err(reply) => {
-                self.engine.dismiss(proposal);
-                Err(reply)
-            }
+            Err(reply) => Err(reply),
         }
     }
 

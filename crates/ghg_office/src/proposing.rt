@@ -7,7 +7,7 @@ ghost use Rattle.ghg_definitions.specs.Rules.{arranged, most_kept_bytes};
 ghost use Rattle.ghg_data.specs.Changes.{applied};
 ghost use Rattle.ghg_data.specs.Refusal.{IfRule};
 ghost use Rattle.ghg_import.specs.Body.{max_body};
-ghost use Rattle.ghg_engine.specs.Proposals.{IsProposed};
+ghost use Rattle.ghg_engine.specs.Proposals.{Proposes};
 ghost use Rattle.ghg_office.specs.Accepted.{kept_bytes};
 ghost use Rattle.ghg_office.specs.Office.{State, entered, entered_by, evaluations_by, evaluations_of_rows};
 
@@ -35,7 +35,7 @@ pub(crate) fn prepare<L: Ledger>(
     ensures list { accepted.new.list ≡ accepted.old.list }
     ensures room { OnOk result (0 < accepted.new.spare) }
     ensures limit { OnOk result (kept_bytes accepted.old.list + length body.now ≤ most_kept_bytes) }
-    ensures proposed { IfOk result (IsProposed engine.new) }
+    ensures proposed { IfOk result (λ p. Proposes engine.new p.edits p) }
     ensures entered { let before : State =
         record { content = engine.old.content; accepted = accepted.old.list } in
         MatchResult result
@@ -64,7 +64,7 @@ fn propose<L: Ledger>(
     ensures kept { engine.new.content ≡ engine.old.content }
     ensures steps { steps.new ≤ steps.old + evaluations_of_rows engine.old.content
         (arranged engine.old.content rows.rows.items rows.rest kept_bytes) }
-    ensures proposed { IfOk result (IsProposed engine.new) }
+    ensures proposed { IfOk result (λ p. Proposes engine.new p.edits p) }
     ensures entered { let made =
         entered engine.old.content (record { rows = rows.rows.items; rest = rows.rest }) kept_bytes in
         MatchResult result

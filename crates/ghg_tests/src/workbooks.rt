@@ -12,8 +12,8 @@ use ghg_definitions::RecordKey;
 use ghg_engine::{Engine, EngineRefusal};
 use ghg_equations::EqId;
 use ghg_graph::{
-    Cells, CycleRefusal, Operand, bound_operand, check_acyclic, counts_in_gross, emitters,
-    first_year, inputs_of, line_order, potential,
+    Cells, CycleRefusal, Operand, bound_operand, check_acyclic, counts_in_gross, first_year,
+    inputs_of, line_order, potential,
 };
 use ghg_import::{Rows, is_too_long, read_rows};
 use ghg_steps::Steps;
@@ -315,24 +315,11 @@ const EMITTERS: &str = "enter,factor,,GWP.CO2,1990,1,,,1,\nenter,factor,,GWP.CH4
     enter,line,1A2,BOILER,,Q11,,,,\nenter,bind,BOILER,FC,,key,NO,,,\nenter,bind,BOILER,EF,,key,NO,,,\n\
     enter,line,1A1a,FUEL,,Q13,,,,\nenter,bind,FUEL,FM,,key,NO,,,\nenter,bind,FUEL,NCV,,key,NO,,,\n";
 
-// Whether these lines emit a gas, of all lines.
-fn emit(alloc: Global, book: &Book, lines: &[Name]) -> bool {
-    let Ok(names) = book.lines(alloc) else {
-        return false;
-    };
-    match emitters(alloc, book, &names) {
-        Ok(found) => found.as_slice() == lines,
-        Err(_) => false,
-    }
-}
-
 fn check_equivalents(rt: &impl Abort, alloc: Global, book: &Book) {
-    let (boiler, forest, plant) = (name(rt, "BOILER"), name(rt, "FOREST"), name(rt, "PLANT"));
+    let plant = name(rt, "PLANT");
     let equivalent = Node::Equiv(plant, 1990);
     check(rt, takes(alloc, book, equivalent, 2), "two operands");
     check(rt, takes(alloc, book, Node::Gross(1990), 1), "a sum");
-    let lines = [boiler, forest, plant];
-    check(rt, emit(alloc, book, &lines), "emitters");
     let weight = Some(potential(book, &plant, 1990));
     check(rt, weight == input("28"), "a warming potential");
 }
@@ -347,8 +334,8 @@ fn totals_take_equivalents_which_weigh_lines(rt: HostRuntime) {
     );
 }
 
-// Plans and proposes rows, with steps of a new ledger, and accepts or dismisses the proposal: how many nodes
-// they affect. An error has the node that is over, if any.
+// Plans and proposes rows, with steps of a new ledger, and accepts or drops the proposal: how many nodes they
+// affect. An error has the node that is over, if any.
 fn settle_with<L: Ledger>(
     blank: Blank,
     alloc: Global,
@@ -370,7 +357,7 @@ fn settle_with<L: Ledger>(
             if accepted {
                 engine.accept(proposal);
             } else {
-                engine.dismiss(proposal);
+                drop(proposal);
             }
             Ok(cells)
         }
@@ -574,7 +561,7 @@ fn check_proposals(rt: &impl Abort, alloc: Global, engine: &mut Engine) {
 }
 
 #[test]
-fn a_dismissed_proposal_may_come_again(rt: HostRuntime) {
+fn a_dropped_proposal_may_come_again(rt: HostRuntime) {
     check_proposals(&rt, rt.alloc(), &mut Engine::new(rt.alloc(), hasher(&rt)));
 }
 
@@ -609,33 +596,17 @@ const OTHER: &str = "withdraw,line,,OTHER,,,,,,\n";
 // Rows, and their refusal; with no text they are accepted.
 type Withdrawal = (&'static [&'static str], &'static str);
 
-// Rows that enter lines, and then rows that withdraw one that others take: the least place is that of the
-// least line, and of its least parameter.
-const WITHDRAWALS: &[(&[&str], &[Withdrawal])] = &[
-    // Four bindings take the line, one less than there are lines.
-    (
-        &[HUB, TAKERS],
-        &[
-            (&[BARE], "10 BadBinding BY.PREV FC"),
-            (&[BARE, BOUND], "10 BadBinding BY.PREV FC"),
-            (&[BARE, BOUND, PREV], "10 BadBinding BY.SUM FC"),
-            (&[BARE, PREV, SUM], "10 BadBinding HUB FM"),
-            (&[BARE, BOUND, PREV, SUM], "10 BadBinding TWICE EX"),
-            (&[BARE, BOUND, PREV, SUM, EXPORTS], "10 BadBinding TWICE IM"),
-            (&[PREV, SUM, EXPORTS, IMPORTS, BARE, BOUND], ""),
-            (&[OTHER], "10 BadBinding BY.PREV FC"),
-        ],
-    ),
-    // Two bindings take it, as many as there are lines.
-    (
-        &[HUB],
-        &[
-            (&[BARE], "10 BadBinding HUB FM"),
-            (&[BARE, BOUND], "10 BadBinding TWICE EX"),
-            (&[BARE, BOUND, EXPORTS], "10 BadBinding TWICE IM"),
-            (&[BARE, BOUND, EXPORTS, IMPORTS], ""),
-        ],
-    ),
+// Rows that withdraw a line that others take: the least place is that of the least line, and of its least
+// parameter.
+const WITHDRAWALS: &[Withdrawal] = &[
+    (&[BARE], "10 BadBinding BY.PREV FC"),
+    (&[BARE, BOUND], "10 BadBinding BY.PREV FC"),
+    (&[BARE, BOUND, PREV], "10 BadBinding BY.SUM FC"),
+    (&[BARE, PREV, SUM], "10 BadBinding HUB FM"),
+    (&[BARE, BOUND, PREV, SUM], "10 BadBinding TWICE EX"),
+    (&[BARE, BOUND, PREV, SUM, EXPORTS], "10 BadBinding TWICE IM"),
+    (&[PREV, SUM, EXPORTS, IMPORTS, BARE, BOUND], ""),
+    (&[OTHER], "10 BadBinding BY.PREV FC"),
 ];
 
 // What these rows together say.
@@ -677,29 +648,15 @@ fn check_withdrawal(rt: &impl Abort, alloc: Global, engine: &mut Engine, withdra
     }
 }
 
-fn check_withdrawals(
-    rt: &impl Abort,
-    alloc: Global,
-    engine: &mut Engine,
-    entered: &[&str],
-    withdrawals: &[Withdrawal],
-) {
-    let read = read_all(rt, alloc, entered);
+fn check_withdrawals(rt: &impl Abort, alloc: Global, engine: &mut Engine) {
+    let read = read_all(rt, alloc, &[HUB, TAKERS]);
     check(rt, settle(alloc, engine, &read.rows, true).is_ok(), "lines");
-    for withdrawal in withdrawals {
+    for withdrawal in WITHDRAWALS {
         check_withdrawal(rt, alloc, engine, withdrawal);
     }
 }
 
 #[test]
 fn a_line_that_others_take_stays(rt: HostRuntime) {
-    for (entered, withdrawals) in WITHDRAWALS {
-        check_withdrawals(
-            &rt,
-            rt.alloc(),
-            &mut Engine::new(rt.alloc(), hasher(&rt)),
-            entered,
-            withdrawals,
-        );
-    }
+    check_withdrawals(&rt, rt.alloc(), &mut Engine::new(rt.alloc(), hasher(&rt)));
 }

@@ -1,24 +1,22 @@
-use Rattle.std.proofs.Common.{None, fold, flat_map, map, ap, ◌∙◌, subst}
-use Rattle.ghg_definitions.specs.Data.{Data, line_names}
-use Rattle.ghg_data.specs.Faults.{considered, key_places, line_places}
-use Rattle.ghg_data.specs.LineTakers.{takers_of_line}
-use Rattle.ghg_data.specs.Settling.{HasLooked, has_many_takers}
-use Rattle.ghg_data.proofs.Settled.{least_looked}
+use Rattle.std.proofs.Common.{None, ◌++◌, flat_map, fold, map, sym, ap, ◌∙◌, subst}
+use Rattle.std.proofs.lemmas.Grind.{fold-append}
+use Rattle.ghg_definitions.specs.Data.{Data}
+use Rattle.ghg_data.specs.Changes.{applied}
+use Rattle.ghg_data.specs.Faults.{considered, key_places}
+use Rattle.ghg_data.specs.Settling.{HasLooked}
+use Rattle.ghg_data.proofs.Faults.{unsound_found}
 use Rattle.ghg_data.proofs.bindings.unsound_place.Goals as goal
 
 pub returns : goal.returns
-returns g c =
-    let m = c.args.holdings.now.content in
-    let cs = c.args.edits.now in
-    let keys = map (λ d. d.0) cs in
+returns c =
+    let n = applied c.args.holdings.now.content c.args.edits.now in
+    let keys = map (λ d. d.0) c.args.edits.now in
     let draft = c.of-draft.result in
-    let looked = c.consider_unsettled.new.least in
-    let count = g.T.LineTakers.count_of c.args.takers.now in
-    let takers = takers_of_line count (g.T.LineTakers.taker_at c.args.takers.now) in
-    let seen = c.consider_unsettled.ensures in
+    let least = c.consider_unsettled.new.least in
+    let looked = subst (λ (x : Data). HasLooked x keys None least) c.of-draft.ensures c.consider_unsettled.ensures in
     c.consider_keys.ensures
-    ∙ ap (λ ks. fold (considered draft) looked (flat_map (key_places draft) ks)) c.keys.ensures.keys
-    ∙ ap (λ (n : Data). fold (considered n) looked (flat_map (key_places n) keys)) c.of-draft.ensures
-    ∙ least_looked m c.requires.workbook cs c.requires.consistent count takers c.requires.takers looked
-    (λ many. seen.lines (ap (λ (n : Data). has_many_takers m n count keys) c.of-draft.ensures ∙ many) ∙ ap (λ (n : Data). fold (considered n) None (flat_map (line_places m) (line_names m))) c.of-draft.ensures)
-    (λ few. subst (λ (n : Data). HasLooked m n takers keys None looked) c.of-draft.ensures (seen.takers (ap (λ (n : Data). has_many_takers m n count keys) c.of-draft.ensures ∙ few)))
+    ∙ ap (λ ks. fold (considered draft) least (flat_map (key_places draft) ks)) c.keys.ensures.keys
+    ∙ ap (λ (x : Data). fold (considered x) least (flat_map (key_places x) keys)) c.of-draft.ensures
+    ∙ ap (λ l. fold (considered n) l (flat_map (key_places n) keys)) looked.1
+    ∙ sym (fold-append (considered n) None looked.0 (flat_map (key_places n) keys))
+    ∙ unsound_found c.requires.consistent (looked.0 ++ flat_map (key_places n) keys) looked.2

@@ -1,9 +1,7 @@
-use Rattle.std.proofs.Common.{◌++◌, [], ◌∷◌, Some, None, ◌∙◌, sym, ap, subst, arith, length, length-append}
+use Rattle.std.proofs.Common.{◌++◌, [], ◌∷◌, Some, None, ◌∙◌, sym, ap, arith, length, length-append}
 use Rattle.std.specs.FinMap.{from_entries}
 use Rattle.ghg_definitions.specs.Data.{Data}
 use Rattle.ghg_data.specs.Changes.{applied}
-use Rattle.ghg_data.specs.BoundSeries.{series_in}
-use Rattle.ghg_data.specs.Takers.{AreTakersOf}
 use Rattle.ghg_data.proofs.Applied.{applied-pop}
 use Rattle.ghg_data.proofs.Calendars.{calendar_of, record_noted}
 use Rattle.ghg_data.proofs.holdings.change_records.Goals as goal
@@ -14,14 +12,11 @@ loop-key-preserved c =
     let popped = c.in-Some.ensures.entries in
     let rest = c.pop.new.self.entries in
     let key = c.in-Some.key in
-    let left = c.take_record-before.ensures in
+    let left = c.take_record.ensures in
     record {
       records_room = omega (arith, simp length-append at (ap (λ cs. length cs) popped));
       years_room = omega (arith, simp length-append at (ap (λ cs. length cs) popped));
-      years = calendar_of _ _ left.content c.take_record-before.new.calendar (record_noted m key None c.loop-key.calendar c.take_record-before.new.calendar c.loop-key.invariant.years left.dates);
-      takers_room = omega (arith, simp length-append at (ap (λ cs. length cs) popped));
-      places = left.places;
-      takers = subst (λ n. AreTakersOf n c.note-in-None.new.self) (sym left.content) (c.note-in-None.ensures.takers m None (sym left.series) (sym (c.series_in-now.ensures ∙ ap series_in c.in-None.is)) c.loop-key.invariant.takers);
+      years = calendar_of _ _ left.content c.take_record.new.calendar (record_noted m key None c.loop-key.calendar c.take_record.new.calendar c.loop-key.invariant.years left.dates);
       content = ap (λ (n : Data). applied n rest) left.content ∙ sym (applied-pop m rest (key, None)) ∙ ap (λ x. applied m (rest ++ (key, x) ∷ [])) (sym c.in-None.is)
           ∙ ap (applied m) (sym popped) ∙ c.loop-key.invariant.content;
     }
@@ -33,14 +28,11 @@ loop-key-preserved-in-Some-change c =
     let rest = c.pop.new.self.entries in
     let key = c.in-Some.key in
     let entry = c.in-Some-change.entry in
-    let left = c.put_record-before.ensures in
+    let left = c.put_record.ensures in
     record {
       records_room = omega (arith, simp length-append at (ap (λ cs. length cs) popped));
       years_room = omega (arith, simp length-append at (ap (λ cs. length cs) popped));
-      years = calendar_of _ _ left.content c.put_record-before.new.calendar (record_noted m key (Some entry) c.loop-key.calendar c.put_record-before.new.calendar c.loop-key.invariant.years left.dates);
-      takers_room = omega (arith, simp length-append at (ap (λ cs. length cs) popped));
-      places = left.places;
-      takers = subst (λ n. AreTakersOf n c.note.new.self) (sym left.content) (c.note.ensures.takers m (Some entry) (sym left.series) (sym (c.series_in-now.ensures ∙ ap series_in c.in-Some-change.is)) c.loop-key.invariant.takers);
+      years = calendar_of _ _ left.content c.put_record.new.calendar (record_noted m key (Some entry) c.loop-key.calendar c.put_record.new.calendar c.loop-key.invariant.years left.dates);
       content = ap (λ (n : Data). applied n rest) left.content ∙ sym (applied-pop m rest (key, Some entry)) ∙ ap (λ x. applied m (rest ++ (key, x) ∷ [])) (sym c.in-Some-change.is)
           ∙ ap (applied m) (sym popped) ∙ c.loop-key.invariant.content;
     }

@@ -19,7 +19,7 @@ returns-in_err-add_row-clause-applied c =
     let rows = c.args.rows.now in
     let i = c.loop-row.row-index in
     let row = c.row-item.result in
-    let so_far = c.loop-row.invariant.6 ∙ ap (rows_applied n) (drop_row rows i row c.loop-row-test.true c.row-item.is) in
+    let so_far = c.loop-row.invariant.4 ∙ ap (rows_applied n) (drop_row rows i row c.loop-row-test.true c.row-item.is) in
     on_err c.from_residual-in_err-add_row.result _ _ _ c.from_residual-in_err-add_row.ensures.1
     (λ x e. rule_first m n rows row (drop (suc i) rows) so_far x (subst (λ y. IfRule (λ rule. row_fault n row ≡ Some rule) y) (sym e) c.in_err-add_row.ensures.fault))
 
@@ -36,13 +36,11 @@ loop-row-preserved c =
       added.consistent,
       added.records,
       omega arith,
-      added.lines,
-      omega arith,
-      (subst (AllByRecursion IsWellFormed) rest c.loop-row.invariant.5).1,
-      row_passed m n rows row (drop (i + 1) rows) (applied m c.add_row.new.progress.edits) (c.loop-row.invariant.6 ∙ ap (rows_applied n) rest) added.fault added.added,
+      (subst (AllByRecursion IsWellFormed) rest c.loop-row.invariant.3).1,
+      row_passed m n rows row (drop (i + 1) rows) (applied m c.add_row.new.progress.edits) (c.loop-row.invariant.4 ∙ ap (rows_applied n) rest) added.fault added.added,
       omega (arith, added.keys.few),
       λ k changed. elim (added.keys.keys k changed) [
         | inl same ↦ subst (λ (q : RecordKey). IsListed q keys) (sym same) (row_listed rows i row c.loop-row-test.true c.row-item.is)
-        | inr before ↦ c.loop-row.invariant.8 k before
+        | inr before ↦ c.loop-row.invariant.6 k before
       ],
     )

@@ -4,7 +4,6 @@ use Rattle.std.specs.List.{AllByRecursion}
 use Rattle.ghg_units.specs.declared.row.Row.{Row}
 use Rattle.ghg_units.specs.WellFormed.{IsWellFormed}
 use Rattle.ghg_definitions.specs.declared.record.RecordKey.{RecordKey}
-use Rattle.ghg_definitions.specs.Data.{line_names}
 use Rattle.ghg_definitions.specs.Listed.{IsListed}
 use Rattle.ghg_definitions.specs.Rows.{key_of}
 use Rattle.ghg_definitions.specs.Rules.{rows_applied}
@@ -17,8 +16,6 @@ invariant-loop-row l =
     IsConsistent (applied l.holdings.content l.progress.edits)
     × (l.progress.records ≡ len (applied l.holdings.content l.progress.edits))
     × (l.progress.records < 2 ^ 63 + l.row-index)
-    × (l.progress.lines ≡ length (line_names (applied l.holdings.content l.progress.edits)))
-    × (l.progress.lines < 2 ^ 63 + l.row-index)
     × AllByRecursion IsWellFormed (drop l.row-index l.rows)
     × (rows_applied l.holdings.content l.rows ≡ rows_applied (applied l.holdings.content l.progress.edits) (drop l.row-index l.rows))
     × (length l.progress.edits ≤ l.row-index)

@@ -1,5 +1,5 @@
-use Rattle.std.proofs.Common.{◌≡◌, ◌∙◌, rules, subst, sym}
-use Rattle.ghg_graph.specs.Dependencies.{AreLedTo, IsGathered}
+use Rattle.std.proofs.Common.{◌∙◌, rules, subst}
+use Rattle.ghg_graph.specs.Dependencies.{IsGathered}
 use Rattle.ghg_graph.proofs.Depending.{changed_present, queued_from, reached_from}
 use Rattle.ghg_graph.proofs.dependencies.led_to.Goals as goal
 
@@ -17,6 +17,5 @@ returns g c =
     let keys = c.spread.new.self.names.keys in
     let more = subst (λ ns. IsGathered ns c.new-gathered.result first) (c.deref.ensures.value ∙ c.in_ok-present_lines.ensures) c.in_ok-add.ensures in
     let are = reached_from _ c.new-gathered.result first c.new-gathered.ensures.queued c.new-gathered.ensures.empty more m keys
-    (c.in_ok-spread.ensures c.if-not-branch.false) in
-    let all : c.in_ok-names.names.items ≡ keys = search rules in
-    subst (AreLedTo m _) (sym all) are
+    c.in_ok-spread.ensures in
+    search (rules, are)

@@ -1,4 +1,4 @@
-use Rattle.ghg_graph.proofs.Numbering.{none_added, number_added}
+use Rattle.ghg_graph.proofs.LineNumbers.{none_added, number_added}
 use Rattle.ghg_graph.proofs.numbers.add_number.Goals as goal
 
 pub returns-in-None : goal.returns-in-None

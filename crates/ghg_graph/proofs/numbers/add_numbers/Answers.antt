@@ -1,7 +1,7 @@
 use Rattle.std.proofs.Common.{◌++◌, subst, take}
 use Rattle.std.proofs.lemmas.List.{take_all}
 use Rattle.ghg_graph.specs.Numbers.{AreNumbers}
-use Rattle.ghg_graph.proofs.Numbering.{names_added}
+use Rattle.ghg_graph.proofs.LineNumbers.{names_added}
 use Rattle.ghg_graph.proofs.numbers.add_numbers.Goals as goal
 
 pub loop-name-preserved : goal.loop-name-preserved

@@ -2,7 +2,7 @@ use Rattle.std.proofs.Common.{◌∙◌, ◌+◌, ◌<◌, [], length, map, ap, 
 use Rattle.std.proofs.lemmas.List.{get_or_default, length-map, map-append}
 use Rattle.ghg_definitions.specs.Rings.{taken}
 use Rattle.ghg_graph.specs.Numbers.{AreNumbers, name_at}
-use Rattle.ghg_graph.proofs.Numbering.{all_within, links_more, same_number}
+use Rattle.ghg_graph.proofs.LineNumbers.{all_within, links_more, same_number}
 use Rattle.ghg_graph.proofs.numbers.links_of.Goals as goal
 
 pub loop-line-preserved : goal.loop-line-preserved

@@ -1,4 +1,4 @@
-use Rattle.ghg_graph.proofs.Numbering.{found_number}
+use Rattle.ghg_graph.proofs.LineNumbers.{found_number}
 use Rattle.ghg_graph.proofs.numbers.number_of.Goals as goal
 
 pub returns-in_default : goal.returns-in_default

@@ -1,7 +1,7 @@
 use Rattle.std.proofs.Common.{◌∙◌, ap, map}
 use Rattle.ghg_graph.specs.Numbers.{name_at}
 use Rattle.ghg_graph.proofs.Named.{order_within, ring_within}
-use Rattle.ghg_graph.proofs.Numbering.{names_within}
+use Rattle.ghg_graph.proofs.LineNumbers.{names_within}
 use Rattle.ghg_graph.proofs.ordering.named_order.Goals as goal
 
 pub names_of-requires : goal.names_of-requires

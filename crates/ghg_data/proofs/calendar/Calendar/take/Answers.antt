@@ -2,7 +2,7 @@ use Rattle.std.proofs.Common.{false, true≢false, cond, ◌&&◌, ◌==◌, Som
 use Rattle.std.specs.Option.{option_copied_mut}
 use Rattle.ghg_data.specs.Calendar.{has_date, holds_year}
 use Rattle.ghg_units.specs.Year.{is_year}
-use Rattle.ghg_data.proofs.Dates.{column_places, column_years, each_has_a_year, given_places, given_years, had_column, no_place, nothing_given, place_among, taken_out, write_has_a_year}
+use Rattle.ghg_data.proofs.Dates.{column_years, each_has_a_year, given_years, had_column, nothing_given, taken_out, write_has_a_year}
 use Rattle.ghg_data.proofs.calendar.Calendar.take.Goals as goal
 
 pub returns-then-is_empty-2-clause-dates : goal.returns-then-is_empty-2-clause-dates
@@ -10,38 +10,20 @@ returns-then-is_empty-2-clause-dates c =
     let old = c.args.self.now in
     let k = c.args.series.now in
     let z = c.args.year in
-    let before = c.in-Some.column.now in
+    let before = c.in-Some.years.now in
     let after = c.note.new.self in
     let there = sym c.get_mut.ensures.value ∙ ap option_copied_mut c.in-Some.is in
     let kept = ((c.get_mut.follows.holds after).3 (ap is_some there)).0 in
-    let gone = taken_out old.columns.entries (c.get_mut.follows.lender after).entries c.swap_remove.new.self.entries k after kept c.swap_remove.ensures.updates.0 in
-    given_years old.columns.entries c.swap_remove.new.self.entries k None gone (λ y. cond (is_year z && (y == z)) false (has_date old k y))
-    (λ y. sym (c.if-is_empty-2.ensures.0 refl y) ∙ c.note.ensures.years y ∙ ap (λ o. cond (is_year z && (y == z)) false (holds_year o y)) (sym (had_column old.columns.entries k (Some before) there)))
-
-pub returns-then-is_empty-2-clause-places : goal.returns-then-is_empty-2-clause-places
-returns-then-is_empty-2-clause-places c =
-    let old = c.args.self.now in
-    let k = c.args.series.now in
-    let after = c.note.new.self in
-    let there = sym c.get_mut.ensures.value ∙ ap option_copied_mut c.in-Some.is in
-    let kept = ((c.get_mut.follows.holds after).3 (ap is_some there)).0 in
-    let gone = taken_out old.columns.entries (c.get_mut.follows.lender after).entries c.swap_remove.new.self.entries k after kept c.swap_remove.ensures.updates.0 in
-    given_places old.columns.entries c.swap_remove.new.self.entries k None gone c.args.year None (λ y p e. absurd (cc))
+    let gone = taken_out old.years.entries (c.get_mut.follows.lender after).entries c.swap_remove.new.self.entries k after kept c.swap_remove.ensures.updates.0 in
+    given_years old.years.entries c.swap_remove.new.self.entries k None gone (λ y. cond (is_year z && (y == z)) false (has_date old k y))
+    (λ y. sym (c.if-is_empty-2.ensures.0 refl y) ∙ c.note.ensures y ∙ ap (λ o. cond (is_year z && (y == z)) false (holds_year o y)) (sym (had_column old.years.entries k (Some before) there)))
 
 pub returns-else-is_empty-2-clause-dates : goal.returns-else-is_empty-2-clause-dates
 returns-else-is_empty-2-clause-dates c =
     let old = c.args.self.now in
     let after = c.note.new.self in
     let there = sym c.get_mut.ensures.value ∙ ap option_copied_mut c.in-Some.is in
-    column_years old.columns.entries (c.get_mut.follows.lender after).entries c.args.series.now c.in-Some.column.now after ((c.get_mut.follows.holds after).3 (ap is_some there)).0 there c.args.year false c.note.ensures.years
-
-pub returns-else-is_empty-2-clause-places : goal.returns-else-is_empty-2-clause-places
-returns-else-is_empty-2-clause-places c =
-    let old = c.args.self.now in
-    let after = c.note.new.self in
-    let there = sym c.get_mut.ensures.value ∙ ap option_copied_mut c.in-Some.is in
-    column_places old.columns.entries (c.get_mut.follows.lender after).entries c.args.series.now c.in-Some.column.now after ((c.get_mut.follows.holds after).3 (ap is_some there)).0 there
-    c.args.year None c.note.ensures.places
+    column_years old.years.entries (c.get_mut.follows.lender after).entries c.args.series.now c.in-Some.years.now after ((c.get_mut.follows.holds after).3 (ap is_some there)).0 there c.args.year false c.note.ensures
 
 pub invariant_of-self : goal.invariant_of-self
 invariant_of-self c =
@@ -50,9 +32,9 @@ invariant_of-self c =
     let after = c.note.new.self in
     let there = sym c.get_mut.ensures.value ∙ ap option_copied_mut c.in-Some.is in
     let kept = ((c.get_mut.follows.holds after).3 (ap is_some there)).0 in
-    let gone = taken_out old.columns.entries (c.get_mut.follows.lender after).entries c.swap_remove.new.self.entries k after kept c.swap_remove.ensures.updates.0 in
+    let gone = taken_out old.years.entries (c.get_mut.follows.lender after).entries c.swap_remove.new.self.entries k after kept c.swap_remove.ensures.updates.0 in
     record {
-      none_empty = each_has_a_year old.columns.entries c.swap_remove.new.self.entries k None gone nothing_given old.none_empty;
+      none_empty = each_has_a_year old.years.entries c.swap_remove.new.self.entries k None gone nothing_given old.none_empty;
     }
 
 pub invariant_of-self-else-is_empty-2 : goal.invariant_of-self-else-is_empty-2
@@ -63,12 +45,6 @@ invariant_of-self-else-is_empty-2 c =
     let there = sym c.get_mut.ensures.value ∙ ap option_copied_mut c.in-Some.is in
     let given = ((c.get_mut.follows.holds after).3 (ap is_some there)).0 in
     record {
-      none_empty = write_has_a_year old.columns.entries (c.get_mut.follows.lender after).entries k c.in-Some.column.now after given there
+      none_empty = write_has_a_year old.years.entries (c.get_mut.follows.lender after).entries k c.in-Some.years.now after given there
           (λ h. absurd (true≢false (sym (c.if-is_empty-2.ensures.1 h)))) old.none_empty;
     }
-
-pub returns-in_default-clause-places : goal.returns-in_default-clause-places
-returns-in_default-clause-places c = λ s y p e.
-    let old = c.args.self.now in
-    let none = sym c.get_mut.ensures.value ∙ ap option_copied_mut c.in_default.is in
-    no_place old.columns.entries c.args.series.now none c.args.year None s y p (sym (ap (λ m. place_among m.entries s y) c.get_mut.follows.holds-at-none) ∙ e)

@@ -1,5 +1,4 @@
-use Rattle.std.proofs.Common.{◌≡◌, ℕ, Bool, true, false, cond, ◌&&◌, is_some, refl, ◌∙◌, ap}
-use Rattle.std.specs.Bool.{then_some}
+use Rattle.std.proofs.Common.{cond, ◌&&◌, ◌∙◌, ap}
 use Rattle.std.specs.Ordering.{eq_by_cmp}
 use Rattle.ghg_definitions.specs.Data.{key_cmp}
 use Rattle.ghg_definitions.specs.Rows.{with_record}
@@ -12,10 +11,6 @@ use Rattle.ghg_data.proofs.Changed.{also_put}
 use Rattle.ghg_data.proofs.Calendars.{changed_at, opposite, put_noted, taken_noted}
 use Rattle.ghg_data.proofs.edits.Edits.put.Goals as goal
 
-is_then : (b : Bool) (place : ℕ) → is_some (then_some b place) ≡ b
-is_then true place = refl
-is_then false place = refl
-
 pub invariant_of-self-2 : goal.invariant_of-self-2
 invariant_of-self-2 c =
     let updates = on_ok c.insert.result c.unwrap.result _ c.unwrap.ensures c.insert.ensures.updates in
@@ -26,9 +21,9 @@ invariant_of-self-2 c =
     let taken = c.reserve-3.new.self in
     let changed = changed_at before c.reserve.new.self.entries after key c.args.change c.reserve.ensures.entries updates.0 in (
       put_noted before after key c.args.change put c.note.new.self changed (λ s y. c.reserve-2.ensures.dates s y ∙ c.self.invariant.0 s y)
-          (λ s y. c.note.ensures.dates s y ∙ ap (λ b. cond (is_year y && eq_by_cmp key_cmp (dated s y) key) b (has_date put s y)) (ap is_some c.then_some.ensures ∙ is_then c.is_some.result 0 ∙ c.is_some.ensures)),
+          (λ s y. c.note.ensures.dates s y ∙ ap (λ b. cond (is_year y && eq_by_cmp key_cmp (dated s y) key) b (has_date put s y)) c.is_some.ensures),
       taken_noted before after key c.args.change taken c.note-2.new.self changed (λ s y. c.reserve-3.ensures.dates s y ∙ c.self.invariant.1 s y)
-          (λ s y. c.note-2.ensures.dates s y ∙ ap (λ b. cond (is_year y && eq_by_cmp key_cmp (dated s y) key) b (has_date taken s y)) (ap is_some c.then_some-2.ensures ∙ is_then c.is_none.result 0 ∙ opposite _ _ c.is_none.ensures)),
+          (λ s y. c.note-2.ensures.dates s y ∙ ap (λ b. cond (is_year y && eq_by_cmp key_cmp (dated s y) key) b (has_date taken s y)) (opposite _ _ c.is_none.ensures)),
     )
 
 pub returns-clause-ok : goal.returns-clause-ok

@@ -11,4 +11,4 @@ use Rattle.ghg_data.proofs.edits.Edits.series_put.Goals as goal
 pub returns : goal.returns
 returns c = λ s y e.
     let has = c.self.invariant.0 s y ∙ ap (λ cs. is_year y && is_put (find key_cmp (dated s y) cs)) c.self.view_is ∙ e in
-    subst (IsListed s) (sym c.series.ensures) (date_listed c.self.inside.put.columns.entries s y has)
+    subst (IsListed s) (sym c.series.ensures) (date_listed c.self.inside.put.years.entries s y has)

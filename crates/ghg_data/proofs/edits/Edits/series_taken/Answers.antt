@@ -11,4 +11,4 @@ use Rattle.ghg_data.proofs.edits.Edits.series_taken.Goals as goal
 pub returns : goal.returns
 returns c = λ s y e.
     let has = c.self.invariant.1 s y ∙ ap (λ cs. is_year y && is_taken (find key_cmp (dated s y) cs)) c.self.view_is ∙ e in
-    subst (IsListed s) (sym c.series.ensures) (date_listed c.self.inside.taken.columns.entries s y has)
+    subst (IsListed s) (sym c.series.ensures) (date_listed c.self.inside.taken.years.entries s y has)

@@ -1,31 +1,38 @@
-use Rattle.std.proofs.Common.{◌≡◌, ◌∙◌, length, refl, sym, ap, subst}
+use Rattle.std.proofs.Common.{◌≡◌, ◌∙◌, length, refl, sym, ap, arith}
 use Rattle.ghg_affected.specs.Affected.{affected_nodes}
-use Rattle.ghg_definitions.specs.Compilation.{compilation}
 use Rattle.ghg_data.specs.Changes.{applied}
-use Rattle.ghg_data.specs.Shelf.{IsPlanned}
-use Rattle.ghg_engine.specs.Cells.{found_in}
-use Rattle.ghg_engine.specs.Compiled.{AreOfLines, IsCompiled}
-use Rattle.ghg_engine.specs.Fresh.{fresh_at}
-use Rattle.ghg_engine.specs.Layouts.{IsChangedLayout}
-use Rattle.ghg_engine.specs.Views.{shelf_of}
+use Rattle.ghg_data.specs.Shelf.{Shelf}
+use Rattle.ghg_engine.specs.Proposals.{affected_count}
+use Rattle.ghg_engine.proofs.Patched.{all_affected}
+use Rattle.ghg_engine.proofs.Proposed.{made_on}
 use Rattle.ghg_engine.proofs.engine.Engine.propose.Goals as goal
+
+pub returns-in-Ok-clause-steps : goal.returns-in-Ok-clause-steps
+returns-in-Ok-clause-steps g c =
+    let old = c.args.self.now.content in
+    let all : length c.in_ok-nodes.nodes.items ≡ length (affected_nodes old (applied old c.args.edits)) = all_affected old (applied old c.args.edits) c.in_ok-nodes.nodes.items c.in_ok-nodes.ensures.nodes in
+    let len = c.len-count.ensures in
+    let spent = c.take-permits.ensures.spent in
+    grind (arith, all, len, spent, c.in_ok-nodes.nodes.ok)
+
+pub returns-in-Err-clause-steps : goal.returns-in-Err-clause-steps
+returns-in-Err-clause-steps g c =
+    let old = c.args.self.now.content in
+    let all : length c.in_ok-nodes.nodes.items ≡ length (affected_nodes old (applied old c.args.edits)) = all_affected old (applied old c.args.edits) c.in_ok-nodes.nodes.items c.in_ok-nodes.ensures.nodes in
+    let len = c.len-count.ensures in
+    let spent = c.take-permits.ensures.spent in
+    grind (arith, all, len, spent, c.in_ok-nodes.nodes.ok)
 
 pub returns-in-Ok-clause-proposed : goal.returns-in-Ok-clause-proposed
 returns-in-Ok-clause-proposed g c =
-    let edits = c.args.edits in
-    let fresh = fresh_at c.in-Ok.field-0.cells in
-    let evaluated = c.in-Ok.ensures.fresh in
-    let shelf = c.evaluated_with_room.ensures.shelf in
-    let all = shelf ∙ ap shelf_of c.changed_layout.ensures.same in
-    let is = sym (ap (λ s. s.content) shelf) in (
-      refl,
-      record {
-        planned = subst (λ s. IsPlanned s edits) (sym all) c.requires.planned;
-        compiled = subst (λ m. IsCompiled (applied m edits) (found_in fresh (compilation m))) is evaluated.compiled;
-        none_over = evaluated.none_over;
-        of_lines = subst (λ m. AreOfLines (applied m edits) fresh) is evaluated.of_lines;
-        laid = subst (λ m. IsChangedLayout m edits c.in_ok-changed.changed) (sym (ap (λ s. s.content) all)) c.in_ok-changed.ensures.changed;
-        cells = subst (λ m. c.in-Ok.field-0.count ≡ length (affected_nodes m (applied m edits))) is evaluated.count;
-        room = c.in-Ok.ensures.room;
-      },
-    )
+    let old = c.args.self.now in
+    let made = applied old.content c.args.edits in
+    let all : length c.in_ok-nodes.nodes.items ≡ affected_count old.content c.args.edits = all_affected old.content made c.in_ok-nodes.nodes.items c.in_ok-nodes.ensures.nodes in
+    let len = c.len-count.ensures in
+    let count : c.len-count.result ≡ affected_count old.content c.args.edits = grind (arith, all, len, c.in_ok-nodes.nodes.ok) in
+    record {
+      edits_are = refl;
+      count_is = count ∙ ap (λ (s : Shelf). affected_count s.content c.args.edits) (sym (c.in-Ok.ensures.shelf ∙ c.in_ok-nodes.ensures.shelf));
+      made = made_on old c.affected.new.self c.evaluated_with_room.new.self (record { edits = c.args.edits; fresh = c.in-Ok.fresh; cells = c.len-count.result })
+          c.in_ok-nodes.ensures.shelf c.in-Ok.ensures.shelf c.in-Ok.ensures.index c.requires.planned c.in_ok-nodes.ensures.users c.in-Ok.ensures.fresh c.in-Ok.ensures.room;
+    }

@@ -16,8 +16,8 @@ loop-param-preserved g c =
     let m = g.R.Records.content c.args.records.now in
     record {
       named = all_left (λ q. is_parameter q.name.now ≡ true) c.args.params.now c.loop-param.param-index c.loop-param-test.true c.loop-param.invariant.named;
-      gathered = taken_next (λ q. taken_by (binding m c.args.line.now q.name.now)) c.args.params.now c.loop-param.param-index _ c.taken_at-names.result.now
-          c.args.self.now c.loop-param.self c.add.new.self c.loop-param-test.true c.taken_at-names.ensures c.loop-param.invariant.gathered c.in_ok-add.ensures;
+      gathered = taken_next (λ q. taken_by (binding m c.args.line.now q.name.now)) c.args.params.now c.loop-param.param-index _ c.taken_at.result.now
+          c.args.self.now c.loop-param.self c.add.new.self c.loop-param-test.true c.taken_at.ensures c.loop-param.invariant.gathered c.in_ok-add.ensures;
     }
 
 pub returns : goal.returns

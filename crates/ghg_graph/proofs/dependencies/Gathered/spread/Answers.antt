@@ -15,9 +15,9 @@ pub loop-next-preserved : goal.loop-next-preserved
 loop-next-preserved g c =
     let more : c.loop-next.next < length c.loop-next.self.queue.items = grind (arith, c.loop-next-test.true, c.len.ensures, c.loop-next.self.queue.ok) in
     spread_more (g.R.Records.content c.args.records.now) c.args.self.now c.loop-next.next c.index.result.now c.loop-next.self c.add_taken.new.self
-    c.loop-next.invariant more c.index.ensures c.in_ok-taken.ensures
+    c.loop-next.invariant more c.index.ensures c.in_ok-add_taken.ensures
 
 pub returns : goal.returns
 returns g c =
     let all : length c.loop-next.self.queue.items ≤ c.loop-next.next = grind (arith, c.loop-next-test.false, c.len.ensures, c.loop-next.self.queue.ok) in
-    λ _. spread_all (g.R.Records.content c.args.records.now) c.args.self.now c.requires.workbook c.requires.present c.requires.queued c.loop-next.next c.loop-next.self c.loop-next.invariant all
+    spread_all (g.R.Records.content c.args.records.now) c.args.self.now c.requires.workbook c.requires.present c.requires.queued c.loop-next.next c.loop-next.self c.loop-next.invariant all

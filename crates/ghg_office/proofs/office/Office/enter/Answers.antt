@@ -26,7 +26,7 @@ returns-in-Err-clause-steps g c = spent_reading _ _ _ _ _ _ c.self.view_is c.req
 
 pub returns-in-Err-clause-answer : goal.returns-in-Err-clause-answer
 returns-in-Err-clause-answer g c = failed_answers _ c.in-Err.reply c.args.self.now _ c.in-Err.ensures.failure
-    (ap₂ (λ (m : Data) (l : List KeptRow). record { content = m; accepted = l }) (ap (λ e. e.content) c.dismiss.ensures ∙ c.prepare.ensures.content) c.prepare.ensures.list ∙ c.self.view_is)
+    (ap₂ (λ (m : Data) (l : List KeptRow). record { content = m; accepted = l }) c.prepare.ensures.content c.prepare.ensures.list ∙ c.self.view_is)
 
 pub returns-in-Err-clause-faults : goal.returns-in-Err-clause-faults
 returns-in-Err-clause-faults g c = record { later = c.in-Err.ensures.faults.later; rose = λ e. c.in-Err.ensures.faults.rose (ap Err e) }
@@ -50,7 +50,7 @@ returns-in-Ok-clause-answer g c =
     accepted_answers c.args.self.now c.args.id c.args.body.now _ _ _ _ _ c.requires.read made
     (c.accept.ensures.made ∙ ap (λ m. applied m c.in_ok-proposal.proposal.edits) c.prepare.ensures.content)
     (c.push-seq.ensures.seq ∙ ap (λ l. length l + 1) list)
-    (counted _ _ _ _ _ c.prepare.ensures.content (ap (λ s. s.content) c.self.view_is) (c.cells-cells.ensures ∙ c.in_ok-proposal.ensures.proposed.cells))
+    (counted _ _ _ _ _ c.prepare.ensures.content (ap (λ s. s.content) c.self.view_is) (c.cells-cells.ensures ∙ c.in_ok-proposal.ensures.proposed.count_is))
     (c.push-seq.ensures.list ∙ ap₂ (λ l b. l ++ (record { id = c.args.id; body = b } ∷ [])) list c.in-Ok.ensures.copy)
 
 pub returns-in-Ok-clause-steps : goal.returns-in-Ok-clause-steps

@@ -31,7 +31,7 @@ returns-clause-answer g c =
     accepted_answers c.args.self.now c.args.row.id c.args.row.body _ _ _ _ _ read made
     (c.accept.ensures.made ∙ ap (λ m. applied m c.in_ok-proposal.proposal.edits) c.prepare.ensures.content)
     (c.push-seq.ensures.seq ∙ ap (λ l. length l + 1) list)
-    (counted _ _ _ _ _ c.prepare.ensures.content (ap (λ s. s.content) c.self.view_is) (c.cells-cells.ensures ∙ c.in_ok-proposal.ensures.proposed.cells))
+    (counted _ _ _ _ _ c.prepare.ensures.content (ap (λ s. s.content) c.self.view_is) (c.cells-cells.ensures ∙ c.in_ok-proposal.ensures.proposed.count_is))
     (c.push-seq.ensures.list ∙ ap₂ (λ l i. l ++ (record { id = i; body = c.args.row.body } ∷ [])) list id)
 
 pub returns-clause-steps : goal.returns-clause-steps

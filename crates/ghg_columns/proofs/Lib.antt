@@ -1,0 +1,5 @@
+pub mod Places
+pub mod Slots
+pub mod Cellwise
+pub mod Rooms
+pub mod Overs

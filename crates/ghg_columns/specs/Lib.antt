@@ -1,0 +1,4 @@
+pub mod Columns
+pub mod Cells
+pub mod Fresh
+pub mod Overlays

@@ -1,0 +1,9 @@
+pub mod Answered
+pub mod Each
+pub mod Facts
+pub mod Limits
+pub mod Gathered
+pub mod Held
+pub mod Lines
+pub mod Formulas
+pub mod Ready

@@ -1,0 +1,12 @@
+//! The evaluation of one node over the cells of its inputs.
+//!
+//! A line and an equivalent follow from the outcomes of their inputs, a total from what it was in the
+//! workbook before and what its categories have lost and gained since. A reader serves one evaluation after
+//! another, of any nodes in any order.
+#![tactic(auto)]
+
+mod arguments;
+mod kept;
+mod reader;
+
+pub use reader::{Reader, evaluate};

@@ -1,0 +1,13 @@
+pub mod Naming
+pub mod Greatest
+pub mod Inputs
+pub mod Placing
+pub mod Turning
+pub mod LineRanking
+pub mod Padding
+pub mod Looking
+pub mod Owning
+pub mod Ranking
+pub mod Bucketing
+pub mod Layering
+pub mod InTurn

@@ -1,0 +1,12 @@
+use Rattle.std.proofs.Common.{◌≡◌, true, drop, flat_map, take}
+use Rattle.std.specs.List.{AllByRecursion}
+use Rattle.ghg_units.specs.Parameter.{is_parameter}
+use Rattle.ghg_definitions.specs.Data.{binding}
+use Rattle.ghg_graph.specs.Numbers.{AreNumbers}
+use Rattle.ghg_layers.specs.Lines.{previous_by}
+use Rattle.ghg_layers.proofs.lines.previous_at.Given as goal
+
+abbrev pub invariant-loop-param : goal.invariant-loop-param
+invariant-loop-param g l =
+    AllByRecursion (λ q. is_parameter q.name.now ≡ true) (drop l.param-index l.params)
+    × AreNumbers l.lines l.numbers.items (flat_map (λ q. previous_by (binding (g.R.Records.content l.records) l.line q.name.now)) (take l.param-index l.params))

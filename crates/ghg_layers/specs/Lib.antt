@@ -1,0 +1,6 @@
+pub mod Grids
+pub mod Lines
+pub mod Turns
+pub mod Ranks
+pub mod Buckets
+pub mod Layers

@@ -1,0 +1,14 @@
+pub mod Groups
+pub mod Adding
+pub mod Sources
+pub mod Changing
+pub mod Tops
+pub mod Fresh
+pub mod Spans
+pub mod Filtering
+pub mod Takers
+pub mod Spreads
+pub mod Unchanged
+pub mod Ordered
+pub mod Listing
+pub mod Pruned

@@ -1,0 +1,160 @@
+-- Lines under sources.
+use Rattle.std.proofs.Common.{◌≡◌, ◌⊎◌, inl, inr, ℕ, ◌+◌, ◌<◌, Bool, true, false, cond, if◌then◌else◌, List, [], ◌∷◌, ◌++◌, length, get_or, take, flat_map, map, option_and_then, is_eq, Option, Some, None, Vec, Global, refl, sym, ap, ◌∙◌, subst}
+use Rattle.std.proofs.lemmas.List.{get_or_default}
+use Rattle.std.specs.Cmp.Lexicographic.{bytes_decides}
+use Rattle.std.specs.FinMap as finite
+use Rattle.std.specs.List.{list_any}
+use Rattle.std.specs.Option.{option_map, option_map_or, option_to_list}
+use Rattle.std.specs.Str.{bytes_eq}
+use Rattle.ghg_equations.specs.declared.eq_id.EqId.{EqId}
+use Rattle.ghg_equations.specs.declared.row.Param.{Param}
+use Rattle.ghg_equations.specs.Table.{Quantity, output, parameters}
+use Rattle.ghg_equations.specs.Quantity.{gas_of}
+use Rattle.ghg_units.specs.Name.{potential_name}
+use Rattle.ghg_definitions.specs.declared.record.Record.{Record}
+use Rattle.ghg_definitions.specs.declared.record.RecordKey.{RecordKey}
+use Rattle.ghg_definitions.specs.declared.record.RecordKey.TheVariants as key
+use Rattle.ghg_definitions.specs.Compilation.{line_gas}
+use Rattle.ghg_definitions.specs.Data.{Data, Name, as_binding, as_line, binding, line}
+use Rattle.ghg_definitions.specs.Listed.{IsListed}
+use Rattle.ghg_definitions.proofs.Depth.{or_else}
+use Rattle.ghg_definitions.proofs.Listed.{from_any, from_flat, in_either, listed, listed_any, listed_left, listed_right}
+use Rattle.ghg_affected.proofs.Bools.{true_not_false}
+use Rattle.ghg_data.specs.Parameters.{quantity}
+use Rattle.ghg_graph.proofs.Marking.{equal_itself, names_equal}
+use Rattle.ghg_graph.proofs.LineNumbers.{take_next}
+use Rattle.ghg_graph.proofs.Pushed.{items_in}
+use Rattle.ghg_search.specs.Index.{DifferAt, HasUser, HasUsers, IsAbout, IsUnderAll, Keeps, named_by, source_order, sources_at, sources_of, users_of}
+use Rattle.ghg_search.specs.declared.index.Index.{Index}
+use Rattle.ghg_search.specs.declared.index.Source.{Source}
+use Rattle.ghg_search.specs.declared.index.Source.TheVariants as source
+
+-- ---- the order of sources
+
+pub source_same : (a b : Source) → is_eq (source_order a b) ≡ true → a ≡ b
+source_same (source.Activity a) (source.Activity b) e = ap (λ n. source.Activity n) (names_equal a b e)
+source_same (source.Activity a) (source.Factor b) e = absurd (cc)
+source_same (source.Activity a) (source.Line b) e = absurd (cc)
+source_same (source.Factor a) (source.Activity b) e = absurd (cc)
+source_same (source.Factor a) (source.Factor b) e = ap (λ n. source.Factor n) (names_equal a b e)
+source_same (source.Factor a) (source.Line b) e = absurd (cc)
+source_same (source.Line a) (source.Activity b) e = absurd (cc)
+source_same (source.Line a) (source.Factor b) e = absurd (cc)
+source_same (source.Line a) (source.Line b) e = ap (λ n. source.Line n) (names_equal a b e)
+
+pub source_itself : (a : Source) → is_eq (source_order a a) ≡ true
+source_itself (source.Activity a) = equal_itself a
+source_itself (source.Factor a) = equal_itself a
+source_itself (source.Line a) = equal_itself a
+
+-- ---- a line more
+
+-- under one source stand other lines
+pub items_now : (old new : Option (Vec Name Global)) (now : Vec Name Global) (b : Bool)
+    → new ≡ cond b (Some now) old → items_in new ≡ (if b then now.items else items_in old)
+items_now old new now true is = ap items_in is
+items_now old new now false is = ap items_in is
+
+module _ (old new : Index) (at : Source) (items : List Name)
+    (now : (s : Source) → users_of new s ≡ (if is_eq (source_order at s) then items else users_of old s)) where
+  -- they are more
+  pub kept_under : ((x : Name) → IsListed x (users_of old at) → IsListed x items) → Keeps old new
+  kept_under more s x i = subst (IsListed x) (sym (now s)) (by (is_eq (source_order at s)) refl)
+    where
+      by : (b : Bool) → is_eq (source_order at s) ≡ b → IsListed x (if b then items else users_of old s)
+      by true e = more x (subst (λ k. IsListed x (users_of old k)) (sym (source_same at s e)) i)
+      by false e = i
+
+  pub put_under : (x : Name) → IsListed x items → HasUser new at x
+  put_under x i = subst (IsListed x) (sym (now at
+      ∙ ap (λ b. if b then items else users_of old at) (source_itself at))) i
+
+-- ---- what is listed up to a place
+
+pub listed_next : {A : Type 0} (xs : List A) (i : ℕ) (x : A) → i < length xs → x ≡ get_or xs i x → (y : A)
+    → IsListed y (take (i + 1) xs) → IsListed y (take i xs) ⊎ (y ≡ x)
+listed_next xs i x h e y j =
+    elim (in_either y (take i xs) (x ∷ []) (subst (IsListed y) (take_next xs i x h e) j)) [
+      | inl k ↦ inl k
+      | inr k ↦ elim k [ inl same ↦ inr same | inr none ↦ absurd none ]
+    ]
+
+pub flat_next : {A B : Type 0} (f : A → List B) (xs : List A) (i : ℕ) (d : A) → i < length xs → (y : B)
+    → IsListed y (flat_map f (take (i + 1) xs)) → IsListed y (flat_map f (take i xs)) ⊎ IsListed y (f (get_or xs i d))
+flat_next {A = A} {B = B} f xs i d h y j =
+    let from = from_flat f y (take (i + 1) xs) j in
+    elim (listed_next xs i (get_or xs i d) h (get_or_default xs i d (get_or xs i d) h) from.0 from.1) [
+      | inl k ↦ inl (listed_in from.0 k from.2)
+      | inr same ↦ inr (subst (λ x. IsListed y (f x)) same from.2)
+    ]
+  where
+    listed_in : (x : A) → IsListed x (take i xs) → IsListed y (f x) → IsListed y (flat_map f (take i xs))
+    listed_in x k l = flat (take i xs) k
+      where
+        flat : (zs : List A) → IsListed x zs → IsListed y (flat_map f zs)
+        flat [] k = absurd k
+        flat (z ∷ zs) (inl e) = listed_left y (f z) (flat_map f zs) (subst (λ w. IsListed y (f w)) e l)
+        flat (z ∷ zs) (inr k) = listed_right y (f z) (flat_map f zs) (flat zs k)
+
+-- ---- what a line names, by the parameters in the code
+
+named_flat : (m : Data) (name : Name) (ps : List Param)
+    → flat_map (λ (q : Quantity). named_by (binding m name q.name)) (map quantity ps) ≡ sources_at m name ps
+named_flat m name [] = refl
+named_flat m name (p ∷ ps) = ap (λ xs. named_by (binding m name p.name.now) ++ xs) (named_flat m name ps)
+
+pub sources_by : (m : Data) (name : Name) (ps : List Param) (id : EqId) → Some id ≡ line m name
+    → map quantity ps ≡ parameters id
+    → sources_of m name ≡ sources_at m name ps ++ option_to_list (option_map (λ gas. source.Factor (potential_name gas)) (line_gas m name))
+sources_by m name ps id at all =
+    ap (λ xs. xs ++ option_to_list (option_map (λ gas. source.Factor (potential_name gas)) (line_gas m name)))
+    (ap (λ o. option_map_or (λ e. flat_map (λ q. named_by (binding m name q.name)) (parameters e)) o []) (sym at)
+    ∙ ap (flat_map (λ (q : Quantity). named_by (binding m name q.name))) (sym all)
+    ∙ named_flat m name ps)
+
+-- what is named by the equation, and by the bindings
+names_by : Name → Option EqId → (Name → Option Record) → List Source
+names_by name o at =
+    option_map_or (λ e. flat_map (λ q. named_by (as_binding (at q.name))) (parameters e)) o []
+    ++ option_to_list (option_map (λ gas. source.Factor (potential_name gas)) (option_and_then (λ e. gas_of (output e)) o))
+
+-- a line that is not present names nothing
+pub no_sources : (m : Data) (name : Name) → None ≡ line m name → (s : Source) → IsListed s (sources_of m name) → ⊥
+unfolding names_by
+no_sources m name none s i = subst (λ o. IsListed s (names_by name o (λ p. finite.get m (key.Bind name p)))) (sym none) i
+
+-- ---- lines that the keys are not about
+
+is_about : Name → RecordKey → Bool
+is_about name (key.Line line) = bytes_eq line name
+is_about name (key.Bind line parameter) = bytes_eq line name
+is_about name _ = false
+
+about_is : (name : Name) (k : RecordKey) → is_about name k ≡ true → IsAbout k name
+unfolding is_about
+about_is name key.Span e = absurd (cc)
+about_is name (key.Activity other year) e = absurd (cc)
+about_is name (key.Factor other year) e = absurd (cc)
+about_is name (key.Line other) e = sym ((bytes_decides other name).0 e)
+about_is name (key.Bind other parameter) e = sym ((bytes_decides other name).0 e)
+about_is name (key.Uncert other) e = absurd (cc)
+
+module _ (keys : List RecordKey) (old new : Data) (same : DifferAt keys old new) (index : Index)
+    (done : (k : RecordKey) → IsListed k keys → (name : Name) → IsAbout k name → IsUnderAll new index name) where
+  pub all_under : HasUsers old index → HasUsers new index
+  unfolding is_about names_by
+  all_under has name s i = elim (or_else (list_any (is_about name) keys)) [
+    | inl some ↦ let found = from_any (is_about name) keys some in
+        done found.0 found.1 name (about_is name found.0 found.2) s i
+    | inr none ↦ has name s (subst (IsListed s) (sym (unedited none)) i)
+  ]
+    where
+      kept : list_any (is_about name) keys ≡ false → (k : RecordKey) → is_about name k ≡ true
+          → finite.get old k ≡ finite.get new k
+      kept none k on = same k (λ c. true_not_false (sym (listed_any (is_about name) k keys (listed keys k c) on) ∙ none))
+
+      unedited : list_any (is_about name) keys ≡ false → sources_of old name ≡ sources_of new name
+      unedited none =
+          let line_kept = kept none (key.Line name) ((bytes_decides name name).1 refl) in
+          let bound_kept = λ (p : Name). kept none (key.Bind name p) ((bytes_decides name name).1 refl) in
+          λ j. names_by name (as_line (line_kept j)) (λ p. bound_kept p j)

@@ -1,0 +1,15 @@
+//! The nodes that edits affect, found by a search from those that are changed.
+#![tactic(auto)]
+
+mod changed;
+mod edited;
+mod found;
+mod index;
+mod seeds;
+mod series;
+mod spreading;
+mod taking;
+mod years;
+
+pub use edited::affected;
+pub use index::{Index, Source};

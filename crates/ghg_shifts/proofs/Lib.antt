@@ -1,0 +1,13 @@
+pub mod Sums
+pub mod Limits
+pub mod Places
+pub mod Counting
+pub mod Leaves
+pub mod Outcomes
+pub mod Exchange
+pub mod Ordered
+pub mod Totals
+pub mod Steps
+pub mod Room
+pub mod Noting
+pub mod Progress
