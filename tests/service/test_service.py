@@ -192,14 +192,13 @@ class Country(unittest.TestCase):
 class Curl(unittest.TestCase):
     maxDiff = None
 
-    def test_the_two_lines_of_each_page(self):
-        for page in ("README.md", "docs/SERVICE.md"):
-            lines = re.findall("^ *(curl .*)$", (TOP / page).read_text("utf-8"), re.MULTILINE)
-            self.assertEqual(len(lines), 2, page)
-            with Service(2) as service:
-                self.assertEqual(self.printed(lines[0], service), b'{"reply":"accepted 1"}', page)
-                self.assertEqual(self.printed(lines[1], service), summary_without_lines(), page)
-                self.assertEqual(service.status(), 0)
+    def test_the_two_lines_of_the_page(self):
+        lines = re.findall("^ *(curl .*)$", (TOP / "docs/SERVICE.md").read_text("utf-8"), re.MULTILINE)
+        self.assertEqual(len(lines), 2)
+        with Service(2) as service:
+            self.assertEqual(self.printed(lines[0], service), b'{"reply":"accepted 1"}')
+            self.assertEqual(self.printed(lines[1], service), summary_without_lines())
+            self.assertEqual(service.status(), 0)
 
     def printed(self, line, service):
         """What a command of a page prints at the top of the repository, with the port of this program."""

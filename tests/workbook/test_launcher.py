@@ -1,0 +1,42 @@
+"""The launcher `./ghg`: help and the version are answered without the program."""
+import pathlib
+import re
+import subprocess
+import unittest
+
+TOP = pathlib.Path(__file__).resolve().parent.parent.parent
+HELP = TOP / "tools/help"
+
+
+def ghg(*words: str) -> "subprocess.CompletedProcess[str]":
+    """What the launcher prints for words."""
+    return subprocess.run([TOP / "ghg", *words], capture_output=True, text=True, check=False)
+
+
+class Launcher(unittest.TestCase):
+    def test_help(self) -> None:
+        for words, page in (
+            (["--help"], "ghg"), (["-h"], "ghg"), (["help"], "ghg"),
+            (["help", "compile"], "compile"), (["compile", "--help"], "compile"),
+            (["help", "serve"], "serve"), (["serve", "-h"], "serve"),
+        ):
+            run = ghg(*words)
+            self.assertEqual((run.returncode, run.stderr), (0, ""), words)
+            self.assertEqual(run.stdout, (HELP / f"{page}.txt").read_text("utf-8"), words)
+
+    def test_each_page_has_an_example(self) -> None:
+        for page in HELP.glob("*.txt"):
+            self.assertRegex(page.read_text("utf-8"), r"\nExample: \./ghg ", page.name)
+
+    def test_no_such_command(self) -> None:
+        for word in ("nothing", "../compile", "Compile"):
+            run = ghg("help", word)
+            self.assertEqual((run.returncode, run.stdout), (2, ""), word)
+            self.assertIn("./ghg --help", run.stderr, word)
+
+    def test_version(self) -> None:
+        version = (TOP / "VERSION").read_text("utf-8").strip()
+        self.assertEqual(ghg("--version").stdout, f"ghg {version}\n")
+        newest = re.search(r"^## (\S+)$", (TOP / "CHANGELOG.md").read_text("utf-8"), re.MULTILINE)
+        self.assertIsNotNone(newest)
+        self.assertEqual(newest and newest[1], version)
