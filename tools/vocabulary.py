@@ -1,4 +1,4 @@
-"""The words of the program, out of tools/vocabulary.json, and the nearest of them to a text."""
+"""The words of the program, out of tools/facts.json, and the nearest of them to a text."""
 import csv
 import difflib
 import functools
@@ -12,7 +12,7 @@ HALF_LIFE_UNIT = "yr"
 MEMOS = ("MB", "MC", "RA")
 # The parameters that take what a line gave the year before.
 OF_LAST_YEAR = {("Q91", "PREV"), ("Q92", "PREV")}
-PATH = pathlib.Path(__file__).resolve().parent / "vocabulary.json"
+PATH = pathlib.Path(__file__).resolve().parent / "facts.json"
 EARLIER = PATH.parent / "earlier-codes.csv"
 
 

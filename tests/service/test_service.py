@@ -23,6 +23,7 @@ import unittest
 from tests.service.serving import (GAS, HEADER, HOST, PROGRAM, SECONDS, TOP, Service, free_port, get, post,
                                    read_to_the_end, reply, table)
 from tests.workbook.test_country import files
+from tools.vocabulary import limit
 
 CELLS = b"""code,category,equation,gas,unit,value,low,high
 ELEC.GAS,1A1a,Q10,CO2,Gg,56.100,54.300,58.300
@@ -37,7 +38,7 @@ TOO_LONG = reply("413 Payload Too Large", "refused 3 BodyTooLong")
 NO_TABLE = reply("404 Not Found", "no table")
 NO_MEMORY = reply("507 Insufficient Storage", "memory")
 ACCEPTED, REPEATED = reply("201 Created", "accepted 1"), reply("200 OK", "repeated 1")
-LONGEST = 4_194_304
+LONGEST = int(limit("body").replace(",", ""))
 # What makes `close` reset a connection.
 RESET = struct.pack("ii", 1, 0)
 

@@ -104,8 +104,8 @@ class Words(unittest.TestCase):
                 HEADER + f"enter,span,,,1950,{1950 + limits['span'] + more},1950,,,\n"]
             self.assertEqual([reply.split()[0] for reply in replies(*bodies)], [due] * len(bodies))
 
-    def test_file_is_what_the_pages_make(self):
-        made = subprocess.run([TOP / "tools/make-vocabulary"], capture_output=True, check=True).stdout
+    def test_file_is_what_the_code_says(self):
+        made = subprocess.run([TOP / "tools/facts"], capture_output=True, check=True).stdout
         self.assertEqual(made, vocabulary.PATH.read_bytes())
 
 
