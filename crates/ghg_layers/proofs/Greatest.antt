@@ -68,15 +68,30 @@ filter_push {A = A} test (y ∷ xs) x = by (test y) (filter_push test xs x)
     by true rest = ap (λ (ys : List A). y ∷ ys) rest
     by false rest = rest
 
-module _ {A : Type 0} (f : A → ℕ) (test : A → Bool) (xs : List A) (k : ℕ) (x : A) (h : k < length xs) (e : x ≡ get_or xs k x) where
-  pushed : filter test (take (k + 1) xs) ≡ filter test (take k xs) ++ cond (test x) (x ∷ []) []
-  pushed = ap (filter test) (take_more xs k x h ∙ ap (λ y. take k xs ++ y ∷ []) (sym e)) ∙ filter_push test (take k xs) x
+-- one more, which is taken in if it passes
+pub filtered_more : {A : Type 0} (f : A → ℕ) (test : A → Bool) (xs : List A) (k : ℕ) (x : A) → k < length xs → x ≡ get_or xs k x → (last rank now : ℕ)
+    → last ≡ greatest (map f (filter test (take k xs))) → rank ≡ f x → now ≡ cond (test x) (max last rank) last → now ≡ greatest (map f (filter test (take (k + 1) xs)))
+filtered_more {A = A} f test xs k x h e last rank now was rank_is is = is ∙ by (test x) ∙ sym (ap (λ ys. greatest (map f ys)) pushed)
+  where
+    passed : List A
+    passed = filter test (take k xs)
 
-  pub passing_more : (b : Bool) → b ≡ test x → b ≡ true → (last rank now : ℕ) → last ≡ greatest (map f (filter test (take k xs))) → rank ≡ f x → now ≡ max last rank → now ≡ greatest (map f (filter test (take (k + 1) xs)))
-  passing_more b is on last rank now was rank_is both =
-      both ∙ ap (λ a. max a rank) was ∙ ap (max (greatest (map f (filter test (take k xs))))) rank_is
-      ∙ sym (ap (λ ys. greatest (map f ys)) (pushed ∙ ap (λ t. filter test (take k xs) ++ cond t (x ∷ []) []) (sym is ∙ on)) ∙ ap greatest (map-append f (filter test (take k xs)) (x ∷ [])) ∙ greatest_push (map f (filter test (take k xs))) (f x))
+    pushed : filter test (take (k + 1) xs) ≡ passed ++ cond (test x) (x ∷ []) []
+    pushed = ap (filter test) (take_more xs k x h ∙ ap (λ y. take k xs ++ y ∷ []) (sym e)) ∙ filter_push test (take k xs) x
 
-  pub failing_more : (b : Bool) → b ≡ test x → b ≡ false → (last now : ℕ) → last ≡ greatest (map f (filter test (take k xs))) → now ≡ last → now ≡ greatest (map f (filter test (take (k + 1) xs)))
-  failing_more b is off last now was same =
-      same ∙ was ∙ sym (ap (λ ys. greatest (map f ys)) (pushed ∙ ap (λ t. filter test (take k xs) ++ cond t (x ∷ []) []) (sym is ∙ off) ∙ append-nil (filter test (take k xs))))
+    by : (b : Bool) → cond b (max last rank) last ≡ greatest (map f (passed ++ cond b (x ∷ []) []))
+    by true = ap (λ a. max a rank) was ∙ ap (max (greatest (map f passed))) rank_is ∙ sym (ap greatest (map-append f passed (x ∷ [])) ∙ greatest_push (map f passed) (f x))
+    by false = was ∙ sym (ap (λ ys. greatest (map f ys)) (append-nil passed))
+
+-- only a greater one that passes changes the greatest
+pub greater_in : (b : Bool) (last rank : ℕ) → b ≡ true → last < rank → rank ≡ cond b (max last rank) last
+greater_in true last rank e above = omega (arith, above)
+greater_in false last rank e above = cc
+
+pub failing_out : (b : Bool) (last rank : ℕ) → b ≡ false → last ≡ cond b (max last rank) last
+failing_out true last rank e = cc
+failing_out false last rank e = refl
+
+pub no_greater : (b : Bool) (last rank : ℕ) → rank ≤ last → last ≡ cond b (max last rank) last
+no_greater true last rank below = omega (arith, below)
+no_greater false last rank below = refl

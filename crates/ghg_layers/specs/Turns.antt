@@ -21,6 +21,7 @@ pub record IsTurnOf (l : Lines) (t : Turn) : Type 0 where
 -- the turns of all given lines, whose years are told as years behind the first
 pub record AreTurns (l : Lines) (first : ℕ) (nodes : List Node) (turns : List Turn) : Type 0 where
   pub each : (t : Turn) → IsListed t turns → IsTurnOf l t
-  pub given : (t : Turn) → IsListed t turns → IsListed (node.Line (name_at l.names.items t.number) (first + t.year)) nodes
+  pub given : (t : Turn) → IsListed t turns →
+      IsListed (node.Line (name_at l.names.items t.number) (first + t.year)) nodes
   pub all : (name : Name) (year : ℕ) → IsListed (node.Line name year) nodes →
       (t : Turn) × IsListed t turns × (name_at l.names.items t.number ≡ name) × (first + t.year ≡ year)

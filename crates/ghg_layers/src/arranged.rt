@@ -13,9 +13,9 @@ use ghg_units::Node;
 use std::alloc::{AllocError, Global};
 
 /// Nodes of a workbook without a ring by layers, so that the nodes of a layer take none of each other. A node
-/// stands in the first layer where none of its inputs is given, and otherwise in the layer just behind the last
-/// that holds a given input of it. Within a layer the nodes stand in node order. Lines that have no given node
-/// are not gone over.
+/// stands in the first layer if none of its inputs is given, and otherwise in the layer just after the last
+/// that holds a given input of it. Within a layer the nodes stand in node order. Lines that have no given
+/// node are not gone over.
 pub fn layers<R: Records>(
     alloc: Global,
     records: &R,

@@ -24,7 +24,7 @@ use ghg_graph::{counts_in_gross, first_year, number_of};
 use ghg_units::{Name, Node};
 use std::alloc::{AllocError, Global};
 
-/// The ranks of given nodes: 1 where no input is given, and else by one above the greatest of its given inputs'
+/// The ranks of given nodes: 1 if no input is given, and else by one above the greatest of its given inputs'
 /// ranks.
 #[derive(Drop)]
 pub(crate) struct Ranks {
@@ -158,6 +158,7 @@ impl Ranks {
     }
 
     // The greatest rank of given equivalents of lines at those of the categories whose lines the total adds.
+    // The rank is compared first, since most are 0 and the test of a category takes longer.
     fn last_own(&self, scope: &Scope, categories: &[Category], year: u32) -> usize
         requires ranks { IsRanking self.now }
         requires year { self.now.first ≤ year }
@@ -167,8 +168,9 @@ impl Ranks {
         let offset = (year - self.first) as usize;
         let mut last = 0_usize;
         for category in categories {
-            if adds(scope, *category) {
-                last = last.max(self.own.get(place(*category), offset));
+            let rank = self.own.get(place(*category), offset);
+            if rank > last && adds(scope, *category) {
+                last = rank;
             }
         }
         last

@@ -1,19 +1,27 @@
-use Rattle.std.proofs.Common.{◌∙◌, ◌-◌, ℕ, ap}
+use Rattle.std.proofs.Common.{◌∙◌, ◌-◌, ℕ, ap, sym, arith}
 use Rattle.ghg_categories.specs.declared.category.Category.{Category}
 use Rattle.std.proofs.lemmas.List.{get_or_default}
 use Rattle.ghg_layers.specs.Grids.{cell}
 use Rattle.ghg_layers.specs.Ranks.{adds, own_rank}
-use Rattle.ghg_layers.proofs.Greatest.{failing_more, passing_more}
+use Rattle.ghg_layers.proofs.Greatest.{failing_out, filtered_more, greater_in, no_greater}
 use Rattle.ghg_layers.proofs.ranks.Ranks.last_own.Goals as goal
-use Rattle.ghg_layers.proofs.ranks.Ranks.last_own.Goals.{then-adds, else-adds}
+use Rattle.ghg_layers.proofs.ranks.Ranks.last_own.Goals.{then-rank-last+then-adds, else-rank-last, else-rank-last-via-then-rank-last+else-adds, else-rank-last-via-else-rank-last}
 
 pub loop-category-preserved : goal.loop-category-preserved
 loop-category-preserved c =
-    let f : Category → ℕ = (λ d. own_rank c.args.self.now d c.args.year) in
+    let self = c.args.self.now in
+    let f : Category → ℕ = (λ d. own_rank self d c.args.year) in
     let cs = c.args.categories.now in
     let k = c.loop-category.category-index in
     let h = c.loop-category-test.true in
-    elim c.if-adds.branch [
-      | then-adds w ↦ passing_more f (adds c.args.scope.now) cs k _ h (get_or_default cs k _ _ h) c.adds.result c.adds.ensures w.if-adds.true c.loop-category.last w.get.result c.if-adds.last c.loop-category.invariant (w.get.ensures ∙ ap (λ p. cell c.args.self.now.own p (c.args.year - c.args.self.now.first)) w.place.ensures.place) (w.last-is ∙ w.max-last.ensures)
-      | else-adds w ↦ failing_more f (adds c.args.scope.now) cs k _ h (get_or_default cs k _ _ h) c.adds.result c.adds.ensures w.if-adds.false c.loop-category.last c.if-adds.last c.loop-category.invariant w.last-is
-    ]
+    let last = c.loop-category.last in
+    let rank = c.get-rank.result in
+    filtered_more f (adds c.args.scope.now) cs k _ h (get_or_default cs k _ _ h) last rank c.if-rank-last.last c.loop-category.invariant
+    (c.get-rank.ensures ∙ ap (λ p. cell self.own p (c.args.year - self.first)) c.place.ensures.place)
+    (elim c.if-rank-last.branch [
+      | then-rank-last+then-adds w ↦ let above = w.if-rank-last.true in w.last-is ∙ greater_in _ last rank (sym w.adds.ensures ∙ w.if-adds.true) (omega (arith, above))
+      | else-rank-last w ↦ w.last-is ∙ elim w.else-rank-last.branch [
+        | else-rank-last-via-then-rank-last+else-adds v ↦ failing_out _ last rank (sym v.adds.ensures ∙ v.if-adds.false)
+        | else-rank-last-via-else-rank-last v ↦ let below = v.if-rank-last.false in no_greater _ last rank (omega (arith, below))
+      ]
+    ])
