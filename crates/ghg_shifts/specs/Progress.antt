@@ -25,11 +25,12 @@ use Rattle.ghg_shifts.specs.Shifts.{AreMoved, counts_in, shift_of, total_at}
 abbrev pub is_counted : Option Category → Data → Name → Bool
 is_counted top m name = option_map_or (counts_in top) (category m name) false
 
--- Of the lines that a total counts in the old data, the moved ones and no others are noted as gone; of those that
--- it counts in the new data, the moved ones and no others as come. Then it has the shifts that it needs.
+-- Of the lines that a total counts in the old data, the moved ones and no others are noted as gone; of those
+-- that it counts in the new data, the moved ones and no others as come. Then it has the shifts that it needs.
 abbrev pub TotalIsNoted : Type 0
-TotalIsNoted = (old new : Data) → IsAcyclic old → IsAcyclic new → (gone come : ℕ → Name → Bool) (shifts : Shifts) →
-    AreNoted old new gone come shifts → (year : ℕ) (moved : Name → Bool) → AreMoved old new year moved →
+TotalIsNoted = (old new : Data) → IsAcyclic old → IsAcyclic new →
+    (gone come : ℕ → Name → Bool) (shifts : Shifts) → AreNoted old new gone come shifts →
+    (year : ℕ) (moved : Name → Bool) → AreMoved old new year moved →
     (top : Option Category) → is_year_of (span new) year ≡ true →
     ((name : Name) → is_node old (node.Equiv name year) ≡ true → is_counted top old name ≡ true →
     gone year name ≡ moved name) →
@@ -42,8 +43,8 @@ abbrev pub ShiftsHaveRoom : Type 0
 ShiftsHaveRoom = (old new : Data) → IsWorkbook old → IsAcyclic old → IsWorkbook new → IsAcyclic new →
     (gone come : Name → Bool) (year : ℕ) (leaf : Category) → HasRoom (shift_of old new gone come year leaf)
 
--- A change of workbooks, whose records differ at the edited keys alone. The given nodes are nodes of the new data,
--- among them all that are affected.
+-- A change of workbooks, whose records differ at the edited keys alone. The given nodes are nodes of the new
+-- data, among them all that are affected.
 pub record IsEdit (old new : Data) (keys : List RecordKey) (given : List Node) : Type 0 where
   pub was : IsWorkbook old
   pub change : IsChange old new

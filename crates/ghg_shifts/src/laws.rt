@@ -3,9 +3,9 @@
 ghost use Rattle.ghg_shifts.specs.Laws.{TotalsAreExchanged};
 ghost use Rattle.ghg_shifts.specs.Progress.{ShiftsHaveRoom, TotalIsNoted, TotalsHaveShifts};
 
-/// If nothing was over, a total of new data is what it was, less what went from the leaves under it, plus what
-/// came to them. So is the gross total. It is over, and does not break, if an equivalent that came is over.
-/// Otherwise it is over, and breaks, if that sum is beyond the limit.
+/// If nothing was over, a total of new data is what it was, less what went from the leaves under it, plus
+/// what came to them. So is the gross total. It is over, and does not break, if an equivalent that came is
+/// over. Otherwise it is over, and breaks, if that sum is beyond the limit.
 pub fn totals_are_exchanged()
     ensures { TotalsAreExchanged }
 {}

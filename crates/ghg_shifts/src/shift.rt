@@ -28,7 +28,7 @@ impl Shift {
         }
     }
 
-    // Takes away what a line gave.
+    /// Takes away what a line gave.
     pub(crate) fn go(&mut self, gave: &Input)
         requires { HasRoom self.old }
         ensures { self.new ≡ less gave.now self.old }
@@ -36,7 +36,7 @@ impl Shift {
         self.went.add(gave);
     }
 
-    // Adds what a line gives, which may be over.
+    /// Adds what a line gives, which may be over.
     pub(crate) fn come(&mut self, gives: Result<Input, Over>)
         requires { HasRoom self.old }
         ensures { self.new ≡ more gives self.old }
