@@ -1,8 +1,9 @@
 pub mod Sums
 pub mod Limits
 pub mod Places
-pub mod Counting
 pub mod Leaves
+pub mod OfYear
+pub mod Counting
 pub mod Outcomes
 pub mod Exchange
 pub mod Ordered

@@ -14,7 +14,7 @@ ghost use Rattle.ghg_shifts.specs.Sums.{IsSumOf, most_joined};
 use crate::evaluated::Evaluated;
 use crate::extents::Extents;
 use crate::shift::Shift;
-use ghg_categories::{Category, all, is_under};
+use ghg_categories::{Category, is_under};
 use ghg_cell::{Input, Ticket};
 use ghg_interval::Over;
 use std::alloc::{AllocError, Global};
@@ -72,8 +72,8 @@ impl Shifts {
         Ok(())
     }
 
-    /// Notes that a line has come in a year. What its equivalent gives, which may be over, comes to the category
-    /// at which the line stands, if it emits a gas.
+    /// Notes that a line has come in a year. What its equivalent gives, which may be over, comes to the
+    /// category at which the line stands, if it emits a gas.
     pub fn note_come(
         &mut self,
         year: u32,
@@ -86,7 +86,8 @@ impl Shifts {
             else shift_at self.old y leaf)) }
         ensures noted { OnOk result ((old new : Data) (gone come : ℕ → Name → Bool) (name : Name) →
             AreNoted old new gone come self.old → come year name ≡ false → stands ≡ emitted_at new name →
-            ((leaf : Category) → stands ≡ Some leaf → gives ≡ or_blank (compilation new (node.Equiv name year))) →
+            ((leaf : Category) → stands ≡ Some leaf →
+            gives ≡ or_blank (compilation new (node.Equiv name year))) →
             AreNoted old new gone (with_line_in year name come) self.new) }
     {
         if let Some(leaf) = stands {
@@ -98,8 +99,8 @@ impl Shifts {
     }
 
     /// The total of a category in a year, or the gross total if `top` is `None`: what it was, blank in a new
-    /// year, less what went, plus what came. It is over, and does not break, if something over came. Otherwise
-    /// it is over, and breaks, if a bound is beyond 10^9 of its unit.
+    /// year, less what went, plus what came. It is over, and does not break, if something over came.
+    /// Otherwise it is over, and breaks, if a bound is beyond 10^9 of its unit.
     pub fn total(&self, kept: &Input, top: Option<Category>, year: u32, ticket: Ticket) -> Evaluated
         ensures { (old new : Data) → IsChange old new → AreShifts old new year top self.now →
             kept.now ≡ input_at (compilation old) (total_at top year) →
@@ -121,7 +122,8 @@ impl Shifts {
         Ok(())
     }
 
-    // What went from all leaves that a total counts, and what came to them.
+    // What went from all leaves that a total counts, and what came to them. It visits only the leaves at which
+    // something is noted in the year, from the first category of the tree to the last.
     fn counted(&self, top: Option<Category>, year: u32) -> Counted
         ensures { IsCounted most_joined (shifts_in self.now year top) result }
     {
@@ -130,25 +132,14 @@ impl Shifts {
             came: Extents::zero(),
             over: false,
         };
-        for leaf in all() {
+        let first = (year, Category::National);
+        let last = (year, Category::C5B);
+        for ((_, leaf), shift) in self.by_leaf.range(first..=last) {
             if counts(top, *leaf) {
-                counted = self.with_leaf(counted, year, *leaf);
+                counted = counted.with(shift);
             }
         }
         counted
-    }
-
-    // With one more leaf, if anything is noted of it.
-    #[tactic(auto, using(crate::proofs::Counting::none_added))]
-    fn with_leaf(&self, counted: Counted, year: u32, leaf: Category) -> Counted
-        requires went { IsSumOf most_joined (figures_of counted.went) }
-        requires came { IsSumOf most_joined (figures_of counted.came) }
-        ensures { IsAdded counted (shift_at self.now year leaf) result }
-    {
-        match self.by_leaf.get(&(year, leaf)) {
-            Some(shift) => counted.with(shift),
-            None => counted,
-        }
     }
 }
 
