@@ -6,7 +6,9 @@
 #![tactic(auto)]
 
 mod arguments;
+mod emission;
 mod kept;
 mod reader;
 
-pub use reader::{Reader, evaluate};
+pub use emission::emitted_at;
+pub use reader::{Reader, evaluate, kept_input};

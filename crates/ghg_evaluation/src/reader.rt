@@ -6,17 +6,18 @@ ghost use Rattle.ghg_definitions.specs.Compilation.{compilation, is_node, line_g
 ghost use Rattle.ghg_definitions.specs.Data.{Data, line};
 ghost use Rattle.ghg_definitions.specs.Lookups.{given};
 ghost use Rattle.ghg_definitions.specs.Sound.{IsWorkbook};
-ghost use Rattle.ghg_shifts.specs.Noted.{AreShifts, IsChange, IsOutcomeOf};
+ghost use Rattle.ghg_shifts.specs.Noted.{AreShifts, IsChange, IsOutcomeOf, emitted_at};
 ghost use Rattle.ghg_shifts.specs.Shifts.{input_at, total_at};
 ghost use Rattle.ghg_evaluation.specs.Evaluation.{IsEvaluatedAt, IsReady};
 
 use crate::arguments::Arguments;
+use crate::emission::LastEmission;
 use crate::kept::LastLine;
 use ghg_categories::Category;
 use ghg_cell::{Input, Ticket, equiv};
 use ghg_columns::Overlay;
 use ghg_data::Records;
-use ghg_graph::{first_year, line_gas};
+use ghg_graph::first_year;
 use ghg_interval::Over;
 use ghg_shifts::{Evaluated, Shifts};
 use ghg_units::{Name, Node};
@@ -32,6 +33,7 @@ pub struct Reader<'a, R: Records> {
     // The first year of the inventory.
     first: u32,
     line: LastLine<'a>,
+    emission: LastEmission,
     arguments: Arguments,
 }
 
@@ -42,7 +44,8 @@ impl<'a, R: Records> Model for Reader<'a, R> {
 
     ghost view = { λ r. r.records.now };
 
-    ghost invariant = { λ r. IsReader (R.content r.records.now) r.first r.line r.arguments.factors };
+    ghost invariant = { λ r. IsReader (R.content r.records.now) r.first r.line r.emission
+        r.arguments.factors };
 }
 
 impl<'a, R: Records> Reader<'a, R> {
@@ -54,6 +57,7 @@ impl<'a, R: Records> Reader<'a, R> {
             records,
             first: first_year(records),
             line: LastLine::new(alloc),
+            emission: LastEmission::new(),
             arguments: Arguments::new(alloc),
         }
     }
@@ -111,12 +115,22 @@ impl<'a, R: Records> Reader<'a, R> {
         ensures potential { IfOk result (λ x. x ≡ given (R.content self.old)
             (potential (R.content self.old) year (line_gas (R.content self.old) name.now))) }
     {
-        let Some(gas) = line_gas(self.records, name) else {
+        self.emission.read(self.records, name);
+        let Some(gas) = self.emission.gas else {
             return Ok(Input::Blank);
         };
         let factors = &mut self.arguments.factors;
         factors.begin();
         factors.read(self.records, &Name::potential(gas), year)
+    }
+
+    /// The category at which a line emits a gas, if it does.
+    pub fn emitted_at(&mut self, name: &Name) -> Option<Category>
+        ensures same { self.new ≡ self.old }
+        ensures category { result ≡ emitted_at (R.content self.old) name.now }
+    {
+        self.emission.read(self.records, name);
+        self.emission.category
     }
 }
 
@@ -162,11 +176,11 @@ fn total<C: ghg_graph::Cells>(
     shifts.total(&kept, top, year, ticket)
 }
 
-// What a node was in the workbook before; blank where it was none.
-fn kept_input<C: ghg_graph::Cells>(before: &C, node: &Node) -> Input
-    ensures { result ≡ input_at (compilation (C.content before.now)) node.now }
+/// What a node is for others in a workbook; blank where it is none of its nodes.
+pub fn kept_input<C: ghg_graph::Cells>(cells: &C, node: &Node) -> Input
+    ensures { result ≡ input_at (compilation (C.content cells.now)) node.now }
 {
-    match before.value(node) {
+    match cells.value(node) {
         Some(value) => *value.input(),
         None => Input::Blank,
     }

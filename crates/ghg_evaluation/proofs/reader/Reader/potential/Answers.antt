@@ -1,4 +1,4 @@
 use Rattle.ghg_evaluation.proofs.reader.Reader.potential.Goals as goal
 
-pub read-requires : goal.read-requires
-read-requires g c = c.begin.ensures (g.R.Records.content c.self.inside.records.now) c.self.invariant.factors_are
+pub read-requires-2 : goal.read-requires-2
+read-requires-2 g c = c.begin.ensures (g.R.Records.content c.self.inside.records.now) c.self.invariant.factors_are
