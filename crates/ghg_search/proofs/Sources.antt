@@ -1,11 +1,11 @@
 -- Lines under sources.
 use Rattle.std.proofs.Common.{◌≡◌, ◌⊎◌, inl, inr, ℕ, ◌+◌, ◌<◌, Bool, true, false, cond, if◌then◌else◌, List, [], ◌∷◌, ◌++◌, length, get_or, take, flat_map, map, option_and_then, is_eq, Option, Some, None, Vec, Global, refl, sym, ap, ◌∙◌, subst}
+use Rattle.std.proofs.lemmas.Cmp.{tied_itself}
 use Rattle.std.proofs.lemmas.List.{get_or_default}
-use Rattle.std.specs.Cmp.Lexicographic.{bytes_decides}
 use Rattle.std.specs.FinMap as finite
 use Rattle.std.specs.List.{list_any}
 use Rattle.std.specs.Option.{option_map, option_map_or, option_to_list}
-use Rattle.std.specs.Str.{bytes_eq}
+use Rattle.std.specs.Ordering.{eq_by_cmp}
 use Rattle.ghg_equations.specs.declared.eq_id.EqId.{EqId}
 use Rattle.ghg_equations.specs.declared.row.Param.{Param}
 use Rattle.ghg_equations.specs.Table.{Quantity, output, parameters}
@@ -15,16 +15,17 @@ use Rattle.ghg_definitions.specs.declared.record.Record.{Record}
 use Rattle.ghg_definitions.specs.declared.record.RecordKey.{RecordKey}
 use Rattle.ghg_definitions.specs.declared.record.RecordKey.TheVariants as key
 use Rattle.ghg_definitions.specs.Compilation.{line_gas}
-use Rattle.ghg_definitions.specs.Data.{Data, Name, as_binding, as_line, binding, line}
+use Rattle.ghg_definitions.specs.Data.{Data, Name, as_binding, as_line, binding, key_cmp, line}
 use Rattle.ghg_definitions.specs.Listed.{IsListed}
 use Rattle.ghg_definitions.proofs.Depth.{or_else}
-use Rattle.ghg_definitions.proofs.Listed.{from_any, from_flat, in_either, listed, listed_any, listed_left, listed_right}
+use Rattle.ghg_definitions.proofs.Keys.{equal_by, keys_same, keys_total}
+use Rattle.ghg_definitions.proofs.Listed.{from_any, from_flat, in_either, listed, listed_any, listed_flat, listed_left, listed_right}
 use Rattle.ghg_affected.proofs.Bools.{true_not_false}
 use Rattle.ghg_data.specs.Parameters.{quantity}
 use Rattle.ghg_graph.proofs.Marking.{equal_itself, names_equal}
 use Rattle.ghg_graph.proofs.LineNumbers.{take_next}
 use Rattle.ghg_graph.proofs.Pushed.{items_in}
-use Rattle.ghg_search.specs.Index.{DifferAt, HasUser, HasUsers, IsAbout, IsUnderAll, Keeps, named_by, source_order, sources_at, sources_of, users_of}
+use Rattle.ghg_search.specs.Index.{DifferAt, HasUser, HasUsers, IsUnderBy, Keeps, named_by, source_order, sources_at, sources_of, users_of}
 use Rattle.ghg_search.specs.declared.index.Index.{Index}
 use Rattle.ghg_search.specs.declared.index.Source.{Source}
 use Rattle.ghg_search.specs.declared.index.Source.TheVariants as source
@@ -123,38 +124,57 @@ pub no_sources : (m : Data) (name : Name) → None ≡ line m name → (s : Sour
 unfolding names_by
 no_sources m name none s i = subst (λ o. IsListed s (names_by name o (λ p. finite.get m (key.Bind name p)))) (sym none) i
 
--- ---- lines that the keys are not about
+-- ---- lines by the keys of their records
 
-is_about : Name → RecordKey → Bool
-is_about name (key.Line line) = bytes_eq line name
-is_about name (key.Bind line parameter) = bytes_eq line name
-is_about name _ = false
-
-about_is : (name : Name) (k : RecordKey) → is_about name k ≡ true → IsAbout k name
-unfolding is_about
-about_is name key.Span e = absurd (cc)
-about_is name (key.Activity other year) e = absurd (cc)
-about_is name (key.Factor other year) e = absurd (cc)
-about_is name (key.Line other) e = sym ((bytes_decides other name).0 e)
-about_is name (key.Bind other parameter) e = sym ((bytes_decides other name).0 e)
-about_is name (key.Uncert other) e = absurd (cc)
+-- where more stands under the sources
+pub still_under : (m : Data) (old new : Index) → Keeps old new → (k : RecordKey) → IsUnderBy m old k → IsUnderBy m new k
+still_under m old new keeps key.Span under = tt
+still_under m old new keeps (key.Activity name year) under = tt
+still_under m old new keeps (key.Factor name start) under = tt
+still_under m old new keeps (key.Line name) under = λ s i. keeps s name (under s i)
+still_under m old new keeps (key.Bind name parameter) under = λ s i. keeps s name (under s i)
+still_under m old new keeps (key.Uncert name) under = tt
 
 module _ (keys : List RecordKey) (old new : Data) (same : DifferAt keys old new) (index : Index)
-    (done : (k : RecordKey) → IsListed k keys → (name : Name) → IsAbout k name → IsUnderAll new index name) where
-  pub all_under : HasUsers old index → HasUsers new index
-  unfolding is_about names_by
-  all_under has name s i = elim (or_else (list_any (is_about name) keys)) [
-    | inl some ↦ let found = from_any (is_about name) keys some in
-        done found.0 found.1 name (about_is name found.0 found.2) s i
-    | inr none ↦ has name s (subst (IsListed s) (sym (unedited none)) i)
+    (done : (k : RecordKey) → IsListed k keys → IsUnderBy new index k) where
+  -- the key is one of them, or its record is as it was
+  done_or_same : (k : RecordKey) → IsUnderBy new index k ⊎ (finite.get old k ≡ finite.get new k)
+  done_or_same k = elim (or_else (list_any (eq_by_cmp key_cmp k) keys)) [
+    | inl there ↦ let found = from_any (eq_by_cmp key_cmp k) keys there in
+        inl (subst (IsUnderBy new index) (sym (keys_same k found.0 (equal_by _ found.2))) (done found.0 found.1))
+    | inr none ↦ inr (same k (λ c. true_not_false
+        (sym (listed_any (eq_by_cmp key_cmp k) k keys (listed keys k c) (ap is_eq (tied_itself keys_total k))) ∙ none)))
   ]
-    where
-      kept : list_any (is_about name) keys ≡ false → (k : RecordKey) → is_about name k ≡ true
-          → finite.get old k ≡ finite.get new k
-      kept none k on = same k (λ c. true_not_false (sym (listed_any (is_about name) k keys (listed keys k c) on) ∙ none))
 
-      unedited : list_any (is_about name) keys ≡ false → sources_of old name ≡ sources_of new name
-      unedited none =
-          let line_kept = kept none (key.Line name) ((bytes_decides name name).1 refl) in
-          let bound_kept = λ (p : Name). kept none (key.Bind name p) ((bytes_decides name name).1 refl) in
-          λ j. names_by name (as_line (line_kept j)) (λ p. bound_kept p j)
+  module _ (has : HasUsers old index) (name : Name) (kept : finite.get old (key.Line name) ≡ finite.get new (key.Line name)) (s : Source) where
+    abbrev bound_by : Data → Option EqId → List Source
+    bound_by m o = option_map_or (λ e. flat_map (λ q. named_by (binding m name q.name)) (parameters e)) o []
+
+    abbrev weighed_by : Option EqId → List Source
+    weighed_by o = option_to_list (option_map (λ gas. source.Factor (potential_name gas)) (option_and_then (λ e. gas_of (output e)) o))
+
+    -- what a line with the record that it had names by its bindings, and by its gas
+    by_bindings : (o : Option EqId) → line old name ≡ o → IsListed s (bound_by new o) → HasUser index s name
+    by_bindings None is i = absurd i
+    by_bindings (Some e) is i =
+        let from = from_flat (λ q. named_by (binding new name q.name)) s (parameters e) i in
+        elim (done_or_same (key.Bind name from.0.name)) [
+          | inl under ↦ under s from.2
+          | inr as_before ↦
+              let before = subst (λ r. IsListed s (named_by (as_binding r))) (sym as_before) from.2 in
+              has name s (listed_left s (bound_by old (line old name)) _
+              (subst (λ o. IsListed s (bound_by old o)) (sym is)
+              (listed_flat (λ q. named_by (binding old name q.name)) from.0 s (parameters e) from.1 before)))
+        ]
+
+    by_gas : IsListed s (weighed_by (line new name)) → HasUser index s name
+    by_gas i = has name s (listed_right s (bound_by old (line old name)) _ (subst (λ r. IsListed s (weighed_by (as_line r))) (sym kept) i))
+
+  pub all_under : HasUsers old index → HasUsers new index
+  all_under has name s i = elim (done_or_same (key.Line name)) [
+    | inl under ↦ under s i
+    | inr kept ↦ elim (in_either s (option_map_or (λ e. flat_map (λ q. named_by (binding new name q.name)) (parameters e)) (line new name) []) _ i) [
+      | inl j ↦ by_bindings has name kept s (line new name) (ap as_line kept) j
+      | inr j ↦ by_gas has name kept s j
+    ]
+  ]

@@ -1,5 +1,5 @@
 -- Years of a span.
-use Rattle.std.proofs.Common.{◌≡◌, ◌⊎◌, inl, inr, ℕ, ◌+◌, ◌<◌, ◌≤◌, Bool, true, false, cond, not, ◌&&◌, ◌==◌, is_some, nat_le, nat_lt, ◌-◌, if◌then◌else◌, Some, refl, sym, ap, ◌∙◌, arith, leb-true, le-leb}
+use Rattle.std.proofs.Common.{◌≡◌, ◌⊎◌, inl, inr, ℕ, ◌+◌, ◌<◌, ◌≤◌, Bool, true, cond, not, ◌&&◌, ◌==◌, is_some, nat_le, Some, refl, sym, ap, ◌∙◌, arith, leb-true, le-leb}
 use Rattle.std.proofs.lemmas.Bool.{cases_lt}
 use Rattle.std.proofs.lemmas.Bool.Decides.{Decides-eqb}
 use Rattle.ghg_units.specs.declared.node.Node.{Node}
@@ -11,11 +11,9 @@ use Rattle.ghg_definitions.specs.Data.{Data, line, span}
 use Rattle.ghg_definitions.proofs.Alike.{both, first_so, not_so, second_so, so_not}
 use Rattle.ghg_definitions.proofs.Depth.{or_else}
 use Rattle.ghg_affected.proofs.Bools.{never_so, true_not_false}
-use Rattle.std.proofs.lemmas.Nat.Bits.{bit_at-zero}
-use Rattle.ghg_data.specs.YearSet.{has_bit}
 use Rattle.ghg_units.specs.WellFormed.{IsSpan}
 use Rattle.ghg_units.specs.Year.{earliest_year, is_year, latest_year}
-use Rattle.ghg_data.specs.YearSet.{HasNoYear, has_year}
+use Rattle.ghg_data.specs.YearSet.{has_year}
 use Rattle.ghg_data.specs.declared.year_set.YearSet.{YearSet}
 
 pub year_of_span : (s : Span) (year : ℕ) → is_year_of (Some s) year ≡ true → (s.first ≤ year) × (year ≤ s.last)
@@ -90,19 +88,3 @@ pub only_one : (years one others at : YearSet) (year : ℕ) → has_year years y
     → ((y : ℕ) → has_year at y ≡ has_year years y && not (has_year others y)) → has_year at year ≡ true
 only_one years one others at year h on others_is at_is = at_is year ∙ both _ _ h (so_not _ (never_so _ (λ e.
     true_not_false (sym on ∙ not_so _ (second_so (has_year years year) _ (sym (others_is year) ∙ e))))))
-
--- ---- no years
-
-no_bits : (i : ℕ) → has_bit 0 i ≡ false
-no_bits i = ap (λ b. b == 1) (bit_at-zero i)
-
-pub no_years : (set : YearSet) → set.late ≡ 0 → set.early ≡ 0 → HasNoYear set
-no_years set late early year = none (nat_le year latest_year) _ (places (nat_lt (latest_year - year) 128))
-  where
-    none : (a b : Bool) → b ≡ false → a && b ≡ false
-    none true b e = e
-    none false b e = refl
-
-    places : (b : Bool) → (if b then has_bit set.late (latest_year - year) else has_bit set.early (latest_year - year - 128)) ≡ false
-    places true = ap (λ n. has_bit n (latest_year - year)) late ∙ no_bits (latest_year - year)
-    places false = ap (λ n. has_bit n (latest_year - year - 128)) early ∙ no_bits (latest_year - year - 128)

@@ -26,16 +26,6 @@ pub record IsSpread (m : Data) (first : Found) (next : ℕ) (f : Found) : Type 0
   pub done : (k n : Node) (group : Group) → IsListed group (take next f.queue.items) → IsOf group.series group.years k
       → IsTaker m k n → IsIn f n
 
-pub spread_none : (m : Data) (f : Found) → AreQueued f → AreNodes m f → IsSpread m f 0 f
-spread_none m f queued nodes = record {
-  queued = queued;
-  nodes = nodes;
-  kept = λ n is. is;
-  affected = λ old are. are;
-  within = omega arith;
-  done = λ k n group i. absurd i;
-}
-
 pub next_queued : (f : Found) (next : ℕ) (group : Group) → slice_get f.queue.items next ≡ Some group
     → (n : Node) → IsOf group.series group.years n → IsQueued f n
 next_queued f next group e n of = (

@@ -47,9 +47,11 @@ pub record AreAdded (P : Node → Type 0) (old new : Found) : Type 0 where
 
 -- the line is found in the year, if it is changed
 abbrev pub IsLineTried : Data → Data → Found → Name → ℕ → Type 0
-IsLineTried old new f name year = is_changed old new (node.Line name year) ≡ true → IsIn f (node.Line name year)
+IsLineTried old new f name year =
+    is_changed old new (node.Line name year) ≡ true → IsIn f (node.Line name year)
 
 -- its equivalent is, or the line, if the equivalent is changed
 abbrev pub IsEquivalentTried : Data → Data → Found → Name → ℕ → Type 0
 IsEquivalentTried old new f name year =
-    is_changed old new (node.Equiv name year) ≡ true → IsIn f (node.Line name year) ⊎ IsIn f (node.Equiv name year)
+    is_changed old new (node.Equiv name year) ≡ true →
+    IsIn f (node.Line name year) ⊎ IsIn f (node.Equiv name year)

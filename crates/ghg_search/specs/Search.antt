@@ -35,9 +35,11 @@ use Rattle.ghg_search.specs.declared.index.Source.TheVariants as source
 -- where the record of the key differs, the line may be changed in a year that is no new one
 abbrev pub MayChange : Data → Data → Index → RecordKey → Name → ℕ → Type 0
 MayChange old new index key.Span name year = first_year (span old) ≢ first_year (span new)
-MayChange old new index (key.Activity other when) name year = HasUser index (source.Activity other) name × (when ≡ year)
+MayChange old new index (key.Activity other when) name year =
+    HasUser index (source.Activity other) name × (when ≡ year)
 MayChange old new index (key.Factor other start) name year =
-    HasUser index (source.Factor other) name × (names_bound new (source.Factor other) name ≡ true) × (start ≤ year)
+    HasUser index (source.Factor other) name × (names_bound new (source.Factor other) name ≡ true)
+    × (start ≤ year)
 MayChange old new index (key.Line other) name year = name ≡ other
 MayChange old new index (key.Bind other parameter) name year = name ≡ other
 MayChange old new index (key.Uncert other) name year = ⊥
@@ -45,11 +47,13 @@ MayChange old new index (key.Uncert other) name year = ⊥
 -- where it does, its equivalent may be
 abbrev pub MayWeigh : Data → Index → RecordKey → Name → ℕ → Type 0
 MayWeigh new index (key.Factor other start) name year =
-    HasUser index (source.Factor other) name × (is_potential (source.Factor other) (line_gas new name) ≡ true) × (start ≤ year)
+    HasUser index (source.Factor other) name × (is_potential (source.Factor other) (line_gas new name) ≡ true)
+    × (start ≤ year)
 MayWeigh new index (key.Line other) name year = name ≡ other
 MayWeigh new index k name year = ⊥
 
--- the lines that may be changed where the key's record differs are found, if they are changed in one of the years
+-- the lines that may be changed where the key's record differs are found, if they are changed in one of the
+-- years
 abbrev pub AreLinesTried : Data → Data → Index → YearSet → RecordKey → Found → Type 0
 AreLinesTried old new index years k f = (name : Name) (year : ℕ) → has_year years year ≡ true
     → MayChange old new index k name year → IsLineTried old new f name year
@@ -60,7 +64,8 @@ AreEquivalentsTried old new index years k f = (name : Name) (year : ℕ) → has
 
 -- the line and its equivalent are, where they take the source
 pub record AreTriedBy (old new : Data) (s : Source) (years : YearSet) (name : Name) (f : Found) : Type 0 where
-  pub line : names_bound new s name ≡ true → (year : ℕ) → has_year years year ≡ true → IsLineTried old new f name year
+  pub line : names_bound new s name ≡ true → (year : ℕ) → has_year years year ≡ true
+      → IsLineTried old new f name year
   pub equivalent : is_potential s (line_gas new name) ≡ true → (year : ℕ) → has_year years year ≡ true
       → IsEquivalentTried old new f name year
 
@@ -101,16 +106,19 @@ takes_by before name _ = false
 -- one of the bindings of the taker's parameters does
 abbrev pub takes : Data → Bool → Name → Name → Bool
 takes m before taker name =
-    option_map_or (λ e. list_any (λ q. takes_by before name (binding m taker q.name)) (parameters e)) (line m taker) false
+    option_map_or (λ e. list_any (λ q. takes_by before name (binding m taker q.name)) (parameters e))
+    (line m taker) false
 
 -- a line in the year that does
 abbrev pub IsLineTaking : Data → Bool → Name → ℕ → Node → Type 0
-IsLineTaking m before name year n = (taker : Name) × (n ≡ node.Line taker year) × (takes m before taker name ≡ true)
+IsLineTaking m before name year n =
+    (taker : Name) × (n ≡ node.Line taker year) × (takes m before taker name ≡ true)
 
 -- the total of a category of the tree, which is the first or stands above it by so many levels at most
 abbrev pub IsTotalAbove : ℕ → Category → ℕ → Node → Type 0
 IsTotalAbove levels category year n =
-    (top : Category) × (n ≡ node.Total top year) × (is_in_tree top ≡ true) × (stands_within levels category top ≡ true)
+    (top : Category) × (n ≡ node.Total top year) × (is_in_tree top ≡ true)
+    × (stands_within levels category top ≡ true)
 
 abbrev pub IsTaker : Data → Node → Node → Type 0
 IsTaker m k n = IsInput (sheet_of m) k n

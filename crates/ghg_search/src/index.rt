@@ -7,7 +7,7 @@ ghost use Rattle.ghg_units.specs.Parameter.{is_parameter};
 ghost use Rattle.ghg_definitions.specs.declared.record.Record.{Record};
 ghost use Rattle.ghg_definitions.specs.Data.{Data, Name, binding, key_cmp};
 ghost use Rattle.ghg_definitions.specs.Listed.{IsListed};
-ghost use Rattle.ghg_search.specs.Index.{DifferAt, HasUser, HasUsers, IsAbout, IsUnderAll, Keeps, KeepsBut, is_named, is_potential, named_by, names_bound, sources_at, users_of};
+ghost use Rattle.ghg_search.specs.Index.{DifferAt, HasUser, HasUsers, IsUnderAll, IsUnderBy, Keeps, KeepsBut, is_named, is_potential, named_by, names_bound, sources_at, users_of};
 
 use crate::taking::has_name;
 use ghg_data::{Records, params_of};
@@ -56,8 +56,9 @@ impl Index {
         }
     }
 
-    /// Adds what the lines name that the keys are about. Where the records differ from others at the keys
-    /// alone, an index of those is then one of these, and still one of those.
+    /// Adds what lines name by the records of the keys: all that a line names, if its own record is one of
+    /// them, and what a binding names. Where the records differ from others at the keys alone, an index of
+    /// those is then one of these, and still one of those.
     pub fn add<R: Records>(&mut self, records: &R, keys: &[RecordKey]) -> Result<(), AllocError>
         ensures kept { (m : Data) → HasUsers m self.old → HasUsers m self.new }
         ensures added { OnOk result ((m : Data) → DifferAt keys.now m (R.content records.now) →
@@ -69,8 +70,8 @@ impl Index {
         Ok(())
     }
 
-    /// Takes out lines from under what they name in other records and not in these, where the keys are about
-    /// them. It takes no memory.
+    /// Takes out lines from under what they name by the records of the keys in others, if they do not name it
+    /// in these. It takes no memory.
     pub fn prune<R: Records, S: Records>(&mut self, records: &R, others: &S, keys: &[RecordKey])
         ensures { HasUsers (R.content records.now) self.old → HasUsers (R.content records.now) self.new }
     {
@@ -79,14 +80,15 @@ impl Index {
         }
     }
 
-    // Takes out the line that a key is about.
+    // Takes out a line from under what it names by the record of a key in the others.
     fn cut_key<R: Records, S: Records>(&mut self, records: &R, others: &S, key: &RecordKey)
         ensures { HasUsers (R.content records.now) self.old → HasUsers (R.content records.now) self.new }
     {
         match key {
-            RecordKey::Line(name) | RecordKey::Bind(name, _) => self.cut_line(
-                records, others, name,
-            ),
+            RecordKey::Line(name) => self.cut_line(records, others, name),
+            RecordKey::Bind(name, parameter) => {
+                self.cut_named(records, others.binding(name, parameter), name);
+            }
             _ => {}
         }
     }
@@ -155,14 +157,16 @@ impl Index {
         cut_name(lines, line);
     }
 
-    // Puts the line that a key is about under all that it names.
+    // Puts a line under what it names by the record of a key.
     fn put_key<R: Records>(&mut self, records: &R, key: &RecordKey) -> Result<(), AllocError>
         ensures kept { Keeps self.old self.new }
-        ensures put { OnOk result ((name : Name) → IsAbout key.now name →
-            IsUnderAll (R.content records.now) self.new name) }
+        ensures put { OnOk result (IsUnderBy (R.content records.now) self.new key.now) }
     {
         match key {
-            RecordKey::Line(name) | RecordKey::Bind(name, _) => self.put_line(records, name),
+            RecordKey::Line(name) => self.put_line(records, name),
+            RecordKey::Bind(name, parameter) => {
+                self.put_named(records.binding(name, parameter), name)
+            }
             _ => Ok(()),
         }
     }

@@ -36,7 +36,8 @@ impl Found {
         years: &YearSet,
     ) -> Result<(), AllocError>
         requires { AreYearsOf (R.content records.now) years.now }
-        ensures added { OnOk result (AreAdded (IsNodeIn (R.content records.now) years.now) self.old self.new) }
+        ensures added { OnOk result
+            (AreAdded (IsNodeIn (R.content records.now) years.now) self.old self.new) }
         ensures found { OnOk result ((n : Node) → IsNodeIn (R.content records.now) years.now n →
             IsIn self.new n) }
     {
@@ -60,7 +61,8 @@ impl Found {
         requires names { (name : Name) → IsListed name names.now →
             is_some (line (R.content records.now) name) ≡ true }
         requires years { AreYearsOf (R.content records.now) years.now }
-        ensures added { OnOk result (AreAdded (IsNodeIn (R.content records.now) years.now) self.old self.new) }
+        ensures added { OnOk result
+            (AreAdded (IsNodeIn (R.content records.now) years.now) self.old self.new) }
         ensures found { OnOk result ((name : Name) → IsListed name names.now →
             AreLineNodes (R.content records.now) self.new name years.now) }
     {
@@ -79,7 +81,8 @@ impl Found {
     ) -> Result<(), AllocError>
         requires name { is_some (line (R.content records.now) name.now) ≡ true }
         requires years { AreYearsOf (R.content records.now) years.now }
-        ensures added { OnOk result (AreAdded (IsNodeIn (R.content records.now) years.now) self.old self.new) }
+        ensures added { OnOk result
+            (AreAdded (IsNodeIn (R.content records.now) years.now) self.old self.new) }
         ensures found { OnOk result (AreLineNodes (R.content records.now) self.new name.now years.now) }
     {
         self.put(&Series::Line(*name), years)?;
@@ -132,7 +135,8 @@ impl Found {
         ensures lines { OnOk result
             (AreLinesTried (R.content old.now) (S.content new.now) index.now years.now key.now self.new) }
         ensures equivalents { OnOk result
-            (AreEquivalentsTried (R.content old.now) (S.content new.now) index.now years.now key.now self.new) }
+            (AreEquivalentsTried (R.content old.now) (S.content new.now) index.now years.now key.now
+            self.new) }
     {
         match key {
             RecordKey::Span => {

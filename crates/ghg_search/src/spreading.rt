@@ -87,7 +87,8 @@ impl Found {
         }
     }
 
-    // Adds the lines that take a line's values of some years, in these and the next ones, and its equivalents.
+    // Adds the lines that take a line's values of some years, in these and the next ones, and its
+    // equivalents.
     fn put_line_takers<R: Records>(
         &mut self,
         records: &R,
