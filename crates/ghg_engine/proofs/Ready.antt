@@ -1,11 +1,9 @@
 -- What is at hand before a node is evaluated, and what its outcome is.
-use Rattle.std.proofs.Common.{◌≡◌, ℕ, ◌+◌, ◌<◌, true, cond, List, ◌∷◌, ◌++◌, Contains, length, get_or, take, drop, Option, Some, refl, sym, ap, ◌∙◌, subst}
+use Rattle.std.proofs.Common.{◌≡◌, ℕ, ◌+◌, ◌<◌, true, List, ◌∷◌, ◌++◌, Contains, length, get_or, take, drop, Option, Some, refl, sym, ap, ◌∙◌, subst}
 use Rattle.std.specs.Prelude.{slice_get}
 use Rattle.std.proofs.lemmas.Option.{slice_get_read}
 use Rattle.ghg_units.specs.declared.node.Node.{Node}
 use Rattle.ghg_affected.specs.Patches.{IsInTurn}
-use Rattle.ghg_columns.specs.Cells.{outcome_in}
-use Rattle.ghg_columns.proofs.Places.{node_itself}
 use Rattle.ghg_definitions.specs.declared.record.RecordKey.{RecordKey}
 use Rattle.ghg_definitions.specs.Compilation.{compilation, is_node, sheet_of}
 use Rattle.ghg_definitions.specs.Data.{Data}
