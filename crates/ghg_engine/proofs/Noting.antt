@@ -54,6 +54,11 @@ module _ (keys : List RecordKey) where
       turned false true = refl
       turned false false = refl
 
+  -- it edits no other line
+  pub others_as_before : (name other : Name) → (other ≡ name → ⊥) → is_edited keys other ≡ is_edited (keys ++ key.Line name ∷ []) other
+  others_as_before name other apart = sym (one_key (key.Line name) other ∙ ap (λ b. is_edited keys other || b)
+      (never_so (eq_by_cmp key_cmp (key.Line other) (key.Line name)) (λ e. apart (ap first_name (keys_same (key.Line other) (key.Line name) (equal_by _ e))))) ∙ or_none (is_edited keys other))
+
   -- a key of no line edits none
   pub none_edited_by : (k : RecordKey) → line_name k ≡ None → (name : Name) → is_edited keys name ≡ is_edited (keys ++ k ∷ []) name
   none_edited_by k none name = sym (one_key k name ∙ ap (λ b. is_edited keys name || b) (never_so (eq_by_cmp key_cmp (key.Line name) k) (λ e. clash (ap line_name (keys_same (key.Line name) k (equal_by _ e)) ∙ none))) ∙ or_none (is_edited keys name))

@@ -61,7 +61,13 @@ pub(crate) fn evaluate_all<R: Records, C: ghg_graph::Cells>(
             ticket,
         )?;
         least = least_with(&least, evaluated.breaks, node);
-        notes.note(change, nodes, place, input_of(&evaluated.outcome))?;
+        notes.note(
+            change,
+            &mut reader,
+            nodes,
+            place,
+            input_of(&evaluated.outcome),
+        )?;
         cells.insert(node, evaluated.outcome)?;
     }
     match least {

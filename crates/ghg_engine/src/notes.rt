@@ -10,17 +10,14 @@ ghost use Rattle.ghg_definitions.specs.Compilation.{compilation};
 ghost use Rattle.ghg_definitions.specs.Data.{key_cmp};
 ghost use Rattle.ghg_definitions.specs.Nodes.{node_cmp};
 ghost use Rattle.ghg_definitions.specs.Trials.{or_blank};
-ghost use Rattle.ghg_shifts.specs.Noted.{emitted_at};
 ghost use Rattle.ghg_shifts.specs.Progress.{IsEdit};
-ghost use Rattle.ghg_shifts.specs.Shifts.{input_at};
 ghost use Rattle.ghg_engine.specs.Notes.{AreNotes};
 
 use crate::change::Change;
-use ghg_categories::Category;
 use ghg_cell::Input;
 use ghg_data::Records;
 use ghg_definitions::RecordKey;
-use ghg_equations::equation;
+use ghg_evaluation::{Reader, emitted_at, kept_input};
 use ghg_interval::Over;
 use ghg_shifts::Shifts;
 use ghg_units::{Name, Node};
@@ -80,10 +77,14 @@ impl Notes {
             return Ok(());
         };
         self.edited.insert(*name)?;
+        let stood = emitted_at(change.before.book(), name);
+        if stood.is_none() {
+            // It gave nothing, and the equivalents that it has now are all among the nodes.
+            return Ok(());
+        }
         let Some(years) = change.records.span() else {
             return Ok(());
         };
-        let stood = emitted_at(change.before.book(), name);
         let stands = emitted_at(change.records, name);
         for year in years.first..years.last + 1 {
             let node = Node::Equiv(*name, year);
@@ -101,26 +102,30 @@ impl Notes {
     pub(crate) fn note<R: Records, C: ghg_graph::Cells>(
         &mut self,
         change: &Change<'_, R, C>,
+        reader: &mut Reader<'_, R>,
         nodes: &[Node],
         place: usize,
         outcome: Result<Input, Over>,
     ) -> Result<(), AllocError>
         requires edit { IsEdit (C.content change.now.before.now) (R.content change.now.records.now)
             change.now.keys.now nodes.now }
+        requires reader { reader.old ≡ change.now.records.now }
         requires once { StandOnce nodes.now }
         requires place { place < length nodes.now }
         requires outcome { (n : Node) → slice_get nodes.now place ≡ Some n →
             outcome ≡ or_blank (compilation (R.content change.now.records.now) n) }
         requires notes { AreNotes (C.content change.now.before.now) (R.content change.now.records.now)
             change.now.keys.now nodes.now (take place nodes.now) self.old }
-        ensures { OnOk result (AreNotes (C.content change.now.before.now) (R.content change.now.records.now)
-            change.now.keys.now nodes.now (take (place + 1) nodes.now) self.new) }
+        ensures same { reader.new ≡ reader.old }
+        ensures notes { OnOk result (AreNotes (C.content change.now.before.now)
+            (R.content change.now.records.now) change.now.keys.now nodes.now (take (place + 1) nodes.now)
+            self.new) }
     {
         let node = &nodes[place];
         let Node::Equiv(name, year) = node else {
             return Ok(());
         };
-        let stands = emitted_at(change.records, name);
+        let stands = reader.emitted_at(name);
         if self.edited.contains(name) {
             return self.shifts.note_come(*year, stands, outcome);
         }
@@ -136,23 +141,4 @@ fn is_given(nodes: &[Node], node: &Node) -> bool
     ensures { result ≡ list_any (eq_by_cmp node_cmp node.now) nodes.now }
 {
     nodes.binary_search(node).is_ok()
-}
-
-// The value of a node, which is blank where it has none.
-fn kept_input<C: ghg_graph::Cells>(cells: &C, node: &Node) -> Input
-    ensures { result ≡ input_at (compilation (C.content cells.now)) node.now }
-{
-    match cells.value(node) {
-        Some(value) => *value.input(),
-        None => Input::Blank,
-    }
-}
-
-// The category at which a line emits a gas, if it does.
-fn emitted_at<R: Records>(records: &R, name: &Name) -> Option<Category>
-    ensures { result ≡ emitted_at (R.content records.now) name.now }
-{
-    let (category, id) = records.line(name)?;
-    equation(id).output.gas()?;
-    Some(category)
 }

@@ -55,6 +55,9 @@ insert-requires g c =
     (subst StandOnce (around nodes i n c.loop-place-test.true c.index-nodes-place.is) c.requires.turn.once)
     (at_next m nodes i n c.loop-place-test.true c.index-nodes-place.is found fresh c.loop-place.least c.loop-place.invariant.0)
 
+pub note-requires-clause-reader : goal.note-requires-clause-reader
+note-requires-clause-reader g c = c.in_ok-evaluated.ensures.same ∙ c.loop-place.invariant.3
+
 pub note-requires-clause-outcome : goal.note-requires-clause-outcome
 note-requires-clause-outcome g c =
     let m = g.R.Records.content c.args.change.now.records.now in
@@ -81,8 +84,8 @@ loop-place-preserved g c =
           (one_so_far m (take i nodes) n rest found fresh (outcomes_of cells) (fresh_at cells.fresh) c.loop-place.least e
           (at_next m nodes i n c.loop-place-test.true c.index-nodes-place.is found fresh c.loop-place.least c.loop-place.invariant.0) at_node c.in_ok-insert.ensures.outcomes c.in_ok-insert.ensures.fresh)),
       omega (arith, c.loop-place.invariant.1, one),
-      c.in_ok-note.ensures,
-      c.in_ok-evaluated.ensures.same ∙ c.loop-place.invariant.3,
+      c.in_ok-note.ensures.notes,
+      c.in_ok-note.ensures.same ∙ c.in_ok-evaluated.ensures.same ∙ c.loop-place.invariant.3,
     )
 
 pub returns-in-None : goal.returns-in-None

@@ -1,4 +1,4 @@
-use Rattle.std.proofs.Common.{◌≡◌, ◌∙◌, ◌+◌, ◌&&◌, ℕ, not, sym, ap, subst, take, arith}
+use Rattle.std.proofs.Common.{◌≡◌, ◌∙◌, ◌+◌, ◌&&◌, ℕ, false, is_some, not, sym, ap, subst, take, arith}
 use Rattle.std.specs.BTreeSet.{contains}
 use Rattle.ghg_graph.proofs.YearNodes.{span_is}
 use Rattle.ghg_definitions.specs.Data.{Name, name_cmp}
@@ -6,7 +6,7 @@ use Rattle.ghg_shifts.specs.Noted.{emitted_at, with_line_in}
 use Rattle.ghg_shifts.specs.Progress.{AreNotedUntil, has_equivalent, is_edited, is_gone_until}
 use Rattle.ghg_shifts.proofs.Progress.{gives_still, line_came_on, line_not_come, line_not_gone, line_went_on, notes_have_room}
 use Rattle.ghg_engine.specs.declared.notes.Notes.{Notes}
-use Rattle.ghg_engine.proofs.Keys.{begun, edited_next, ended, is_within, no_years, other_noted}
+use Rattle.ghg_engine.proofs.Keys.{begun, edited_next, ended, is_within, no_years, other_noted, stood_nowhere}
 use Rattle.ghg_engine.proofs.Noting.{not_edited_yet}
 use Rattle.ghg_engine.proofs.notes.Notes.note_key.Goals as goal
 use Rattle.ghg_engine.proofs.notes.Notes.note_key.Goals.{then-not-is_given+in_ok-note_come, else-not-is_given}
@@ -14,6 +14,19 @@ use Rattle.ghg_engine.proofs.notes.Notes.note_key.Goals.{then-not-is_given+in_ok
 pub returns-in_default : goal.returns-in_default
 returns-in_default g c = other_noted _ _ c.args.change.now.keys.now c.args.nodes.now c.requires.edit c.args.change.now.keys.now c.args.place c.index-change-place.result c.requires.place c.index-change-place.is
     (λ name e. c.in_default.not-Line name (sym c.index-change-place.is ∙ e)) c.args.self.now c.requires.notes
+
+pub returns-then-is_none : goal.returns-then-is_none
+returns-then-is_none g c =
+    let keys = c.args.change.now.keys.now in
+    let old = g.C.Cells.content c.args.change.now.before.now in
+    let new = g.R.Records.content c.args.change.now.records.now in
+    let is = c.index-change-place.is ∙ c.in-Line.is in
+    let stood = c.emitted_at-stood.ensures ∙ ap (λ m. emitted_at m c.in-Line.name) c.book.ensures.content in
+    stood_nowhere old new keys c.args.nodes.now c.requires.edit keys c.args.place c.index-change-place.result c.requires.place c.index-change-place.is c.in-Line.name is
+    (subst (λ o. is_some o ≡ false) stood (c.is_none.ensures ∙ ap not c.if-is_none.true))
+    (record { shifts = c.args.self.now.shifts; edited = c.insert.new.self }) c.requires.notes.noted
+    (edited_next old new keys c.args.nodes.now c.requires.edit keys c.args.place c.index-change-place.result c.requires.place c.index-change-place.is c.in-Line.name is
+    c.args.self.now.edited c.insert.new.self c.in_ok-insert.ensures.updates c.requires.notes.edited)
 
 pub returns-in_default-span : goal.returns-in_default-span
 returns-in_default-span g c =
