@@ -1,116 +1,120 @@
--- The statuses of runs.
-use Rattle.std.proofs.Common.{◌≡◌, ◌⊎◌, inl, inr, ℕ, Bool, true, List, Option, Some, None, IsSome, refl, sym, subst, Result, Ok, Err}
-use Rattle.ghg_outer.specs.Tape.{Tape}
-use Rattle.ghg_session.specs.declared.session.End.{End}
-use Rattle.ghg_session.specs.declared.session.End.TheVariants.{Script, NoScript}
-use Rattle.ghg_session.specs.declared.stop.Stop.{Stop}
-use Rattle.ghg_session.specs.declared.stop.Stop.TheVariants.{Input, Output, Keeper, Memory}
-use Rattle.ghg_session.specs.Session.{Outcome, result_status}
-use Rattle.ghg_session.specs.Writing.{stop_status}
+-- The statuses of runs, and their causes.
+use Rattle.std.proofs.Common.{◌≡◌, ◌∙◌, ◌⊎◌, inl, inr, ℕ, true, List, Option, Some, None, IsSome, refl, sym, subst}
+use Rattle.ghg_keeper.specs.Shelf.{Shelf}
+use Rattle.ghg_office.specs.Office.{State}
+use Rattle.ghg_outer.specs.Doors.{Register}
+use Rattle.ghg_outer.specs.Tape.{Rose, Tape}
+use Rattle.ghg_session.specs.declared.command.Request.{Request}
+use Rattle.ghg_session.specs.declared.status.Status.{Status}
+use Rattle.ghg_session.specs.declared.status.Status.TheVariants.{Done, BadCommandLine, NoScript, InputFailed, OutputFailed, StoreFailed, DoorFailed, OutOfMemory, RowRefused}
+use Rattle.ghg_session.specs.Replies.{protocol}
+use Rattle.ghg_session.specs.Session.{EndsBy}
+use Rattle.ghg_session.specs.Writing.{Reports, StoppedWriting}
 use Rattle.ghg_words.specs.declared.command.Command.{Command}
 use Rattle.ghg_words.specs.declared.command.Command.TheVariants.{Compile, Serve}
 use Rattle.ghg_words.specs.declared.command.Service.{Service}
 use Rattle.ghg_words.specs.declared.command.Settings.{Settings}
-use Rattle.ghg_run.specs.Compile.{CompileRun}
-use Rattle.ghg_run.specs.Opening.{BeginsNot, FailsAtOnce, IsInUse, RefusesRow, ReportsRow}
-use Rattle.ghg_run.specs.Run.{IsRun, Runs, is_status_of, store_in, bad_command_line}
-use Rattle.ghg_run.specs.Serve.{ServeRun}
-use Rattle.ghg_run.specs.World.{ActsOutside, Reports, WholeRun, World}
+use Rattle.ghg_run.specs.Opening.{BeginsNot, FailsAtOnce, RefusesRow, ReportsRow}
+use Rattle.ghg_run.specs.Run.{MayEnd, Runs, bad_command_line, store_in}
+use Rattle.ghg_run.specs.Serve.{EndsServing, ServedLink}
 
--- the status is this one, which passes the test
-passes : (test : ℕ → Bool) (status known : ℕ) → status ≡ known → test known ≡ true → test status ≡ true
-passes test status known e h = subst (λ (s : ℕ). test s ≡ true) (sym e) h
+-- ---- a line that is due
 
--- the test passes what a line that is due may end with
-record PassesStops (test : ℕ → Bool) : Type 0 where
-  output : test 5 ≡ true
-  memory : test 8 ≡ true
-
--- and what an office may that was not opened
-record PassesOpenings (test : ℕ → Bool) : Type 0 where
-  stops : PassesStops test
-  keeper : test 6 ≡ true
-  refused : test 9 ≡ true
-
-stop_passes : (test : ℕ → Bool) (stop : Stop) → PassesStops test → (stop ≡ Output) ⊎ (stop ≡ Memory)
-    → test (stop_status stop) ≡ true
-stop_passes test stop p (inl e) = subst (λ (s : Stop). test (stop_status s) ≡ true) (sym e) p.output
-stop_passes test stop p (inr e) = subst (λ (s : Stop). test (stop_status s) ≡ true) (sym e) p.memory
-
-reports_pass : (test : ℕ → Bool) (before after : Tape) (due : Outcome) (status : ℕ) → PassesStops test
-    → test due.status ≡ true → Reports before after due status → test status ≡ true
-reports_pass test before after due status p h (inl told) = passes test status due.status told.1 h
-reports_pass test before after due status p h (inr (stop, stopped, e)) =
-    passes test status (stop_status stop) e (stop_passes test stop p stopped.only)
-
--- ---- an office that was not opened
-
-row_passes : (test : ℕ → Bool) (before after : Tape) (line : List ℕ) (status : ℕ) → PassesOpenings test
-    → ReportsRow before after line status → test status ≡ true
-row_passes test before after line status p (inl told) =
-    reports_pass test before after _ status p.stops p.refused told
-row_passes test before after line status p (inr told) = passes test status 8 told.1 p.stops.memory
-
-failure_passes : (test : ℕ → Bool) (status : ℕ) → PassesOpenings test → (status ≡ 6) ⊎ (status ≡ 8)
-    → test status ≡ true
-failure_passes test status p (inl e) = passes test status 6 e p.keeper
-failure_passes test status p (inr e) = passes test status 8 e p.stops.memory
-
-begins_not_passes : (test : ℕ → Bool) (store : Option (List ℕ)) (before after : World) (status : ℕ)
-    → PassesOpenings test → BeginsNot store before after status → test status ≡ true
-begins_not_passes test None before after status p none = absurd none
-begins_not_passes test (Some name) before after status p none = why_passes none.why
+-- a status that the output or want of memory may bring in place of the one that is due
+stopped_as : (before after : Tape) (line : List ℕ) (status : Status) (holds : Status → Type 0)
+    → StoppedWriting before after line status → holds OutputFailed → holds OutOfMemory → holds status
+stopped_as before after line status holds s output memory = by s.why
   where
-    why_passes : (RefusesRow before after status none.rows × IsInUse name after.shelf)
-        ⊎ FailsAtOnce name before after status → test status ≡ true
-    why_passes (inl refused) = row_passes test before.output after.output _ status p refused.0.told
-    why_passes (inr fails) = failure_passes test status p fails.kind
+    by : ((status ≡ OutputFailed) × Rose before after) ⊎ ((status ≡ OutOfMemory) × (before.grows ≡ true)) → holds status
+    by (inl e) = subst holds (sym e.0) output
+    by (inr e) = subst holds (sym e.0) memory
+
+reported_as : (before after : Tape) (line : List ℕ) (due status : Status) (holds : Status → Type 0)
+    → Reports before after line due status → holds due → holds OutputFailed → holds OutOfMemory → holds status
+reported_as before after line due status holds (inl told) h output memory = subst holds (sym told.1) h
+reported_as before after line due status holds (inr s) h output memory = stopped_as before after line status holds s output memory
+
+pub report_output : (before after : Tape) (line : List ℕ) (due status : Status) → Reports before after line due status
+    → (due ≡ OutputFailed → ⊥) → status ≡ OutputFailed → Rose before after
+report_output before after line due status (inl told) wrong is = absurd (wrong (sym told.1 ∙ is))
+report_output before after line due status (inr s) wrong is = by s.why
+  where
+    by : ((status ≡ OutputFailed) × Rose before after) ⊎ ((status ≡ OutOfMemory) × (before.grows ≡ true)) → Rose before after
+    by (inl e) = e.1
+    by (inr e) = absurd (let same : OutOfMemory ≡ OutputFailed = sym e.0 ∙ is in cc)
+
+-- and with no other status
+pub report_other : (before after : Tape) (line : List ℕ) (due status other : Status) → Reports before after line due status
+    → (due ≡ other → ⊥) → (OutputFailed ≡ other → ⊥) → (OutOfMemory ≡ other → ⊥) → status ≡ other → ⊥
+report_other before after line due status other told due_other output memory =
+    reported_as before after line due status (λ s. s ≡ other → ⊥) told due_other output memory
 
 -- ---- each command
 
-result_known : (settings : Settings) (result : Result End Stop)
-    → is_status_of (Some (Compile settings)) (result_status result) ≡ true
-result_known settings (Ok Script) = refl
-result_known settings (Ok NoScript) = refl
-result_known settings (Err Input) = refl
-result_known settings (Err Output) = refl
-result_known settings (Err Keeper) = refl
-result_known settings (Err Memory) = refl
+row_as : (before after : Tape) (seq : ℕ) (reply : _) (status : Status) (holds : Status → Type 0)
+    → ReportsRow before after seq reply status → holds RowRefused → holds OutputFailed → holds OutOfMemory → holds status
+row_as before after seq reply status holds (inl told) h output memory =
+    reported_as before after _ RowRefused status holds told h output memory
+row_as before after seq reply status holds (inr left) h output memory = subst holds (sym left.1) memory
 
-compiled : (settings : Settings) (run : WholeRun) → CompileRun settings.store run
-    → is_status_of (Some (Compile settings)) run.status ≡ true
-compiled settings run (inl none) = begins_not_passes (is_status_of (Some (Compile settings))) settings.store
-    run.before run.after run.status
-    (record { stops = record { output = refl; memory = refl }; keeper = refl; refused = refl }) none
-compiled settings run (inr office) = let session = office.does.script.session in
-    passes (is_status_of (Some (Compile settings))) run.status (result_status session.0) session.2
-    (result_known settings session.0)
-
-served : (service : Service) (run : WholeRun) → ServeRun service run
-    → is_status_of (Some (Serve service)) run.status ≡ true
-served service run (inl none) = begins_not_passes (is_status_of (Some (Serve service))) service.settings.store
-    run.before run.after run.status
-    (record { stops = record { output = refl; memory = refl }; keeper = refl; refused = refl }) none
-served service run (inr office) = kind_passes office.does.0.kind
+not_opened : (command : Option Command) (store : Option (List ℕ)) (shelf shelf' : Shelf) (output output' : Tape) (steps steps' : ℕ)
+    (status : Status) → store_in command ≡ store
+    → BeginsNot store shelf shelf' output output' steps steps' status → MayEnd command status
+not_opened command None shelf shelf' output output' steps steps' status e none = absurd none
+not_opened command (Some name) shelf shelf' output output' steps steps' status e none = by none.why
   where
-    kind_passes : (run.status ≡ 0) ⊎ ((run.status ≡ 7) ⊎ (run.status ≡ 8))
-        → is_status_of (Some (Serve service)) run.status ≡ true
-    kind_passes (inl e) = passes (is_status_of (Some (Serve service))) run.status 0 e refl
-    kind_passes (inr (inl e)) = passes (is_status_of (Some (Serve service))) run.status 7 e refl
-    kind_passes (inr (inr e)) = passes (is_status_of (Some (Serve service))) run.status 8 e refl
+    fails : (status ≡ StoreFailed) ⊎ (status ≡ OutOfMemory) → MayEnd command status
+    fails (inl is) = subst (MayEnd command) (sym is) (rw e refl)
+    fails (inr is) = subst (MayEnd command) (sym is) tt
 
-status_known : (command : Option Command) (run : WholeRun) → Runs command run → is_status_of command run.status ≡ true
-status_known None run done = reports_pass (is_status_of None) run.before.output run.after.output bad_command_line run.status
-    (record { output = refl; memory = refl }) refl done.told
-status_known (Some (Compile settings)) run done = compiled settings run done
-status_known (Some (Serve service)) run done = served service run done
+    by : RefusesRow name none.rows shelf' output output' status ⊎ FailsAtOnce name shelf shelf' output output' status
+        → MayEnd command status
+    by (inl refused) =
+        row_as output output' refused.seq refused.reply status (MayEnd command) refused.told (rw e refl) tt tt
+    by (inr fault) = fails fault.kind
 
-pub is_run : (command : Option Command) (run : WholeRun) → Runs command run → ActsOutside run.before run.after run.status
-    → (run.status ≡ 2 → command ≡ None) → (run.status ≡ 6 → IsSome (store_in command)) → IsRun command run
-is_run command run does outside words store = record {
-  does = does;
-  known = status_known command run does;
-  outside = outside;
-  words = words;
-  store = store;
-}
+session_ends : (settings : Settings) (status : Status) → (status ≡ StoreFailed → IsSome settings.store) → (now last : State) (left : Tape) (grows : _) (took : List ℕ)
+    (answered : List Request) (part : List ℕ) → EndsBy protocol now last left grows took answered part status
+    → MayEnd (Some (Compile settings)) status
+session_ends settings Done h now last left grows took answered part e = refl
+session_ends settings NoScript h now last left grows took answered part e = refl
+session_ends settings InputFailed h now last left grows took answered part e = refl
+session_ends settings OutputFailed h now last left grows took answered part e = tt
+session_ends settings StoreFailed h now last left grows took answered part e = h refl
+session_ends settings OutOfMemory h now last left grows took answered part e = tt
+session_ends settings BadCommandLine h now last left grows took answered part e = absurd e
+session_ends settings DoorFailed h now last left grows took answered part e = absurd e
+session_ends settings RowRefused h now last left grows took answered part e = absurd e
+
+serving_ends : (service : Service) (status : Status) (door : Register Tape) (taken dropped : List ServedLink)
+    → EndsServing service door taken dropped status → MayEnd (Some (Serve service)) status
+serving_ends service Done door taken dropped e = refl
+serving_ends service DoorFailed door taken dropped e = refl
+serving_ends service OutOfMemory door taken dropped e = tt
+serving_ends service NoScript door taken dropped e = absurd e
+serving_ends service InputFailed door taken dropped e = absurd e
+serving_ends service OutputFailed door taken dropped e = absurd e
+serving_ends service StoreFailed door taken dropped e = absurd e
+serving_ends service BadCommandLine door taken dropped e = absurd e
+serving_ends service RowRefused door taken dropped e = absurd e
+
+pub may_end : (command : Option Command) (shelf shelf' : Shelf) (input input' output output' : Tape) (door door' : Register Tape)
+    (steps steps' : ℕ) (status : Status) → (status ≡ StoreFailed → IsSome (store_in command))
+    → Runs command shelf shelf' input input' output output' door door' steps steps' status → MayEnd command status
+may_end None shelf shelf' input input' output output' door door' steps steps' status h done =
+    reported_as output output' bad_command_line BadCommandLine status (MayEnd None) done.0 refl tt tt
+may_end (Some (Compile settings)) shelf shelf' input input' output output' door door' steps steps' status h (inl none) =
+    not_opened (Some (Compile settings)) settings.store shelf shelf' output output' steps steps' status refl none.0
+may_end (Some (Compile settings)) shelf shelf' input input' output output' door door' steps steps' status h (inr office) =
+    session_ends settings status h _ _ _ _ _ _ _ office.does.0.ends
+may_end (Some (Serve service)) shelf shelf' input input' output output' door door' steps steps' status h (inl none) =
+    not_opened (Some (Serve service)) service.settings.store shelf shelf' output output' steps steps' status refl none.0
+may_end (Some (Serve service)) shelf shelf' input input' output output' door door' steps steps' status h (inr office) =
+    serving_ends service status door' _ _ office.does.0.ends
+
+-- a script is not answered by the door, and no connection by the input
+pub no_door : (settings : Settings) (status : Status) → MayEnd (Some (Compile settings)) status → status ≡ DoorFailed → ⊥
+no_door settings status may is = let none = subst (MayEnd (Some (Compile settings))) is may in cc
+
+pub no_input : (service : Service) (status : Status) → MayEnd (Some (Serve service)) status → status ≡ InputFailed → ⊥
+no_input service status may is = let none = subst (MayEnd (Some (Serve service))) is may in cc

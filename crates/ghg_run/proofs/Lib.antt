@@ -1,6 +1,4 @@
+mod Held
 mod Known
 mod Links
-mod Quiet
 mod Stored
-mod Whole
-pub mod Held

@@ -1,8 +1,8 @@
 -- Links that are served one after the other.
-use Rattle.std.proofs.Common.{◌≡◌, ◌≢◌, ◌∙◌, ◌⊎◌, inl, inr, ℕ, ◌+◌, ◌<◌, ◌≤◌, Bool, true, false, cond, List, [], ◌∷◌, ◌++◌, length, map, option_map, Option, Some, None, IfSome, append-nil, add-zero, add_assoc, append_assoc, length-append, refl, sym, ap, subst, arith}
+use Rattle.std.proofs.Common.{◌≡◌, ◌∙◌, inl, ℕ, ◌+◌, ◌<◌, ◌≤◌, Bool, true, false, cond, List, [], ◌∷◌, ◌++◌, length, map, option_map, Option, Some, None, IfSome, append-nil, add-zero, add_assoc, append_assoc, length-append, refl, sym, ap, subst, arith}
 use Rattle.std.specs.Option.{is_some}
 use Rattle.std.proofs.lemmas.Bool.{eqb-true, false≢true}
-use Rattle.std.proofs.lemmas.List.{map-append, nil_from_length}
+use Rattle.std.proofs.lemmas.List.{map-append}
 use Rattle.std.proofs.lemmas.List.Sums.{sum_by_push}
 use Rattle.ghg_http.specs.declared.serve.LinkEnd.{LinkEnd}
 use Rattle.ghg_http.specs.declared.serve.LinkEnd.TheVariants.{Served, Cut, LinkFault, Memory}
@@ -10,8 +10,18 @@ use Rattle.ghg_outer.specs.Counts.{IsCounted}
 use Rattle.ghg_outer.specs.Doors.{GivesLink, IsKept, Opens, Register, TakesBack}
 use Rattle.ghg_outer.specs.Tape.{Tape}
 use Rattle.ghg_words.specs.declared.command.Service.{Service}
-use Rattle.ghg_run.specs.Serve.{IsServing, OfficeAt, ServedLink, ServesLinks, ServesNew, Station, is_unavailable, raised_by, unavailable_count}
-use Rattle.ghg_run.specs.World.{register_of}
+use Rattle.ghg_session.specs.declared.status.Status.{Status}
+use Rattle.ghg_session.specs.declared.status.Status.TheVariants.{OutOfMemory}
+use Rattle.ghg_run.specs.Serve.{EndsServing, IsServing, OfficeAt, ServedLink, Serves, ServesNew, is_unavailable, raised_by, register_of, unavailable_count}
+
+-- what a serving acts on: the office, the count of the keeper's faults and what the door tells
+pub record Station : Type 0 where
+  pub office : OfficeAt
+  pub faults : ℕ
+  pub door : Register Tape
+
+abbrev pub station : OfficeAt → ℕ → Register Tape → Station
+station office faults door = record { office = office; faults = faults; door = door }
 
 -- ---- what a door tells, with each link by what that tells
 
@@ -124,10 +134,10 @@ pub record ServedSoFar (stored : Bool) (before after : Station) (number : ℕ) :
   pub serving : IsServing before.office links after.office
   pub finished : after.door.finished ≡ option_map (λ all. all ++ map (λ (s : ServedLink). s.link) links) before.door.finished
   pub given : after.door.given ≡ option_map (λ n. n + length links) before.door.given
-  pub unavailable : raised_by (unavailable_count links) before.shelf.faults ≤ after.shelf.faults
+  pub unavailable : raised_by (unavailable_count links) before.faults ≤ after.faults
   pub available : stored ≡ false → unavailable_count links ≡ 0
 
-pub none_served : (stored : Bool) (a b : Station) → b.office ≡ a.office → a.shelf.faults ≤ b.shelf.faults → b.door.given ≡ a.door.given
+pub none_served : (stored : Bool) (a b : Station) → b.office ≡ a.office → a.faults ≤ b.faults → b.door.given ≡ a.door.given
     → b.door.finished ≡ a.door.finished → ServedSoFar stored a b 0
 none_served stored a b office counts given finished = record {
   links = [];
@@ -140,7 +150,7 @@ none_served stored a b office counts given finished = record {
 }
 
 -- nothing was done since
-pub served_same : (stored : Bool) (a b c : Station) (number : ℕ) → ServedSoFar stored a b number → c.office ≡ b.office → b.shelf.faults ≤ c.shelf.faults
+pub served_same : (stored : Bool) (a b c : Station) (number : ℕ) → ServedSoFar stored a b number → c.office ≡ b.office → b.faults ≤ c.faults
     → c.door.given ≡ b.door.given → c.door.finished ≡ b.door.finished → ServedSoFar stored a c number
 served_same stored a b c number so_far office counts given finished = record {
   links = so_far.links;
@@ -154,7 +164,7 @@ served_same stored a b c number so_far office counts given finished = record {
 
 module _ (stored : Bool) (a b c : Station) (number : ℕ) (one : ServedLink) (so_far : ServedSoFar stored a b number)
     (s : ServesNew b.office one c.office) (given : c.door.given ≡ option_map (λ n. n + 1) b.door.given)
-    (counted : IsCounted b.shelf.faults c.shelf.faults (one.end ≡ Served 503)) (fault : one.end ≡ Served 503 → stored ≡ true) where
+    (counted : IsCounted b.faults c.faults (one.end ≡ Served 503)) (fault : one.end ≡ Served 503 → stored ≡ true) where
   given_more : c.door.given ≡ option_map (λ n. n + length (so_far.links ++ one ∷ [])) a.door.given
   given_more = rw length-append (given ∙ ap (option_map (λ n. n + 1)) so_far.given ∙ counted_more (length so_far.links) 1 a.door.given)
 
@@ -169,35 +179,29 @@ module _ (stored : Bool) (a b c : Station) (number : ℕ) (one : ServedLink) (so
     finished = rw map-append (finished ∙ ap (option_map (λ links. links ++ one.link ∷ [])) so_far.finished
         ∙ links_more (map (λ (s : ServedLink). s.link) so_far.links) (one.link ∷ []) a.door.finished);
     given = given_more;
-    unavailable = unavailable_more so_far.links one a.shelf.faults b.shelf.faults c.shelf.faults so_far.unavailable counted;
+    unavailable = unavailable_more so_far.links one a.faults b.faults c.faults so_far.unavailable counted;
     available = available_still;
   }
 
   -- the link could not be taken back
   pub serving_drops : (service : Service) → stored ≡ is_some service.settings.store → c.door.finished ≡ b.door.finished
-      → number < service.connections → ServesLinks service a c 8
+      → number < service.connections → Serves service a.office c.office a.faults c.faults a.door c.door OutOfMemory
   serving_drops service store finished fewer = record {
     taken = so_far.links;
     dropped = one ∷ [];
     serving = serving_more a.office b.office c.office so_far.links one so_far.serving s;
     finished = finished ∙ so_far.finished;
     given = given_more;
-    few = omega arith;
-    kind = inr (inr refl);
-    all = λ e. absurd cc;
-    port = λ e. absurd cc;
-    fewer = λ _. omega (arith, fewer, so_far.number_is);
-    none = λ h. absurd (h refl);
-    memory = λ _. inl refl;
-    unavailable = unavailable_more so_far.links one a.shelf.faults b.shelf.faults c.shelf.faults so_far.unavailable counted;
+    ends = (omega (arith, fewer, so_far.number_is), inl refl);
+    unavailable = unavailable_more so_far.links one a.faults b.faults c.faults so_far.unavailable counted;
     available = λ none. available_still (store ∙ ap is_some none);
   }
 
-pub serving_ends : (stored : Bool) (service : Service) (a b : Station) (number status : ℕ) → ServedSoFar stored a b number
-    → stored ≡ is_some service.settings.store → (status ≡ 8 → number ≡ 0) → (status ≡ 0) ⊎ ((status ≡ 7) ⊎ (status ≡ 8)) → (status ≡ 0 → number ≡ service.connections)
-    → (status ≡ 0 → IfSome b.door.port (λ open_port. open_port ≡ service.port)) → (status ≢ 0 → number < service.connections)
-    → ServesLinks service a b status
-serving_ends stored service a b number status so_far store memory kind all port fewer =
+pub serving_ends : (stored : Bool) (service : Service) (a b : Station) (number : ℕ) (status : Status) → ServedSoFar stored a b number
+    → stored ≡ is_some service.settings.store
+    → ((links : List ServedLink) → length links ≡ number → EndsServing service b.door links [] status)
+    → Serves service a.office b.office a.faults b.faults a.door b.door status
+serving_ends stored service a b number status so_far store ends =
     let same : so_far.links ++ [] ≡ so_far.links = append-nil so_far.links in
     record {
       taken = so_far.links;
@@ -205,35 +209,24 @@ serving_ends stored service a b number status so_far store memory kind all port 
       serving = rw same so_far.serving;
       finished = so_far.finished;
       given = rw same so_far.given;
-      few = omega arith;
-      kind = kind;
-      all = λ e. so_far.number_is ∙ all e;
-      port = port;
-      fewer = λ h. rw so_far.number_is (fewer h);
-      none = λ _. refl;
-      memory = λ e. inr (nil_from_length so_far.links (so_far.number_is ∙ memory e));
+      ends = ends so_far.links so_far.number_is;
       unavailable = rw same so_far.unavailable;
       available = λ none. rw same (so_far.available (store ∙ ap is_some none));
     }
 
 -- a count that is lower to begin with
-pub serving_since : (service : Service) (a b c : Station) (status : ℕ) → b.office ≡ a.office → b.door ≡ a.door
-    → a.shelf.faults ≤ b.shelf.faults → ServesLinks service b c status → ServesLinks service a c status
-serving_since service a b c status office door counts links = record {
-  taken = links.taken;
-  dropped = links.dropped;
-  serving = subst (λ (o : OfficeAt). IsServing o (links.taken ++ links.dropped) c.office) office links.serving;
-  finished = links.finished ∙ ap (λ (r : Register Tape). option_map (λ all. all ++ map (λ (s : ServedLink). s.link) links.taken) r.finished) door;
-  given = links.given ∙ ap (λ (r : Register Tape). option_map (λ n. n + length (links.taken ++ links.dropped)) r.given) door;
-  few = links.few;
-  kind = links.kind;
-  all = links.all;
-  port = links.port;
-  fewer = links.fewer;
-  none = links.none;
-  memory = links.memory;
-  unavailable = let later = links.unavailable in omega (arith, later, counts);
-  available = links.available;
+pub serving_since : (service : Service) (before after : OfficeAt) (lower faults faults' : ℕ) (door door' : Register Tape)
+    (status : Status) → lower ≤ faults → Serves service before after faults faults' door door' status
+    → Serves service before after lower faults' door door' status
+serving_since service before after lower faults faults' door door' status counts s = record {
+  taken = s.taken;
+  dropped = s.dropped;
+  serving = s.serving;
+  finished = s.finished;
+  given = s.given;
+  ends = s.ends;
+  unavailable = let later = s.unavailable in omega (arith, later, counts);
+  available = s.available;
 }
 
 pub port_stays : (port : ℕ) (before after : Option ℕ) → after ≡ before → IfSome before (λ p. p ≡ port) → IfSome after (λ p. p ≡ port)

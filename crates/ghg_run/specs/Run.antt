@@ -1,37 +1,55 @@
 -- What the program owes for its words.
-use Rattle.std.specs.Prelude.{◌≡◌, ℕ, true, false, Bool, ◌==◌, List, [], ◌∷◌, map, Option, Some, None, IsSome, String, codes}
-use Rattle.std.specs.List.{list_any}
+use Rattle.std.specs.Prelude.{◌≡◌, ⊤, ◌⊎◌, ℕ, true, false, Bool, List, map, Option, Some, None, IsSome, String, codes}
 use Rattle.std.specs.String.{string_bytes}
-use Rattle.ghg_session.specs.Session.{Outcome, line_of}
+use Rattle.ghg_keeper.specs.Shelf.{Shelf}
+use Rattle.ghg_outer.specs.Counts.{IsCounted}
+use Rattle.ghg_outer.specs.Doors.{Register}
+use Rattle.ghg_outer.specs.Tape.{Rose, Tape}
+use Rattle.ghg_session.specs.declared.command.Request.{Request}
+use Rattle.ghg_session.specs.declared.status.Status.{Status}
+use Rattle.ghg_session.specs.declared.status.Status.TheVariants.{Done, BadCommandLine, NoScript, InputFailed, OutputFailed, StoreFailed, DoorFailed, OutOfMemory, RowRefused}
+use Rattle.ghg_session.specs.Replies.{protocol}
+use Rattle.ghg_session.specs.Session.{EachReply, Session, line_of}
+use Rattle.ghg_session.specs.Writing.{Reports}
 use Rattle.ghg_words.specs.Command.{command_in}
 use Rattle.ghg_words.specs.declared.command.Command.{Command}
 use Rattle.ghg_words.specs.declared.command.Command.TheVariants.{Compile, Serve}
-use Rattle.ghg_run.specs.Compile.{CompileRun}
-use Rattle.ghg_run.specs.Serve.{ServeRun}
-use Rattle.ghg_run.specs.World.{ActsOutside, Reports, WholeRun}
+use Rattle.ghg_words.specs.declared.command.Service.{Service}
+use Rattle.ghg_run.specs.Bounds.{AreSoundLines}
+use Rattle.ghg_run.specs.Opening.{BeginsNot, RunsOffice}
+use Rattle.ghg_run.specs.Serve.{Serves, office_at}
 
--- ---- words that are no command
+-- ---- each command
 
-abbrev pub bad_command_line : Outcome
-bad_command_line = record { output = line_of (codes "bad command line"); status = 2 }
+abbrev pub bad_command_line : List ℕ
+bad_command_line = line_of (codes "bad command line")
 
--- Nothing was read and no step taken.
-pub record NoCommandRun (run : WholeRun) : Type 0 where
-  pub told : Reports run.before.output run.after.output bad_command_line run.status
-  pub input : run.after.input ≡ run.before.input
-  pub steps : run.after.steps ≡ run.before.steps
+-- An office answered the script that the input holds, or there was none, and nothing was read. In each table
+-- among the replies to any requests the bounds hold the exact values of the nodes of the data then in force,
+-- wherever the inputs are within their supplied bounds.
+abbrev pub Compiles : Option (List ℕ) → Shelf → Shelf → Tape → Tape → Tape → Tape → ℕ → ℕ → Status → Type 0
+Compiles store shelf shelf' input input' output output' steps steps' status =
+    (BeginsNot store shelf shelf' output output' steps steps' status × (input' ≡ input))
+    ⊎ RunsOffice store shelf shelf' steps (λ first later last.
+    Session protocol first last input input' output output' later steps' status
+    × ((requests : List Request) → EachReply protocol AreSoundLines first requests))
+
+-- An office served connections, and wrote nothing to the output, or there was none, and no connection was
+-- taken.
+abbrev pub ServesAll : Service → Shelf → Shelf → Tape → Tape → Register Tape → Register Tape → ℕ → ℕ
+    → Status → Type 0
+ServesAll service shelf shelf' output output' door door' steps steps' status =
+    (BeginsNot service.settings.store shelf shelf' output output' steps steps' status × (door' ≡ door))
+    ⊎ RunsOffice service.settings.store shelf shelf' steps (λ first later last.
+    Serves service (office_at first later) (office_at last steps') shelf.faults shelf'.faults door door'
+    status
+    × (output' ≡ output))
 
 -- ---- any words
 
 -- the command that the words ask for
 abbrev pub asked_for : {Z : Type 0} → List (String Z) → Option Command
 asked_for words = command_in (map string_bytes words)
-
--- what a run does for its command
-abbrev pub Runs : Option Command → WholeRun → Type 0
-Runs None run = NoCommandRun run
-Runs (Some (Compile settings)) run = CompileRun settings.store run
-Runs (Some (Serve service)) run = ServeRun service run
 
 -- the store that a command names
 abbrev pub store_in : Option Command → Option (List ℕ)
@@ -49,20 +67,33 @@ abbrev pub opens_door : Option Command → Bool
 opens_door (Some (Serve service)) = true
 opens_door _ = false
 
--- the statuses that a run may end with
-abbrev pub statuses_of : Option Command → List ℕ
-statuses_of None = 2 ∷ 5 ∷ 8 ∷ []
-statuses_of (Some (Compile settings)) = 0 ∷ 3 ∷ 4 ∷ 5 ∷ 6 ∷ 8 ∷ 9 ∷ []
-statuses_of (Some (Serve service)) = 0 ∷ 5 ∷ 6 ∷ 7 ∷ 8 ∷ 9 ∷ []
+-- What a run did for the command that its words ask for.
+abbrev pub Runs : Option Command → Shelf → Shelf → Tape → Tape → Tape → Tape → Register Tape → Register Tape
+    → ℕ → ℕ → Status → Type 0
+Runs None shelf shelf' input input' output output' door door' steps steps' status =
+    Reports output output' bad_command_line BadCommandLine status × (steps' ≡ steps)
+Runs (Some (Compile settings)) shelf shelf' input input' output output' door door' steps steps' status =
+    Compiles settings.store shelf shelf' input input' output output' steps steps' status
+Runs (Some (Serve service)) shelf shelf' input input' output output' door door' steps steps' status =
+    ServesAll service shelf shelf' output output' door door' steps steps' status
 
-abbrev pub is_status_of : Option Command → ℕ → Bool
-is_status_of command status = list_any (λ s. s == status) (statuses_of command)
+-- the statuses that a run for this command may end with
+abbrev pub MayEnd : Option Command → Status → Type 0
+MayEnd command Done = IsSome command
+MayEnd command BadCommandLine = command ≡ None
+MayEnd command NoScript = reads_input command ≡ true
+MayEnd command InputFailed = reads_input command ≡ true
+MayEnd command OutputFailed = ⊤
+MayEnd command StoreFailed = IsSome (store_in command)
+MayEnd command DoorFailed = opens_door command ≡ true
+MayEnd command OutOfMemory = ⊤
+MayEnd command RowRefused = IsSome (store_in command)
 
--- What a run does for its command, and its status, which is one of those of the command. Statuses 2 and 4
--- to 7 have their causes, whatever the command is.
-pub record IsRun (command : Option Command) (run : WholeRun) : Type 0 where
-  pub does : Runs command run
-  pub known : is_status_of command run.status ≡ true
-  pub outside : ActsOutside run.before run.after run.status
-  pub words : run.status ≡ 2 → command ≡ None
-  pub store : run.status ≡ 6 → IsSome (store_in command)
+-- The status is one of those, and a failure is told only if its count of faults rose. No count falls.
+pub record IsCaused (command : Option Command) (shelf shelf' : Shelf) (input input' output output' : Tape)
+    (door door' : Register Tape) (status : Status) : Type 0 where
+  pub known : MayEnd command status
+  pub input_rose : status ≡ InputFailed → Rose input input'
+  pub output_rose : status ≡ OutputFailed → Rose output output'
+  pub keeper_rose : IsCounted shelf.faults shelf'.faults (status ≡ StoreFailed)
+  pub door_rose : IsCounted door.faults door'.faults (status ≡ DoorFailed)

@@ -1,19 +1,17 @@
 -- `serve`: connections are served.
-use Rattle.std.specs.Prelude.{◌≡◌, ◌≢◌, ◌⊎◌, ℕ, ◌+◌, ◌-◌, ◌^◌, ◌<◌, ◌≤◌, Bool, false, ◌==◌, min, List, [], ◌∷◌, ◌++◌, length, map, count_by, None, option_map, IfSome}
+use Rattle.std.specs.Prelude.{◌≡◌, ◌⊎◌, ℕ, ◌+◌, ◌-◌, ◌^◌, ◌<◌, ◌≤◌, Bool, false, ◌==◌, min, List, [], ◌∷◌, ◌++◌, length, map, count_by, None, option_map, IfSome}
 use Rattle.ghg_http.specs.declared.serve.LinkEnd.{LinkEnd}
 use Rattle.ghg_http.specs.declared.serve.LinkEnd.TheVariants.{Served}
 use Rattle.ghg_http.specs.Serve.{ServesLink}
 use Rattle.ghg_http.specs.Serve.{snapshot as link_snapshot}
-use Rattle.ghg_keeper.specs.Shelf.{Shelf}
 use Rattle.ghg_office.specs.Office.{State, requested}
 use Rattle.ghg_office.specs.Sound.{IsSoundReply}
 use Rattle.ghg_outer.specs.Doors.{Register}
 use Rattle.ghg_outer.specs.Links.{IsFresh}
 use Rattle.ghg_outer.specs.Tape.{Tape}
-use Rattle.ghg_session.specs.Session.{Snapshot}
+use Rattle.ghg_session.specs.declared.status.Status.{Status}
+use Rattle.ghg_session.specs.declared.status.Status.TheVariants.{Done, DoorFailed, OutOfMemory}
 use Rattle.ghg_words.specs.declared.command.Service.{Service}
-use Rattle.ghg_run.specs.Opening.{RunsOffice}
-use Rattle.ghg_run.specs.World.{WholeRun}
 
 -- ---- links, one after the other
 
@@ -58,49 +56,40 @@ raised_by times count = min (count + times) (2 ^ 64 - 1)
 
 -- ---- a whole serving
 
--- what a serving acts on: the office, what the keeper tells and what the door tells
-pub record Station : Type 1 where
-  pub office : OfficeAt
-  pub shelf : Shelf
-  pub door : Register Tape
-
 abbrev pub office_at : State → ℕ → OfficeAt
 office_at state steps = record { state = state; steps = steps }
 
-abbrev pub station : OfficeAt → Shelf → Register Tape → Station
-station office shelf door = record { office = office; shelf = shelf; door = door }
+-- what a door tells, with each link by what that tells
+abbrev pub register_of : {Link : Type 0} → (Link → Tape) → Register Link → Register Tape
+register_of tape door = record {
+  port = door.port;
+  given = door.given;
+  finished = option_map (map tape) door.finished;
+  faults = door.faults;
+}
 
--- Links were served until all connections were, the door failed, or memory ran out. For want of memory one
--- link may be dropped that was served.
-pub record ServesLinks (service : Service) (before after : Station) (status : ℕ) : Type 0 where
+-- How a serving ends, by its status: these links were taken back, and one more perhaps was served and dropped.
+-- All connections were taken back, at the port that is asked for. Or fewer, since the door failed, or memory
+-- ran out: before the first link was taken, or when a link was handed back.
+abbrev pub EndsServing : Service → Register Tape → List ServedLink → List ServedLink → Status → Type 0
+EndsServing service door taken dropped Done =
+    (length taken ≡ service.connections) × (dropped ≡ [])
+    × IfSome door.port (λ open_port. open_port ≡ service.port)
+EndsServing service door taken dropped DoorFailed = (length taken < service.connections) × (dropped ≡ [])
+EndsServing service door taken dropped OutOfMemory =
+    (length taken < service.connections) × ((length dropped ≡ 1) ⊎ ((taken ≡ []) × (dropped ≡ [])))
+EndsServing service door taken dropped _ = ⊥
+
+-- An office served links. The counts are those of the keeper's faults.
+pub record Serves (service : Service) (before after : OfficeAt) (faults faults' : ℕ)
+    (door door' : Register Tape) (status : Status) : Type 0 where
   -- the links that the door took back, in their order, and the one that was dropped
   pub taken : List ServedLink
   pub dropped : List ServedLink
-  pub serving : IsServing before.office (taken ++ dropped) after.office
-  pub finished : after.door.finished
-      ≡ option_map (λ links. links ++ map (λ s. s.link) taken) before.door.finished
-  pub given : after.door.given ≡ option_map (λ n. n + length (taken ++ dropped)) before.door.given
-  pub few : length dropped ≤ 1
-  pub kind : (status ≡ 0) ⊎ ((status ≡ 7) ⊎ (status ≡ 8))
-  -- With status 0 all connections were taken back, at the port that is asked for, and with another status
-  -- fewer. Only with status 8 a link was dropped.
-  pub all : status ≡ 0 → length taken ≡ service.connections
-  pub port : status ≡ 0 → IfSome after.door.port (λ open_port. open_port ≡ service.port)
-  pub fewer : status ≢ 0 → length taken < service.connections
-  pub none : status ≢ 8 → dropped ≡ []
-  -- With status 8 a link was dropped, or none was taken back.
-  pub memory : status ≡ 8 → (length dropped ≡ 1) ⊎ (taken ≡ [])
+  pub serving : IsServing before (taken ++ dropped) after
+  pub finished : door'.finished ≡ option_map (λ links. links ++ map (λ s. s.link) taken) door.finished
+  pub given : door'.given ≡ option_map (λ n. n + length (taken ++ dropped)) door.given
+  pub ends : EndsServing service door' taken dropped status
   -- The keeper failed at least as often as a reply has status 503, which none has without a store.
-  pub unavailable : raised_by (unavailable_count (taken ++ dropped)) before.shelf.faults ≤ after.shelf.faults
+  pub unavailable : raised_by (unavailable_count (taken ++ dropped)) faults ≤ faults'
   pub available : service.settings.store ≡ None → unavailable_count (taken ++ dropped) ≡ 0
-
--- An office served links, and wrote nothing to the output.
-abbrev pub Serves : Service → WholeRun → Snapshot State → Snapshot State → Type 0
-Serves service run from to =
-    ServesLinks service (station (office_at from.state from.steps) run.before.shelf run.before.door)
-    (station (office_at to.state to.steps) run.after.shelf run.after.door) run.status
-    × (to.output ≡ from.output)
-
--- The office that the run begins with served links, or there was none.
-abbrev pub ServeRun : Service → WholeRun → Type 0
-ServeRun service run = RunsOffice service.settings.store run (Serves service run)

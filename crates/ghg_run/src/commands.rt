@@ -1,28 +1,23 @@
 //! All that the program does.
 
-ghost use Rattle.std.specs.Prelude.{◌≡◌, ◌<◌, ◌≤◌, ℕ, false, None, IsSome, true};
-ghost use Rattle.ghg_run.specs.Compile.{AnswersInput, CompileRun};
-ghost use Rattle.ghg_run.specs.Run.{IsRun, asked_for, opens_door, reads_input, store_in};
-ghost use Rattle.ghg_run.specs.Serve.{ServeRun};
-ghost use Rattle.ghg_run.specs.World.{ActsOutside, register_of, whole_run, world};
-ghost use Rattle.ghg_office.specs.Keeping.{KeepsAccepted, Lists};
-ghost use Rattle.ghg_office.specs.Laws.{IsInForce};
-ghost use Rattle.ghg_office.specs.Office.{State};
-ghost use Rattle.ghg_outer.specs.Doors.{Register};
-ghost use Rattle.ghg_outer.specs.Tape.{Tape};
-ghost use Rattle.ghg_session.specs.Session.{snapshot};
+ghost use Rattle.std.specs.Prelude.{◌≡◌, ◌≤◌, false, None, IsSome};
+ghost use Rattle.ghg_run.specs.Run.{Compiles, IsCaused, Runs, ServesAll, asked_for, opens_door, reads_input, store_in};
+ghost use Rattle.ghg_run.specs.Serve.{register_of};
+ghost use Rattle.ghg_outer.specs.Counts.{IsCounted};
+ghost use Rattle.ghg_outer.specs.Tape.{Rose};
+ghost use Rattle.ghg_session.specs.Status.{status_code};
 
 use crate::opening::open_store;
 use crate::serving::serve_office;
 use ghg_keeper::Keeper;
 use ghg_office::Office;
 use ghg_outer::{Door, Sink, Source};
-use ghg_session::{answer_script, write_all};
+use ghg_session::{Status, answer_script, report};
 use ghg_steps::Steps;
 use ghg_words::{Command, Service, StoreName, read_command};
 use std::alloc::Global;
 use std::hash::RandomState;
-use std::sync::ledger::{Blank, Ledger};
+use std::sync::ledger::Ledger;
 
 /// Does what the words ask for, and answers the status that the program ends with.
 ///
@@ -52,13 +47,16 @@ pub fn run<S: Source, W: Sink, K: Keeper, D: Door, L: Ledger>(
     door: &mut D,
     steps: &mut Steps<L>,
 ) -> u8
-    // What was done for the command that the words ask for, and what holds whatever the words.
-    ensures run { IsRun (asked_for words.now) (whole_run
-        (world (S.tape input.old) (W.tape out.old) (K.shelf keeper.old)
-        (register_of D.Link.Told.tape (D.register door.old)) steps.old)
-        (world (S.tape input.new) (W.tape out.new) (K.shelf keeper.new)
-        (register_of D.Link.Told.tape (D.register door.new)) steps.new) result) }
-
+    // What was done for the command that the words ask for, with a status that has its cause.
+    ensures run { (status : _) × (result ≡ status_code status)
+        × Runs (asked_for words.now) (K.shelf keeper.old) (K.shelf keeper.new)
+        (S.tape input.old) (S.tape input.new) (W.tape out.old) (W.tape out.new)
+        (register_of D.Link.Told.tape (D.register door.old))
+        (register_of D.Link.Told.tape (D.register door.new)) steps.old steps.new status
+        × IsCaused (asked_for words.now) (K.shelf keeper.old) (K.shelf keeper.new)
+        (S.tape input.old) (S.tape input.new) (W.tape out.old) (W.tape out.new)
+        (register_of D.Link.Told.tape (D.register door.old))
+        (register_of D.Link.Told.tape (D.register door.new)) status }
     // What the command does not ask for is as it was.
     ensures unread { reads_input (asked_for words.now) ≡ false → input.new ≡ input.old }
     ensures unkept { store_in (asked_for words.now) ≡ None → keeper.new ≡ keeper.old }
@@ -66,44 +64,16 @@ pub fn run<S: Source, W: Sink, K: Keeper, D: Door, L: Ledger>(
 {
     match read_command(words) {
         Some(Command::Compile(settings)) => {
-            compile(alloc, hasher, &settings.store, input, out, keeper, steps)
+            compile(alloc, hasher, &settings.store, input, out, keeper, steps).code()
         }
-        Some(Command::Serve(service)) => serve(alloc, hasher, &service, out, keeper, door, steps),
-        None => match write_all(out, BAD_COMMAND_LINE) {
-            Ok(()) => 2,
-            Err(stop) => stop.status(),
-        },
+        Some(Command::Serve(service)) => {
+            serve(alloc, hasher, &service, out, keeper, door, steps).code()
+        }
+        None => report(out, BAD_COMMAND_LINE, Status::BadCommandLine).code(),
     }
 }
 
 const BAD_COMMAND_LINE: &[u8] = b"bad command line\n";
-
-/// Does what the words ask for, as [`run`] does, and counts the steps in a new ledger.
-pub fn run_counted<S: Source, W: Sink, K: Keeper, D: Door, L: Ledger>(
-    alloc: Global,
-    hasher: RandomState,
-    words: &[String],
-    input: &mut S,
-    out: &mut W,
-    keeper: &mut K,
-    door: &mut D,
-    blank: Blank,
-) -> u8
-    requires name { blank.name ≡ L.name }
-    requires parts { blank.parts ≡ L.parts }
-    requires some { 0 < blank.parts }
-    ensures run { (steps : ℕ) × IsRun (asked_for words.now) (whole_run
-        (world (S.tape input.old) (W.tape out.old) (K.shelf keeper.old)
-        (register_of D.Link.Told.tape (D.register door.old)) 0)
-        (world (S.tape input.new) (W.tape out.new) (K.shelf keeper.new)
-        (register_of D.Link.Told.tape (D.register door.new)) steps) result) }
-    ensures unread { reads_input (asked_for words.now) ≡ false → input.new ≡ input.old }
-    ensures unkept { store_in (asked_for words.now) ≡ None → keeper.new ≡ keeper.old }
-    ensures unopened { opens_door (asked_for words.now) ≡ false → door.new ≡ door.old }
-{
-    let mut steps = Steps::<L>::new(blank);
-    run(alloc, hasher, words, input, out, keeper, door, &mut steps)
-}
 
 // Answers the script that the input holds. With a store, its rows are replayed first.
 fn compile<S: Source, W: Sink, K: Keeper, L: Ledger>(
@@ -114,30 +84,23 @@ fn compile<S: Source, W: Sink, K: Keeper, L: Ledger>(
     out: &mut W,
     keeper: &mut K,
     steps: &mut Steps<L>,
-) -> u8
-    // The door is not touched, whatever it tells.
-    ensures run { (door : Register Tape) → CompileRun store.now (whole_run
-        (world (S.tape input.old) (W.tape out.old) (K.shelf keeper.old) door steps.old)
-        (world (S.tape input.new) (W.tape out.new) (K.shelf keeper.new) door steps.new) result) }
-    ensures outside { (door : Register Tape) → ActsOutside
-        (world (S.tape input.old) (W.tape out.old) (K.shelf keeper.old) door steps.old)
-        (world (S.tape input.new) (W.tape out.new) (K.shelf keeper.new) door steps.new) result }
-    ensures words { result ≡ 2 → ⊥ }
-    ensures store { result ≡ 6 → IsSome store.now }
+) -> Status
+    ensures run { Compiles store.now (K.shelf keeper.old) (K.shelf keeper.new) (S.tape input.old)
+        (S.tape input.new) (W.tape out.old) (W.tape out.new) steps.old steps.new result }
+    ensures input { result ≡ Status.InputFailed → Rose (S.tape input.old) (S.tape input.new) }
+    ensures output { result ≡ Status.OutputFailed → Rose (W.tape out.old) (W.tape out.new) }
+    ensures counted { IsCounted (K.shelf keeper.old).faults (K.shelf keeper.new).faults
+        (result ≡ Status.StoreFailed) }
+    ensures stored { result ≡ Status.StoreFailed → IsSome store.now }
     ensures unkept { store.now ≡ None → keeper.new ≡ keeper.old }
 {
     match store {
-        None => answer(
-            alloc,
-            input,
-            out,
-            Office::new(alloc, hasher),
-            keeper,
-            false,
-            steps,
-        ),
+        None => {
+            let mut office = Office::new(alloc, hasher);
+            answer_script(alloc, input, out, &mut office, keeper, false, steps)
+        }
         Some(name) => match open_store(alloc, hasher, name.as_str(), out, keeper, steps) {
-            Ok(office) => answer(alloc, input, out, office, keeper, true, steps),
+            Ok(mut office) => { answer_script(alloc, input, out, &mut office, keeper, true, steps) }
             Err(status) => status,
         },
     }
@@ -152,21 +115,17 @@ fn serve<W: Sink, K: Keeper, D: Door, L: Ledger>(
     keeper: &mut K,
     door: &mut D,
     steps: &mut Steps<L>,
-) -> u8
+) -> Status
     requires { 1 ≤ service.now.connections }
-    // The input is not touched, whatever it tells.
-    ensures run { (input : Tape) → ServeRun service.now (whole_run
-        (world input (W.tape out.old) (K.shelf keeper.old)
-        (register_of D.Link.Told.tape (D.register door.old)) steps.old)
-        (world input (W.tape out.new) (K.shelf keeper.new)
-        (register_of D.Link.Told.tape (D.register door.new)) steps.new) result) }
-    ensures outside { (input : Tape) → ActsOutside
-        (world input (W.tape out.old) (K.shelf keeper.old)
-        (register_of D.Link.Told.tape (D.register door.old)) steps.old)
-        (world input (W.tape out.new) (K.shelf keeper.new)
-        (register_of D.Link.Told.tape (D.register door.new)) steps.new) result }
-    ensures words { result ≡ 2 → ⊥ }
-    ensures store { result ≡ 6 → IsSome service.now.settings.store }
+    ensures run { ServesAll service.now (K.shelf keeper.old) (K.shelf keeper.new)
+        (W.tape out.old) (W.tape out.new) (register_of D.Link.Told.tape (D.register door.old))
+        (register_of D.Link.Told.tape (D.register door.new)) steps.old steps.new result }
+    ensures output { result ≡ Status.OutputFailed → Rose (W.tape out.old) (W.tape out.new) }
+    ensures counted { IsCounted (K.shelf keeper.old).faults (K.shelf keeper.new).faults
+        (result ≡ Status.StoreFailed) }
+    ensures door { IsCounted (D.register door.old).faults (D.register door.new).faults
+        (result ≡ Status.DoorFailed) }
+    ensures stored { result ≡ Status.StoreFailed → IsSome service.now.settings.store }
     ensures unkept { service.now.settings.store ≡ None → keeper.new ≡ keeper.old }
 {
     match &service.settings.store {
@@ -182,34 +141,5 @@ fn serve<W: Sink, K: Keeper, D: Door, L: Ledger>(
             Ok(office) => serve_office(alloc, service, office, keeper, door, steps),
             Err(status) => status,
         },
-    }
-}
-
-// Answers the script that the input holds, by an office whose data are in force.
-fn answer<S: Source, W: Sink, K: Keeper, L: Ledger>(
-    alloc: Global,
-    input: &mut S,
-    out: &mut W,
-    mut office: Office,
-    keeper: &mut K,
-    stored: bool,
-    steps: &mut Steps<L>,
-) -> u8
-    requires in_force { IsInForce office }
-    requires same { stored ≡ true → Lists (K.shelf keeper.old) office.accepted }
-    ensures script { (last : State)
-        × AnswersInput (snapshot office (S.tape input.old) (W.tape out.old) steps.old)
-        (snapshot last (S.tape input.new) (W.tape out.new) steps.new) result
-        × (stored ≡ true → KeepsAccepted (K.shelf keeper.old) (K.shelf keeper.new) last.accepted) }
-    ensures outside { (door : Register Tape) → ActsOutside
-        (world (S.tape input.old) (W.tape out.old) (K.shelf keeper.old) door steps.old)
-        (world (S.tape input.new) (W.tape out.new) (K.shelf keeper.new) door steps.new) result }
-    ensures words { result ≡ 2 → ⊥ }
-    ensures store { result ≡ 6 → stored ≡ true }
-    ensures unkept { stored ≡ false → keeper.new ≡ keeper.old }
-{
-    match answer_script(alloc, input, out, &mut office, keeper, stored, steps) {
-        Ok(end) => end.status(),
-        Err(stop) => stop.status(),
     }
 }

@@ -1,8 +1,7 @@
 //! All that the program does, over any input, output, keeper and door.
 //!
 //! [`run`] does what the words of a command line ask for, and its contract says what that is: a script of
-//! submissions and requests for tables is answered, or connections are served. [`run_counted`] is the same
-//! with a new ledger of its own, in which the steps are counted.
+//! submissions and requests for tables is answered, or connections are served.
 #![tactic(auto)]
 
 mod commands;
@@ -10,5 +9,5 @@ mod laws;
 mod opening;
 mod serving;
 
-pub use commands::{run, run_counted};
+pub use commands::run;
 pub use laws::replies_are_sound;

@@ -1,17 +1,16 @@
 //! The office that a run with a store begins with.
 
-ghost use Rattle.std.specs.Prelude.{◌≡◌, ◌≢◌, ◌⊎◌, ◌+◌, IfErr, IfOk, IsErrOf, IsOk};
-ghost use Rattle.ghg_run.specs.Opening.{IsKeptIn, Opens, ReportsRow, kept_line, opening_status};
-ghost use Rattle.ghg_run.specs.World.{ActsOutside, world};
-ghost use Rattle.ghg_outer.specs.Doors.{Register};
+ghost use Rattle.std.specs.Prelude.{◌≡◌, ◌≢◌, ◌⊎◌, ◌+◌, IfErr, IfOk, IsErrOf, IsOk, Some};
+ghost use Rattle.ghg_run.specs.Opening.{IsKeptIn, Opens, ReportsRow, kept_line};
 ghost use Rattle.ghg_keeper.specs.Shelf.{Shelf};
 ghost use Rattle.ghg_office.specs.Laws.{IsInForce};
-ghost use Rattle.ghg_outer.specs.Tape.{Tape};
+ghost use Rattle.ghg_outer.specs.Counts.{IsCounted};
+ghost use Rattle.ghg_outer.specs.Tape.{Rose};
 
 use ghg_keeper::{KeepError, Keeper};
 use ghg_office::{Office, OpenFault, Reply, append_reply};
 use ghg_outer::Sink;
-use ghg_session::{Stop, write_all};
+use ghg_session::{Status, report};
 use ghg_steps::Steps;
 use std::alloc::{AllocError, Global};
 use std::hash::RandomState;
@@ -19,8 +18,7 @@ use std::sync::ledger::Ledger;
 
 /// Makes the named store the one in use, and replays its rows.
 ///
-/// Where there is no office, the error is the status that the program ends with: 9 where a row is refused,
-/// which was reported then, and else 5, 6 or 8.
+/// Where there is no office, the error is the status that the program ends with.
 pub fn open_store<W: Sink, K: Keeper, L: Ledger>(
     alloc: Global,
     hasher: RandomState,
@@ -28,42 +26,36 @@ pub fn open_store<W: Sink, K: Keeper, L: Ledger>(
     out: &mut W,
     keeper: &mut K,
     steps: &mut Steps<L>,
-) -> Result<Office, u8>
-    // The input and the door are not touched, whatever they tell.
-    ensures opened { (input : Tape) (door : Register Tape) → Opens name.now
-        (world input (W.tape out.old) (K.shelf keeper.old) door steps.old)
-        (world input (W.tape out.new) (K.shelf keeper.new) door steps.new) result }
-    ensures outside { (input : Tape) (door : Register Tape) → ActsOutside
-        (world input (W.tape out.old) (K.shelf keeper.old) door steps.old)
-        (world input (W.tape out.new) (K.shelf keeper.new) door steps.new) (opening_status result) }
-    ensures words { IsErrOf result 2 → ⊥ }
+) -> Result<Office, Status>
+    ensures opened { Opens name.now (K.shelf keeper.old) (K.shelf keeper.new)
+        (W.tape out.old) (W.tape out.new) steps.old steps.new result }
+    ensures output { IsErrOf result Status.OutputFailed → Rose (W.tape out.old) (W.tape out.new) }
+    ensures counted { IsCounted (K.shelf keeper.old).faults (K.shelf keeper.new).faults
+        (IsErrOf result Status.StoreFailed) }
     ensures in_force { IfOk result IsInForce }
-    ensures kept { IfOk result (λ office. IsKeptIn name.now (K.shelf keeper.new) office.accepted) }
+    ensures kept { IfOk result (λ office. IsKeptIn (Some name.now) (K.shelf keeper.new) office.accepted) }
 {
     match keeper.attach(name) {
         Ok(()) => {}
-        Err(KeepError::Failed) => return Err(Stop::Keeper.status()),
-        Err(KeepError::Memory) => return Err(Stop::Memory.status()),
+        Err(KeepError::Failed) => return Err(Status::StoreFailed),
+        Err(KeepError::Memory) => return Err(Status::OutOfMemory),
     }
     match Office::reopen(alloc, hasher, keeper, steps) {
         Ok(office) => Ok(office),
         Err(OpenFault::Kept { seq, reply }) => Err(refuse_row(alloc, out, seq, &reply)),
-        Err(OpenFault::KeeperFault) => Err(Stop::Keeper.status()),
-        Err(OpenFault::Memory) => Err(Stop::Memory.status()),
+        Err(OpenFault::KeeperFault) => Err(Status::StoreFailed),
+        Err(OpenFault::Memory) => Err(Status::OutOfMemory),
     }
 }
 
 // Reports the kept row of this number as refused, with the reply to it.
-fn refuse_row<W: Sink>(alloc: Global, out: &mut W, seq: u64, reply: &Reply) -> u8
-    ensures { ReportsRow (W.tape out.old) (W.tape out.new) (kept_line seq reply.now) result }
+fn refuse_row<W: Sink>(alloc: Global, out: &mut W, seq: u64, reply: &Reply) -> Status
+    ensures { ReportsRow (W.tape out.old) (W.tape out.new) seq reply.now result }
 {
     let Ok(line) = kept_line(alloc, seq, reply) else {
-        return Stop::Memory.status();
+        return Status::OutOfMemory;
     };
-    match write_all(out, &line) {
-        Ok(()) => 9,
-        Err(stop) => stop.status(),
-    }
+    report(out, &line, Status::RowRefused)
 }
 
 // The line that names the kept row that is refused.

@@ -1,8 +1,7 @@
 //! Connections, one after the other.
 
 ghost use Rattle.std.specs.Prelude.{◌≡◌, ◌≤◌, None, IsSome};
-ghost use Rattle.ghg_run.specs.Serve.{ServesLinks, office_at, station};
-ghost use Rattle.ghg_run.specs.World.{register_of};
+ghost use Rattle.ghg_run.specs.Serve.{Serves, office_at, register_of};
 ghost use Rattle.ghg_http.specs.Route.{routes};
 ghost use Rattle.ghg_office.specs.Keeping.{KeepsAccepted, Lists};
 ghost use Rattle.ghg_office.specs.Laws.{IsInForce};
@@ -13,7 +12,7 @@ use ghg_http::{Route, routes, serve_one};
 use ghg_keeper::Keeper;
 use ghg_office::Office;
 use ghg_outer::{Door, Failed};
-use ghg_session::Stop;
+use ghg_session::Status;
 use ghg_steps::Steps;
 use ghg_words::Service;
 use matchit::Router;
@@ -23,7 +22,7 @@ use std::sync::ledger::Ledger;
 /// Opens the port, and serves as many connections as are asked for, by an office whose data are in force.
 /// However a connection ends, the next one is served.
 ///
-/// The result is the status that the program ends with: 0, 7 where the door failed, or 8.
+/// The result is the status that the program ends with.
 pub fn serve_office<K: Keeper, D: Door, L: Ledger>(
     alloc: Global,
     service: &Service<'_>,
@@ -31,24 +30,24 @@ pub fn serve_office<K: Keeper, D: Door, L: Ledger>(
     keeper: &mut K,
     door: &mut D,
     steps: &mut Steps<L>,
-) -> u8
+) -> Status
     requires some { 1 ≤ service.now.connections }
     requires in_force { IsInForce office }
     requires same { IsSome service.now.settings.store → Lists (K.shelf keeper.old) office.accepted }
-    ensures links { (last : State) × ServesLinks service.now
-        (station (office_at office steps.old) (K.shelf keeper.old)
-        (register_of D.Link.Told.tape (D.register door.old)))
-        (station (office_at last steps.new) (K.shelf keeper.new)
-        (register_of D.Link.Told.tape (D.register door.new))) result
+    ensures links { (last : State) × Serves service.now (office_at office steps.old)
+        (office_at last steps.new) (K.shelf keeper.old).faults (K.shelf keeper.new).faults
+        (register_of D.Link.Told.tape (D.register door.old))
+        (register_of D.Link.Told.tape (D.register door.new)) result
         × (IsSome service.now.settings.store
         → KeepsAccepted (K.shelf keeper.old) (K.shelf keeper.new) last.accepted) }
     ensures unkept { service.now.settings.store ≡ None → keeper.new ≡ keeper.old }
     ensures counts { (K.shelf keeper.old).faults ≤ (K.shelf keeper.new).faults }
-    ensures counted { IsCounted (D.register door.old).faults (D.register door.new).faults (result ≡ 7) }
+    ensures counted { IsCounted (D.register door.old).faults (D.register door.new).faults
+        (result ≡ Status.DoorFailed) }
 {
     match routes(alloc) {
         Ok(router) => serve_links(alloc, &router, service, &mut office, keeper, door, steps),
-        Err(AllocError) => Stop::Memory.status(),
+        Err(AllocError) => Status::OutOfMemory,
     }
 }
 
@@ -61,37 +60,34 @@ fn serve_links<K: Keeper, D: Door, L: Ledger>(
     keeper: &mut K,
     door: &mut D,
     steps: &mut Steps<L>,
-) -> u8
+) -> Status
     requires router { router.now ≡ routes }
     requires some { 1 ≤ service.now.connections }
     requires in_force { IsInForce office.old }
     requires same { IsSome service.now.settings.store → Lists (K.shelf keeper.old) office.old.accepted }
-    ensures links { ServesLinks service.now
-        (station (office_at office.old steps.old) (K.shelf keeper.old)
-        (register_of D.Link.Told.tape (D.register door.old)))
-        (station (office_at office.new steps.new) (K.shelf keeper.new)
-        (register_of D.Link.Told.tape (D.register door.new))) result }
+    ensures links { Serves service.now (office_at office.old steps.old) (office_at office.new steps.new)
+        (K.shelf keeper.old).faults (K.shelf keeper.new).faults
+        (register_of D.Link.Told.tape (D.register door.old))
+        (register_of D.Link.Told.tape (D.register door.new)) result }
     ensures kept { IsSome service.now.settings.store
         → KeepsAccepted (K.shelf keeper.old) (K.shelf keeper.new) office.new.accepted }
     ensures unkept { service.now.settings.store ≡ None → keeper.new ≡ keeper.old }
     ensures counts { (K.shelf keeper.old).faults ≤ (K.shelf keeper.new).faults }
-    ensures counted { IsCounted (D.register door.old).faults (D.register door.new).faults (result ≡ 7) }
+    ensures counted { IsCounted (D.register door.old).faults (D.register door.new).faults
+        (result ≡ Status.DoorFailed) }
 {
     let stored = service.settings.store.is_some();
     if let Err(Failed) = door.listen(service.port) {
-        return DOOR_FAILED;
+        return Status::DoorFailed;
     }
     'links: for _served in 0..service.connections {
         let Ok(mut link) = door.next() else {
-            return DOOR_FAILED;
+            return Status::DoorFailed;
         };
         serve_one(alloc, router, &mut link, office, keeper, stored, steps);
         if let Err(AllocError) = door.finish(link) {
-            return Stop::Memory.status();
+            return Status::OutOfMemory;
         }
     }
-    0
+    Status::Done
 }
-
-// The status where the door failed.
-const DOOR_FAILED: u8 = 7;

@@ -1,10 +1,10 @@
 //! Runs whose input, output or store fails, and words that are no command. Sessions without faults are stored
 //! in `tests/`.
 
+use crate::counted::run_counted;
 use crate::words::words_of;
 use ghg_keeper::{Keeper, KeptRow, MemoryKeeper};
 use ghg_outer::{MemoryDoor, MemorySink, MemorySource};
-use ghg_run::run_counted;
 use std::alloc::{AllocError, Global};
 use std::hash::RandomState;
 use std::marker::Brand;

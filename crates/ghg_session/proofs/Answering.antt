@@ -14,9 +14,8 @@ use Rattle.ghg_tables.specs.Names.{table_in}
 use Rattle.ghg_units.specs.declared.rule.Rule.{Rule}
 use Rattle.ghg_units.specs.declared.rule.Rule.TheVariants.{BodyTooLong}
 use Rattle.ghg_session.specs.declared.command.Request.TheVariants.{Submit, Show}
-use Rattle.ghg_session.specs.declared.stop.Stop.{Stop}
-use Rattle.ghg_session.specs.Interruptions.{MayLeaveUndone}
-use Rattle.ghg_session.specs.Replies.{HasNoLines, is_to_keep, needs_memory, protocol, takes_memory}
+use Rattle.ghg_session.specs.declared.status.Status.{Status}
+use Rattle.ghg_session.specs.Replies.{HasNoLines, MayLeaveUndone, is_to_keep, needs_memory, takes_memory}
 
 -- ---- a request that is left undone takes memory, or is to be kept
 
@@ -53,20 +52,20 @@ is_table : (text : List ℕ) (seq cells : ℕ) → Table text ≢ Accepted seq c
 is_table text seq cells e = cc
 
 -- where there is no reply to a submission, nothing changed, and the submission may be left undone
-pub submission_undone : (s : State) (id body : List ℕ) (stored : Bool) (reply : Reply) (stop : Stop) (new : State)
+pub submission_undone : (s : State) (id body : List ℕ) (stored : Bool) (reply : Reply) (stop : Status) (new : State)
     → Answers (submitted s id body) reply s new → (reply ≡ Memory → IsRead s id body)
     → (reply ≡ KeeperFault → is_to_append stored (submitted s id body) ≡ true) → HasNoLines reply stop
-    → (new ≡ s) × MayLeaveUndone protocol s (Submit id body) stop
+    → (new ≡ s) × MayLeaveUndone s (Submit id body) stop
 unfolding takes_memory
 submission_undone s id body stored KeeperFault stop new h read kept none =
-    (h, rw none.0 (append_kept s id body stored (kept refl)))
-submission_undone s id body stored Memory stop new h read kept none = (h, rw none.0 (read_needs s id body (read refl)))
+    (h, inr (none.0, append_kept s id body stored (kept refl)))
+submission_undone s id body stored Memory stop new h read kept none = (h, inl (none.0, read_needs s id body (read refl)))
 submission_undone s id body stored (Accepted seq cells) stop new h read kept none = let long = none.1 in absurd cc
 submission_undone s id body stored (Repeated seq) stop new h read kept none = let long = none.1 in absurd cc
 submission_undone s id body stored (Refused rule) stop new h read kept none =
-    (h.1 ∙ stays s id body (Refused rule) (is_other rule) h.0, rw none.0 (ap needs_memory (sym h.0)))
+    (h.1 ∙ stays s id body (Refused rule) (is_other rule) h.0, inl (none.0, ap needs_memory (sym h.0)))
 submission_undone s id body stored (Table text) stop new h read kept none =
-    (h.1 ∙ stays s id body (Table text) (is_table text) h.0, rw none.0 (ap needs_memory (sym h.0)))
+    (h.1 ∙ stays s id body (Table text) (is_table text) h.0, inl (none.0, ap needs_memory (sym h.0)))
 submission_undone s id body stored NoTable stop new h read kept none = let long = none.1 in absurd cc
 
 -- a table that is there needs memory
@@ -97,16 +96,16 @@ requested_works s name year = by (table_in name)
     by None e = cc
     by (Some table) e = within (is_year_of (span s.content) year) _ e
 
-pub table_undone : (s : State) (table : List ℕ) (year : ℕ) (reply : Reply) (stop : Stop) → Shows (requested s table year) reply
+pub table_undone : (s : State) (table : List ℕ) (year : ℕ) (reply : Reply) (stop : Status) → Shows (requested s table year) reply
     → (reply ≡ Memory → requested s table year ≢ NoTable) → HasNoLines reply stop
-    → MayLeaveUndone protocol s (Show table year) stop
+    → MayLeaveUndone s (Show table year) stop
 unfolding takes_memory
-table_undone s table year Memory stop h there none = rw none.0 (requested_needs s table year (there refl))
+table_undone s table year Memory stop h there none = inl (none.0, requested_needs s table year (there refl))
 table_undone s table year KeeperFault stop h there none = absurd (requested_works s table year (sym h))
 table_undone s table year (Accepted seq cells) stop h there none = let long = none.1 in absurd cc
 table_undone s table year (Repeated seq) stop h there none = let long = none.1 in absurd cc
-table_undone s table year (Refused rule) stop h there none = rw none.0 (ap needs_memory (sym h))
-table_undone s table year (Table text) stop h there none = rw none.0 (ap needs_memory (sym h))
+table_undone s table year (Refused rule) stop h there none = inl (none.0, ap needs_memory (sym h))
+table_undone s table year (Table text) stop h there none = inl (none.0, ap needs_memory (sym h))
 table_undone s table year NoTable stop h there none = let long = none.1 in absurd cc
 
 -- of a result that is an error

@@ -2,7 +2,7 @@
 use Rattle.std.proofs.Common.{◌≡◌, inl, inr, ℕ, zero, suc, ◌+◌, ◌-◌, ◌≤◌, ◌<◌, List, [], ◌∷◌, ◌++◌, refl, length, take, length-append, length-take, sym, ap, ◌∙◌, arith}
 use Rattle.ghg_outer.specs.Tape.{Consumes, Rose, Tape}
 use Rattle.ghg_outer.proofs.Tapes.{consumes_more, consumes_no_more, rose_later}
-use Rattle.ghg_session.specs.declared.stop.Stop.TheVariants.{Input, Memory}
+use Rattle.ghg_session.specs.declared.status.Status.TheVariants.{InputFailed, OutOfMemory}
 use Rattle.ghg_session.specs.Commands.{most_kept}
 use Rattle.ghg_session.specs.Reader.{StoppedInBody, TookBody, TookFewer}
 
@@ -38,21 +38,19 @@ body_ends a b c at count kept p q h =
 
 -- the source failed within the body
 pub body_fails : (a b c : Tape) (at count : ℕ) (kept : List ℕ) → TookBody a b at kept → Consumes b c [] → Rose b c → at < count
-    → StoppedInBody a c count Input
+    → StoppedInBody a c count InputFailed
 body_fails a b c at count kept p q rose h = record {
   text = p.text;
   read = consumes_no_more a b c p.text p.read q;
   few = omega (arith, h, p.whole);
-  cause = λ _. rose_later a b c p.read.counts rose;
-  only = inl refl;
+  why = inl (refl, rose_later a b c p.read.counts rose);
 }
 
 -- memory ran out within the body
-pub body_stops : (a b : Tape) (at count : ℕ) (kept : List ℕ) → TookBody a b at kept → at < count → StoppedInBody a b count Memory
+pub body_stops : (a b : Tape) (at count : ℕ) (kept : List ℕ) → TookBody a b at kept → at < count → StoppedInBody a b count OutOfMemory
 body_stops a b at count kept p h = record {
   text = p.text;
   read = p.read;
   few = omega (arith, h, p.whole);
-  cause = λ e. absurd cc;
-  only = inr refl;
+  why = inr refl;
 }

@@ -1,7 +1,7 @@
 -- A command that is read as a line, and perhaps a body.
 use Rattle.std.proofs.Common.{◌≡◌, ℕ, ◌+◌, ◌≤◌, ◌<◌, ◌⊎◌, inl, inr, true, false, List, [], ◌++◌, length, take, append_assoc, append-nil, length-append, refl, subst, ◌∙◌, arith, None, Some, nat_le}
 use Rattle.std.proofs.lemmas.List.{take_at, drop_at}
-use Rattle.ghg_outer.specs.Tape.{IsAtEnd, Tape}
+use Rattle.ghg_outer.specs.Tape.{IsAtEnd, Rose, Tape}
 use Rattle.ghg_outer.proofs.Tapes.{consumes_more, rose_later}
 use Rattle.ghg_session.specs.declared.command.Command.{Command}
 use Rattle.ghg_session.specs.declared.command.Command.TheVariants as command
@@ -9,9 +9,10 @@ use Rattle.ghg_session.specs.declared.command.Line.{Line}
 use Rattle.ghg_session.specs.declared.command.Line.TheVariants as line
 use Rattle.ghg_session.specs.declared.command.Request.{Request}
 use Rattle.ghg_session.specs.declared.command.Request.TheVariants as request
-use Rattle.ghg_session.specs.declared.stop.Stop.{Stop}
+use Rattle.ghg_session.specs.declared.status.Status.{Status}
+use Rattle.ghg_session.specs.declared.status.Status.TheVariants.{InputFailed, OutOfMemory}
 use Rattle.ghg_session.specs.Commands.{body_length, command_at, command_of, command_reach, commands, form_of, line_at, lines, longest_line, most_kept}
-use Rattle.ghg_session.specs.Reader.{Found, Missing, Stopped, StoppedInBody, StoppedInLine, TookBody, TookFewer}
+use Rattle.ghg_session.specs.Reader.{Found, Missing, Stopped, StoppedInBody, TookBody, TookFewer}
 use Rattle.ghg_session.proofs.Lines.{line_length}
 
 pub no_line : (bytes : List ℕ) → line_at bytes ≡ None → command_at bytes ≡ None
@@ -120,23 +121,25 @@ missing_body a b c words id n m f p = record {
 
 -- ---- where reading stopped
 
-pub stopped_line : (a b : Tape) (stop : Stop) → StoppedInLine a b stop → Stopped commands a b stop
+pub stopped_line : (a b : Tape) (stop : Status) → Stopped lines a b stop → Stopped commands a b stop
 stopped_line a b stop s = record {
   text = s.text;
   read = s.read;
   none = no_line s.text s.none;
   near = near_no_line s.text s.none s.near;
-  cause = s.cause;
-  only = s.only;
+  why = s.why;
 }
 
-pub stopped_body : (a b c : Tape) (words id : List ℕ) (n : ℕ) (stop : Stop) → Found lines a b words
+pub stopped_body : (a b c : Tape) (words id : List ℕ) (n : ℕ) (stop : Status) → Found lines a b words
     → form_of words ≡ Some (line.Submit id n) → StoppedInBody b c n stop → Stopped commands a c stop
 stopped_body a b c words id n stop m f s = record {
   text = m.text ++ s.text;
   read = consumes_more a b c m.text s.text m.read s.read;
   none = cut_short words id m.text s.text n m.each f s.few;
   near = near_body (m.text ++ s.text) words id s.text n (m.each s.text) f (omega (arith, s.few));
-  cause = λ h. rose_later a b c m.read.counts (s.cause h);
-  only = s.only;
+  why = by s.why;
 }
+  where
+    by : ((stop ≡ InputFailed) × Rose b c) ⊎ (stop ≡ OutOfMemory) → ((stop ≡ InputFailed) × Rose a c) ⊎ (stop ≡ OutOfMemory)
+    by (inl e) = inl (e.0, rose_later a b c m.read.counts e.1)
+    by (inr e) = inr e

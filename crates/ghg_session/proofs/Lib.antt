@@ -1,13 +1,11 @@
+mod Answered
 mod Answering
 mod Bodies
 mod Commands
+mod Decided
 pub mod Keeping
 mod Lines
 mod Local
 mod Readings
-pub mod Statuses
-pub mod Stops
 mod Texts
-mod Turns
-pub mod Whole
 mod Writings

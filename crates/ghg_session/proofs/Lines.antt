@@ -5,9 +5,9 @@ use Rattle.ghg_outer.proofs.Tapes.{consumes_more, consumes_no_more, rose_later}
 use Rattle.std.specs.List.{position, position_or_len}
 use Rattle.std.specs.Option.{option_and_then, option_map_or}
 use Rattle.std.proofs.lemmas.List.{take_at, drop_at}
-use Rattle.ghg_session.specs.declared.stop.Stop.{Stop}
+use Rattle.ghg_session.specs.declared.status.Status.{Status}
 use Rattle.ghg_session.specs.Commands.{is_line_feed, line_at, line_to, lines, longest_line}
-use Rattle.ghg_session.specs.Reader.{Found, Missing, StoppedAtOnce, StoppedInLine}
+use Rattle.ghg_session.specs.Reader.{Found, Missing, Stopped, StoppedAtOnce}
 
 -- how many bytes stand before the first line feed, or in all
 abbrev pub before_feed : List ℕ → ℕ
@@ -107,13 +107,12 @@ found_line a b c line p h short q =
     record { text = line ++ 10 ∷ []; read = consumes_more a b c line (10 ∷ []) p q; each = λ rest. line_ends line rest short h }
 
 -- the source failed within the line
-pub stopped_in_line : (a b c : Tape) (line : List ℕ) (stop : Stop) → Consumes a b line → HasNoFeed line
-    → length line ≤ longest_line + 1 → StoppedAtOnce b c stop → StoppedInLine a c stop
+pub stopped_in_line : (a b c : Tape) (line : List ℕ) (stop : Status) → Consumes a b line → HasNoFeed line
+    → length line ≤ longest_line + 1 → StoppedAtOnce b c stop → Stopped lines a c stop
 stopped_in_line a b c line stop p h near s = record {
   text = line;
   read = consumes_no_more a b c line p s.read;
   none = line_cut line h;
   near = near;
-  cause = λ _. rose_later a b c p.counts s.cause;
-  only = inl s.fault;
+  why = inl (s.fault, rose_later a b c p.counts s.cause);
 }

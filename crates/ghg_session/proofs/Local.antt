@@ -1,21 +1,23 @@
 -- What follows END changes nothing.
-use Rattle.std.proofs.Common.{◌≡◌, ℕ, zero, suc, ◌+◌, ◌≤◌, ◌<◌, Bool, true, false, List, [], ◌∷◌, ◌++◌, length, take, drop, refl, sym, ap, ◌∙◌, arith, None, Some, Option, nat_le, nat_lt, nat_eq, length-append}
+use Rattle.std.proofs.Common.{◌≡◌, ℕ, ◌+◌, ◌≤◌, ◌<◌, Bool, true, false, List, [], ◌∷◌, ◌++◌, length, take, drop, refl, sym, ap, ◌∙◌, arith, None, Some, Option, nat_le, nat_lt, nat_eq, length-append}
 use Rattle.std.specs.List.{position}
 use Rattle.std.specs.Option.{option_and_then, option_map}
 use Rattle.std.proofs.lemmas.List.{append_cancel_right, take-append-le}
 use Rattle.std.proofs.Math.Seq.{drop-append-le}
 use Rattle.std.proofs.lemmas.Option.{none-some}
-use Rattle.ghg_session.specs.Laws.{IsScript, ReadsLocally, ReadsOnce}
+use Rattle.ghg_session.specs.Laws.{ReadsLocally, ReadsOnce, WhatIsLeftDecides}
+use Rattle.ghg_session.specs.Session.{IsScriptOf}
 use Rattle.ghg_session.specs.Commands.{command_at, command_of, commands, form_of, is_line_feed, line_at, line_to, longest_line, most_kept}
-use Rattle.ghg_session.specs.Script.{Reading, after_requests, most_commands, reading, reading_of, with_more}
+use Rattle.ghg_session.specs.Replies.{protocol}
+use Rattle.ghg_session.specs.Script.{Reading, most_commands, reading_of, with_more}
 use Rattle.ghg_session.specs.declared.command.Command.{Command}
 use Rattle.ghg_session.specs.declared.command.Command.TheVariants as command
 use Rattle.ghg_session.specs.declared.command.Line.{Line}
 use Rattle.ghg_session.specs.declared.command.Line.TheVariants as line
 use Rattle.ghg_session.specs.declared.command.Request.{Request}
 use Rattle.ghg_session.specs.declared.command.Request.TheVariants as request
+use Rattle.ghg_session.proofs.Decided.{reads_on, session_decided}
 use Rattle.ghg_session.proofs.Lines.{before_feed, feed_at}
-use Rattle.ghg_session.proofs.Readings.{reading_none, reading_end, reading_request, reading_spent}
 
 -- ---- a line
 
@@ -96,32 +98,19 @@ command_locally bytes rest more found e = at_line (line_at bytes) (line_at (byte
 
 -- ---- a script
 
-abbrev ReadsOn : ℕ → ℕ → List ℕ → List ℕ → Type 0
-ReadsOn n number bytes more = (reading commands n number bytes).wrong ≡ None → reading commands n number (bytes ++ more) ≡ with_more more (reading commands n number bytes)
-
--- a reading by its first command
-by_command : (n number : ℕ) (bytes more : List ℕ) (first : Option (Command Request × List ℕ)) → command_at bytes ≡ first → ((rest : List ℕ) → ReadsOn n (number + 1) rest more) → ReadsOn (suc n) number bytes more
-by_command n number bytes more None e go = rw (reading_none commands n number bytes e) (λ h. absurd cc)
-by_command n number bytes more (Some (command.End, rest)) e go =
-    rw (reading_end commands n number bytes rest e, reading_end commands n number (bytes ++ more) (rest ++ more) (command_locally bytes rest more command.End e)) (λ h. refl)
-by_command n number bytes more (Some (command.Request asked, rest)) e go =
-    rw (reading_request commands n number bytes rest asked e, reading_request commands n number (bytes ++ more) (rest ++ more) asked (command_locally bytes rest more (command.Request asked) e))
-    (λ h. ap (after_requests (asked ∷ [])) (go rest h))
-
-reads_on : (n number : ℕ) (bytes more : List ℕ) → ReadsOn n number bytes more
-reads_on zero number bytes more = rw (reading_spent commands number bytes) (λ h. absurd cc)
-reads_on (suc n) number bytes more = by_command n number bytes more (command_at bytes) refl (λ rest. reads_on n (number + 1) rest more)
-
 pub reads_locally : ReadsLocally
-reads_locally bytes more h = reads_on most_commands 1 bytes more h
+reads_locally bytes more h = reads_on commands command_locally most_commands 1 bytes more h
+
+pub what_is_left_decides : WhatIsLeftDecides
+what_is_left_decides = session_decided protocol command_locally
 
 -- what a script and any bytes behind it read as
 abbrev script_and : List Request → List ℕ → Reading Request
 script_and requests rest = record { requests = requests; wrong = None; rest = rest }
 
-script_behind : (text behind : List ℕ) (requests : List Request) → IsScript text requests → reading_of commands (text ++ behind) ≡ script_and requests behind
+script_behind : (text behind : List ℕ) (requests : List Request) → IsScriptOf commands text requests → reading_of commands (text ++ behind) ≡ script_and requests behind
 script_behind text behind requests s =
-    reads_locally text behind (ap (λ (r : Reading Request). r.wrong) s.reads) ∙ ap (with_more behind) s.reads
+    reads_locally text behind (ap (λ (r : Reading Request). r.wrong) s) ∙ ap (with_more behind) s
 
 same_behind : (a b behind_a behind_b : List ℕ) → behind_a ≡ behind_b → a ++ behind_a ≡ b ++ behind_b → a ≡ b
 same_behind a b behind_a behind_b same e = append_cancel_right a b behind_b (ap (λ (l : List ℕ). a ++ l) (sym same) ∙ e)

@@ -1,10 +1,10 @@
--- What bytes read as, command by command, and what comes of a reading that goes on.
-use Rattle.std.proofs.Common.{◌≡◌, ℕ, suc, ◌+◌, ◌-◌, ◌≤◌, ◌<◌, List, [], ◌∷◌, ◌++◌, append_assoc, refl, sym, ap, ◌∙◌, None, Some, arith}
+-- What bytes read as, command by command, and what comes of requests one after the other.
+use Rattle.std.proofs.Common.{◌≡◌, ℕ, suc, ◌+◌, ◌-◌, ◌≤◌, ◌<◌, List, [], ◌∷◌, ◌++◌, append_assoc, refl, sym, ap, ◌∙◌, Some, None, arith}
 use Rattle.ghg_session.specs.declared.command.Command.{Command}
 use Rattle.ghg_session.specs.declared.command.Command.TheVariants as command
 use Rattle.ghg_session.specs.Protocol.{Grammar, Protocol}
 use Rattle.ghg_session.specs.Script.{Reading, after_requests, ended, most_commands, no_command, reading}
-use Rattle.ghg_session.specs.Session.{SessionPosition, Snapshot, last_line, outcome, position, reading_from, replies, state_after, steps_of}
+use Rattle.ghg_session.specs.Session.{replies, state_after, steps_of}
 
 pub reading_none : {R : Type 0} (g : Grammar (Command R)) (n number : ℕ) (bytes : List ℕ) → g.parse bytes ≡ None
     → reading g (suc n) number bytes ≡ no_command number bytes
@@ -28,43 +28,39 @@ pub reading_spent : {R : Type 0} (g : Grammar (Command R)) (number : ℕ) (bytes
 unfolding reading
 reading_spent g number bytes = refl
 
--- ---- from a position
+-- ---- behind so many requests
+
+abbrev pub reading_behind : {R : Type 0} → Grammar (Command R) → ℕ → List ℕ → Reading R
+reading_behind g done bytes = reading g (most_commands - done) (done + 1) bytes
 
 one_more : (done : ℕ) → done < most_commands → most_commands - done ≡ suc (most_commands - (done + 1))
 one_more done h = omega (arith, h)
 
-pub from_none : {S R : Type 0} (p : Protocol S R) (from : SessionPosition S) (bytes : List ℕ)
-    → from.answered < most_commands → p.commands.parse bytes ≡ None
-    → reading_from p from bytes ≡ no_command (from.answered + 1) bytes
-from_none p from bytes h e =
-    ap (λ (n : ℕ). reading p.commands n (from.answered + 1) bytes) (one_more from.answered h)
-    ∙ reading_none p.commands (most_commands - (from.answered + 1)) (from.answered + 1) bytes e
+pub behind_none : {R : Type 0} (g : Grammar (Command R)) (done : ℕ) (bytes : List ℕ) → done < most_commands
+    → g.parse bytes ≡ None → reading_behind g done bytes ≡ no_command (done + 1) bytes
+behind_none g done bytes h e =
+    ap (λ (n : ℕ). reading g n (done + 1) bytes) (one_more done h) ∙ reading_none g _ (done + 1) bytes e
 
-pub from_end : {S R : Type 0} (p : Protocol S R) (from : SessionPosition S) (bytes rest : List ℕ)
-    → from.answered < most_commands → p.commands.parse bytes ≡ Some (command.End, rest)
-    → reading_from p from bytes ≡ ended rest
-from_end p from bytes rest h e =
-    ap (λ (n : ℕ). reading p.commands n (from.answered + 1) bytes) (one_more from.answered h)
-    ∙ reading_end p.commands (most_commands - (from.answered + 1)) (from.answered + 1) bytes rest e
+pub behind_end : {R : Type 0} (g : Grammar (Command R)) (done : ℕ) (bytes rest : List ℕ) → done < most_commands
+    → g.parse bytes ≡ Some (command.End, rest) → reading_behind g done bytes ≡ ended rest
+behind_end g done bytes rest h e =
+    ap (λ (n : ℕ). reading g n (done + 1) bytes) (one_more done h) ∙ reading_end g _ (done + 1) bytes rest e
 
-pub from_request : {S R : Type 0} (p : Protocol S R) (from : SessionPosition S) (after : Snapshot S)
-    (bytes rest : List ℕ) (asked : R) → from.answered < most_commands
-    → p.commands.parse bytes ≡ Some (command.Request asked, rest)
-    → reading_from p from bytes ≡ after_requests (asked ∷ []) (reading_from p (position (from.answered + 1) after) rest)
-from_request p from after bytes rest asked h e =
-    ap (λ (n : ℕ). reading p.commands n (from.answered + 1) bytes) (one_more from.answered h)
-    ∙ reading_request p.commands (most_commands - (from.answered + 1)) (from.answered + 1) bytes rest asked e
+pub behind_request : {R : Type 0} (g : Grammar (Command R)) (done : ℕ) (bytes rest : List ℕ) (asked : R)
+    → done < most_commands → g.parse bytes ≡ Some (command.Request asked, rest)
+    → reading_behind g done bytes ≡ after_requests (asked ∷ []) (reading_behind g (done + 1) rest)
+behind_request g done bytes rest asked h e =
+    ap (λ (n : ℕ). reading g n (done + 1) bytes) (one_more done h) ∙ reading_request g _ (done + 1) bytes rest asked e
 
 none_more : (done : ℕ) → most_commands ≤ done → most_commands - done ≡ 0
 none_more done h = omega (arith, h)
 
-pub from_spent : {S R : Type 0} (p : Protocol S R) (from : SessionPosition S) (bytes : List ℕ)
-    → most_commands ≤ from.answered → reading_from p from bytes ≡ no_command (from.answered + 1) bytes
-from_spent p from bytes h =
-    ap (λ (n : ℕ). reading p.commands n (from.answered + 1) bytes) (none_more from.answered h)
-    ∙ reading_spent p.commands (from.answered + 1) bytes
+pub behind_all : {R : Type 0} (g : Grammar (Command R)) (done : ℕ) (bytes : List ℕ) → most_commands ≤ done
+    → reading_behind g done bytes ≡ no_command (done + 1) bytes
+behind_all g done bytes h =
+    ap (λ (n : ℕ). reading g n (done + 1) bytes) (none_more done h) ∙ reading_spent g (done + 1) bytes
 
--- ---- requests, and a reading behind them
+-- ---- requests, one after the other
 
 pub after_requests_twice : {R : Type 0} (xs ys : List R) (r : Reading R)
     → after_requests xs (after_requests ys r) ≡ after_requests (xs ++ ys) r
@@ -88,10 +84,3 @@ pub steps_of-append : {S R : Type 0} (p : Protocol S R) (xs ys : List R) (s : S)
     → steps_of p s (xs ++ ys) ≡ steps_of p s xs + steps_of p (state_after p s xs) ys
 steps_of-append p [] ys s = omega arith
 steps_of-append p (x ∷ xs) ys s = let rest = steps_of-append p xs ys (p.next_state s x) in omega (arith, rest)
-
--- what comes of requests and a reading behind them
-pub output_after : {S R : Type 0} (p : Protocol S R) (xs : List R) (r : Reading R) (s : S)
-    → (outcome p s (after_requests xs r)).output ≡ replies p s xs ++ (outcome p (state_after p s xs) r).output
-output_after p xs r s =
-    ap (λ (l : List ℕ). l ++ last_line r.wrong) (replies-append p xs r.requests s)
-    ∙ append_assoc (replies p s xs) (replies p (state_after p s xs) r.requests) (last_line r.wrong)

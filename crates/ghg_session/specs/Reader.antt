@@ -1,9 +1,9 @@
 -- What calls that read from a source take of it.
-use Rattle.std.specs.Prelude.{◌≡◌, ℕ, ◌+◌, ◌≤◌, ◌<◌, ◌⊎◌, List, [], ◌++◌, length, take, Option, Some, None, Result, MatchResult, MatchOption}
+use Rattle.std.specs.Prelude.{◌≡◌, ℕ, ◌≤◌, ◌<◌, ◌⊎◌, List, [], ◌++◌, length, take, Option, Some, None, Result, MatchResult, MatchOption}
 use Rattle.ghg_outer.specs.Tape.{Consumes, IsAtEnd, Rose, Tape}
-use Rattle.ghg_session.specs.declared.stop.Stop.{Stop}
-use Rattle.ghg_session.specs.declared.stop.Stop.TheVariants.{Input, Memory}
-use Rattle.ghg_session.specs.Commands.{line_at, longest_line, most_kept}
+use Rattle.ghg_session.specs.declared.status.Status.{Status}
+use Rattle.ghg_session.specs.declared.status.Status.TheVariants.{InputFailed, OutOfMemory}
+use Rattle.ghg_session.specs.Commands.{most_kept}
 use Rattle.ghg_session.specs.Protocol.{Grammar}
 
 -- what was read is the text of this value, whatever follows it
@@ -21,34 +21,24 @@ pub record Missing {T : Type 0} (g : Grammar T) (before after : Tape) : Type 0 w
   pub near : length text ≤ g.reach text
 
 -- The source failed, where its count rose, or memory ran out. What was read before is no text of a value.
-pub record Stopped {T : Type 0} (g : Grammar T) (before after : Tape) (stop : Stop) : Type 0 where
+pub record Stopped {T : Type 0} (g : Grammar T) (before after : Tape) (stop : Status) : Type 0 where
   pub text : List ℕ
   pub read : Consumes before after text
   pub none : g.parse text ≡ None
   pub near : length text ≤ g.reach text
-  pub cause : stop ≡ Input → Rose before after
-  pub only : (stop ≡ Input) ⊎ (stop ≡ Memory)
+  pub why : ((stop ≡ InputFailed) × Rose before after) ⊎ (stop ≡ OutOfMemory)
 
 -- a value was read, or that there is none, or the call stopped
-abbrev pub Parses : {T : Type 0} → Grammar T → Tape → Tape → Result (Option T) Stop → Type 0
+abbrev pub Parses : {T : Type 0} → Grammar T → Tape → Tape → Result (Option T) Status → Type 0
 Parses g before after result =
     MatchResult result (λ found. MatchOption found (Missing g before after) (Found g before after))
     (Stopped g before after)
 
 -- the source failed, where its count rose, and nothing was read
-pub record StoppedAtOnce (before after : Tape) (stop : Stop) : Type 0 where
+pub record StoppedAtOnce (before after : Tape) (stop : Status) : Type 0 where
   pub read : Consumes before after []
   pub cause : Rose before after
-  pub fault : stop ≡ Input
-
--- The source failed, where its count rose, or memory ran out, before a line was read.
-pub record StoppedInLine (before after : Tape) (stop : Stop) : Type 0 where
-  pub text : List ℕ
-  pub read : Consumes before after text
-  pub none : line_at text ≡ None
-  pub near : length text ≤ longest_line + 1
-  pub cause : stop ≡ Input → Rose before after
-  pub only : (stop ≡ Input) ⊎ (stop ≡ Memory)
+  pub fault : stop ≡ InputFailed
 
 -- so many bytes of a body were read, and of them the prefix was kept
 pub record TookBody (before after : Tape) (count : ℕ) (kept : List ℕ) : Type 0 where
@@ -64,9 +54,8 @@ pub record TookFewer (before after : Tape) (count : ℕ) : Type 0 where
   pub few : length text < count
 
 -- The source failed, where its count rose, or memory ran out, before so many bytes were read.
-pub record StoppedInBody (before after : Tape) (count : ℕ) (stop : Stop) : Type 0 where
+pub record StoppedInBody (before after : Tape) (count : ℕ) (stop : Status) : Type 0 where
   pub text : List ℕ
   pub read : Consumes before after text
   pub few : length text < count
-  pub cause : stop ≡ Input → Rose before after
-  pub only : (stop ≡ Input) ⊎ (stop ≡ Memory)
+  pub why : ((stop ≡ InputFailed) × Rose before after) ⊎ (stop ≡ OutOfMemory)

@@ -1,12 +1,12 @@
 -- What the office replies to requests, as bytes, and its state after them.
-use Rattle.std.specs.Prelude.{◌≡◌, ℕ, Bool, true, false, List, ◌++◌, ◌==◌, codes, count_by}
+use Rattle.std.specs.Prelude.{◌≡◌, ◌⊎◌, ℕ, Bool, true, false, List, ◌++◌, ◌==◌, codes, count_by}
 use Rattle.std.specs.Fmt.{decimal}
 use Rattle.ghg_session.specs.declared.command.Request.{Request}
 use Rattle.ghg_session.specs.declared.command.Request.TheVariants.{Submit, Show}
 use Rattle.ghg_session.specs.declared.reply.Lines.{Lines}
 use Rattle.ghg_session.specs.declared.reply.Lines.TheVariants.{Short, Long}
-use Rattle.ghg_session.specs.declared.stop.Stop.{Stop}
-use Rattle.ghg_session.specs.declared.stop.Stop.TheVariants.{Keeper, Memory}
+use Rattle.ghg_session.specs.declared.status.Status.{Status}
+use Rattle.ghg_session.specs.declared.status.Status.TheVariants.{OutOfMemory, StoreFailed}
 use Rattle.ghg_office.specs.Office.{Answer, State, evaluations, submitted, requested}
 use Rattle.ghg_office.specs.Replies.{is_accepted, is_short, reply_text}
 use Rattle.ghg_office.specs.declared.reply.Reply.{Reply}
@@ -36,12 +36,12 @@ bytes_of (Short line) = line.items
 bytes_of (Long first below) = first.items ++ below
 
 -- why a reply has no line: the keeper failed, or memory ran out, perhaps for the line
-abbrev pub HasNoReply : Reply → Stop → Type 0
-HasNoReply KeeperFault stop = stop ≡ Keeper
-HasNoReply reply stop = stop ≡ Memory
+abbrev pub HasNoReply : Reply → Status → Type 0
+HasNoReply KeeperFault stop = stop ≡ StoreFailed
+HasNoReply reply stop = stop ≡ OutOfMemory
 
 -- a short line needs no memory
-abbrev pub HasNoLines : Reply → Stop → Type 0
+abbrev pub HasNoLines : Reply → Status → Type 0
 HasNoLines reply stop = HasNoReply reply stop × (is_short reply ≡ false)
 
 -- the office's answer to a request, and the state after it
@@ -75,6 +75,13 @@ takes_memory s asked = needs_memory (answer_of s asked).reply
 -- of all requests only a submission that is accepted is kept
 unfoldable pub is_to_keep : State → Request → Bool
 is_to_keep s asked = is_accepted (answer_of s asked).reply
+
+-- Why a request is left undone: memory ran out, and it takes memory to answer it; or the keeper failed, and
+-- it has to be kept.
+abbrev pub MayLeaveUndone : State → Request → Status → Type 0
+MayLeaveUndone s asked status =
+    ((status ≡ OutOfMemory) × (takes_memory s asked ≡ true))
+    ⊎ ((status ≡ StoreFailed) × (is_to_keep s asked ≡ true))
 
 -- A step is the evaluation of a node. A submission evaluates at most the nodes that its rows affect, and a
 -- table none.

@@ -1,14 +1,12 @@
--- What a session writes and how it ends, over any requests: as a function of the bytes that are read, and
--- as what a session has done so far.
-use Rattle.std.specs.Prelude.{◌≡◌, ⊤, ℕ, ◌+◌, ◌-◌, ◌≤◌, ◌⊎◌, Bool, ◌||◌, ◌==◌, List, [], ◌∷◌, ◌++◌, length, Option, Some, None, Result, Ok, Err, codes}
+-- What a session does, over any requests: what it reads, the replies that it writes, and how it ends.
+use Rattle.std.specs.Prelude.{◌≡◌, ⊤, ℕ, ◌+◌, ◌≤◌, ◌<◌, ◌⊎◌, Bool, true, List, [], ◌∷◌, ◌++◌, length, take, Some, None, codes}
 use Rattle.std.specs.Fmt.{decimal}
 use Rattle.ghg_outer.specs.Tape.{Appends, Consumes, IsAtEnd, Tape}
-use Rattle.ghg_session.specs.declared.session.End.{End}
-use Rattle.ghg_session.specs.declared.session.End.TheVariants as end
-use Rattle.ghg_session.specs.Protocol.{Protocol}
-use Rattle.ghg_session.specs.declared.stop.Stop.{Stop}
-use Rattle.ghg_session.specs.Script.{Reading, after_requests, most_commands, reading, with_more}
-use Rattle.ghg_session.specs.Writing.{stop_status}
+use Rattle.ghg_session.specs.declared.command.Command.{Command}
+use Rattle.ghg_session.specs.declared.status.Status.{Status}
+use Rattle.ghg_session.specs.declared.status.Status.TheVariants.{Done, NoScript, InputFailed, OutputFailed, StoreFailed, OutOfMemory}
+use Rattle.ghg_session.specs.Protocol.{Grammar, Protocol}
+use Rattle.ghg_session.specs.Script.{reading_of}
 
 -- ---- requests, one after the other
 
@@ -34,12 +32,32 @@ abbrev pub steps_of : {State Request : Type 0} → Protocol State Request → St
 steps_of p s [] = 0
 steps_of p s (asked ∷ rest) = p.steps s asked + steps_of p (p.next_state s asked) rest
 
--- ---- a whole session
+-- ---- what was read
 
--- all that is written, and the status
-pub record Outcome : Type 0 where
-  pub output : List ℕ
-  pub status : ℕ
+-- the bytes are a script: these requests, and the line of END, with nothing after it
+abbrev pub IsScriptOf : {Request : Type 0} → Grammar (Command Request) → List ℕ → List Request → Type 0
+IsScriptOf g bytes requests = reading_of g bytes ≡ record { requests = requests; wrong = None; rest = [] }
+
+-- the bytes are these requests, and after them this, which begins with no command
+abbrev pub Holds : {Request : Type 0} → Grammar (Command Request) → List ℕ → List Request → List ℕ → Type 0
+Holds g bytes requests rest =
+    reading_of g bytes ≡ record { requests = requests; wrong = Some (length requests + 1); rest = rest }
+
+-- After these requests a command was not read to its end, and no more than it takes to find out that it is
+-- one or none.
+pub record IsWithinCommand {Request : Type 0} (g : Grammar (Command Request)) (took : List ℕ)
+    (requests : List Request) : Type 0 where
+  pub rest : List ℕ
+  pub holds : Holds g took requests rest
+  pub near : length rest ≤ g.reach rest
+
+-- What was read after these requests is no command: nothing is left, or it is none whatever follows.
+pub record IsMalformed {Request : Type 0} (g : Grammar (Command Request)) (left : Tape) (took : List ℕ)
+    (requests : List Request) : Type 0 where
+  pub read : IsWithinCommand g took requests
+  pub final : IsAtEnd left ⊎ ((more : List ℕ) → Holds g (took ++ more) requests (read.rest ++ more))
+
+-- ---- how a session ends
 
 -- a text, and the line feed that ends it
 abbrev pub line_of : List ℕ → List ℕ
@@ -49,99 +67,61 @@ line_of text = text ++ 10 ∷ []
 abbrev pub wrong_line : ℕ → List ℕ
 wrong_line number = line_of (codes "not a script: command " ++ decimal number)
 
--- what follows the replies
-abbrev pub last_line : Option ℕ → List ℕ
-last_line None = []
-last_line (Some number) = wrong_line number
+-- One more request was read, which passes the test, and left undone. After it nothing was read.
+pub record LeavesUndone {State Request : Type 0} (p : Protocol State Request) (test : State → Request → Bool)
+    (now : State) (took : List ℕ) (answered : List Request) : Type 0 where
+  pub asked : Request
+  pub holds : Holds p.commands took (answered ++ asked ∷ []) []
+  pub passes : test now asked ≡ true
 
--- 0 at the end of a script, and 3 where the bytes are none
-abbrev pub status_of : Option ℕ → ℕ
-status_of None = 0
-status_of (Some number) = 3
+-- These lines are due next, and then this is the state. They are the reply to one more request, after which
+-- nothing was read, or the line that names the command that is none.
+abbrev pub IsDueNext : {State Request : Type 0} → Protocol State Request → State → State → Tape → List ℕ
+    → List Request → List ℕ → Type 0
+IsDueNext p now last left took answered lines =
+    ((asked : _) × Holds p.commands took (answered ++ asked ∷ []) [] × (lines ≡ p.reply now asked)
+    × (last ≡ p.next_state now asked))
+    ⊎ (IsMalformed p.commands left took answered × (lines ≡ wrong_line (length answered + 1)) × (last ≡ now))
 
--- the status of a session that came to its end
-abbrev pub end_status : End → ℕ
-end_status end.Script = 0
-end_status end.NoScript = 3
+-- Of the lines that are due next a proper prefix was written.
+pub record BreaksOff {State Request : Type 0} (p : Protocol State Request) (now last : State) (left : Tape)
+    (took : List ℕ) (answered : List Request) (part : List ℕ) : Type 0 where
+  pub lines : List ℕ
+  pub due : IsDueNext p now last left took answered lines
+  pub count : ℕ
+  pub short : count < length lines
+  pub prefix : part ≡ take count lines
 
--- whether a status is that of a session that came to its end
-abbrev pub is_end : ℕ → Bool
-is_end status = (status == 0) || (status == 3)
+-- How a session ends, by its status: `took` was read, these requests were answered, which left the state
+-- `now`, and the part was written after their replies. The last state is `last`. `left` is the input in the
+-- end, and `grows` says whether a write to the output takes memory.
+abbrev pub EndsBy : {State Request : Type 0} → Protocol State Request → State → State → Tape → Bool → List ℕ
+    → List Request → List ℕ → Status → Type 0
+EndsBy p now last left grows took answered part Done =
+    IsScriptOf p.commands took answered × (part ≡ []) × (last ≡ now)
+EndsBy p now last left grows took answered part NoScript =
+    IsMalformed p.commands left took answered × (part ≡ wrong_line (length answered + 1)) × (last ≡ now)
+EndsBy p now last left grows took answered part InputFailed =
+    IsWithinCommand p.commands took answered × (part ≡ []) × (last ≡ now)
+EndsBy p now last left grows took answered part OutputFailed = BreaksOff p now last left took answered part
+EndsBy p now last left grows took answered part StoreFailed =
+    LeavesUndone p p.is_to_keep now took answered × (part ≡ []) × (last ≡ now)
+EndsBy p now last left grows took answered part OutOfMemory =
+    ((IsWithinCommand p.commands took answered ⊎ LeavesUndone p p.takes_memory now took answered)
+    × (part ≡ []) × (last ≡ now))
+    ⊎ ((grows ≡ true) × BreaksOff p now last left took answered part)
+EndsBy p now last left grows took answered part _ = ⊥
 
--- the status of a session
-abbrev pub result_status : Result End Stop → ℕ
-result_status (Ok end) = end_status end
-result_status (Err stop) = stop_status stop
-
--- the replies to what was asked for, and the line that names the command that is none
-abbrev pub outcome : {State Request : Type 0} → Protocol State Request → State → Reading Request → Outcome
-outcome p s reading =
-    record {
-      output = replies p s reading.requests ++ last_line reading.wrong;
-      status = status_of reading.wrong;
-    }
-
--- ---- where a session stands
-
--- all that a session acts on
-pub record Snapshot (State : Type 0) : Type 0 where
-  pub state : State
-  pub input : Tape
-  pub output : Tape
-  pub steps : ℕ
-
-abbrev pub snapshot : {State : Type 0} → State → Tape → Tape → ℕ → Snapshot State
-snapshot state input output steps = record { state = state; input = input; output = output; steps = steps }
-
--- how many requests were answered, and what the session found then
-pub record SessionPosition (State : Type 0) : Type 0 where
-  pub answered : ℕ
-  pub at : Snapshot State
-
-abbrev pub position : {State : Type 0} → ℕ → Snapshot State → SessionPosition State
-position answered at = record { answered = answered; at = at }
-
--- before the first command
-abbrev pub beginning : {State : Type 0} → Snapshot State → SessionPosition State
-beginning at = position 0 at
-
--- what bytes read as from there
-abbrev pub reading_from :
-    {State Request : Type 0} → Protocol State Request → SessionPosition State → List ℕ → Reading Request
-reading_from p from bytes = reading p.commands (most_commands - from.answered) (from.answered + 1) bytes
-
--- and what comes of that
-abbrev pub session_from :
-    {State Request : Type 0} → Protocol State Request → SessionPosition State → List ℕ → Outcome
-session_from p from bytes = outcome p from.at.state (reading_from p from bytes)
-
--- ---- what a session has done
-
--- Requests were read and answered, and the session goes on.
-pub record Continues {State Request : Type 0} (p : Protocol State Request)
-    (from to : SessionPosition State) : Type 0 where
-  pub text : List ℕ
-  pub requests : List Request
-  pub read : Consumes from.at.input to.at.input text
-  pub each : (rest : List ℕ) → reading_from p from (text ++ rest)
-      ≡ after_requests requests (reading_from p to rest)
-  pub wrote : Appends from.at.output to.at.output (replies p from.at.state requests)
-  pub count : to.answered ≡ from.answered + length requests
-  pub state : to.at.state ≡ state_after p from.at.state requests
-  pub spent : to.at.steps ≤ from.at.steps + steps_of p from.at.state requests
-
--- The session of the text that was read is over: its output was written, and nothing else. Nothing is
--- left, or it is over whatever follows. Behind END nothing was read, and of a command that is none no
--- more than it takes to find that out.
-pub record Ends {State Request : Type 0} (p : Protocol State Request) (from : SessionPosition State)
-    (after : Snapshot State) (end : End) : Type 0 where
-  pub text : List ℕ
-  pub read : Consumes from.at.input after.input text
-  pub wrote : Appends from.at.output after.output (session_from p from text).output
-  pub status : (session_from p from text).status ≡ end_status end
-  pub final : IsAtEnd after.input
-      ⊎ ((more : List ℕ) → reading_from p from (text ++ more) ≡ with_more more (reading_from p from text))
-  pub exact : (reading_from p from text).wrong ≡ None → (reading_from p from text).rest ≡ []
-  pub near : length (reading_from p from text).rest ≤ p.commands.reach (reading_from p from text).rest
-  pub state : after.state ≡ state_after p from.at.state (reading_from p from text).requests
-  pub spent : after.steps ≤ from.at.steps + steps_of p from.at.state (reading_from p from text).requests
+-- What a session did from one state to another.
+pub record Session {State Request : Type 0} (p : Protocol State Request) (first last : State)
+    (input input' output output' : Tape) (steps steps' : ℕ) (status : Status) : Type 0 where
+  -- the bytes that it read, and no more
+  pub took : List ℕ
+  pub read : Consumes input input' took
+  -- the requests whose replies it wrote, each before it read on; and what it wrote after them
+  pub answered : List Request
+  pub part : List ℕ
+  pub wrote : Appends output output' (replies p first answered ++ part)
+  pub ends : EndsBy p (state_after p first answered) last input' output.grows took answered part status
+  -- no more steps than the requests ask for that it read
+  pub spent : steps' ≤ steps + steps_of p first (reading_of p.commands took).requests

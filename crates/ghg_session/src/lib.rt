@@ -22,11 +22,11 @@ mod line;
 mod reading;
 mod reply;
 mod session;
-mod stop;
+mod status;
 mod word;
 mod writing;
 
-pub use laws::{parses_texts, reads_locally, reads_once};
-pub use session::{End, answer_script};
-pub use stop::Stop;
-pub use writing::write_all;
+pub use laws::{parses_texts, reads_locally, reads_once, what_is_left_decides};
+pub use session::answer_script;
+pub use status::Status;
+pub use writing::report;

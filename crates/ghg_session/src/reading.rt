@@ -4,11 +4,11 @@ ghost use Rattle.std.specs.Prelude.{◌≡◌, ◌+◌, ◌-◌, ◌≤◌, [], 
 ghost use Rattle.std.specs.Vec.{vec_capacity};
 ghost use Rattle.ghg_outer.specs.Tape.{Consumes, IsAtEnd};
 ghost use Rattle.ghg_session.specs.Commands.{commands, lines, most_kept};
-ghost use Rattle.ghg_session.specs.Reader.{Found, Missing, Parses, StoppedAtOnce, StoppedInBody, StoppedInLine, TookBody, TookFewer};
+ghost use Rattle.ghg_session.specs.Reader.{Found, Missing, Parses, Stopped, StoppedAtOnce, StoppedInBody, TookBody, TookFewer};
 
 use crate::command::{Command, Line, Request};
 use crate::line::read_form;
-use crate::stop::Stop;
+use crate::status::Status;
 use arrayvec::ArrayVec;
 use ghg_import::MAX_BODY;
 use ghg_outer::Source;
@@ -20,7 +20,7 @@ use std::alloc::Global;
 pub fn next_command<S: Source>(
     alloc: Global,
     source: &mut S,
-) -> Result<Option<Command<Request>>, Stop>
+) -> Result<Option<Command<Request>>, Status>
     ensures { Parses commands (S.tape source.old) (S.tape source.new) result }
 {
     let Some(text) = read_line(source)? else {
@@ -49,11 +49,11 @@ const LONGEST_LINE: usize = 120;
 const LINE_ROOM: usize = LONGEST_LINE + 1;
 
 // The next line without its line feed, or nothing where no line ends within its limit.
-fn read_line<S: Source>(source: &mut S) -> Result<Option<ArrayVec<u8, LINE_ROOM>>, Stop>
+fn read_line<S: Source>(source: &mut S) -> Result<Option<ArrayVec<u8, LINE_ROOM>>, Status>
     ensures { MatchResult result
         (λ found. MatchOption found (Missing lines (S.tape source.old) (S.tape source.new))
         (λ line. Found lines (S.tape source.old) (S.tape source.new) line.items))
-        (StoppedInLine (S.tape source.old) (S.tape source.new)) }
+        (Stopped lines (S.tape source.old) (S.tape source.new)) }
 {
     let mut line = ArrayVec::new();
     'bytes: while line.len() < LINE_ROOM {
@@ -67,7 +67,7 @@ fn read_line<S: Source>(source: &mut S) -> Result<Option<ArrayVec<u8, LINE_ROOM>
 }
 
 // The next byte, or nothing at the end of the input.
-fn next_byte<S: Source>(source: &mut S) -> Result<Option<u8>, Stop>
+fn next_byte<S: Source>(source: &mut S) -> Result<Option<u8>, Status>
     ensures { MatchResult result
         (λ next. MatchOption next
         (IsAtEnd (S.tape source.new) × Consumes (S.tape source.old) (S.tape source.new) [])
@@ -78,7 +78,7 @@ fn next_byte<S: Source>(source: &mut S) -> Result<Option<u8>, Stop>
     match source.read(&mut byte) {
         Ok(0) => Ok(None),
         Ok(_) => Ok(Some(byte[0])),
-        Err(_) => Err(Stop::Input),
+        Err(_) => Err(Status::InputFailed),
     }
 }
 
@@ -91,7 +91,7 @@ fn read_body<S: Source>(
     alloc: Global,
     source: &mut S,
     count: usize,
-) -> Result<Option<Vec<u8>>, Stop>
+) -> Result<Option<Vec<u8>>, Status>
     ensures { MatchResult result
         (λ found. MatchOption found
         (IsAtEnd (S.tape source.new) × TookFewer (S.tape source.old) (S.tape source.new) count)
@@ -110,7 +110,7 @@ fn read_body<S: Source>(
                 keep_prefix(&mut body, &block[..given]);
                 at += given;
             }
-            Err(_) => return Err(Stop::Input),
+            Err(_) => return Err(Status::InputFailed),
         }
     }
     Ok(Some(body))

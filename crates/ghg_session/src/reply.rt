@@ -5,7 +5,7 @@ ghost use Rattle.ghg_office.specs.Replies.{is_failure, reply_text};
 ghost use Rattle.ghg_session.specs.Replies.{HasNoLines, HasNoReply, bytes_of, heading, line_count, table_lines};
 ghost use Rattle.ghg_session.specs.Session.{line_of};
 
-use crate::stop::Stop;
+use crate::status::Status;
 use ghg_office::{Reply, ShortLine, append_reply, short_text};
 use ghg_units::Text;
 use std::alloc::{AllocError, Global};
@@ -20,7 +20,7 @@ pub enum Lines {
 }
 
 /// The lines that reply to a request for a table. That the keeper failed or memory ran out is no reply.
-pub fn table_lines(alloc: Global, table: &[u8], year: u32, reply: Reply) -> Result<Lines, Stop>
+pub fn table_lines(alloc: Global, table: &[u8], year: u32, reply: Reply) -> Result<Lines, Status>
     ensures lines { IfOk result (λ lines. bytes_of lines ≡ table_lines table.now year reply) }
     ensures answered { OnOk result (is_failure reply ≡ false) }
     ensures none { IfErr result (HasNoLines reply) }
@@ -56,7 +56,7 @@ fn line_count(text: &[u8]) -> usize
 
 /// The line of a reply, with nothing under it. That the keeper failed or memory ran out is no reply. A short
 /// line needs no memory.
-pub fn one_line(alloc: Global, reply: &Reply) -> Result<Lines, Stop>
+pub fn one_line(alloc: Global, reply: &Reply) -> Result<Lines, Status>
     ensures line { IfOk result (λ lines. bytes_of lines ≡ line_of (reply_text reply.now)) }
     ensures answered { OnOk result (is_failure reply.now ≡ false) }
     ensures none { IfErr result (HasNoLines reply.now) }
@@ -75,14 +75,14 @@ pub fn one_line(alloc: Global, reply: &Reply) -> Result<Lines, Stop>
 }
 
 // The line of a reply, in memory.
-fn long_line(alloc: Global, reply: &Reply) -> Result<Vec<u8>, Stop>
+fn long_line(alloc: Global, reply: &Reply) -> Result<Vec<u8>, Status>
     ensures line { IfOk result (λ line. line.items ≡ line_of (reply_text reply.now)) }
     ensures answered { OnOk result (is_failure reply.now ≡ false) }
     ensures none { IfErr result (HasNoReply reply.now) }
 {
     match reply {
-        Reply::KeeperFault => Err(Stop::Keeper),
-        Reply::Memory => Err(Stop::Memory),
+        Reply::KeeperFault => Err(Status::StoreFailed),
+        Reply::Memory => Err(Status::OutOfMemory),
         _ => {
             let mut line = Vec::new(alloc);
             append_reply(&mut line, reply)?;

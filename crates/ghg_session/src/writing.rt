@@ -1,17 +1,28 @@
 //! Writes whole pieces to a sink.
 
-ghost use Rattle.ghg_session.specs.Writing.{WritesAll};
+ghost use Rattle.ghg_session.specs.Writing.{Reports, WritesAll};
 
-use crate::stop::Stop;
+use crate::status::Status;
 use ghg_outer::{Sink, WriteError};
 
 /// Writes the whole piece. Where that stops early, a proper prefix of it was written.
-pub fn write_all<W: Sink>(out: &mut W, piece: &[u8]) -> Result<(), Stop>
+pub fn write_all<W: Sink>(out: &mut W, piece: &[u8]) -> Result<(), Status>
     ensures { WritesAll (W.tape out.old) (W.tape out.new) piece.now result }
 {
     match ghg_outer::write_all(out, piece) {
         Ok(()) => Ok(()),
-        Err(WriteError::Failed) => Err(Stop::Output),
-        Err(WriteError::Memory) => Err(Stop::Memory),
+        Err(WriteError::Failed) => Err(Status::OutputFailed),
+        Err(WriteError::Memory) => Err(Status::OutOfMemory),
+    }
+}
+
+/// Writes the line that a status comes with, and answers that status. If the writing stops early, the answer
+/// says why.
+pub fn report<W: Sink>(out: &mut W, line: &[u8], status: Status) -> Status
+    ensures { Reports (W.tape out.old) (W.tape out.new) line.now status result }
+{
+    match write_all(out, line) {
+        Ok(()) => status,
+        Err(stop) => stop,
     }
 }

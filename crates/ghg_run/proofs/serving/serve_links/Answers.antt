@@ -1,6 +1,7 @@
-use Rattle.std.proofs.Common.{◌∙◌, inl, inr, [], ◌∷◌, ◌++◌, option_map, refl, sym, ap, arith}
+use Rattle.std.proofs.Common.{◌∙◌, [], ◌∷◌, ◌++◌, option_map, refl, sym, ap, arith}
 use Rattle.ghg_office.proofs.InForce.{requested_sound}
 use Rattle.ghg_session.proofs.Keeping.{keeps_listed, keeps_more}
+use Rattle.ghg_session.specs.declared.status.Status.TheVariants.{Done, DoorFailed}
 use Rattle.ghg_run.proofs.Held.{link_stays}
 use Rattle.ghg_run.proofs.Links.{none_served, one_more, port_stays, served_same, serving_drops, serving_ends, tells_given, tells_opened, tells_same, tells_taken}
 use Rattle.ghg_run.proofs.serving.serve_links.Goals as goal
@@ -8,8 +9,8 @@ use Rattle.ghg_run.proofs.serving.serve_links.Goals as goal
 pub returns-in-Err-clause-links : goal.returns-in-Err-clause-links
 returns-in-Err-clause-links g c =
     let told = tells_same g.D.Link.Told.tape (g.D.Door.register c.args.door.now) (g.D.Door.register c.listen.new.self) c.in-Err.ensures.kept in
-    serving_ends _ _ _ _ 0 7 (none_served _ _ _ refl (omega arith) told.given_is told.finished_is) c.is_some-stored.ensures (λ e. absurd cc) (inr (inl refl))
-    (λ e. absurd cc) (λ e. absurd cc) (λ _. omega (arith, c.requires.some))
+    serving_ends _ _ _ _ 0 DoorFailed (none_served _ _ _ refl (omega arith) told.given_is told.finished_is) c.is_some-stored.ensures
+    (λ links number. (omega (arith, number, c.requires.some), refl))
 
 pub links-init : goal.links-init
 links-init g c =
@@ -27,18 +28,18 @@ links-init g c =
 pub returns-in_default-next-clause-links : goal.returns-in_default-next-clause-links
 returns-in_default-next-clause-links g c =
     let told = tells_same g.D.Link.Told.tape (g.D.Door.register c.links.door) (g.D.Door.register c.next.new.self) c.in_default-next.ensures.kept in
-    serving_ends _ _ _ _ c.links._served 7
-    (served_same _ _ _ _ _ c.links.invariant.served refl (omega arith) told.given_is told.finished_is) c.is_some-stored.ensures (λ e. absurd cc)
-    (inr (inl refl)) (λ e. absurd cc) (λ e. absurd cc) (λ _. c.links-test.true)
+    serving_ends _ _ _ _ c.links._served DoorFailed
+    (served_same _ _ _ _ _ c.links.invariant.served refl (omega arith) told.given_is told.finished_is) c.is_some-stored.ensures
+    (λ links number. (omega (arith, number, c.links-test.true), refl))
 
 pub returns-in-Err-finish-clause-links : goal.returns-in-Err-finish-clause-links
 returns-in-Err-finish-clause-links g c =
     let given = tells_given g.D.Link.Told.tape (g.D.Door.register c.links.door) (g.D.Door.register c.next.new.self) c.in-Ok.ensures.given in
     let same = tells_same g.D.Link.Told.tape (g.D.Door.register c.next.new.self) (g.D.Door.register c.finish.new.self) c.in-Err-finish.ensures.kept in
-    rw c.status.ensures (serving_drops _ _ _ _ c.links._served
+    serving_drops _ _ _ _ c.links._served
     (record { link = g.D.Link.Told.tape c.serve_one.new.link; end = c.serve_one.result }) c.links.invariant.served
     (record { new = g.D.Link.Told.tape c.in-Ok.link; fresh = c.in-Ok.ensures.fresh; serves = c.serve_one.ensures.serves; bounds = requested_sound _ c.links.invariant.in_force })
-    (same.given_is ∙ given.given_is) c.serve_one.ensures.faults c.serve_one.ensures.fault c.args.service.now c.is_some-stored.ensures (same.finished_is ∙ given.finished_is) c.links-test.true)
+    (same.given_is ∙ given.given_is) c.serve_one.ensures.faults c.serve_one.ensures.fault c.args.service.now c.is_some-stored.ensures (same.finished_is ∙ given.finished_is) c.links-test.true
 
 pub links-preserved : goal.links-preserved
 links-preserved g c =
@@ -60,5 +61,5 @@ links-preserved g c =
 
 pub returns-clause-links : goal.returns-clause-links
 returns-clause-links g c =
-    serving_ends _ _ _ _ c.links._served 0 c.links.invariant.served c.is_some-stored.ensures (λ e. absurd cc) (inl refl) (λ _. omega (arith, c.links-test.false, c.links.auto._served-end))
-    (λ _. c.links.invariant.port) (λ h. absurd (h refl))
+    serving_ends _ _ _ _ c.links._served Done c.links.invariant.served c.is_some-stored.ensures
+    (λ links number. (omega (arith, number, c.links-test.false, c.links.auto._served-end), refl, c.links.invariant.port))

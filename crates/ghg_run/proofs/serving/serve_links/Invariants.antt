@@ -1,17 +1,16 @@
 use Rattle.std.proofs.Common.{◌≡◌, ◌≤◌, true, false, IfSome}
 use Rattle.ghg_office.specs.Keeping.{KeepsAccepted}
 use Rattle.ghg_office.specs.Laws.{IsInForce}
-use Rattle.ghg_run.specs.Serve.{office_at, station}
-use Rattle.ghg_run.specs.World.{register_of}
-use Rattle.ghg_run.proofs.Links.{ServedSoFar}
+use Rattle.ghg_run.specs.Serve.{office_at, register_of}
+use Rattle.ghg_run.proofs.Links.{ServedSoFar, station}
 use Rattle.ghg_run.proofs.serving.serve_links.Given as goal
 
 abbrev pub invariant-links : goal.invariant-links
 invariant-links g l = record {
   served : ServedSoFar l.stored
-      (station (office_at l.fn.office l.fn.steps) (g.K.Keeper.shelf l.fn.keeper)
+      (station (office_at l.fn.office l.fn.steps) (g.K.Keeper.shelf l.fn.keeper).faults
       (register_of g.D.Link.Told.tape (g.D.Door.register l.fn.door)))
-      (station (office_at l.office l.steps) (g.K.Keeper.shelf l.keeper)
+      (station (office_at l.office l.steps) (g.K.Keeper.shelf l.keeper).faults
       (register_of g.D.Link.Told.tape (g.D.Door.register l.door))) l._served;
   in_force : IsInForce l.office;
   kept : l.stored ≡ true

@@ -1,45 +1,68 @@
-use Rattle.std.proofs.Common.{◌≡◌, ◌≤◌, ◌+◌, ◌∙◌, arith, refl}
+use Rattle.std.proofs.Common.{◌≡◌, ◌≤◌, ◌+◌, ◌∙◌, [], None, arith, refl}
+use Rattle.ghg_session.specs.Commands.{command_at}
 use Rattle.ghg_session.specs.Replies.{protocol}
 use Rattle.ghg_session.specs.Script.{most_commands}
+use Rattle.ghg_outer.proofs.Tapes.{consumes_nothing}
+use Rattle.ghg_session.proofs.Answered.{answers_one, begins, ends_at_end, malformed, refused, spent_all, stops_in_reply, stops_reading, stops_undone}
+use Rattle.ghg_session.proofs.Commands.{no_line}
 use Rattle.ghg_session.proofs.Keeping.{keeps_listed, keeps_more}
-use Rattle.ghg_session.proofs.Turns.{begins, continues_more, ends_later, ends_refused, interrupted_later, next_is_spent, stops_in_refusal}
 use Rattle.ghg_session.proofs.session.answer_script.Goals as goal
+
+-- no command has an empty text
+no_text : command_at [] ≡ None
+no_text = no_line [] refl
 
 pub commands-init : goal.commands-init
 commands-init g c = record {
-  session = begins protocol _;
+  session = begins protocol _ _ _ _;
   kept = λ stored. keeps_listed _ _ (c.requires stored);
   untouched = λ _. refl;
   counts = omega arith;
 }
 
-pub returns-in-Ok-Some-clause-session : goal.returns-in-Ok-Some-clause-session
-returns-in-Ok-Some-clause-session g c =
-    let end = rw c.in-Ok-Some.field-0-is at c.in-Ok-Some.ensures.turn in
-    ends_later protocol _ _ _ _ c.commands.invariant.session end
-
 pub returns-in-Err-clause-session : goal.returns-in-Err-clause-session
-returns-in-Err-clause-session g c = interrupted_later protocol _ _ _ _ c.commands.invariant.session c.in-Err.ensures.turn
+returns-in-Err-clause-session g c =
+    stops_reading protocol _ _ _ _ _ _ _ _ _ c.commands.invariant.session _ _ c.commands-test.true c.in-Err.ensures
+
+pub returns-in-Ok-None-clause-session : goal.returns-in-Ok-None-clause-session
+returns-in-Ok-None-clause-session g c =
+    let missing = rw c.in-Ok-None.field-0-is at c.in-Ok-None.ensures in
+    refused protocol _ _ _ _ _ _ _ _ _ c.commands.invariant.session missing.text _ _ _ missing.read
+    (malformed protocol _ _ _ _ _ _ _ _ _ c.commands.invariant.session _ c.commands-test.true missing) c.refuse.ensures
+
+pub returns-in-Ok-Some-End-clause-session : goal.returns-in-Ok-Some-End-clause-session
+returns-in-Ok-Some-End-clause-session g c =
+    let found = rw (c.in-Ok-Some-End.field-0-is, c.in-Ok-Some-End.field-0-0-is) at c.in-Ok-Some-End.ensures in
+    ends_at_end protocol _ _ _ _ _ _ _ _ _ c.commands.invariant.session _ c.commands-test.true found
+
+pub returns-in-Err-answer-clause-session : goal.returns-in-Err-answer-clause-session
+returns-in-Err-answer-clause-session g c =
+    let found = rw (c.in-Ok-Some-Request.field-0-is, c.in-Ok-Some-Request.field-0-0-is) at c.in-Ok-Some-Request.ensures in
+    let left = c.in-Err-answer.ensures in
+    rw left.undone (stops_undone protocol _ _ _ _ _ _ _ _ _ c.commands.invariant.session _ _ _ _ c.commands-test.true no_text found left.cause c.answer.ensures.steps)
+
+pub returns-in-Err-write_lines-clause-session : goal.returns-in-Err-write_lines-clause-session
+returns-in-Err-write_lines-clause-session g c =
+    let found = rw (c.in-Ok-Some-Request.field-0-is, c.in-Ok-Some-Request.field-0-0-is) at c.in-Ok-Some-Request.ensures in
+    let answer = c.in-Ok.ensures in
+    stops_in_reply protocol _ _ _ _ _ _ _ _ _ c.commands.invariant.session _ _ _ _ _ _ c.commands-test.true no_text found
+    (rw answer.lines at c.in-Err-write_lines.ensures) answer.after c.answer.ensures.steps
 
 pub commands-preserved : goal.commands-preserved
 commands-preserved g c =
-    let next = rw c.in-Ok-None.field-0-is at c.in-Ok-None.ensures.turn in
+    let found = rw (c.in-Ok-Some-Request.field-0-is, c.in-Ok-Some-Request.field-0-0-is) at c.in-Ok-Some-Request.ensures in
+    let answer = c.in-Ok.ensures in
     record {
-      session = continues_more protocol _ _ _ c.commands.invariant.session next;
-      kept = λ stored. keeps_more _ _ _ _ _ (c.commands.invariant.kept stored) (c.turn.ensures.kept stored);
-      untouched = λ stored. c.turn.ensures.untouched stored ∙ c.commands.invariant.untouched stored;
-      counts = omega (arith, c.commands.invariant.counts, c.turn.ensures.counted.later);
+      session = answers_one protocol _ _ _ _ _ _ _ _ _ c.commands.invariant.session _ _ _ _ _ c.commands-test.true found
+          (rw answer.lines at c.in_default.ensures) answer.after c.answer.ensures.steps;
+      kept = λ stored. keeps_more _ _ _ _ _ (c.commands.invariant.kept stored) (c.answer.ensures.kept stored);
+      untouched = λ stored. c.answer.ensures.untouched stored ∙ c.commands.invariant.untouched stored;
+      counts = omega (arith, c.commands.invariant.counts, c.answer.ensures.counted.later);
     }
 
-pub returns-in-Ok-clause-session : goal.returns-in-Ok-clause-session
-returns-in-Ok-clause-session g c =
+pub returns-clause-session : goal.returns-clause-session
+returns-clause-session g c =
     let spent : most_commands ≤ c.commands.done = omega arith in
     let all : c.commands.done + 1 ≡ most_commands + 1 = omega arith in
-    ends_later protocol _ _ _ _ c.commands.invariant.session (ends_refused protocol _ _ _ (next_is_spent protocol _ spent) (rw all c.in-Ok.ensures))
-
-pub returns-in-Err-refuse-clause-session : goal.returns-in-Err-refuse-clause-session
-returns-in-Err-refuse-clause-session g c =
-    let spent : most_commands ≤ c.commands.done = omega arith in
-    let all : c.commands.done + 1 ≡ most_commands + 1 = omega arith in
-    interrupted_later protocol _ _ _ _ c.commands.invariant.session
-    (stops_in_refusal protocol _ _ _ _ (next_is_spent protocol _ spent) (rw all c.in-Err-refuse.ensures))
+    refused protocol _ _ _ _ _ _ _ _ _ c.commands.invariant.session [] _ _ _ (consumes_nothing _)
+    (spent_all protocol _ _ _ _ _ _ _ _ _ c.commands.invariant.session spent) (rw all c.refuse-2.ensures)

@@ -1,14 +1,13 @@
 use Rattle.std.proofs.Common.{◌≡◌, ◌≤◌, true, false}
 use Rattle.ghg_office.specs.Keeping.{KeepsAccepted}
 use Rattle.ghg_session.specs.Replies.{protocol}
-use Rattle.ghg_session.specs.Session.{Continues, beginning, position, snapshot}
+use Rattle.ghg_session.proofs.Answered.{Answered}
 use Rattle.ghg_session.proofs.session.answer_script.Given as goal
 
 abbrev pub invariant-commands : goal.invariant-commands
 invariant-commands g l = record {
-  session : Continues protocol
-      (beginning (snapshot l.fn.office (g.S.Told.tape l.fn.input) (g.W.Told.tape l.fn.out) l.fn.steps))
-      (position l.done (snapshot l.office (g.S.Told.tape l.input) (g.W.Told.tape l.out) l.steps));
+  session : Answered protocol l.fn.office l.office (g.S.Told.tape l.fn.input) (g.S.Told.tape l.input)
+      (g.W.Told.tape l.fn.out) (g.W.Told.tape l.out) l.fn.steps l.steps l.done;
   kept : l.stored ≡ true
       → KeepsAccepted (g.K.Keeper.shelf l.fn.keeper) (g.K.Keeper.shelf l.keeper) l.office.accepted;
   untouched : l.stored ≡ false → l.keeper ≡ l.fn.keeper;
