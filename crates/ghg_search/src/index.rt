@@ -30,7 +30,7 @@ pub enum Source {
 }
 
 /// Under each source the lines that name it, in byte order. There may be more, and never fewer: so it can
-/// grow before edits are made, and nothing has to be undone where they are not.
+/// grow before edits are made. A source from under which the last line is taken out is taken out too.
 #[derive(Drop)]
 pub struct Index {
     users: BTreeMap<Source, Vec<Name>>,
@@ -145,6 +145,7 @@ impl Index {
             return;
         }
         self.cut_user(&source, line);
+        self.drop_unused(&source);
     }
 
     // Takes out a line from under a source.
@@ -155,6 +156,15 @@ impl Index {
             return;
         };
         cut_name(lines, line);
+    }
+
+    // Takes out a source that no line stands under.
+    fn drop_unused(&mut self, source: &Source)
+        ensures { Keeps self.old self.new }
+    {
+        if self.users(source).is_empty() {
+            self.users.remove(source);
+        }
     }
 
     // Puts a line under what it names by the record of a key.
