@@ -1,162 +1,171 @@
 -- Options in another order, or spelled otherwise, give the same.
-use Rattle.std.proofs.Common.{◌≡◌, ℕ, Bool, true, false, List, [], ◌∷◌, ◌++◌, map, Option, Some, None, option_map, codes, refl, sym, ap, ◌∙◌, arith}
-use Rattle.std.specs.Prelude.{option_and_then}
-use Rattle.std.specs.List.{flat_map}
-use Rattle.ghg_words.specs.declared.options.OptionName.{OptionName}
-use Rattle.ghg_words.specs.declared.options.OptionName.TheVariants.{Workers, Store, Port, Connections}
-use Rattle.ghg_words.specs.Command.{command_in, command_named}
-use Rattle.ghg_words.specs.Laws.{IsReordered, OptionsStandInAnyOrder, Spelled, name_of, option_and_value, words_of}
+use Rattle.std.proofs.Common.{◌≡◌, ℕ, Bool, true, false, List, [], ◌∷◌, ◌++◌, ◌+◌, ◌&&◌, length, map, drop, not, Option, Some, None, codes, refl, sym, ap, ◌∙◌, arith, is_none, cond, suc, ◌||◌}
+use Rattle.std.specs.Prelude.{option_and_then, if◌then◌else◌}
+use Rattle.std.specs.List.{flat_map, list_any, position_or_len}
+use Rattle.std.specs.Str.{bytes_eq}
+use Rattle.std.proofs.lemmas.List.{append_assoc, drop_at, length_push}
+use Rattle.std.proofs.lemmas.Cmp.{nat_list_eq_equiv}
+use Rattle.std.proofs.lemmas.Grind.{common_steps}
+use Rattle.ghg_words.specs.Command.{command_in, command_named, compile_of, serve_of}
+use Rattle.ghg_words.specs.declared.command.Command.{Command}
+use Rattle.ghg_words.specs.Laws.{IsReordered, OptionsStandInAnyOrder, Spelled, option_of, words_of}
 use Rattle.ghg_words.specs.Laws.IsReordered.{unchanged, behind, exchanged, in_turn}
-use Rattle.ghg_words.specs.Options.{Options, give, give_option, no_options, once, option_named, option_word, options_in}
-use Rattle.ghg_words.proofs.Steps.{options_end, options_one, options_two}
-use Rattle.ghg_words.proofs.Words.{name_and_value_there}
+use Rattle.ghg_words.specs.Options.{Options, are_named, is_among, is_equals, leading, option_word, if_all, value_of, with_first}
+use Rattle.ghg_words.proofs.Steps.{leading_end, leading_one, leading_two}
+use Rattle.ghg_words.proofs.Words.{name_and_value_none, name_and_value_there}
 
--- ---- two options
+-- ---- the words of an option
 
-then_map : {A B C : Type 0} (x : Option A) (h : A → B) (k : B → Option C)
-    → option_and_then k (option_map h x) ≡ option_and_then (λ a. k (h a)) x
-then_map None h k = refl
-then_map (Some a) h k = refl
+ends_later : (here later : Bool) (m n : ℕ) → (here || later) ≡ false → (later ≡ false → m ≡ n)
+    → cond (not here) (1 + m) 0 ≡ suc n
+ends_later true later m n plain e = absurd (cc)
+ends_later false later m n plain e = let k = e plain in omega arith
 
--- two options of which neither has a value yet, or one has
-distinct : (x y : Option (List ℕ)) (v w : List ℕ) (put : Option (List ℕ) → Option (List ℕ) → Options)
-    → option_and_then (λ s. option_map (λ t. put s t) (once y w)) (once x v)
-    ≡ option_and_then (λ t. option_map (λ s. put s t) (once x v)) (once y w)
-distinct None None v w put = refl
-distinct None (Some b) v w put = refl
-distinct (Some a) None v w put = refl
-distinct (Some a) (Some b) v w put = refl
+-- a name ends at the first equals sign after it
+ends : (name : List ℕ) → list_any is_equals name ≡ false → position_or_len is_equals name ≡ length name
+ends [] plain = refl
+ends (b ∷ name) plain = ends_later (is_equals b) _ _ _ plain (ends name)
 
--- one option twice
-twice : (x : Option (List ℕ)) (v w : List ℕ) (put : Option (List ℕ) → Options)
-    → option_and_then (λ s. option_map put (once s w)) (once x v)
-    ≡ option_and_then (λ s. option_map put (once s v)) (once x w)
-twice None v w put = refl
-twice (Some a) v w put = refl
+ends_there : (name value : List ℕ) → list_any is_equals name ≡ false
+    → position_or_len is_equals (name ++ 61 ∷ value) ≡ length name
+ends_there [] value plain = refl
+ends_there (b ∷ name) value plain = ends_later (is_equals b) _ _ _ plain (ends_there name value)
 
--- options may be given in either order
-exchange : (a b : OptionName) (v w : List ℕ) (o : Options)
-    → option_and_then (give_option b w) (give_option a v o) ≡ option_and_then (give_option a v) (give_option b w o)
-exchange Workers Workers v w o =
-    then_map (once o.workers v) _ _ ∙ twice o.workers v w (λ s. record o { workers = s }) ∙ sym (then_map (once o.workers w) _ _)
-exchange Workers Store v w o =
-    then_map (once o.workers v) _ _ ∙ distinct o.workers o.store v w (λ s t. record o { workers = s; store = t })
-    ∙ sym (then_map (once o.store w) _ _)
-exchange Workers Port v w o =
-    then_map (once o.workers v) _ _ ∙ distinct o.workers o.port v w (λ s t. record o { workers = s; port = t })
-    ∙ sym (then_map (once o.port w) _ _)
-exchange Workers Connections v w o =
-    then_map (once o.workers v) _ _ ∙ distinct o.workers o.connections v w (λ s t. record o { workers = s; connections = t })
-    ∙ sym (then_map (once o.connections w) _ _)
-exchange Store Workers v w o =
-    then_map (once o.store v) _ _ ∙ distinct o.store o.workers v w (λ s t. record o { store = s; workers = t })
-    ∙ sym (then_map (once o.workers w) _ _)
-exchange Store Store v w o =
-    then_map (once o.store v) _ _ ∙ twice o.store v w (λ s. record o { store = s }) ∙ sym (then_map (once o.store w) _ _)
-exchange Store Port v w o =
-    then_map (once o.store v) _ _ ∙ distinct o.store o.port v w (λ s t. record o { store = s; port = t })
-    ∙ sym (then_map (once o.port w) _ _)
-exchange Store Connections v w o =
-    then_map (once o.store v) _ _ ∙ distinct o.store o.connections v w (λ s t. record o { store = s; connections = t })
-    ∙ sym (then_map (once o.connections w) _ _)
-exchange Port Workers v w o =
-    then_map (once o.port v) _ _ ∙ distinct o.port o.workers v w (λ s t. record o { port = s; workers = t })
-    ∙ sym (then_map (once o.workers w) _ _)
-exchange Port Store v w o =
-    then_map (once o.port v) _ _ ∙ distinct o.port o.store v w (λ s t. record o { port = s; store = t })
-    ∙ sym (then_map (once o.store w) _ _)
-exchange Port Port v w o =
-    then_map (once o.port v) _ _ ∙ twice o.port v w (λ s. record o { port = s }) ∙ sym (then_map (once o.port w) _ _)
-exchange Port Connections v w o =
-    then_map (once o.port v) _ _ ∙ distinct o.port o.connections v w (λ s t. record o { port = s; connections = t })
-    ∙ sym (then_map (once o.connections w) _ _)
-exchange Connections Workers v w o =
-    then_map (once o.connections v) _ _ ∙ distinct o.connections o.workers v w (λ s t. record o { connections = s; workers = t })
-    ∙ sym (then_map (once o.workers w) _ _)
-exchange Connections Store v w o =
-    then_map (once o.connections v) _ _ ∙ distinct o.connections o.store v w (λ s t. record o { connections = s; store = t })
-    ∙ sym (then_map (once o.store w) _ _)
-exchange Connections Port v w o =
-    then_map (once o.connections v) _ _ ∙ distinct o.connections o.port v w (λ s t. record o { connections = s; port = t })
-    ∙ sym (then_map (once o.port w) _ _)
-exchange Connections Connections v w o =
-    then_map (once o.connections v) _ _ ∙ twice o.connections v w (λ s. record o { connections = s }) ∙ sym (then_map (once o.connections w) _ _)
+after : (name value : List ℕ) → drop (length name + 1) (name ++ 61 ∷ value) ≡ value
+after name value =
+    ap (drop (length name + 1)) (sym (append_assoc name (61 ∷ []) value))
+    ∙ drop_at (name ++ 61 ∷ []) value (length name + 1) (length_push name 61)
 
--- ---- many options
-
--- the options, given one after the other
-given : Options → List (OptionName × List ℕ) → Option Options
-given o [] = Some o
-given o (first ∷ rest) = option_and_then (λ now. given now rest) (give_option first.0 first.1 o)
-
-then_same : {A B : Type 0} (x : Option A) (f g : A → Option B) → ((a : A) → f a ≡ g a)
-    → option_and_then f x ≡ option_and_then g x
-then_same None f g e = refl
-then_same (Some a) f g e = e a
-
-then_then : {A B C : Type 0} (x : Option A) (f : A → Option B) (g : B → Option C)
-    → option_and_then (λ a. option_and_then g (f a)) x ≡ option_and_then g (option_and_then f x)
-then_then None f g = refl
-then_then (Some a) f g = refl
-
-given_reordered : (xs ys : List (OptionName × List ℕ)) → IsReordered xs ys → (o : Options) → given o xs ≡ given o ys
-unfolding given
-given_reordered xs ys (unchanged zs) o = refl
-given_reordered xs ys (behind x us vs h) o =
-    then_same (give_option x.0 x.1 o) _ _ (λ now. given_reordered us vs h now)
-given_reordered xs ys (exchanged x y zs) o =
-    then_then (give_option x.0 x.1 o) (give_option y.0 y.1) (λ now. given now zs)
-    ∙ ap (option_and_then (λ now. given now zs)) (exchange x.0 y.0 x.1 y.1 o)
-    ∙ sym (then_then (give_option y.0 y.1 o) (give_option x.0 x.1) (λ now. given now zs))
-given_reordered xs ys (in_turn us vs ws h k) o = given_reordered us vs h o ∙ given_reordered vs ws k o
-
--- ---- their words
-
-named : (a : OptionName) → option_named (name_of a) ≡ Some a
-named Workers = refl
-named Store = refl
-named Port = refl
-named Connections = refl
-
-gives : (a : OptionName) (v : List ℕ) (o : Options) → give (name_of a) v o ≡ give_option a v o
-gives a v o = ap (option_and_then (λ option. give_option option v o)) (named a)
-
-alone : (a : OptionName) → option_word (codes "--" ++ name_of a) ≡ Some (name_of a, None)
+alone : (name : List ℕ) → list_any is_equals name ≡ false → option_word (codes "--" ++ name) ≡ Some (name, None)
 unfolding option_word
-alone Workers = refl
-alone Store = refl
-alone Port = refl
-alone Connections = refl
+alone name plain = ap Some (name_and_value_none name (ends name plain))
 
-joined : (a : OptionName) (v : List ℕ) → option_word (codes "--" ++ (name_of a ++ 61 ∷ v)) ≡ Some (name_of a, Some v)
+joined : (name value : List ℕ) → list_any is_equals name ≡ false
+    → option_word (codes "--" ++ (name ++ 61 ∷ value)) ≡ Some (name, Some value)
 unfolding option_word
-joined Workers v = ap Some (name_and_value_there (codes "workers" ++ 61 ∷ v) (codes "workers") v refl refl (grind arith))
-joined Store v = ap Some (name_and_value_there (codes "store" ++ 61 ∷ v) (codes "store") v refl refl (grind arith))
-joined Port v = ap Some (name_and_value_there (codes "port" ++ 61 ∷ v) (codes "port") v refl refl (grind arith))
-joined Connections v = ap Some (name_and_value_there (codes "connections" ++ 61 ∷ v) (codes "connections") v refl refl (grind arith))
+joined name value plain =
+    let e = ends_there name value plain in
+    ap Some (name_and_value_there (name ++ 61 ∷ value) name value
+    (rw e (grind (arith, common_steps))) (rw e (sym (after name value))) (rw e (grind (arith, common_steps))))
 
-words_give : (s : Spelled) (rest : List (List ℕ)) (o : Options)
-    → options_in o (words_of s ++ rest) ≡ option_and_then (λ now. options_in now rest) (give_option s.option s.value o)
-words_give s rest o = by_spelling s.is_one_word
+words_lead : (s : Spelled) (rest : List (List ℕ))
+    → leading (words_of s ++ rest) ≡ with_first (option_of s) (leading rest)
+words_lead s rest = by_spelling s.is_one_word
   where
-    by_spelling : (one : Bool) → options_in o (words_of (record s { is_one_word = one }) ++ rest)
-        ≡ option_and_then (λ now. options_in now rest) (give_option s.option s.value o)
-    by_spelling true =
-        options_one o _ (name_of s.option) s.value rest (joined s.option s.value)
-        ∙ ap (option_and_then (λ now. options_in now rest)) (gives s.option s.value o)
-    by_spelling false =
-        options_two o _ (name_of s.option) s.value rest (alone s.option)
-        ∙ ap (option_and_then (λ now. options_in now rest)) (gives s.option s.value o)
+    by_spelling : (one : Bool) → leading (words_of (record s { is_one_word = one }) ++ rest)
+        ≡ with_first (option_of s) (leading rest)
+    by_spelling true = leading_one _ s.name s.value rest (joined s.name s.value s.plain)
+    by_spelling false = leading_two _ s.name s.value rest (alone s.name s.plain)
 
-all_give : (xs : List Spelled) (o : Options) → options_in o (flat_map words_of xs) ≡ given o (map option_and_value xs)
-unfolding given
-all_give [] o = options_end o
-all_give (x ∷ xs) o =
-    words_give x (flat_map words_of xs) o
-    ∙ then_same (give_option x.option x.value o) _ _ (λ now. all_give xs now)
+all_lead : (xs : List Spelled) → leading (flat_map words_of xs) ≡ (map option_of xs, [])
+all_lead [] = leading_end
+all_lead (x ∷ xs) = words_lead x (flat_map words_of xs) ∙ ap (with_first (option_of x)) (all_lead xs)
+
+-- ---- the order of options
+
+-- the same names stand there, each once, and then each name has the same value
+record IsSame (xs ys : Options) : Type 0 where
+  names : (names : List (List ℕ)) → are_named names xs ≡ are_named names ys
+  values : (names : List (List ℕ)) → are_named names xs ≡ true → (name : List ℕ) → value_of name xs ≡ value_of name ys
+
+-- an option in front
+none_named : (known first : Bool) → (known && first && false) ≡ false
+none_named true true = refl
+none_named true false = refl
+none_named false first = refl
+
+in_front : (known first other rest others : Bool) → rest ≡ others → (rest ≡ true → first ≡ other)
+    → (known && first && rest) ≡ (known && other && others)
+in_front known first other true true e f = rw (f refl) refl
+in_front known first other true false e f = absurd (cc)
+in_front known first other false true e f = absurd (cc)
+in_front known first other false false e f = none_named known first ∙ sym (none_named known other)
+
+rest_named : (known first rest : Bool) → (known && first && rest) ≡ true → rest ≡ true
+rest_named true true rest e = e
+rest_named true false rest e = absurd (cc)
+rest_named false first rest e = absurd (cc)
+
+-- two options in front, which exchange their places
+exchange : (a b m n r : Bool) → (a && m && (b && n && r)) ≡ (b && n && (a && m && r))
+exchange false b m n r = sym (none_named b n)
+exchange true b false n r = sym (none_named b n)
+exchange true false true n r = refl
+exchange true true true false r = refl
+exchange true true true true r = refl
+
+exchange_names : (equal a b : Bool) (u v : Option (List ℕ)) (s t : List ℕ) (r : Bool)
+    → (a && is_none (if equal then Some t else u) && (b && is_none v && r))
+    ≡ (b && is_none (if equal then Some s else v) && (a && is_none u && r))
+exchange_names false a b u v s t r = exchange a b (is_none u) (is_none v) r
+exchange_names true true true u v s t r = refl
+exchange_names true true false u v s t r = refl
+exchange_names true false true u v s t r = refl
+exchange_names true false false u v s t r = refl
+
+exchange_values : (p q : Bool) (s t : List ℕ) (v : Option (List ℕ)) → (p ≡ true → q ≡ true → ⊥)
+    → (if p then Some s else (if q then Some t else v)) ≡ (if q then Some t else (if p then Some s else v))
+exchange_values true true s t v never = absurd (never refl refl)
+exchange_values true false s t v never = refl
+exchange_values false true s t v never = refl
+exchange_values false false s t v never = refl
+
+differ : (known equal : Bool) (t : List ℕ) (u : Option (List ℕ)) (rest : Bool)
+    → (known && is_none (if equal then Some t else u) && rest) ≡ true → equal ≡ true → ⊥
+differ known false t u rest e same = cc
+differ true true t u rest e same = cc
+differ false true t u rest e same = cc
+
+both_equal : (s t name : List ℕ) → bytes_eq s name ≡ true → bytes_eq t name ≡ true → bytes_eq t s ≡ true
+both_equal s t name e f = nat_list_eq_equiv.congr t name s f ∙ nat_list_eq_equiv.symm name s ∙ e
+
+same : (xs ys : Options) → IsReordered xs ys → IsSame xs ys
+unfolding are_named value_of
+same xs ys (unchanged zs) = record { names = λ n. refl; values = λ n e name. refl }
+same xs ys (behind x us vs h) =
+    let r = same us vs h in
+    record {
+      names = λ n. in_front (is_among x.0 n) _ _ _ _ (r.names n) (λ e. ap is_none (r.values n e x.0));
+      values = λ n e name. ap (λ v. if bytes_eq x.0 name then Some x.1 else v)
+          (r.values n (rest_named (is_among x.0 n) (is_none (value_of x.0 us)) _ e) name);
+    }
+same xs ys (exchanged x y zs) = record {
+  names = λ n.
+      exchange_names (bytes_eq y.0 x.0) (is_among x.0 n) (is_among y.0 n) (value_of x.0 zs) (value_of y.0 zs) x.1 y.1 _
+      ∙ ap (λ e. is_among y.0 n && is_none (if e then Some x.1 else value_of y.0 zs)
+      && (is_among x.0 n && is_none (value_of x.0 zs) && are_named n zs)) (nat_list_eq_equiv.symm y.0 x.0);
+  values = λ n e name. exchange_values (bytes_eq x.0 name) (bytes_eq y.0 name) x.1 y.1 _
+      (λ p q. differ (is_among x.0 n) (bytes_eq y.0 x.0) y.1 (value_of x.0 zs) _ e (both_equal x.0 y.0 name p q));
+}
+same xs ys (in_turn us vs ws h k) =
+    let r = same us vs h in
+    let t = same vs ws k in
+    record {
+      names = λ n. r.names n ∙ t.names n;
+      values = λ n e name. r.values n e name ∙ t.values n (sym (r.names n) ∙ e) name;
+    }
+
+-- a command looks at the names, and then at the values
+settled : (names : List (List ℕ)) (xs ys : Options) (f g : Option Command) → IsSame xs ys
+    → (are_named names xs ≡ true → f ≡ g)
+    → (if are_named names xs then f else None) ≡ (if are_named names ys then g else None)
+settled names xs ys f g h e = rw (← h.names names) (by_names (are_named names xs) e)
+  where
+    by_names : (b : Bool) → (b ≡ true → f ≡ g) → (if b then f else None) ≡ (if b then g else None)
+    by_names true k = k refl
+    by_names false k = refl
+
+compile_same : (xs ys : Options) → IsSame xs ys → compile_of xs ≡ compile_of ys
+compile_same xs ys h = settled _ xs ys _ _ h (λ e. simp (h.values _ e))
+
+serve_same : (xs ys : Options) → IsSame xs ys → serve_of xs ≡ serve_of ys
+serve_same xs ys h = settled _ xs ys _ _ h (λ e. simp (h.values _ e))
+
+same_command : (word : List ℕ) (xs ys : Options) → IsSame xs ys → command_named word xs ≡ command_named word ys
+same_command word xs ys h = cc (compile_same xs ys h, serve_same xs ys h)
 
 pub any_order : OptionsStandInAnyOrder
 unfolding command_in
 any_order word xs ys h =
-    ap (option_and_then (command_named word))
-    (all_give xs no_options ∙ given_reordered _ _ h no_options ∙ sym (all_give ys no_options))
+    let command = λ (read : Options × List (List ℕ)). option_and_then (command_named word) (if_all read) in
+    ap command (all_lead xs) ∙ same_command word _ _ (same _ _ h) ∙ sym (ap command (all_lead ys))

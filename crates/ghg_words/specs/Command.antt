@@ -1,11 +1,11 @@
 -- The command that the words after the program's name ask for.
-use Rattle.std.specs.Prelude.{⊤, ℕ, ◌≤◌, ◌&&◌, List, [], ◌∷◌, if◌then◌else◌, Option, Some, None, is_none, option_map, option_and_then, codes}
+use Rattle.std.specs.Prelude.{⊤, ℕ, ◌≤◌, List, [], ◌∷◌, if◌then◌else◌, Option, Some, None, option_map, option_and_then, codes}
 use Rattle.std.specs.Str.{bytes_eq}
 use Rattle.ghg_words.specs.declared.command.Command.{Command}
 use Rattle.ghg_words.specs.declared.command.Command.TheVariants.{Compile, Serve}
 use Rattle.ghg_words.specs.declared.command.Settings.{Settings}
 use Rattle.ghg_words.specs.declared.command.TheConstants.{MOST_WORKERS}
-use Rattle.ghg_words.specs.Options.{Options, no_options, options_in}
+use Rattle.ghg_words.specs.Options.{Options, are_named, options_in, value_of}
 use Rattle.ghg_words.specs.Values.{number_within, store_name}
 
 -- one worker, unless a number is given
@@ -21,20 +21,22 @@ store_of (Some text) = option_map (λ name. Some name) (store_name text)
 abbrev pub settings_of : Options → Option Settings
 settings_of o =
     option_and_then (λ workers.
-    option_map (λ store. record { workers = workers; store = store }) (store_of o.store))
-    (workers_of o.workers)
+    option_map (λ store. record { workers = workers; store = store }) (store_of (value_of (codes "store") o)))
+    (workers_of (value_of (codes "workers") o))
 
 abbrev pub compile_of : Options → Option Command
-compile_of o = if is_none o.port && is_none o.connections then option_map Compile (settings_of o) else None
+compile_of o =
+    if are_named (codes "workers" ∷ codes "store" ∷ []) o then option_map Compile (settings_of o) else None
 
 abbrev pub serve_of : Options → Option Command
 serve_of o =
+    if are_named (codes "workers" ∷ codes "store" ∷ codes "port" ∷ codes "connections" ∷ []) o then (
     option_and_then (λ settings.
     option_and_then (λ port.
     option_map (λ connections. Serve (record { settings = settings; port = port; connections = connections }))
-    (option_and_then (number_within 1 1000000) o.connections))
-    (option_and_then (number_within 1 65535) o.port))
-    (settings_of o)
+    (option_and_then (number_within 1 1000000) (value_of (codes "connections") o)))
+    (option_and_then (number_within 1 65535) (value_of (codes "port") o)))
+    (settings_of o)) else None
 
 -- the command of that name, with these options
 abbrev pub command_named : List ℕ → Options → Option Command
@@ -45,7 +47,7 @@ command_named word o =
 -- the command that the words are
 unfoldable pub command_in : List (List ℕ) → Option Command
 command_in [] = None
-command_in (word ∷ words) = option_and_then (command_named word) (options_in no_options words)
+command_in (word ∷ words) = option_and_then (command_named word) (options_in words)
 
 -- a command serves one connection at least
 abbrev pub ServesSome : Command → Type 0

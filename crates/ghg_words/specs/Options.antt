@@ -1,10 +1,10 @@
 -- Options: `--name value` in two words, or `--name=value` in one.
-use Rattle.std.specs.Prelude.{ℕ, Bool, List, [], ◌∷◌, length, drop, ◌==◌, nat_eq, nat_lt, if◌then◌else◌, Option, Some, None, option_map, option_and_then, codes}
-use Rattle.std.specs.List.{starts_with, position_or_len, before_first, after_first}
-use Rattle.std.specs.Option.{option_copied, option_map_or}
+use Rattle.std.specs.Prelude.{ℕ, Bool, true, List, [], ◌∷◌, length, drop, map, ◌&&◌, ◌==◌, nat_eq, nat_lt, if◌then◌else◌, Option, Some, None, is_none, option_map, codes}
+use Rattle.std.specs.Borrow.{Bor}
+use Rattle.std.specs.List.{list_any, starts_with, position_or_len, before_first, after_first}
+use Rattle.std.specs.Option.{option_map_or}
 use Rattle.std.specs.Str.{bytes_eq}
-use Rattle.ghg_words.specs.declared.options.OptionName.{OptionName}
-use Rattle.ghg_words.specs.declared.options.OptionName.TheVariants.{Workers, Store, Port, Connections}
+use Rattle.std.specs.String.{string_bytes}
 use Rattle.ghg_words.specs.declared.options.Options as declared
 
 -- ---- a word
@@ -12,11 +12,11 @@ use Rattle.ghg_words.specs.declared.options.Options as declared
 abbrev pub is_equals : ℕ → Bool
 is_equals b = b == 61
 
--- what stands behind the two dashes of an option
+-- what stands after the two dashes of an option
 abbrev pub undashed : List ℕ → Option (List ℕ)
 undashed word = if starts_with nat_eq word (codes "--") then Some (drop 2 word) else None
 
--- the name, and the value behind the first equals sign
+-- the name, and the value after the first equals sign
 abbrev pub name_and_value : List ℕ → List ℕ × Option (List ℕ)
 name_and_value text =
     if nat_lt (position_or_len is_equals text) (length text)
@@ -28,55 +28,52 @@ option_word word = option_map name_and_value (undashed word)
 
 -- ---- the options of a command line
 
--- the value that each option has
-pub record Options : Type 0 where
-  pub workers : Option (List ℕ)
-  pub store : Option (List ℕ)
-  pub port : Option (List ℕ)
-  pub connections : Option (List ℕ)
+-- names with their values, in the order in which they stand
+abbrev pub Options : Type 0
+Options = List (List ℕ × List ℕ)
 
-abbrev pub no_options : Options
-no_options = record { workers = None; store = None; port = None; connections = None }
+-- one more in front
+abbrev pub with_first : List ℕ × List ℕ → Options × List (List ℕ) → Options × List (List ℕ)
+with_first option read = (option ∷ read.0, read.1)
 
--- what the reader keeps of them
+-- the options that the words begin with, and the words after them
+unfoldable pub leading : List (List ℕ) → Options × List (List ℕ)
+leading [] = ([], [])
+leading (word ∷ []) =
+    option_map_or (λ part. option_map_or (λ value. ((part.0, value) ∷ [], [])) part.1 ([], word ∷ []))
+    (option_word word) ([], word ∷ [])
+leading (word ∷ next ∷ words) =
+    option_map_or (λ part. option_map_or (λ value. with_first (part.0, value) (leading (next ∷ words))) part.1
+    (with_first (part.0, next) (leading words))) (option_word word) ([], word ∷ next ∷ words)
+
+-- those before the end
+abbrev pub if_all : Options × List (List ℕ) → Option Options
+if_all (options, []) = Some options
+if_all (options, word ∷ words) = None
+
+-- the options that the words are, if each word belongs to one
+abbrev pub options_in : List (List ℕ) → Option Options
+options_in words = if_all (leading words)
+
+-- whether a text is one of these
+abbrev pub is_among : List ℕ → List (List ℕ) → Bool
+is_among text texts = list_any (λ other. bytes_eq other text) texts
+
+-- the value of the first option of that name
+unfoldable pub value_of : List ℕ → Options → Option (List ℕ)
+value_of name [] = None
+value_of name (option ∷ options) = if bytes_eq option.0 name then Some option.1 else value_of name options
+
+-- each has one of these names, and no two have the same
+unfoldable pub are_named : List (List ℕ) → Options → Bool
+are_named names [] = true
+are_named names (option ∷ options) =
+    is_among option.0 names && is_none (value_of option.0 options) && are_named names options
+
+-- ---- what the reader keeps of them
+
 abbrev pub seen : declared.Options → Options
-seen o = record {
-  workers = option_copied o.workers;
-  store = option_copied o.store;
-  port = option_copied o.port;
-  connections = option_copied o.connections;
-}
+seen options = (leading (map string_bytes options.words.now)).0
 
--- the option of that name
-abbrev pub option_named : List ℕ → Option OptionName
-option_named name =
-    if bytes_eq name (codes "workers") then Some Workers else (
-    if bytes_eq name (codes "store") then Some Store else (
-    if bytes_eq name (codes "port") then Some Port else (
-    if bytes_eq name (codes "connections") then Some Connections else None)))
-
--- an option has one value
-abbrev pub once : Option (List ℕ) → List ℕ → Option (Option (List ℕ))
-once None value = Some (Some value)
-once (Some earlier) value = None
-
--- these options and one more
-abbrev pub give_option : OptionName → List ℕ → Options → Option Options
-give_option Workers value o = option_map (λ v. record o { workers = v }) (once o.workers value)
-give_option Store value o = option_map (λ v. record o { store = v }) (once o.store value)
-give_option Port value o = option_map (λ v. record o { port = v }) (once o.port value)
-give_option Connections value o = option_map (λ v. record o { connections = v }) (once o.connections value)
-
--- and the one of that name
-abbrev pub give : List ℕ → List ℕ → Options → Option Options
-give name value o = option_and_then (λ option. give_option option value o) (option_named name)
-
--- the options that the words give, on top of those given before
-unfoldable pub options_in : Options → List (List ℕ) → Option Options
-options_in o [] = Some o
-options_in o (word ∷ []) =
-    option_and_then (λ part. option_and_then (λ value. give part.0 value o) part.1) (option_word word)
-options_in o (word ∷ next ∷ words) =
-    option_and_then (λ part. option_map_or
-    (λ value. option_and_then (λ given. options_in given (next ∷ words)) (give part.0 value o)) part.1
-    (option_and_then (λ given. options_in given words) (give part.0 next o))) (option_word word)
+abbrev pub text_of : Bor (List ℕ) → List ℕ
+text_of text = text.now

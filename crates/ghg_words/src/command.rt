@@ -55,7 +55,7 @@ fn compile_with(options: Options<'_>) -> Option<Command<'_>>
     ensures command { result ≡ compile_of (seen options.entry) }
     ensures some { IfSome result ServesSome }
 {
-    if options.port.is_some() || options.connections.is_some() {
+    if !options.are_named(&["workers", "store"]) {
         return None;
     }
     Some(Command::Compile(settings_from(options)?))
@@ -65,10 +65,13 @@ fn serve_with(options: Options<'_>) -> Option<Command<'_>>
     ensures command { result ≡ serve_of (seen options.entry) }
     ensures some { IfSome result ServesSome }
 {
+    if !options.are_named(&["workers", "store", "port", "connections"]) {
+        return None;
+    }
     Some(Command::Serve(Service {
         settings: settings_from(options)?,
-        port: number_within(1, 65_535, options.port?)? as u16,
-        connections: number_within(1, 1_000_000, options.connections?)?,
+        port: number_within(1, 65_535, options.value_of("port")?)? as u16,
+        connections: number_within(1, 1_000_000, options.value_of("connections")?)?,
     }))
 }
 
@@ -76,11 +79,11 @@ fn serve_with(options: Options<'_>) -> Option<Command<'_>>
 fn settings_from(options: Options<'_>) -> Option<Settings<'_>>
     ensures { result ≡ settings_of (seen options.entry) }
 {
-    let workers = match options.workers {
+    let workers = match options.value_of("workers") {
         None => 1,
         Some(text) => number_within(1, MOST_WORKERS, text)?,
     };
-    let store = match options.store {
+    let store = match options.value_of("store") {
         None => None,
         Some(text) => Some(StoreName::new(text)?),
     };

@@ -1,56 +1,62 @@
 //! Options: `--name value` in two words, or `--name=value` in one.
 
-ghost use Rattle.std.specs.Prelude.{◌≡◌, map, option_map};
+ghost use Rattle.std.specs.Prelude.{◌≡◌, ◌<◌, IfSome, MatchOption, [], length, map, option_map};
+ghost use Rattle.std.specs.List.{list_any};
 ghost use Rattle.std.specs.Option.{option_copied};
+ghost use Rattle.std.specs.Str.{bytes_eq};
 ghost use Rattle.std.specs.String.{string_bytes};
-ghost use Rattle.ghg_words.specs.Options.{give, no_options, once, option_named, option_word, options_in, seen};
+ghost use Rattle.ghg_words.specs.Options.{are_named, leading, option_word, options_in, seen, text_of, value_of, with_first};
 
-/// The name of an option.
-#[derive(Clone, Copy, Debug, PartialEq, Eq, Drop)]
-pub enum OptionName {
-    Workers,
-    Store,
-    Port,
-    Connections,
-}
-
-/// The values that the options of a command line have, as text.
+/// The options of a command line: names with their values.
 #[derive(Clone, Copy)]
 pub struct Options<'a> {
-    pub workers: Option<&'a str>,
-    pub store: Option<&'a str>,
-    pub port: Option<&'a str>,
-    pub connections: Option<&'a str>,
+    words: &'a [String],
 }
 
-const NO_OPTIONS: Options<'static> = Options {
-    workers: None,
-    store: None,
-    port: None,
-    connections: None,
-};
-
-/// The options that the words give, or nothing where a word is no option, or an option stands twice.
+/// The options that the words are. `None` if a word belongs to none.
 pub fn read_options<'a>(words: &'a [String]) -> Option<Options<'a>>
-    ensures { option_map seen result ≡ options_in no_options (map string_bytes words.now) }
+    ensures { option_map seen result ≡ options_in (map string_bytes words.now) }
 {
-    let mut options = NO_OPTIONS;
     let mut rest = words;
-    while let Some((word, after)) = rest.split_first() {
-        let (name, value) = option_word(word.as_str())?;
-        match value {
-            Some(value) => {
-                options = options.with(name, value)?;
-                rest = after;
-            }
-            None => {
-                let (value, after) = after.split_first()?;
-                options = options.with(name, value.as_str())?;
-                rest = after;
-            }
+    while let Some(first) = first_option(rest) {
+        rest = first.after;
+    }
+    if rest.is_empty() {
+        Some(Options { words })
+    } else {
+        None
+    }
+}
+
+// An option with the words after it.
+#[derive(Clone, Copy)]
+struct FirstOption<'a> {
+    name: &'a str,
+    value: &'a str,
+    after: &'a [String],
+}
+
+// The option that the words begin with.
+fn first_option<'a>(words: &'a [String]) -> Option<FirstOption<'a>>
+    ensures option { MatchOption result
+        (leading (map string_bytes words.now) ≡ ([], map string_bytes words.now))
+        (λ first. leading (map string_bytes words.now)
+        ≡ with_first (first.name.now, first.value.now) (leading (map string_bytes first.after.now))) }
+    ensures shorter { IfSome result (λ first. length first.after.now < length words.now) }
+{
+    let (word, after) = words.split_first()?;
+    let (name, value) = option_word(word.as_str())?;
+    match value {
+        Some(value) => Some(FirstOption { name, value, after }),
+        None => {
+            let (value, after) = after.split_first()?;
+            Some(FirstOption {
+                name,
+                value: value.as_str(),
+                after,
+            })
         }
     }
-    Some(options)
 }
 
 // The name of an option and, where it stands in the same word, its value.
@@ -64,51 +70,42 @@ fn option_word(word: &str) -> Option<(&str, Option<&str>)>
     }
 }
 
-// The option of that name.
-fn option_named(name: &str) -> Option<OptionName>
-    ensures { result ≡ option_named name.now }
-{
-    match name {
-        "workers" => Some(OptionName::Workers),
-        "store" => Some(OptionName::Store),
-        "port" => Some(OptionName::Port),
-        "connections" => Some(OptionName::Connections),
-        _ => None,
-    }
-}
-
 impl<'a> Options<'a> {
-    // These options and one more, which has no value yet.
-    fn with(self, name: &str, value: &'a str) -> Option<Options<'a>>
-        ensures { option_map seen result ≡ give name.now value.now (seen self.entry) }
+    /// Whether each has one of these names, and no two have the same.
+    #[tactic(auto, using(crate::proofs::Words::among_texts), unfolding(crate::specs::Options::are_named))]
+    pub fn are_named(self, names: &[&str]) -> bool
+        ensures { result ≡ are_named (map text_of names.now) (seen self.entry) }
     {
-        match option_named(name)? {
-            OptionName::Workers => Some(Options {
-                workers: once(self.workers, value)?,
-                ..self
-            }),
-            OptionName::Store => Some(Options {
-                store: once(self.store, value)?,
-                ..self
-            }),
-            OptionName::Port => Some(Options {
-                port: once(self.port, value)?,
-                ..self
-            }),
-            OptionName::Connections => Some(Options {
-                connections: once(self.connections, value)?,
-                ..self
-            }),
+        let mut rest = self.words;
+        while let Some(first) = first_option(rest) {
+            let later = Options { words: first.after };
+            if !is_among(first.name, names) || later.value_of(first.name).is_some() {
+                return false;
+            }
+            rest = first.after;
         }
+        true
+    }
+
+    /// The value of the first option of that name.
+    #[tactic(auto, unfolding(crate::specs::Options::value_of))]
+    pub fn value_of(self, name: &str) -> Option<&'a str>
+        ensures { option_copied result ≡ value_of name.now (seen self.entry) }
+    {
+        let mut rest = self.words;
+        while let Some(first) = first_option(rest) {
+            if first.name == name {
+                return Some(first.value);
+            }
+            rest = first.after;
+        }
+        None
     }
 }
 
-// The value of an option that has none yet.
-fn once<'a>(earlier: Option<&'a str>, value: &'a str) -> Option<Option<&'a str>>
-    ensures { option_map option_copied result ≡ once (option_copied earlier.entry) value.now }
+// Whether the name is one of these.
+fn is_among(name: &str, names: &[&str]) -> bool
+    ensures { result ≡ list_any (λ known. bytes_eq known.now name.now) names.now }
 {
-    match earlier {
-        None => Some(Some(value)),
-        Some(_) => None,
-    }
+    names.iter().any(|known| *known == name)
 }
