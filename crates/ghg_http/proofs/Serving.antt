@@ -1,8 +1,9 @@
 -- What comes of a link, from what was read, answered and written.
-use Rattle.std.proofs.Common.{◌≡◌, ◌≢◌, ℕ, ◌+◌, ◌<◌, ◌≤◌, Bool, true, false, List, [], length, take, Option, Some, None, Result, Ok, inl, inr, refl, sym, ap, subst, ◌∙◌, arith}
+use Rattle.std.proofs.Common.{◌≡◌, ◌≢◌, ℕ, ◌+◌, ◌<◌, ◌≤◌, Bool, true, false, List, [], length, take, Option, Some, None, Result, Ok, refl, sym, ap, subst, ◌∙◌, arith}
 use Rattle.std.specs.Prelude.{if◌then◌else◌}
 use Rattle.std.specs.declared.alloc.AllocError.{AllocError}
 use Rattle.std.specs.Io.KnownBytes as known
+use Rattle.std.proofs.lemmas.Bool.{false≢true}
 use Rattle.std.proofs.KnownBytes.{Appends-kept, Appends-nil, Appends-trans, Consumes-kept}
 use Rattle.ghg_definitions.specs.Compilation.{is_year_of}
 use Rattle.ghg_definitions.specs.Data.{span}
@@ -16,7 +17,7 @@ use Rattle.ghg_tables.specs.declared.table.Table.{Table}
 use Rattle.ghg_tables.specs.Names.{table_in}
 use Rattle.ghg_http.specs.Receive.{EndsEarly, Stopped, TakesRequest}
 use Rattle.ghg_http.specs.Reply.{HttpReply, reply_bytes}
-use Rattle.ghg_http.specs.Serve.{AnswersRequest, BreaksOff, Exchange, Exchanges, IsUnanswered, Sends, ServesLink, evaluations_for, shown, snapshot}
+use Rattle.ghg_http.specs.Serve.{AnswersRequest, BreaksOff, Exchange, Exchanges, IsUnanswered, Sends, ServesLink, TellsFaults, evaluations_for, shown, snapshot}
 use Rattle.ghg_http.specs.declared.reply.Message.{Message}
 use Rattle.ghg_http.specs.declared.request.ReceiveError.TheVariants as stopped
 use Rattle.ghg_http.specs.declared.request.Request.{Request}
@@ -52,6 +53,15 @@ pub shows_no_fault : (s : State) (name : List ℕ) (year : Option ℕ) (answer :
     → answer ≢ answered.KeeperFault
 shows_no_fault s name year answer h = no_fault (shown s name year) answer (is_shown s name year) h
 
+-- ---- faults of the keeper
+
+-- nothing was due, and the keeper is as before
+pub none_due : (stored : Bool) (count : ℕ) → TellsFaults None stored count count
+none_due stored count = record {
+  counted = record { later = omega arith; rose = λ e. absurd (false≢true e) };
+  store = λ e. absurd (false≢true e);
+}
+
 -- ---- what passed over a link
 
 module _ (a b c : Tape) (text written : List ℕ) (x : Exchange) where
@@ -79,7 +89,7 @@ module _ (s : State) (a b : Tape) (n : ℕ) where
   read_only : (text : List ℕ) → Consumes a b text → Exchanges a b (quiet text)
   read_only text read = exchanged a b b text [] (quiet text) read (appends_nothing b) refl refl
 
-  pub cut_off : TakesRequest a b None → ServesLink (snapshot s a n) (snapshot s b n) Cut
+  pub cut_off : TakesRequest a b None → ServesLink (snapshot s a n) (snapshot s b n) None Cut
   cut_off t = record {
     exchange = quiet t.bytes;
     from = refl;
@@ -90,24 +100,24 @@ module _ (s : State) (a b : Tape) (n : ℕ) where
     spent = omega arith;
   }
 
-  pub link_failed : Stopped EndsEarly a b stopped.Failed → ServesLink (snapshot s a n) (snapshot s b n) LinkFault
+  pub link_failed : Stopped EndsEarly a b stopped.Failed → ServesLink (snapshot s a n) (snapshot s b n) None LinkFault
   link_failed h = record {
     exchange = quiet h.text;
     from = refl;
     to = refl;
     link = read_only h.text h.read;
-    passes = inl (record { early = h.kind refl; unanswered = quietly h.text });
+    passes = record { early = h.kind refl; unanswered = quietly h.text };
     cause = h.cause refl;
     spent = omega arith;
   }
 
-  pub ran_out : Stopped EndsEarly a b stopped.Memory → ServesLink (snapshot s a n) (snapshot s b n) Memory
+  pub ran_out : Stopped EndsEarly a b stopped.Memory → ServesLink (snapshot s a n) (snapshot s b n) None Memory
   ran_out h = record {
     exchange = quiet h.text;
     from = refl;
     to = refl;
     link = read_only h.text h.read;
-    passes = inl (quietly h.text);
+    passes = quietly h.text;
     cause = tt;
     spent = omega arith;
   }
@@ -119,7 +129,7 @@ reply_some : (due : HttpReply) → 0 < length (reply_bytes due)
 unfolding reply_bytes
 reply_some due = omega arith
 
-module _ (s after : State) (a b : Tape) (n m : ℕ) (request : Request) (t : TakesRequest a b (Some request))
+module _ (s after : State) (a b : Tape) (n m : ℕ) (request : Request) (due : HttpReply) (t : TakesRequest a b (Some request))
     (spent : m ≤ n + evaluations_for s request) where
   abbrev loud : List ℕ → Exchange
   loud written = record {
@@ -131,28 +141,26 @@ module _ (s after : State) (a b : Tape) (n m : ℕ) (request : Request) (t : Tak
   }
 
   -- there was no memory for the reply
-  pub unwritten : (r : Result Message AllocError) → AnswersRequest s request after r
-      → ServesLink (snapshot s a n) (snapshot after b m) Memory
+  pub unwritten : (r : Result Message AllocError) → AnswersRequest s request due after r
+      → ServesLink (snapshot s a n) (snapshot after b m) (Some due) Memory
   unwritten r h = record {
     exchange = loud [];
     from = refl;
     to = refl;
     link = exchanged a b b t.bytes [] (loud []) t.read (appends_nothing b) refl refl;
-    passes = inr (record {
-      due = h.due;
+    passes = record {
       answered = record { request = request; holds = t.holds.0; prompt = t.holds.1; replies = h.replies; asks = refl };
       count = 0;
-      short = reply_some h.due;
+      short = reply_some due;
       prefix = refl;
-    });
+    };
     cause = tt;
     spent = spent;
   }
 
-  module _ (message : Message) (h : AnswersRequest s request after (Ok message)) (c : Tape) where
-    breaks : (count : ℕ) → count < length message.bytes.items → BreaksOff (loud (take count message.bytes.items))
+  module _ (message : Message) (h : AnswersRequest s request due after (Ok message)) (c : Tape) where
+    breaks : (count : ℕ) → count < length message.bytes.items → BreaksOff (loud (take count message.bytes.items)) due
     breaks count short = record {
-      due = h.due;
       answered = record { request = request; holds = t.holds.0; prompt = t.holds.1; replies = h.replies; asks = refl };
       count = count;
       short = subst (λ bytes. count < length bytes) h.made.bytes short;
@@ -160,14 +168,13 @@ module _ (s after : State) (a b : Tape) (n m : ℕ) (request : Request) (t : Tak
     }
 
     -- the reply was written, or a part of it
-    pub sent : (end : LinkEnd) → Sends b c message end → ServesLink (snapshot s a n) (snapshot after c m) end
+    pub sent : (end : LinkEnd) → Sends b c message end → ServesLink (snapshot s a n) (snapshot after c m) (Some due) end
     sent (Served code) w = record {
       exchange = loud message.bytes.items;
       from = refl;
       to = refl;
       link = exchanged a b c t.bytes message.bytes.items (loud message.bytes.items) t.read w.1 refl refl;
       passes = record {
-        due = h.due;
         answered = record { request = request; holds = t.holds.0; prompt = t.holds.1; replies = h.replies; asks = refl };
         code_is = sym h.made.status ∙ sym w.0;
         whole = h.made.bytes;
@@ -181,7 +188,7 @@ module _ (s after : State) (a b : Tape) (n m : ℕ) (request : Request) (t : Tak
       from = refl;
       to = refl;
       link = exchanged a b c t.bytes (take w.0.count message.bytes.items) (loud (take w.0.count message.bytes.items)) t.read w.0.wrote refl refl;
-      passes = inr (breaks w.0.count w.0.short);
+      passes = breaks w.0.count w.0.short;
       cause = rose_later a b c t.read.counts w.1;
       spent = spent;
     }
@@ -190,7 +197,7 @@ module _ (s after : State) (a b : Tape) (n m : ℕ) (request : Request) (t : Tak
       from = refl;
       to = refl;
       link = exchanged a b c t.bytes (take w.count message.bytes.items) (loud (take w.count message.bytes.items)) t.read w.wrote refl refl;
-      passes = inr (breaks w.count w.short);
+      passes = breaks w.count w.short;
       cause = tt;
       spent = spent;
     }

@@ -1,9 +1,10 @@
 -- What comes of a link that is served: a request is read from it, the office answers, and the reply is
 -- written to it.
-use Rattle.std.specs.Prelude.{◌≡◌, ◌≢◌, ◌==◌, ⊤, ℕ, true, ◌+◌, ◌<◌, ◌≤◌, ◌⊎◌, List, [], length, take, Option, Some, None, Result, IfOk, if◌then◌else◌}
+use Rattle.std.specs.Prelude.{◌≡◌, ◌≢◌, ◌==◌, ⊤, ℕ, Bool, true, false, ◌+◌, ◌<◌, ◌≤◌, List, [], length, take, Option, Some, None, Result, IfOk, if◌then◌else◌}
 use Rattle.std.specs.declared.alloc.AllocError.{AllocError}
 use Rattle.std.specs.Io.KnownBytes as known
 use Rattle.ghg_units.specs.Decimal.{number_in}
+use Rattle.ghg_outer.specs.Counts.{IsCounted}
 use Rattle.ghg_outer.specs.Tape.{Appends, AppendsProperPrefix, IsAtEnd, Rose, Tape}
 use Rattle.ghg_office.specs.Office.{IsRead, State, evaluations, requested, submitted}
 use Rattle.ghg_office.specs.Replies.{Answers, Shows, is_accepted}
@@ -48,9 +49,8 @@ Replies s (Show name year) due after = (answer : Reply) × Shows (shown s name (
     × MayFail s (Show name year) answer × (due ≡ office_reply answer) × (after ≡ s)
 
 -- The office answered the request, and where there was memory for it, this is the reply.
-pub record AnswersRequest (s : State) (request : Request) (after : State) (result : Result Message AllocError)
-    : Type 0 where
-  pub due : HttpReply
+pub record AnswersRequest (s : State) (request : Request) (due : HttpReply) (after : State)
+    (result : Result Message AllocError) : Type 0 where
   pub replies : Replies s request due after
   pub made : IfOk result (IsMessageOf due)
 
@@ -80,15 +80,13 @@ pub record IsAnswered (x : Exchange) (due : HttpReply) : Type 0 where
   pub asks : x.evaluations ≡ evaluations_for x.before request
 
 -- The whole reply was written.
-pub record IsReplied (x : Exchange) (code : ℕ) : Type 0 where
-  pub due : HttpReply
+pub record IsReplied (x : Exchange) (due : HttpReply) (code : ℕ) : Type 0 where
   pub answered : IsAnswered x due
   pub code_is : due.code ≡ code
   pub whole : x.written ≡ reply_bytes due
 
 -- A proper prefix of the reply was written, perhaps nothing.
-pub record BreaksOff (x : Exchange) : Type 0 where
-  pub due : HttpReply
+pub record BreaksOff (x : Exchange) (due : HttpReply) : Type 0 where
   pub answered : IsAnswered x due
   pub count : ℕ
   pub short : count < length (reply_bytes due)
@@ -105,12 +103,16 @@ pub record IsCutOff (x : Exchange) : Type 0 where
   pub early : EndsEarly x.taken
   pub unanswered : IsUnanswered x
 
--- what passes over a link that ends so
-abbrev pub Passes : Exchange → LinkEnd → Type 0
-Passes x (Served code) = IsReplied x code
-Passes x Cut = IsCutOff x
-Passes x LinkFault = IsCutOff x ⊎ BreaksOff x
-Passes x Memory = IsUnanswered x ⊎ BreaksOff x
+-- what passes over a link that ends so, where this reply was due, or none was
+abbrev pub Passes : Exchange → Option HttpReply → LinkEnd → Type 0
+Passes x (Some due) (Served code) = IsReplied x due code
+Passes x (Some due) Cut = ⊥
+Passes x (Some due) LinkFault = BreaksOff x due
+Passes x (Some due) Memory = BreaksOff x due
+Passes x None (Served code) = ⊥
+Passes x None Cut = IsCutOff x
+Passes x None LinkFault = IsCutOff x
+Passes x None Memory = IsUnanswered x
 
 -- The bytes that were taken were read from the link, and then those that were written were appended to it.
 pub record Exchanges (before after : Tape) (x : Exchange) : Type 0 where
@@ -145,12 +147,26 @@ IsCaused before after Cut = IsAtEnd after
 IsCaused before after LinkFault = Rose before after
 IsCaused before after end = ⊤
 
--- This passed over the link, which ended so, and no more steps were taken than were asked for.
-pub record ServesLink (before after : Snapshot) (end : LinkEnd) : Type 0 where
+-- This passed over the link, which ended so, where this reply was due, or none was. No more steps were taken
+-- than were asked for.
+pub record ServesLink (before after : Snapshot) (due : Option HttpReply) (end : LinkEnd) : Type 0 where
   pub exchange : Exchange
   pub from : exchange.before ≡ before.state
   pub to : exchange.after ≡ after.state
   pub link : Exchanges before.link after.link exchange
-  pub passes : Passes exchange end
+  pub passes : Passes exchange due end
   pub cause : IsCaused before.link after.link end
   pub spent : after.steps ≤ before.steps + exchange.evaluations
+
+-- ---- faults of the keeper
+
+-- whether the reply that was due is that the keeper failed
+abbrev pub is_unavailable : Option HttpReply → Bool
+is_unavailable (Some due) = due.code == 503
+is_unavailable None = false
+
+-- The keeper's count of faults does not fall. Where the reply that was due is that the keeper failed, the count
+-- rose, and submissions are stored.
+pub record TellsFaults (due : Option HttpReply) (stored : Bool) (before now : ℕ) : Type 0 where
+  pub counted : IsCounted before now (is_unavailable due ≡ true)
+  pub store : is_unavailable due ≡ true → stored ≡ true

@@ -1,11 +1,11 @@
 //! One connection is served: one request is read, and one reply is written.
 
-ghost use Rattle.std.specs.Prelude.{◌≡◌, ◌≢◌, ◌≤◌, ◌+◌, true, false, IfOk, IsOkAnd};
-ghost use Rattle.ghg_outer.specs.Counts.{IsCounted};
+ghost use Rattle.std.specs.Prelude.{◌≡◌, ◌≢◌, ◌≤◌, ◌+◌, true, false, Option, Some};
 ghost use Rattle.ghg_office.specs.Keeping.{KeepsAccepted, Lists};
 ghost use Rattle.ghg_office.specs.Replies.{Shows};
+ghost use Rattle.ghg_http.specs.Reply.{HttpReply};
 ghost use Rattle.ghg_http.specs.Route.{routes};
-ghost use Rattle.ghg_http.specs.Serve.{AnswersRequest, Sends, ServesLink, evaluations_for, shown, snapshot, year_of};
+ghost use Rattle.ghg_http.specs.Serve.{AnswersRequest, Sends, ServesLink, TellsFaults, evaluations_for, shown, snapshot, year_of};
 
 use crate::reply::Message;
 use crate::request::{ReceiveError, Request, receive_request};
@@ -49,17 +49,15 @@ pub fn serve_one<T: Source + Sink, K: Keeper, L: Ledger>(
 ) -> LinkEnd
     requires router { router.now ≡ routes }
     requires same { stored ≡ true → Lists (K.shelf keeper.old) office.old.accepted }
-    ensures serves { ServesLink (snapshot office.old (T.tape link.old) steps.old)
-        (snapshot office.new (T.tape link.new) steps.new) result }
+    // However much of the reply that was due is written, only a fault of the keeper is replied to as one.
+    ensures serves { (due : Option HttpReply) × ServesLink (snapshot office.old (T.tape link.old) steps.old)
+        (snapshot office.new (T.tape link.new) steps.new) due result
+        × TellsFaults due stored (K.shelf keeper.old).faults (K.shelf keeper.new).faults }
 
     // However the connection ends, the rows that a keeper tells are the accepted submissions.
     ensures kept { stored ≡ true
         → KeepsAccepted (K.shelf keeper.old) (K.shelf keeper.new) office.new.accepted }
     ensures untouched { stored ≡ false → keeper.new ≡ keeper.old }
-    // Only a fault of the keeper is replied to as one.
-    ensures fault { result ≡ LinkEnd.Served 503 → stored ≡ true }
-    ensures faults { IsCounted (K.shelf keeper.old).faults (K.shelf keeper.new).faults
-        (result ≡ LinkEnd.Served 503) }
 {
     let request = match receive_request(alloc, router, link) {
         Ok(Some(request)) => request,
@@ -83,14 +81,12 @@ fn answer<K: Keeper, L: Ledger>(
     steps: &mut Steps<L>,
 ) -> Result<Message, AllocError>
     requires same { stored ≡ true → Lists (K.shelf keeper.old) office.old.accepted }
-    ensures answers { AnswersRequest office.old request.now office.new result }
+    ensures answers { (due : HttpReply) × AnswersRequest office.old request.now due office.new result
+        × TellsFaults (Some due) stored (K.shelf keeper.old).faults (K.shelf keeper.new).faults }
     ensures steps { steps.new ≤ steps.old + evaluations_for office.old request.now }
     ensures kept { stored ≡ true
         → KeepsAccepted (K.shelf keeper.old) (K.shelf keeper.new) office.new.accepted }
     ensures untouched { stored ≡ false → keeper.new ≡ keeper.old }
-    ensures fault { IfOk result (λ message. message.status ≡ 503 → stored ≡ true) }
-    ensures faults { IsCounted (K.shelf keeper.old).faults (K.shelf keeper.new).faults
-        (IsOkAnd result (λ message. message.status ≡ 503)) }
 {
     match request {
         Request::Refused(reason) => refusal_message(alloc, *reason),

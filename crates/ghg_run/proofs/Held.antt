@@ -1,5 +1,5 @@
 -- The bounds that are printed hold, since the data stay in force.
-use Rattle.std.proofs.Common.{inl, inr, [], ◌∷◌, refl, sym, subst}
+use Rattle.std.proofs.Common.{Option, Some, None, [], ◌∷◌, refl, sym, subst}
 use Rattle.ghg_http.specs.declared.request.Request.{Request as LinkRequest}
 use Rattle.ghg_http.specs.declared.request.Request.TheVariants as on_link
 use Rattle.ghg_http.specs.declared.serve.LinkEnd.{LinkEnd}
@@ -52,16 +52,18 @@ reply_stays s after (on_link.Submit id body) due r h =
     answer_stays s after (submitted s id body) r.0 r.1 h (states_stay.later s id body h)
 reply_stays s after (on_link.Show name year) due r h = subst IsInForce (sym r.4) h
 
-passes_stay : (x : Exchange) (end : LinkEnd) → Passes x end → IsInForce x.before → IsInForce x.after
-passes_stay x (ended.Served code) p h = reply_stays x.before x.after _ p.due p.answered.replies h
-passes_stay x ended.Cut p h = subst IsInForce (sym p.unanswered.same) h
-passes_stay x ended.LinkFault (inl p) h = subst IsInForce (sym p.unanswered.same) h
-passes_stay x ended.LinkFault (inr p) h = reply_stays x.before x.after _ p.due p.answered.replies h
-passes_stay x ended.Memory (inl p) h = subst IsInForce (sym p.same) h
-passes_stay x ended.Memory (inr p) h = reply_stays x.before x.after _ p.due p.answered.replies h
+passes_stay : (x : Exchange) (due : Option HttpReply) (end : LinkEnd) → Passes x due end → IsInForce x.before → IsInForce x.after
+passes_stay x (Some due) (ended.Served code) p h = reply_stays x.before x.after _ due p.answered.replies h
+passes_stay x (Some due) ended.Cut p h = absurd p
+passes_stay x (Some due) ended.LinkFault p h = reply_stays x.before x.after _ due p.answered.replies h
+passes_stay x (Some due) ended.Memory p h = reply_stays x.before x.after _ due p.answered.replies h
+passes_stay x None (ended.Served code) p h = absurd p
+passes_stay x None ended.Cut p h = subst IsInForce (sym p.unanswered.same) h
+passes_stay x None ended.LinkFault p h = subst IsInForce (sym p.unanswered.same) h
+passes_stay x None ended.Memory p h = subst IsInForce (sym p.same) h
 
 -- However a link ends, the data stay in force.
-pub link_stays : (before after : LinkSnapshot) (end : LinkEnd) → ServesLink before after end → IsInForce before.state
-    → IsInForce after.state
-link_stays before after end s h =
-    subst IsInForce s.to (passes_stay s.exchange end s.passes (subst IsInForce (sym s.from) h))
+pub link_stays : (before after : LinkSnapshot) (due : Option HttpReply) (end : LinkEnd) → ServesLink before after due end
+    → IsInForce before.state → IsInForce after.state
+link_stays before after due end s h =
+    subst IsInForce s.to (passes_stay s.exchange due end s.passes (subst IsInForce (sym s.from) h))

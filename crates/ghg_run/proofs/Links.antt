@@ -1,18 +1,17 @@
 -- Links that are served one after the other.
 use Rattle.std.proofs.Common.{◌≡◌, ◌∙◌, inl, ℕ, ◌+◌, ◌<◌, ◌≤◌, Bool, true, false, cond, List, [], ◌∷◌, ◌++◌, length, map, option_map, Option, Some, None, IfSome, append-nil, add-zero, add_assoc, append_assoc, length-append, refl, sym, ap, subst, arith}
 use Rattle.std.specs.Option.{is_some}
-use Rattle.std.proofs.lemmas.Bool.{eqb-true, false≢true}
+use Rattle.std.proofs.lemmas.Bool.{false≢true}
 use Rattle.std.proofs.lemmas.List.{map-append}
 use Rattle.std.proofs.lemmas.List.Sums.{sum_by_push}
-use Rattle.ghg_http.specs.declared.serve.LinkEnd.{LinkEnd}
-use Rattle.ghg_http.specs.declared.serve.LinkEnd.TheVariants.{Served, Cut, LinkFault, Memory}
+use Rattle.ghg_http.specs.Serve.{TellsFaults, is_unavailable}
 use Rattle.ghg_outer.specs.Counts.{IsCounted}
 use Rattle.ghg_outer.specs.Doors.{GivesLink, IsKept, Opens, Register, TakesBack}
 use Rattle.ghg_outer.specs.Tape.{Tape}
 use Rattle.ghg_words.specs.declared.command.Service.{Service}
 use Rattle.ghg_session.specs.declared.status.Status.{Status}
 use Rattle.ghg_session.specs.declared.status.Status.TheVariants.{OutOfMemory}
-use Rattle.ghg_run.specs.Serve.{EndsServing, IsServing, OfficeAt, ServedLink, Serves, ServesNew, is_unavailable, raised_by, register_of, unavailable_count}
+use Rattle.ghg_run.specs.Serve.{EndsServing, IsServing, OfficeAt, ServedLink, Serves, ServesNew, raised_by, register_of, unavailable_count}
 
 -- what a serving acts on: the office, the count of the keeper's faults and what the door tells
 pub record Station : Type 0 where
@@ -95,36 +94,30 @@ pub serving_more : (a b c : OfficeAt) (links : List ServedLink) (one : ServedLin
 serving_more a b c [] one e s = (c, subst (λ (o : OfficeAt). ServesNew o one c) e s, refl)
 serving_more a b c (first ∷ links) one all s = (all.0, all.1, serving_more all.0 b c links one all.2 s)
 
-is_503 : (end : LinkEnd) → is_unavailable end ≡ true → end ≡ Served 503
-is_503 (Served code) e = ap Served (eqb-true code 503 e)
-is_503 Cut e = absurd cc
-is_503 LinkFault e = absurd cc
-is_503 Memory e = absurd cc
-
--- the keeper failed at least as often as that was the reply
+-- the keeper failed at least as often as that reply was due
 unavailable_more : (links : List ServedLink) (one : ServedLink) (first before after : ℕ)
-    → raised_by (unavailable_count links) first ≤ before → IsCounted before after (one.end ≡ Served 503)
+    → raised_by (unavailable_count links) first ≤ before → IsCounted before after (is_unavailable one.due ≡ true)
     → raised_by (unavailable_count (links ++ one ∷ [])) first ≤ after
 unavailable_more links one first before after h counted =
-    let more = sum_by_push (λ (s : ServedLink). cond (is_unavailable s.end) 1 0) links one in
-    by (is_unavailable one.end) refl more
+    let more = sum_by_push (λ (s : ServedLink). cond (is_unavailable s.due) 1 0) links one in
+    by (is_unavailable one.due) refl more
   where
-    by : (failed : Bool) → is_unavailable one.end ≡ failed
+    by : (failed : Bool) → is_unavailable one.due ≡ failed
         → unavailable_count (links ++ one ∷ []) ≡ unavailable_count links + cond failed 1 0
         → raised_by (unavailable_count (links ++ one ∷ [])) first ≤ after
-    by true e more = let rose = counted.rose (is_503 one.end e) in rw more (omega (arith, h, rose))
+    by true e more = let rose = counted.rose e in rw more (omega (arith, h, rose))
     by false e more = rw more (omega (arith, h, counted.later))
 
--- and that is never the reply where nothing is stored
-available_more : (links : List ServedLink) (one : ServedLink) → unavailable_count links ≡ 0 → (one.end ≡ Served 503 → ⊥)
+-- and that is never due where nothing is stored
+available_more : (links : List ServedLink) (one : ServedLink) → unavailable_count links ≡ 0 → (is_unavailable one.due ≡ true → ⊥)
     → unavailable_count (links ++ one ∷ []) ≡ 0
 available_more links one none other =
-    by (is_unavailable one.end) refl (sum_by_push (λ (s : ServedLink). cond (is_unavailable s.end) 1 0) links one)
+    by (is_unavailable one.due) refl (sum_by_push (λ (s : ServedLink). cond (is_unavailable s.due) 1 0) links one)
   where
-    by : (failed : Bool) → is_unavailable one.end ≡ failed
+    by : (failed : Bool) → is_unavailable one.due ≡ failed
         → unavailable_count (links ++ one ∷ []) ≡ unavailable_count links + cond failed 1 0
         → unavailable_count (links ++ one ∷ []) ≡ 0
-    by true e more = absurd (other (is_503 one.end e))
+    by true e more = absurd (other e)
     by false e more = omega (arith, none, more)
 
 -- what was done so far, where submissions are stored or not
@@ -164,12 +157,12 @@ served_same stored a b c number so_far office counts given finished = record {
 
 module _ (stored : Bool) (a b c : Station) (number : ℕ) (one : ServedLink) (so_far : ServedSoFar stored a b number)
     (s : ServesNew b.office one c.office) (given : c.door.given ≡ option_map (λ n. n + 1) b.door.given)
-    (counted : IsCounted b.faults c.faults (one.end ≡ Served 503)) (fault : one.end ≡ Served 503 → stored ≡ true) where
+    (faults : TellsFaults one.due stored b.faults c.faults) where
   given_more : c.door.given ≡ option_map (λ n. n + length (so_far.links ++ one ∷ [])) a.door.given
   given_more = rw length-append (given ∙ ap (option_map (λ n. n + 1)) so_far.given ∙ counted_more (length so_far.links) 1 a.door.given)
 
   available_still : stored ≡ false → unavailable_count (so_far.links ++ one ∷ []) ≡ 0
-  available_still plain = available_more so_far.links one (so_far.available plain) (λ e. false≢true (sym plain ∙ fault e))
+  available_still plain = available_more so_far.links one (so_far.available plain) (λ e. false≢true (sym plain ∙ faults.store e))
 
   pub one_more : c.door.finished ≡ option_map (λ links. links ++ one.link ∷ []) b.door.finished → ServedSoFar stored a c (number + 1)
   one_more finished = record {
@@ -179,7 +172,7 @@ module _ (stored : Bool) (a b c : Station) (number : ℕ) (one : ServedLink) (so
     finished = rw map-append (finished ∙ ap (option_map (λ links. links ++ one.link ∷ [])) so_far.finished
         ∙ links_more (map (λ (s : ServedLink). s.link) so_far.links) (one.link ∷ []) a.door.finished);
     given = given_more;
-    unavailable = unavailable_more so_far.links one a.faults b.faults c.faults so_far.unavailable counted;
+    unavailable = unavailable_more so_far.links one a.faults b.faults c.faults so_far.unavailable faults.counted;
     available = available_still;
   }
 
@@ -193,7 +186,7 @@ module _ (stored : Bool) (a b c : Station) (number : ℕ) (one : ServedLink) (so
     finished = finished ∙ so_far.finished;
     given = given_more;
     ends = (omega (arith, fewer, so_far.number_is), inl refl);
-    unavailable = unavailable_more so_far.links one a.faults b.faults c.faults so_far.unavailable counted;
+    unavailable = unavailable_more so_far.links one a.faults b.faults c.faults so_far.unavailable faults.counted;
     available = λ none. available_still (store ∙ ap is_some none);
   }
 

@@ -1,8 +1,8 @@
 -- `serve`: connections are served.
-use Rattle.std.specs.Prelude.{◌≡◌, ◌⊎◌, ℕ, ◌+◌, ◌-◌, ◌^◌, ◌<◌, ◌≤◌, Bool, false, ◌==◌, min, List, [], ◌∷◌, ◌++◌, length, map, count_by, None, option_map, IfSome}
+use Rattle.std.specs.Prelude.{◌≡◌, ◌⊎◌, ℕ, ◌+◌, ◌-◌, ◌^◌, ◌<◌, ◌≤◌, min, List, [], ◌∷◌, ◌++◌, length, map, count_by, Option, None, option_map, IfSome}
 use Rattle.ghg_http.specs.declared.serve.LinkEnd.{LinkEnd}
-use Rattle.ghg_http.specs.declared.serve.LinkEnd.TheVariants.{Served}
-use Rattle.ghg_http.specs.Serve.{ServesLink}
+use Rattle.ghg_http.specs.Reply.{HttpReply}
+use Rattle.ghg_http.specs.Serve.{ServesLink, is_unavailable}
 use Rattle.ghg_http.specs.Serve.{snapshot as link_snapshot}
 use Rattle.ghg_office.specs.Office.{State, requested}
 use Rattle.ghg_office.specs.Sound.{IsSoundReply}
@@ -15,9 +15,10 @@ use Rattle.ghg_words.specs.declared.command.Service.{Service}
 
 -- ---- links, one after the other
 
--- a link when it was done with, and how it ended
+-- a link when it was done with, the reply that was due on it, and how it ended
 pub record ServedLink : Type 0 where
   pub link : Tape
+  pub due : Option HttpReply
   pub end : LinkEnd
 
 -- the office between two links: its state, and the steps that were taken so far
@@ -30,7 +31,7 @@ pub record ServesNew (before : OfficeAt) (served : ServedLink) (after : OfficeAt
   pub new : Tape
   pub fresh : IsFresh new
   pub serves : ServesLink (link_snapshot before.state new before.steps)
-      (link_snapshot after.state served.link after.steps) served.end
+      (link_snapshot after.state served.link after.steps) served.due served.end
   -- In each table that may be asked for, the bounds hold the exact values of the nodes of the data then in
   -- force, wherever the inputs are within their supplied bounds.
   pub bounds : (name : List ℕ) (year : ℕ)
@@ -42,13 +43,9 @@ IsServing before [] after = after ≡ before
 IsServing before (served ∷ rest) after =
     (between : OfficeAt) × ServesNew before served between × IsServing between rest after
 
--- whether the reply was that the keeper failed
-abbrev pub is_unavailable : LinkEnd → Bool
-is_unavailable (Served code) = code == 503
-is_unavailable end = false
-
+-- on how many links the reply that was due is that the keeper failed
 abbrev pub unavailable_count : List ServedLink → ℕ
-unavailable_count served = count_by (λ s. is_unavailable s.end) served
+unavailable_count served = count_by (λ s. is_unavailable s.due) served
 
 -- a count of faults that rose so often, or its last value
 abbrev pub raised_by : ℕ → ℕ → ℕ
@@ -90,6 +87,7 @@ pub record Serves (service : Service) (before after : OfficeAt) (faults faults' 
   pub finished : door'.finished ≡ option_map (λ links. links ++ map (λ s. s.link) taken) door.finished
   pub given : door'.given ≡ option_map (λ n. n + length (taken ++ dropped)) door.given
   pub ends : EndsServing service door' taken dropped status
-  -- The keeper failed at least as often as a reply has status 503, which none has without a store.
+  -- The keeper failed at least as often as the reply that was due has status 503, however much of it was
+  -- written. Without a store no such reply was due.
   pub unavailable : raised_by (unavailable_count (taken ++ dropped)) faults ≤ faults'
   pub available : service.settings.store ≡ None → unavailable_count (taken ++ dropped) ≡ 0
