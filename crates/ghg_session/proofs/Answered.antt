@@ -139,13 +139,13 @@ module _ {S R : Type 0} (p : Protocol S R) (first now : S) (input mid output out
       let within : IsWithinCommand p.commands (a.took ++ m.text) a.answered =
       record { rest = m.text; holds = holds; near = m.near } in
       ends m.text [] a.answered input' out now spent status m.read (appends_nothing out) (requests_of _ _ _ _ holds) a.spent
-      (by m.why within)
+      (by m.why (rw (← a.count) h, within))
     where
       by : ((status ≡ InputFailed) × Rose mid input') ⊎ (status ≡ OutOfMemory)
-          → IsWithinCommand p.commands (a.took ++ m.text) a.answered
+          → (length a.answered < most_commands) × IsWithinCommand p.commands (a.took ++ m.text) a.answered
           → EndsBy p now now input' output.grows (a.took ++ m.text) a.answered [] status
       by (inl e) within =
-          subst (EndsBy p now now input' output.grows (a.took ++ m.text) a.answered []) (sym e.0) (within, refl, refl)
+          subst (EndsBy p now now input' output.grows (a.took ++ m.text) a.answered []) (sym e.0) (within.0, within.1, refl, refl)
       by (inr e) within =
           subst (EndsBy p now now input' output.grows (a.took ++ m.text) a.answered []) (sym e) (inl (inl within, refl, refl))
 

@@ -191,12 +191,12 @@ module _ {S R : Type 0} (p : Protocol S R) (local : ParsesLocally p.commands) (f
         done = λ _. (written, sym (ap last_status none.1));
         behind = λ no. absurd cc;
       }
-  decided last InputFailed e = stops InputFailed (within e.0.rest e.0.holds e.1) (λ no. absurd cc) (λ no. cc) (λ no. cc)
+  decided last InputFailed e = stops InputFailed (within e.1.rest e.1.holds e.2) (λ no. absurd cc) (λ no. cc) (λ no. cc)
   decided last OutputFailed e =
       let proper = breaks last e in
       stops OutputFailed (proper_prefix output output' _ proper) (λ _. proper) (λ no. cc) (λ no. cc)
   decided last StoreFailed e = stops StoreFailed (asked_for e.0.asked e.0.holds e.1) (λ no. absurd cc) (λ no. cc) (λ no. cc)
-  decided last OutOfMemory (inl (inl w, nothing, same)) =
+  decided last OutOfMemory (inl (inl (few, w), nothing, same)) =
       stops OutOfMemory (within w.rest w.holds nothing) (λ no. absurd cc) (λ no. cc) (λ no. cc)
   decided last OutOfMemory (inl (inr u, nothing, same)) =
       stops OutOfMemory (asked_for u.asked u.holds nothing) (λ no. absurd cc) (λ no. cc) (λ no. cc)

@@ -6,7 +6,7 @@ use Rattle.ghg_session.specs.declared.command.Command.{Command}
 use Rattle.ghg_session.specs.declared.status.Status.{Status}
 use Rattle.ghg_session.specs.declared.status.Status.TheVariants.{Done, NoScript, InputFailed, OutputFailed, StoreFailed, OutOfMemory}
 use Rattle.ghg_session.specs.Protocol.{Grammar, Protocol}
-use Rattle.ghg_session.specs.Script.{reading_of}
+use Rattle.ghg_session.specs.Script.{most_commands, reading_of}
 
 -- ---- requests, one after the other
 
@@ -94,7 +94,8 @@ pub record BreaksOff {State Request : Type 0} (p : Protocol State Request) (now 
 
 -- How a session ends, by its status: `took` was read, these requests were answered, which left the state
 -- `now`, and the part was written after their replies. The last state is `last`. `left` is the input in the
--- end, and `grows` says whether a write to the output takes memory.
+-- end, and `grows` says whether a write to the output takes memory. The input or memory fails within a
+-- command only if the script may have one more.
 abbrev pub EndsBy : {State Request : Type 0} → Protocol State Request → State → State → Tape → Bool → List ℕ
     → List Request → List ℕ → Status → Type 0
 EndsBy p now last left grows took answered part Done =
@@ -102,13 +103,13 @@ EndsBy p now last left grows took answered part Done =
 EndsBy p now last left grows took answered part NoScript =
     IsMalformed p.commands left took answered × (part ≡ wrong_line (length answered + 1)) × (last ≡ now)
 EndsBy p now last left grows took answered part InputFailed =
-    IsWithinCommand p.commands took answered × (part ≡ []) × (last ≡ now)
+    (length answered < most_commands) × IsWithinCommand p.commands took answered × (part ≡ []) × (last ≡ now)
 EndsBy p now last left grows took answered part OutputFailed = BreaksOff p now last left took answered part
 EndsBy p now last left grows took answered part StoreFailed =
     LeavesUndone p p.is_to_keep now took answered × (part ≡ []) × (last ≡ now)
 EndsBy p now last left grows took answered part OutOfMemory =
-    ((IsWithinCommand p.commands took answered ⊎ LeavesUndone p p.takes_memory now took answered)
-    × (part ≡ []) × (last ≡ now))
+    ((((length answered < most_commands) × IsWithinCommand p.commands took answered)
+    ⊎ LeavesUndone p p.takes_memory now took answered) × (part ≡ []) × (last ≡ now))
     ⊎ ((grows ≡ true) × BreaksOff p now last left took answered part)
 EndsBy p now last left grows took answered part _ = ⊥
 
