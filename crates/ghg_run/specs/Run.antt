@@ -89,7 +89,8 @@ MayEnd command DoorFailed = opens_door command ≡ true
 MayEnd command OutOfMemory = ⊤
 MayEnd command RowRefused = IsSome (store_in command)
 
--- The status is one of those, and a failure is told only if its count of faults rose. No count falls.
+-- The status is one of those, and a failure is told only if its count of faults rose. The counts of the keeper
+-- and of the door never fall.
 pub record IsCaused (command : Option Command) (shelf shelf' : Shelf) (input input' output output' : Tape)
     (door door' : Register Tape) (status : Status) : Type 0 where
   pub known : MayEnd command status
