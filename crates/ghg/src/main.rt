@@ -1,26 +1,25 @@
 //! Compiles national greenhouse gas inventories after the 2006 IPCC Guidelines: answers a script of
 //! submissions and requests for tables, or serves such requests over HTTP.
 //!
-//! [`ghg_run::run`] does all that the program does, and its contract says what that is. `main` hands it the
-//! process's words, input, output, files and connections, and ends with its status.
+//! [`ghg_run::run_counted`] does all that the program does, and its contract says what that is. `main` hands
+//! it the process's words, input, output, files and connections, and ends with its status.
 #![tactic(auto)]
 
-ghost use Rattle.std.specs.Prelude.{◌≡◌, ◌<◌, [], drop, IfOk, MatchResult};
+ghost use Rattle.std.specs.Prelude.{◌≡◌, [], drop, IfOk, MatchResult};
 ghost use Rattle.std.specs.IoError.{error_kind};
 ghost use Rattle.std.specs.Vec.Iter.{into_iter_items};
 
-use ghg_keeper::{FileKeeper, Keeper};
-use ghg_outer::{Door, InputSource, OutputSink, Sink, Source, TcpDoor};
-use ghg_run::run;
+use ghg_keeper::FileKeeper;
+use ghg_outer::{InputSource, OutputSink, TcpDoor};
+use ghg_run::run_counted;
 use ghg_session::Status;
-use ghg_steps::Steps;
 use std::alloc::{AllocError, Global};
 use std::env::Args;
 use std::hash::RandomState;
 use std::io::{BufReader, ErrorKind};
 use std::marker::Brand;
 use std::process::ExitCode;
-use std::sync::ledger::{Blank, Ledger};
+use std::sync::ledger::Blank;
 use std::{env, io};
 
 // The words behind the program's name. There are none where one of them is not UTF-8, which is no command
@@ -43,25 +42,6 @@ fn all_but_first(alloc: Global, words: Args) -> Result<Vec<String>, AllocError>
     words.skip(1).collect(alloc)
 }
 
-// Runs with a new ledger, in which the steps are counted.
-fn run_counted<S: Source, W: Sink, K: Keeper, D: Door, L: Ledger>(
-    alloc: Global,
-    hasher: RandomState,
-    words: &[String],
-    input: &mut S,
-    out: &mut W,
-    keeper: &mut K,
-    door: &mut D,
-    blank: Blank,
-) -> u8
-    requires name { blank.name ≡ L.name }
-    requires parts { blank.parts ≡ L.parts }
-    requires some { 0 < blank.parts }
-{
-    let mut steps = Steps::<L>::new(blank);
-    run(alloc, hasher, words, input, out, keeper, door, &mut steps)
-}
-
 // No clause can tell what the process's own words and streams hold. So `main` only names them, and the
 // functions that it hands them to are over any.
 fn main(rt: HostRuntime) -> ExitCode {
@@ -75,7 +55,7 @@ fn main(rt: HostRuntime) -> ExitCode {
     let Ok(hasher) = RandomState::new(&rt) else {
         return ExitCode::from(Status::OutOfMemory.code());
     };
-    let status = run_counted::<_, _, _, _, Brand>(
+    let (status, _) = run_counted::<_, _, _, _, Brand>(
         alloc,
         hasher,
         &words,

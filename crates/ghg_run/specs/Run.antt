@@ -10,6 +10,7 @@ use Rattle.ghg_session.specs.declared.status.Status.{Status}
 use Rattle.ghg_session.specs.declared.status.Status.TheVariants.{Done, BadCommandLine, NoScript, InputFailed, OutputFailed, StoreFailed, DoorFailed, OutOfMemory, RowRefused}
 use Rattle.ghg_session.specs.Replies.{protocol}
 use Rattle.ghg_session.specs.Session.{EachReply, Session, line_of}
+use Rattle.ghg_session.specs.Status.{status_code}
 use Rattle.ghg_session.specs.Writing.{Reports}
 use Rattle.ghg_words.specs.Command.{command_in}
 use Rattle.ghg_words.specs.declared.command.Command.{Command}
@@ -98,3 +99,11 @@ pub record IsCaused (command : Option Command) (shelf shelf' : Shelf) (input inp
   pub output_rose : status ≡ OutputFailed → Rose output output'
   pub keeper_rose : IsCounted shelf.faults shelf'.faults (status ≡ StoreFailed)
   pub door_rose : IsCounted door.faults door'.faults (status ≡ DoorFailed)
+
+-- A run did what the command asks for, with a status that has its cause, and answered the status's number.
+abbrev pub IsRun : Option Command → Shelf → Shelf → Tape → Tape → Tape → Tape → Register Tape → Register Tape
+    → ℕ → ℕ → ℕ → Type 0
+IsRun command shelf shelf' input input' output output' door door' steps steps' code =
+    (status : Status) × (code ≡ status_code status)
+    × Runs command shelf shelf' input input' output output' door door' steps steps' status
+    × IsCaused command shelf shelf' input input' output output' door door' status

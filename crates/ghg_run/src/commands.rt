@@ -1,11 +1,10 @@
 //! All that the program does.
 
-ghost use Rattle.std.specs.Prelude.{◌≡◌, ◌≤◌, false, None, IsSome};
-ghost use Rattle.ghg_run.specs.Run.{Compiles, IsCaused, Runs, ServesAll, asked_for, opens_door, reads_input, store_in};
+ghost use Rattle.std.specs.Prelude.{◌≡◌, ◌≤◌, ◌<◌, false, None, IsSome};
+ghost use Rattle.ghg_run.specs.Run.{Compiles, IsRun, ServesAll, asked_for, opens_door, reads_input, store_in};
 ghost use Rattle.ghg_run.specs.Serve.{register_of};
 ghost use Rattle.ghg_outer.specs.Counts.{IsCounted};
 ghost use Rattle.ghg_outer.specs.Tape.{Rose};
-ghost use Rattle.ghg_session.specs.Status.{status_code};
 
 use crate::opening::open_store;
 use crate::serving::serve_office;
@@ -17,7 +16,7 @@ use ghg_steps::Steps;
 use ghg_words::{Command, Service, StoreName, read_command};
 use std::alloc::Global;
 use std::hash::RandomState;
-use std::sync::ledger::Ledger;
+use std::sync::ledger::{Blank, Ledger};
 
 /// Does what the words ask for, and answers the status that the program ends with.
 ///
@@ -48,15 +47,10 @@ pub fn run<S: Source, W: Sink, K: Keeper, D: Door, L: Ledger>(
     steps: &mut Steps<L>,
 ) -> u8
     // What was done for the command that the words ask for, with a status that has its cause.
-    ensures run { (status : _) × (result ≡ status_code status)
-        × Runs (asked_for words.now) (K.shelf keeper.old) (K.shelf keeper.new)
+    ensures run { IsRun (asked_for words.now) (K.shelf keeper.old) (K.shelf keeper.new)
         (S.tape input.old) (S.tape input.new) (W.tape out.old) (W.tape out.new)
         (register_of D.Link.Told.tape (D.register door.old))
-        (register_of D.Link.Told.tape (D.register door.new)) steps.old steps.new status
-        × IsCaused (asked_for words.now) (K.shelf keeper.old) (K.shelf keeper.new)
-        (S.tape input.old) (S.tape input.new) (W.tape out.old) (W.tape out.new)
-        (register_of D.Link.Told.tape (D.register door.old))
-        (register_of D.Link.Told.tape (D.register door.new)) status }
+        (register_of D.Link.Told.tape (D.register door.new)) steps.old steps.new result }
     // What the command does not ask for is as it was.
     ensures unread { reads_input (asked_for words.now) ≡ false → input.new ≡ input.old }
     ensures unkept { store_in (asked_for words.now) ≡ None → keeper.new ≡ keeper.old }
@@ -74,6 +68,34 @@ pub fn run<S: Source, W: Sink, K: Keeper, D: Door, L: Ledger>(
 }
 
 const BAD_COMMAND_LINE: &[u8] = b"bad command line\n";
+
+/// Does what the words ask for, as [`run`] does, with a new ledger: answers the status, and the steps that it
+/// counted there.
+pub fn run_counted<S: Source, W: Sink, K: Keeper, D: Door, L: Ledger>(
+    alloc: Global,
+    hasher: RandomState,
+    words: &[String],
+    input: &mut S,
+    out: &mut W,
+    keeper: &mut K,
+    door: &mut D,
+    blank: Blank,
+) -> (u8, Steps<L>)
+    requires name { blank.name ≡ L.name }
+    requires parts { blank.parts ≡ L.parts }
+    requires some { 0 < blank.parts }
+    ensures run { IsRun (asked_for words.now) (K.shelf keeper.old) (K.shelf keeper.new)
+        (S.tape input.old) (S.tape input.new) (W.tape out.old) (W.tape out.new)
+        (register_of D.Link.Told.tape (D.register door.old))
+        (register_of D.Link.Told.tape (D.register door.new)) 0 result.1 result.0 }
+    ensures unread { reads_input (asked_for words.now) ≡ false → input.new ≡ input.old }
+    ensures unkept { store_in (asked_for words.now) ≡ None → keeper.new ≡ keeper.old }
+    ensures unopened { opens_door (asked_for words.now) ≡ false → door.new ≡ door.old }
+{
+    let mut steps = Steps::<L>::new(blank);
+    let status = run(alloc, hasher, words, input, out, keeper, door, &mut steps);
+    (status, steps)
+}
 
 // Answers the script that the input holds. With a store, its rows are replayed first.
 fn compile<S: Source, W: Sink, K: Keeper, L: Ledger>(

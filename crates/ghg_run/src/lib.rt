@@ -9,5 +9,5 @@ mod laws;
 mod opening;
 mod serving;
 
-pub use commands::run;
+pub use commands::{run, run_counted};
 pub use laws::replies_are_sound;

@@ -4,8 +4,6 @@
 #![tactic(auto)]
 
 #[cfg(test)]
-mod counted;
-#[cfg(test)]
 mod ends;
 #[cfg(test)]
 mod full_at_first;

@@ -1,10 +1,10 @@
 //! Runs whose input, output or store fails, and words that are no command. Sessions without faults are stored
 //! in `tests/`.
 
-use crate::counted::run_counted;
 use crate::words::words_of;
 use ghg_keeper::{Keeper, KeptRow, MemoryKeeper};
 use ghg_outer::{MemoryDoor, MemorySink, MemorySource};
+use ghg_run::run_counted;
 use std::alloc::{AllocError, Global};
 use std::hash::RandomState;
 use std::marker::Brand;
@@ -59,7 +59,7 @@ fn check(rt: &(impl Abort + AllocGlobal + RandomSource), case: &Case) -> Result<
     let rows = kept_rows(alloc, case.kept)?;
     let mut keeper = MemoryKeeper::new(alloc, rows, [case.failing_keep].to_vec(alloc)?);
     let mut door = MemoryDoor::new(alloc, Vec::new(alloc), Vec::new(alloc));
-    let status = run_counted::<_, _, _, _, Brand>(
+    let (status, _) = run_counted::<_, _, _, _, Brand>(
         alloc,
         RandomState::new(rt)?,
         &words,

@@ -3,11 +3,11 @@
 ghost use Rattle.std.specs.Prelude.{All, IfOk};
 ghost use Rattle.ghg_outer.specs.Doors.{IsFreshLink};
 
-use crate::counted::run_counted;
 use crate::full_at_first::FullAtFirst;
 use crate::words::words_of;
 use ghg_keeper::{Keeper, SteadyKeeper};
 use ghg_outer::{MemoryDoor, MemoryLink, MemorySink, MemorySource};
+use ghg_run::run_counted;
 use std::alloc::{AllocError, Global};
 use std::hash::RandomState;
 use std::marker::Brand;
@@ -55,7 +55,7 @@ fn check<K: Keeper>(
     let mut input = MemorySource::new(Vec::new(alloc), Vec::new(alloc));
     let mut out = MemorySink::new(alloc, Vec::new(alloc));
     let mut door = MemoryDoor::new(alloc, links, Vec::new(alloc));
-    let ended = run_counted::<_, _, _, _, Brand>(
+    let (ended, _) = run_counted::<_, _, _, _, Brand>(
         alloc,
         RandomState::new(rt)?,
         &words,
