@@ -1,0 +1,119 @@
+"""The model: what a session of submissions and requests for tables prints."""
+import re
+from typing import NamedTuple, Union
+
+from tests.oracle.outcomes import Compilation
+from tests.oracle.printing import TABLES as PRINTED
+from tests.oracle.printing import Printer
+from tests.oracle.rows import HEADER, Refused, records_in, row_in
+from tests.oracle.tables import TABLES, Tables
+from tests.oracle.workbook import Records, Workbook, apply, judge
+
+MOST_BODY_BYTES = 4_194_304
+ID = re.compile(rb"[A-Za-z0-9._-]{1,40}")
+SUBMIT = re.compile(rb"SUBMIT ([^ \n]{1,60}) ([0-9]{1,8})\n")
+SHOW = re.compile(rb"SHOW ([a-z]{1,16}) ([0-9]{4})\n")
+END = b"END\n"
+
+
+class Submit(NamedTuple):
+    """A submission."""
+    id: bytes
+    body: bytes
+
+
+class Show(NamedTuple):
+    """A request for a table."""
+    table: str
+    year: int
+
+
+Command = Union[Submit, Show]
+
+
+class Office:
+    """The records in force, what is computed from them, and the submissions that were accepted."""
+
+    def __init__(self, tables: Tables = TABLES) -> None:
+        self.tables = tables
+        self.records: Records = {}
+        self.compilation = Compilation(Workbook({}, tables))
+        self.accepted: list[Submit] = []
+
+    def answer(self, command: Command) -> str:
+        """The reply to a command."""
+        return self.submit(command) if isinstance(command, Submit) else self.show(command)
+
+    def submit(self, given: Submit) -> str:
+        """The reply to a submission, which is in force afterwards where no rule is broken."""
+        if not ID.fullmatch(given.id):
+            return "refused 1 BadId\n"
+        for number, kept in enumerate(self.accepted, 1):
+            if kept.id == given.id:
+                same = kept.body == given.body
+                return f"repeated {number}\n" if same else f"refused 2 IdReused {number}\n"
+        if len(given.body) > MOST_BODY_BYTES:
+            return "refused 3 BodyTooLong\n"
+        try:
+            records = self.with_rows(given.body)
+            workbook = Workbook(records, self.tables)
+            judge(workbook, sum(len(kept.body) for kept in self.accepted + [given]))
+            self.compilation = Compilation(workbook)
+        except Refused as rule:
+            return f"refused {rule}\n"
+        self.records = records
+        self.accepted.append(given)
+        return f"accepted {len(self.accepted)}\n"
+
+    def with_rows(self, body: bytes) -> Records:
+        """The records with the rows of a body applied, which break none of the rules 4 to 9."""
+        cut = records_in(body)
+        if not cut or cut[0] != HEADER:
+            raise Refused("4 BadShape row 0")
+        records = dict(self.records)
+        for number, fields in enumerate(cut[1:], 1):
+            apply(records, row_in(number, fields, self.tables))
+        return records
+
+    def show(self, asked: Show) -> str:
+        """The reply to a request for a table."""
+        if asked.table not in PRINTED or asked.year not in self.compilation.workbook.years():
+            return "no table\n"
+        lines = list(PRINTED[asked.table](Printer(self.compilation, asked.year)))
+        text = "".join(",".join(line) + "\n" for line in lines)
+        return f"table {asked.table} {asked.year} rows {len(lines)}\n{text}"
+
+
+def script_of(commands: list[Command]) -> bytes:
+    """The script of a session."""
+    script = b""
+    for command in commands:
+        if isinstance(command, Submit):
+            script += b"SUBMIT %s %d\n%s" % (command.id, len(command.body), command.body)
+        else:
+            script += f"SHOW {command.table} {command.year:04}\n".encode()
+    return script + END
+
+
+def commands_in(script: bytes) -> tuple[list[Command], bool]:
+    """The commands of a script up to its end, and whether they are all: else the next one is none."""
+    commands: list[Command] = []
+    at = 0
+    while not script.startswith(END, at):
+        if shown := SHOW.match(script, at):
+            commands.append(Show(shown[1].decode(), int(shown[2])))
+            at = shown.end()
+        elif (sent := SUBMIT.match(script, at)) and sent.end() + int(sent[2]) <= len(script):
+            at = sent.end() + int(sent[2])
+            commands.append(Submit(sent[1], script[sent.end():at]))
+        else:
+            return commands, False
+    return commands, True
+
+
+def output_of(script: bytes, tables: Tables = TABLES) -> bytes:
+    """What a script prints."""
+    office = Office(tables)
+    commands, is_whole = commands_in(script)
+    replies = "".join(map(office.answer, commands))
+    return (replies + ("" if is_whole else f"not a script: command {len(commands) + 1}\n")).encode()

@@ -1,0 +1,127 @@
+"""Random workbooks: sessions of submissions, some of them faulty, with tables asked in between."""
+import csv
+import io
+import random
+from itertools import cycle, islice
+from typing import NamedTuple
+
+from tests.oracle.changes import Changes, Row
+from tests.oracle.faults import Faults
+from tests.oracle.model import Command, Office, Show, Submit
+from tests.oracle.printing import TABLES as PRINTED
+from tests.oracle.rows import HEADER
+from tests.oracle.tables import TABLES
+from tests.oracle.workbook import Workbook
+
+# About as many as a session enters: so that some sessions in a row have all equations.
+LINES = 13
+NOTES = ("", "", "", "a note", 'with "quotes", and a comma', "of two\nlines", "à la carte", "-")
+
+
+class Step(NamedTuple):
+    """A command, what the model answers to it, and the workbook afterwards."""
+    command: Command
+    reply: str
+    workbook: Workbook
+
+
+class Author:
+    """Writes the session of one seed, in view of what the model holds at each step."""
+
+    def __init__(self, seed: int) -> None:
+        self.random = random.Random(seed)
+        self.office = Office()
+        first = seed * LINES % len(TABLES.equations)
+        self.codes = islice(cycle(TABLES.equations), first, None)
+        self.uncertain = self.random.choice((0.5, 1))
+        self.steps: list[Step] = []
+
+    def session(self) -> list[Step]:
+        """All steps."""
+        self.submit(self.changes().opening())
+        for _ in range(self.random.randint(3, 5)):
+            self.submit(self.new_lines())
+            self.now_and_then()
+        for _ in range(self.random.randint(6, 10)):
+            self.submit(self.several_changes())
+            self.now_and_then()
+        self.show_all()
+        return self.steps
+
+    def changes(self) -> Changes:
+        """Changes to what is in force."""
+        return Changes(self.random, self.office.compilation.workbook, self.uncertain)
+
+    def new_lines(self) -> list[Row]:
+        """Some lines of the next equations, in one body and in any order of rows."""
+        changes = self.changes()
+        rows = [row for _ in range(self.random.randint(2, 5)) for row in changes.new_line(next(self.codes))]
+        self.random.shuffle(rows)
+        return rows
+
+    def several_changes(self) -> list[Row]:
+        """Some changes, one after the other."""
+        changes = self.changes()
+        return [row for _ in range(self.random.randint(1, 3)) for row in changes.any()]
+
+    def now_and_then(self) -> None:
+        """What may come between two submissions: a fault, a repetition, a table."""
+        if self.random.random() < 0.5:
+            changes = self.changes()
+            before = changes.any() if self.random.random() < 0.5 else []
+            self.submit(before + Faults(changes).any())
+        if self.random.random() < 0.15:
+            self.resubmit()
+        if self.random.random() < 0.05:
+            self.send(Submit(b"of-shape", self.shapeless()))
+        if self.random.random() < 0.4:
+            self.send(Show(self.random.choice(list(PRINTED)), self.year()))
+
+    def submit(self, rows: list[Row]) -> None:
+        """Sends rows under a new id."""
+        self.send(Submit(f"s{len(self.steps)}".encode(), self.body_of(rows)))
+
+    def body_of(self, rows: list[Row]) -> bytes:
+        """The body that has rows."""
+        text = io.StringIO(newline="")
+        ends = self.random.choice(("\n", "\n", "\r\n"))
+        writer = csv.DictWriter(text, HEADER, restval="", lineterminator=ends)
+        writer.writeheader()
+        for row in rows:
+            writer.writerow({**row, "note": self.random.choice(NOTES)})
+        return text.getvalue().encode("utf-8-sig" if self.random.random() < 0.1 else "utf-8")
+
+    def resubmit(self) -> None:
+        """Sends what was accepted once more, or something else under its id, or under a bad id."""
+        kept = self.random.choice(self.office.accepted or [Submit(b"none", b"")])
+        self.send(self.random.choice((kept, Submit(kept.id, kept.body + b"\n"), Submit(b"a/b", kept.body),
+                                      Submit(b"x" * 41, kept.body))))
+
+    def shapeless(self) -> bytes:
+        """Rule 4: a body without the header, or with a row that is none."""
+        header = ",".join(HEADER).encode()
+        return self.random.choice((b"", header.upper(), header + b",more\n", header + b"\nenter,span\n",
+                                   header + b"\n,,,,,,,,,,\n", header + b"\n\n\n,,,,,,,,,\xff\n"))
+
+    def year(self) -> int:
+        """A year, which seldom lies outside the span."""
+        years = self.office.compilation.workbook.years() or range(1990, 1991)
+        return years[-1] + 1 if self.random.random() < 0.05 else self.random.choice(years)
+
+    def show_all(self) -> None:
+        """Asks for the eight tables of a year, and for what is none."""
+        year = self.year()
+        for table in PRINTED:
+            self.send(Show(table, year))
+        self.send(Show("cells", self.year()))
+        self.send(Show("total", year))
+
+    def send(self, command: Command) -> None:
+        """Sends a command."""
+        reply = self.office.answer(command)
+        self.steps.append(Step(command, reply, self.office.compilation.workbook))
+
+
+def session_of(seed: int) -> list[Step]:
+    """The session of a seed."""
+    return Author(seed).session()
