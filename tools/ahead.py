@@ -144,6 +144,14 @@ class Ahead:
         """The parameters that some row of any file binds to a record, each with the form of the binding."""
         return self._bound.get((kind, name), [])
 
+    def records(self, kind, name):
+        """The rows of any file that enter a name."""
+        return self._entered.get((kind, name), [])
+
+    def takers(self, kind, name):
+        """The equations and parameters that rows of any file bind to a record, as pairs."""
+        return self._takers.get((kind, name), [])
+
     @functools.cached_property
     def _rows(self):
         return [as_meant(row) for sheet in self.sheets for row in headers.rows_as_meant(sheet)
@@ -187,15 +195,24 @@ class Ahead:
         return {record_taken_by(row) for row in self._rows if row.field("kind") == "bind"}
 
     @functools.cached_property
+    def _takers(self):
+        return {taken: [(code, name) for code, name, _ in bound]
+                for taken, bound in self._bound_by_code.items()}
+
+    @functools.cached_property
     def _bound(self):
+        return {taken: [(vocabulary.parameters_of(code)[name], form) for code, name, form in bound]
+                for taken, bound in self._bound_by_code.items()}
+
+    @functools.cached_property
+    def _bound_by_code(self):
         codes = {line: self.equation_of(line) for line in self._bindings}
         found = {}
         for row in self._rows:
             code = codes.get(row.field("subject")) if row.field("kind") == "bind" else None
             taken, name = record_taken_by(row), row.field("name")
             if code and taken and name in vocabulary.parameters_of(code):
-                parameter = vocabulary.parameters_of(code)[name]
-                found.setdefault(taken, []).append((parameter, row.field("value")))
+                found.setdefault(taken, []).append((code, name, row.field("value")))
         return found
 
 

@@ -10,6 +10,8 @@ from tools.sheets import COLUMNS
 from tools.vocabulary import listed, nearest
 
 
+# How a row of totals is named.
+TOTAL = re.compile(r"((grand|sub)[ -]?)?totals?\b.*|sum( of\b.*)?", re.IGNORECASE)
 # A word that a column takes, whatever the kind of its row. What stands in for a kind is told by its rest.
 STAND_INS = {"act": "enter", "subject": "X", "name": "X", "year": "2000", "value": "Q10", "unit": "t"}
 
@@ -111,6 +113,12 @@ class Asking:
         changed = row.with_fields(**{column: word})
         return changed if self.takes(changed, column) else None
 
+    def in_unit(self, row, word):
+        """The row in a unit of the table that may have another size, where the program takes it."""
+        changed = row.with_fields(unit=word)
+        changed.has_other_figure = True
+        return changed if self.takes(changed, "unit") else None
+
     def blank_figure(self, row):
         """The record with NE in place of its figures, so that what takes it is there, where the program
         takes it.
@@ -155,8 +163,7 @@ def is_total(row):
     named = [row.field("act"), row.field("name")] if len(row.fields) == len(COLUMNS) else row.fields[:4]
     if len(row.fields) > 1 and row.fields[1].strip():
         named = [row.field("act")]
-    total = r"((grand|sub)[ -]?)?totals?\b.*|sum( of\b.*)?"
-    return any(re.fullmatch(total, text.strip(), re.IGNORECASE) for text in named)
+    return any(TOTAL.fullmatch(text.strip()) for text in named)
 
 
 def has_figure(row):
@@ -179,6 +186,11 @@ def is_note(row):
 def cause_of(found):
     """Causes as one."""
     return "; ".join(found)
+
+
+def base_unit(measures):
+    """The base unit of what is measured."""
+    return vocabulary.units_that_measure(measures)[0]
 
 
 def article(kind):

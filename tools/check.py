@@ -13,6 +13,7 @@ from tools.book import Book, record_taken_by
 from tools.causes import name as mended_name
 from tools.explain import Explainer
 from tools.faults import Fault, counted
+from tools.mending import Cures
 from tools.sheets import COLUMNS, COLUMNS_OF_KEY, joined
 from tools.vocabulary import limit, listed
 
@@ -109,12 +110,13 @@ class Check:
         self.program, self.sheets = program, sheets
         self.book, self.refused, self.ahead = Book(), Refused(), Ahead(sheets)
         self.applied = Applied(self.book)
-        self.faults, self.left, self.lost = [], [], []
+        self.faults, self.left, self.lost, self.cures = [], [], [], Cures()
         self.clean = {}
 
-    def run(self):
-        """Checks all files."""
+    def run(self, before=lambda sheet: None):
+        """Checks all files. Something may be done before each."""
         for sheet in self.sheets:
+            before(sheet)
             self.ahead.next_file()
             self.add(sheet)
 
@@ -122,6 +124,8 @@ class Check:
         """Checks the next file."""
         faults, rows = headers.close_quotes(sheet)
         self.faults += faults
+        for fault in faults:
+            self.cures.add_of_file(fault)
         reply = self.program.submit(lines_of(rows) if faults else sheet.data)
         reply, rows = self.behind_header(sheet, rows, reply)
         sheet.meant = rows or sheet.rows
@@ -156,6 +160,7 @@ class Check:
                 return None, None
             found.add(fault.cause)
             self.faults.append(fault)
+            self.cures.add_of_file(fault)
             if not rows:
                 return None, None
             reply = self.program.submit(lines_of(rows))
@@ -195,6 +200,9 @@ class Check:
         if reply.rule in OF_A_ROW and reply.row and reply.row < len(rows):
             return self.swept(rows, reply)
         fault, changed = self.of_the_whole(sheet, rows, reply)
+        for old, new in zip(rows, changed or []) if len(changed or []) == len(rows) else ():
+            if old is not new:
+                self.cures.add(fault, old, new)
         if fault or changed is None:
             self.faults.append(fault or Fault(sheet, 1, "", None, f"the program answers: {reply.text}"))
         return changed
@@ -292,6 +300,8 @@ class Check:
             return explainer.blank_figure(row)
         fault, changed = explainer.explain(row, reply)
         self.faults += [fault] if fault else []
+        if not lost:
+            self.cures.add(fault, row, changed)
         if changed is None:
             stand_in = explainer.stand_in(row, reply.column)
             self.refused.add([] if lost else [row])

@@ -1,26 +1,45 @@
 """The command line of `./workbook`."""
 import argparse
 import os
+import pathlib
 import re
 import sys
 import traceback
 
-from tools import check, complete, tables, vocabulary, wordlist
+from tools import as_json, check, compare, complete, completion, from_sheets, gathered, import_sheet
+from tools import mending, missing, new_folder, report, send, service_notices, tables, template, trace
+from tools import vocabulary, wordlist
 from tools.faults import in_order
+from tools.progress import Progress
 from tools.program import Program, ProgramFailed, found_program
 from tools.sheets import FolderFault, read_folders
-from tools.notices import all_warnings, warn_left
+from tools.sources import FOLDER, add_sources, service_of, sheets_of
+from tools.given_away import warnings_of
+from tools.notices import warn_left
 
-FOLDER = (
-    "a folder of CSV files, in the order of its ORDER.txt, else of their names with 2 before 10; "
-    "several go one after the other"
-)
 STATUSES = "Statuses: 0 nothing is wrong, 1 there are faults or gaps, 2 the command could not be carried out."
 STATES = (
     "E has a value; NO, IE and NA are a zero by that key; NE is blank by that key; "
     "! is blank, since a record is missing."
 )
+QUIET = "say nothing of progress, nor of files that are accepted"
 PROGRAM = "the built program; else GHG_PROGRAM of the environment, else ./ghg, which builds it"
+
+
+class CommandParser(argparse.ArgumentParser):
+    """The reader of the words of a command, which takes options between its other words too."""
+
+    is_reading = False
+
+    def parse_known_args(self, args=None, namespace=None):
+        """Reads the words. The reader of words with options between them calls this in turn."""
+        if self.is_reading:
+            return super().parse_known_args(args, namespace)
+        self.is_reading = True
+        try:
+            return self.parse_known_intermixed_args(args, namespace)
+        finally:
+            self.is_reading = False
 
 
 def parser():
@@ -30,8 +49,10 @@ def parser():
         description="Everyday tools around the proved program, which alone judges what is a fault.",
         epilog=STATUSES,
     )
-    commands = top.add_subparsers(dest="command", required=True, metavar="COMMAND")
-    for add in (add_check, add_tables, add_complete, add_words):
+    commands = top.add_subparsers(dest="command", required=True, metavar="COMMAND",
+                                  parser_class=CommandParser)
+    for add in (add_check, add_tables, add_complete, add_trace, add_compare, add_report, add_words,
+                add_import, add_send, add_new, add_from_sheets, add_completion):
         add(commands)
     return top
 
@@ -50,27 +71,42 @@ def over_folders(commands, name, what, example, function):
     made = command(commands, name, what, example, function)
     made.add_argument("folders", nargs="+", metavar="FOLDER", help=FOLDER)
     made.add_argument("--program", metavar="PATH", help=PROGRAM)
+    made.add_argument("--quiet", action="store_true", help=QUIET)
+    return made
+
+
+def over_sources(commands, name, what, example, function):
+    """A command over folders, a store or a service."""
+    made = command(commands, name, what, example, function)
+    add_sources(made)
+    made.add_argument("--program", metavar="PATH", help=PROGRAM)
+    made.add_argument("--quiet", action="store_true", help=QUIET)
     return made
 
 
 def add_check(commands):
     """Adds the command `check`."""
     what = "find every fault of every file in one run, and tell its cause"
-    made = over_folders(commands, "check", what, "examples/power-plants", run_check)
+    made = over_sources(commands, "check", what, "examples/power-plants", run_check)
     made.add_argument("--no-warnings", action="store_true", help="print faults alone")
+    made.add_argument("--json", action="store_true", help="print JSON")
+    made.add_argument("--all", action="store_true", help="print each warning, also where many have one cause")
+    out = "write a copy of the folder with the cures that leave no choice to this new folder, and say which"
+    made.add_argument("--mend", metavar="OUT", help=out)
 
 
 def add_tables(commands):
     """Adds the command `tables`."""
-    what = "compile the files and write the tables of a year as CSV files"
-    example = "examples/fuel-combustion 2020 -o out"
-    made = over_folders(commands, "tables", what, example, compiled(tables.run))
-    year = "the year of the tables; of series, the last one"
-    made.add_argument("year", type=read_year, metavar="YEAR", help=year)
-    where = "the folder to write the files to; without it the tables are printed"
+    what = "compile the files and write the tables of years as CSV files"
+    example = "examples/fuel-combustion 2010-2020 -o out"
+    made = over_sources(commands, "tables", what, example, run_tables)
+    year = "a year of the tables, or the first and the last one, as 2000-2011; of series, the last one"
+    made.add_argument("years", nargs="+", type=read_years, metavar="YEAR", help=year)
+    where = "the folder to write the files to, or one file .xlsx; without it the tables are printed"
     made.add_argument("-o", "--output", metavar="OUT", help=where)
     one = f"one table only, of {', '.join(vocabulary.words()['tables'])}; may be given again"
-    made.add_argument("--table", action="append", metavar="TABLE", help=one)
+    table = made.add_argument("--table", action="append", metavar="TABLE", help=one)
+    table.completes = vocabulary.words()["tables"]
     made.add_argument("--partial", action="store_true", help="write the tables also where a file is refused")
 
 
@@ -82,12 +118,65 @@ def read_year(text):
     return int(text)
 
 
+def years_of(text):
+    """The years that a word names, as 2020 or 2000-2011; or None."""
+    found = re.fullmatch("([0-9]{4})(?:-([0-9]{4}))?", text)
+    first, last = (found.group(1), found.group(2) or found.group(1)) if found else ("1", "0")
+    return list(range(int(first), int(last) + 1)) or None
+
+
+def read_years(text):
+    """Years of tables, which stand behind the folders."""
+    return years_of(text) or [read_year(text)]
+
+
 def add_complete(commands):
     """Adds the command `complete`."""
     what = "show for each category and gas which years are estimated, and list gaps"
-    made = over_folders(commands, "complete", what, "examples/fuel-combustion", compiled(complete.run))
+    run = of_sources(complete.run, complete.run_of_service)
+    made = over_sources(commands, "complete", what, "examples/fuel-combustion", run)
     made.epilog = f"{STATES} {made.epilog}"
-    made.add_argument("--csv", action="store_true", help="print the years as CSV, one column for each")
+    form = made.add_mutually_exclusive_group()
+    form.add_argument("--csv", action="store_true", help="print the years as CSV, one column for each")
+    form.add_argument("--json", action="store_true", help="print JSON")
+
+
+def add_trace(commands):
+    """Adds the command `trace`."""
+    what = "show what a line or a total of a year comes of, down to the rows"
+    example = "examples/fuel-combustion 2020 POWER.COAL"
+    made = over_folders(commands, "trace", what, example, compiled(trace.run))
+    made.add_argument("year", type=read_year, metavar="YEAR", help="the year of the figure")
+    code = "a line, as POWER.COAL, or a total, as total:1A1a or gross"
+    made.add_argument("code", metavar="CODE", help=code)
+    made.add_argument("--json", action="store_true", help="print JSON")
+
+
+def add_compare(commands):
+    """Adds the command `compare`."""
+    what = "show what differs between two states of an inventory, and the rows that made it so"
+    made = command(commands, "compare", what, "submitted-2023 -- submitted-2024 2020", run_compare)
+    compare.add_words(made)
+    made.add_argument("--program", metavar="PATH", help=PROGRAM)
+    made.add_argument("--quiet", action="store_true", help=QUIET)
+
+
+def run_compare(arguments):
+    """Compares two states, and answers the status."""
+    return compare.run(found_program(arguments.program), arguments)
+
+
+def add_report(commands):
+    """Adds the command `report`."""
+    what = "write one page with all tables of a year, their trends, pictures, and what figures come of"
+    made = command(commands, "report", what, "examples/fuel-combustion 2020 -o report.html", run_report)
+    report.add_words(made)
+    made.add_argument("--program", metavar="PATH", help=PROGRAM)
+
+
+def run_report(arguments):
+    """Writes a report, and answers the status."""
+    return report.run(found_program(arguments.program), arguments.words, arguments.output)
 
 
 def add_words(commands):
@@ -95,27 +184,122 @@ def add_words(commands):
     what = "search units, categories, equations and parameters by any word of their names"
     made = command(commands, "words", what, "equations nitric", run_words)
     words = f"optionally one of {', '.join(wordlist.PARTS)}; then words that all have to be found"
-    made.add_argument("words", nargs="*", metavar="WORD", help=words)
+    made.add_argument("words", nargs="*", metavar="WORD", help=words).completes = wordlist.PARTS
+    file = "make a file .xlsx with empty sheets of rows and lists to choose words from"
+    made.add_argument("--template", metavar="FILE", type=xlsx_path, help=file)
+
+
+def xlsx_path(text):
+    """The path of a file of a spreadsheet to write."""
+    if not text.lower().endswith(".xlsx"):
+        raise argparse.ArgumentTypeError(f"{text} does not end with .xlsx")
+    return pathlib.Path(text)
+
+
+def add_from_sheets(commands):
+    """Adds the command `from-sheets`."""
+    what = "write each sheet of rows of a spreadsheet as a CSV file of a folder"
+    made = command(commands, "from-sheets", what, "inventory.xlsx -o inventory", from_sheets.run)
+    made.add_argument("sheets", metavar="FILE", help="a file .xlsx or .ods")
+    where = "the folder to write the files to"
+    made.add_argument("-o", "--output", metavar="FOLDER", required=True, help=where)
+
+
+def add_import(commands):
+    """Adds the command `import`."""
+    what = "make rows of a sheet with a column or a row for each year"
+    made = command(commands, "import", what, "fuels.xlsx -o 3-fuels.csv", run_import)
+    made.add_argument("sheet", metavar="SHEET", help="a file .xlsx, .ods or .csv")
+    where = "the file of rows to write; without it they are printed"
+    made.add_argument("-o", "--output", metavar="FILE", help=where)
+    made.add_argument("--program", metavar="PATH", help=PROGRAM)
+
+
+def add_send(commands):
+    """Adds the command `send`."""
+    what = "submit the files in their order to a running service; a file that is sent again acts once"
+    example = "examples/fuel-combustion --url http://127.0.0.1:8000"
+    made = over_folders(commands, "send", what, example, send.run)
+    made.add_argument("--url", metavar="URL", required=True, help="the running service")
+
+
+def run_import(arguments):
+    """Makes rows of a sheet, and answers the status."""
+    with Program(found_program(arguments.program)) as program:
+        return import_sheet.run(program, arguments)
+
+
+def add_new(commands):
+    """Adds the command `new`."""
+    what = "begin a folder: years, potentials, lines of tier 1, and an empty row for each figure"
+    example = "inventory --first 1990 --last 2022 --categories 1A1a:NATURAL.GAS,LIGNITE 2A1 3A1:DAIRY,SHEEP"
+    made = command(commands, "new", what, example, new_folder.run)
+    made.add_argument("folder", metavar="FOLDER", help="the folder to make")
+    made.add_argument("--first", type=year_of_span, required=True, metavar="YEAR", help="the first year")
+    made.add_argument("--last", type=year_of_span, required=True, metavar="YEAR", help="the last year")
+    codes = "codes of categories, each with the fuels, species or kinds that it is a sum over after a colon"
+    chosen = made.add_argument("--categories", nargs="+", required=True, metavar="CODE[:NAME,..]", help=codes)
+    chosen.completes = list(vocabulary.categories())
+
+
+def year_of_span(text):
+    """The first or the last year of a span."""
+    if not re.fullmatch("[0-9]{4}", text):
+        raise argparse.ArgumentTypeError(f"{text} is no year of four digits")
+    return int(text)
+
+
+def add_completion(commands):
+    """Adds the command `completion`."""
+    what = "print the script by which a shell completes these commands"
+    example = "bash > ~/.workbook-completion, and in ~/.bashrc: source ~/.workbook-completion"
+    made = command(commands, "completion", what, example, run_completion)
+    made.add_argument("shell", choices=completion.SHELLS, help="the shell")
+
+
+def run_completion(arguments):
+    """Prints the script of a shell, and answers the status."""
+    print(completion.script(arguments.shell, parser()), end="")
+    return 0
 
 
 def run_check(arguments):
     """Prints every fault and every warning, then a summary, and answers the status."""
-    sheets, left = read_folders(arguments.folders)
+    service = service_of(arguments)
+    if service:
+        return service_notices.run(service, arguments.json)
+    sheets, left = sheets_of(arguments)
+    if arguments.mend:
+        mending.places(arguments.mend, arguments.folders)
     with Program(found_program(arguments.program)) as program:
-        checked = check.Check(program, sheets)
-        try:
-            checked.run()
-        except ProgramFailed:
-            print_all(in_order(checked.faults, sheets))
-            raise
-    faults = in_order(checked.faults, sheets)
-    warnings = []
-    if not arguments.no_warnings:
-        warnings = all_warnings(checked.book, checked.refused, sheets, checked.left)
-        warnings = in_order(warnings, sheets) + warn_left(left)
-    print_all([*faults, *warnings])
-    print(check.summary(checked.faults, warnings, sheets))
+        checked = checked_of(program, sheets, arguments.quiet)
+        warnings = [] if arguments.no_warnings else warnings_of(program, checked)
+        is_whole = arguments.all or arguments.json
+        largest = [] if is_whole else gathered.largest(warnings, checked.book, program)
+    faults = in_order(missing.named(checked.faults), sheets)
+    left = [] if arguments.no_warnings else left
+    if arguments.json:
+        print(as_json.checked([sheet.name for sheet in sheets], faults, warnings, left))
+        return 1 if faults else 0
+    others = warn_left(left)
+    print_all([*faults, *(warnings if arguments.all else gathered.gathered(warnings)), *others, *largest])
+    if arguments.mend:
+        print_all(mending.write(arguments.mend, arguments.folders, sheets, checked.faults, checked.cures))
+    print(check.summary(checked.faults, [*warnings, *others], sheets) + missing.progress(faults, sheets))
     return 1 if faults else 0
+
+
+def checked_of(program, sheets, quiet):
+    """The check of all files. If the program fails, the faults up to there are printed."""
+    checked, progress = check.Check(program, sheets), Progress(sheets, quiet)
+    try:
+        checked.run(progress.before)
+    except ProgramFailed:
+        print_all(in_order(checked.faults, sheets))
+        raise
+    finally:
+        progress.clear()
+    return checked
 
 
 def print_all(lines):
@@ -133,8 +317,31 @@ def compiled(run):
     return function
 
 
+def of_sources(run, run_of_service):
+    """The function of a command that works on what the program makes of files, or on what a service has."""
+    def function(arguments):
+        service = service_of(arguments)
+        if service:
+            return run_of_service(service, arguments)
+        sheets, _ = sheets_of(arguments)
+        with Program(found_program(arguments.program)) as program:
+            return run(program, sheets, arguments)
+    return function
+
+
+def run_tables(arguments):
+    """Writes the tables of years. Of the words behind the folders, all are years that can be."""
+    folders, years = arguments.folders, arguments.years
+    while folders and years_of(folders[-1]) and not os.path.isdir(folders[-1]):
+        years.insert(0, years_of(folders.pop()))
+    arguments.years = sorted({year for found in years for year in found})
+    return of_sources(tables.run, tables.run_of_service)(arguments)
+
+
 def run_words(arguments):
     """Searches the vocabulary, and answers the status."""
+    if arguments.template:
+        return template.run(arguments.template)
     return wordlist.run(arguments.words)
 
 
@@ -150,7 +357,7 @@ def main(words):
     """Carries out the command that words name, and answers the status. What goes wrong is one line."""
     for stream in (sys.stdout, sys.stderr):
         stream.reconfigure(encoding="utf-8", errors="backslashreplace")
-    arguments = parser().parse_args(words)
+    arguments = parser().parse_args(compare.words_of(words))
     try:
         status = arguments.function(arguments)
         sys.stdout.flush()

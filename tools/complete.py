@@ -5,14 +5,17 @@ records that the line takes.
 """
 import sys
 
-from tools import notices, vocabulary
+from tools import as_json, notices, vocabulary
 from tools.book import book_of, lines_taken_by, record_taken_by
 from tools.faults import years_said
+from tools.sources import words_of
 from tools.tables import say_lacking, submit_all
 
 GAP = "!"
 # The state of a category and gas is that of its least complete line.
 LEAST_COMPLETE = [GAP, "NE", "E", "IE", "NO", "NA"]
+WITHOUT_YEARS = "./workbook: no span is in force, so that there are no years"
+OF_A_SERVICE = "A service gives no records: E has a value, and NE is blank, whatever makes it so."
 ZERO = ["0.000", "0.000", "0.000"]
 ZERO_OF_OTHERS = ["0.000000", "0.000000", "0.000000"]
 
@@ -132,17 +135,36 @@ def print_list(heading, items):
         print(f"  {item}")
 
 
+def run_of_service(service, arguments):
+    """Prints the states that the tables of a service tell, and answers the status. Without the records E has
+    a value, which may be a zero by a key, and NE is blank.
+    """
+    book = book_of([service.sheet()])
+    if book.span is None:
+        print(WITHOUT_YEARS, file=sys.stderr)
+        return 1
+    years = range(book.span[0], book.span[1] + 1)
+    rows = matrix(book, read_cells(service, years), years)
+    if arguments.json:
+        print(as_json.completed(rows, years, {"Categories without a line": without_line(book)}))
+        return 0
+    print_matrix(rows, years, arguments.csv)
+    if not arguments.csv:
+        print_list("Categories without a line", without_line(book))
+        print(f"\n{OF_A_SERVICE}")
+    return 0
+
+
 def run(program, sheets, arguments):
     """Prints the states of all categories and gases, then lists, and answers the status."""
-    accepted = submit_all(program, sheets)
-    lacking = say_lacking(sheets, accepted, arguments.folders, "the years are without {}")
+    accepted = submit_all(program, sheets, arguments.quiet)
+    lacking = say_lacking(sheets, accepted, words_of(arguments), "the years are without {}")
     book = book_of(accepted)
     if book.span is None:
-        print("./workbook: no span is in force, so that there are no years", file=sys.stderr)
+        print(WITHOUT_YEARS, file=sys.stderr)
         return 1
     years = range(book.span[0], book.span[1] + 1)
     rows = matrix(book, read_cells(program, years), years)
-    print_matrix(rows, years, arguments.csv)
     wrongs = {
         "Gaps in a series": list(gaps(book, years)),
         "Factors that begin late": said_of(notices.late_factors(book, notices.Nothing(), *book.span)),
@@ -152,7 +174,11 @@ def run(program, sheets, arguments):
         "Taken by no line": said_of(notices.orphans(book, notices.Nothing(), sheets)),
         "Categories without a line": without_line(book),
     }
-    if not arguments.csv:
+    if arguments.json:
+        print(as_json.completed(rows, years, {**wrongs, **others}))
+    else:
+        print_matrix(rows, years, arguments.csv)
+    if not (arguments.csv or arguments.json):
         for heading, items in {**wrongs, **others}.items():
             print_list(heading, items)
     wrong = lacking or any(wrongs.values()) or any(GAP in states for states in rows.values())

@@ -3,7 +3,6 @@
 What it says to write is what the program took when it was asked.
 """
 import itertools
-import re
 
 from tools import units, vocabulary
 from tools.ahead import is_below, said_of_later
@@ -14,9 +13,6 @@ from tools.sheets import COLUMNS, Row, joined
 from tools.shifts import Shifts
 from tools.vocabulary import listed, nearest
 from tools.word_faults import WordFaults
-
-
-NO_COMMA = "write a point for a decimal comma, and nothing between thousands"
 
 
 class Explainer(WordFaults, NumberFaults, Shifts):
@@ -112,33 +108,6 @@ class Explainer(WordFaults, NumberFaults, Shifts):
         """The row with other fields, where the program takes it."""
         changed = Row(row.sheet, row.line, joined(fields))
         return changed if self.takes(changed, None) else None
-
-    def numbers_in_two(self, row, cause):
-        """Numbers with commas that each stand in two columns, in a row whose unit stands that much further
-        right; or None. The row goes on with points, or with NE where the commas may stand between thousands.
-        """
-        parts, unit = row.fields[5:-2], row.fields[-2]
-        if row.field("kind") not in ("activity", "factor") or unit not in vocabulary.units():
-            return None
-        for columns in itertools.product((1, 2), repeat=3):
-            figures = figures_of(parts, columns) if sum(columns) == len(parts) else None
-            changed = self.of_ten(row, [*row.fields[:5], *figures, unit, row.fields[-1]]) if figures else None
-            if changed:
-                return self.said_of_parted(row, changed, cause)
-        pairs = [f"{one},{other}" for one, other in zip(parts, parts[1:]) if are_parts(one, other)]
-        cause += f": a comma in the number {pairs[0]}; {NO_COMMA}" if pairs else ""
-        return (at_row(row, cause), None) if pairs else None
-
-    def said_of_parted(self, row, changed, cause):
-        """The fault of numbers that commas part, and the row with points in their place."""
-        named = {column: changed.field(column) for column in ("value", "low", "high")}
-        parted = {column: text for column, text in named.items() if text not in row.fields[5:-2]}
-        first = next(iter(parted.values()), "").replace(".", ",")
-        cause += f": a comma in the number {first}"
-        if all(re.fullmatch(r"-?[1-9]\d{0,2}\.\d{3}", text) for text in parted.values()):
-            return at_row(row, f"{cause}; {NO_COMMA}"), self.blank_figure(changed)
-        write = listed([f"{text} in {column}" for column, text in parted.items()], "and")
-        return at_row(row, cause, "", write), changed
 
     def blanks(self, row):
         """The fault of a row with a blank at the end of most of its fields, and the row without them, where
@@ -331,22 +300,6 @@ class Explainer(WordFaults, NumberFaults, Shifts):
         near = nearest(key[1], named, 1, 0.75)
         there = [name for name in near if (key[0], name, *key[2:]) in self.book.rows]
         return there[0] if there else None
-
-
-def figures_of(parts, columns):
-    """The three figures of a row out of parts, each of one column or of two with a point between them."""
-    rest, figures = list(parts), []
-    for count in columns:
-        taken, rest = rest[:count], rest[count:]
-        if count == 2 and not are_parts(*taken):
-            return None
-        figures.append(".".join(taken))
-    return figures
-
-
-def are_parts(one, other):
-    """Tells whether two texts may be a number that a comma parts."""
-    return bool(re.fullmatch(r"-?\d+", one)) and other.isdecimal()
 
 
 def of_rest(row, fields):

@@ -2,6 +2,7 @@
 to write.
 """
 import dataclasses
+import typing
 
 from tools.vocabulary import listed
 
@@ -14,14 +15,14 @@ class Fault:
 
     It follows from another where that one's row would have prevented it.
     """
-    sheet: object
+    sheet: typing.Any
     line: int
     column: str = ""
     text: str | None = None
     cause: str = ""
     write: str | None = None
     follows: str | None = None
-    row: object = None
+    row: typing.Any = None
     last_line: int | None = None
 
     @property

@@ -5,12 +5,8 @@ import re
 from tools import vocabulary
 from tools.faults import counted, warn
 
-# What fuels have of these in the base unit, blast furnace gas and hydrogen with them.
-OF_FUELS = {"net calorific value": (1, 150), "carbon content of fuel": (5, 100)}
-# What CO2 of fuels burnt is in kg/TJ.
-CO2_OF_FUELS = (20000, 300000)
-# The ratios that are no share of anything, by equation: corrections, emission factors of metals, biomass below
-# ground to that above, and scales of rice, soils and wastewater. None is near this.
+# The ratios that are no share of anything, by equation: corrections, emission factors of metals, biomass
+# below ground to that above, and scales of rice, soils and wastewater. None is near this.
 NO_SHARES = {
     "Q32": {"CF"}, "Q33": {"CF"}, "Q40": {"EFB", "EFE", "EFO"}, "Q41": {"EFP", "EFS"},
     "Q76": {"SFW", "SFP", "SFO", "SFS"}, "Q78": {"R"}, "Q79": {"R"}, "Q80": {"R"}, "Q81": {"R"}, "Q82": {"R"},
@@ -23,7 +19,7 @@ SIGNED = {"SC"}
 
 def all_of_figures(book, mismeasured):
     """Every warning about figures, but for those of activities and factors whose unit is a fault."""
-    kinds = (ratios, negatives, hundredfold, unlike_fuels, shares_as_percentages, distances)
+    kinds = (ratios, negatives, hundredfold, shares_as_percentages, distances)
     found = (warning for kind in kinds for warning in kind(book))
     return [warning for warning in found if warning.row.key[:2] not in mismeasured]
 
@@ -87,14 +83,24 @@ def negatives(book):
     taken = book.taken()
 
     def is_odd(row, measures):
-        return row.field("kind") == "activity" and measures != "ratio" and row.field("value").startswith("-")
+        is_amount = row.field("kind") == "activity" and measures != "ratio"
+        return is_amount and row.field("value").startswith("-") and figures(row)[0] < 0
 
     for kind, name, row, others in odd_records(book, is_odd):
         bound = taken.get((kind, name), [])
-        if not bound or any(binding.field("name") not in SIGNED for binding in bound):
+        if not bound or not all(has_a_sign(book, binding) for binding in bound):
             more = f", and in {counted(others, 'more year')}" if others else ""
             figure = f"{row.field('value')} {row.field('unit')} in {row.field('year')}"
             yield warn(row, f"activity {name} is negative: {figure}{more}")
+
+
+def has_a_sign(book, bound):
+    """Tells whether a binding is of a change of stocks, or takes the stock before the span beside that of the
+    year before.
+    """
+    first = book.bindings.get(bound.field("subject"), {}).get("G")
+    before_span = bound.field("name") == "L" and first is not None and first.field("value") == "prev"
+    return bound.field("name") in SIGNED or before_span
 
 
 def distances(book):
@@ -129,35 +135,6 @@ def hundredfold(book):
                                     for of in (before, row))
                 yield warn(row, f"activity {name} is {were}; is a unit or a point wrong?")
                 break
-
-
-def unlike_fuels(book):
-    """Factors of fuels that no fuel has: once for each name."""
-    taken = book.taken()
-
-    def usual(row, measures):
-        name = row.field("name")
-        gas, bound = vocabulary.gas_in(name), taken.get((row.field("kind"), name), [])
-        if measures == "emission factor of fuel" and (gas == "CO2" or gas is None and is_of_co2(book, bound)):
-            return CO2_OF_FUELS
-        return OF_FUELS.get(measures)
-
-    def is_odd(row, measures):
-        of_fuels, value = usual(row, measures), figures(row)[:1]
-        return of_fuels and any(figure and not of_fuels[0] <= figure <= of_fuels[1] for figure in value)
-
-    for kind, name, row, _ in odd_records(book, is_odd):
-        measures = vocabulary.measured_by(row.field("unit"))
-        least, most = usual(row, measures)
-        fuels = f"fuels have {least} to {most} {vocabulary.units_that_measure(measures)[0]}"
-        figure = f"{row.field('value')} {row.field('unit')}"
-        yield warn(row, f"{kind} {name} is {figure}, and {fuels}; is the unit another?")
-
-
-def is_of_co2(book, bindings):
-    """Tells whether some line that emits CO2 takes what these bindings take."""
-    lines = [book.lines.get(bound.field("subject")) for bound in bindings]
-    return any(line and vocabulary.gas_of(line.field("value")) == "CO2" for line in lines)
 
 
 def shares_as_percentages(book):

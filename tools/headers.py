@@ -5,7 +5,7 @@ import csv
 import io
 import re
 
-from tools import causes, sheets, vocabulary
+from tools import causes, sheets, vocabulary, wide_rows
 from tools.faults import Fault, counted
 from tools.other_words import OTHER_COLUMNS, meant_by
 from tools.sheets import COLUMN_AT, COLUMNS, Row, joined
@@ -40,6 +40,9 @@ def explain(sheet, rows):
         return Fault(sheet, 1, "", None, f"the file is empty; its first row is {HEADER}"), None
     if rows is sheet.rows and sheet.data.startswith(SPREADSHEETS):
         return Fault(sheet, 1, "", None, f"a spreadsheet and no CSV; {SAVE}"), None
+    wide = of_years(sheet, rows) if rows is sheet.rows else None
+    if wide:
+        return wide
     encoding = utf16(sheet.data) if rows is sheet.rows else None
     if encoding:
         rows = sheets.split(sheet, sheet.data.decode(encoding, "replace").encode("utf-8"))
@@ -57,6 +60,26 @@ def rows_as_meant(sheet):
         if rows and rows[0].fields != COLUMNS:
             _, rows = explain(sheet, rows)
     return rows[1:] if rows else []
+
+
+def of_years(sheet, rows):
+    """The fault of a file with a column for each year, and the rows that are made of it, or None."""
+    is_long = len(sheet.data) > int(vocabulary.limit("body").replace(",", ""))
+    if is_long or any(begins_as_a_row(row) or is_like_a_header(row) for row in rows[:ROWS_IN_FRONT]):
+        return None
+    made = wide_rows.rows_of_csv(sheet.name, sheet.data)
+    if made is None:
+        return None
+    first, last = made.tables[0].span
+    cause = f"a table with a column for each year, {first} to {last}; ./workbook import {sheet.name}"
+    cause += " -o ROWS.csv makes rows of it; keep this file outside the folder then"
+    lines = [rows[0].line, *made.lines]
+    return Fault(sheet, 1, "", None, cause), [Row(sheet, line, raw) for line, raw in zip(lines, made.rows)]
+
+
+def begins_as_a_row(row):
+    """Tells whether a row begins with an act, whatever stands behind it."""
+    return sheets.BEGIN_OF_ROWS.match(row.raw.decode("utf-8-sig", "replace")) is not None
 
 
 def of_rows(rows):

@@ -1,5 +1,6 @@
 """What the program takes and a compiler would want to know of. A warning refuses nothing."""
 from tools import headers, vocabulary
+from tools.cycle_notices import new_years
 from tools.faults import counted, warn, warn_of, years_said
 from tools.figure_notices import all_of_figures
 from tools.line_notices import all_of_lines
@@ -100,8 +101,9 @@ def taken_like(book, kind, name):
 def outside(book, first, last):
     """Records that no year of the span reads."""
     found = []
+    new = set(map(id, new_years(book)))
     for name, years in sorted(book.years["activity"].items()):
-        beyond = [year for year in years if not first <= year <= last]
+        beyond = [year for year, row in years.items() if not first <= year <= last and id(row) not in new]
         if beyond:
             cause = f"activity {name} of {years_said(beyond)} is outside the span, {first} to {last}"
             found.append(warn(years[min(beyond)], f"{cause}; no line reads it"))
@@ -132,13 +134,18 @@ def holes(book, refused, first, last):
     last = reached(book, refused, last)
     for name, years in sorted(book.years["activity"].items()):
         elsewhere = {year for near, lacked in told for year in lacked if near == name}
-        known = elsewhere.union(years)
+        known = elsewhere.union(years, withdrawn_years(book, name))
         lacking = years_lacking(known, first, last)
         if lacking and ("activity", name) in taken and not refused.that_enters("activity", name):
             blank = f"{lines_of(taken['activity', name])} blank there"
             cause = f"activity {name} has no record of {years_said(lacking)}; {blank}"
             found.append(warn(years[min(years)], cause))
     return found
+
+
+def withdrawn_years(book, name):
+    """The years of which the record of an activity was withdrawn. The withdrawal is told of."""
+    return {int(key[2]) for key in book.withdrawn if key[:2] == ("activity", name) and key not in book.rows}
 
 
 def years_lacking(known, first, last):

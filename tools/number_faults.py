@@ -4,7 +4,9 @@ import re
 
 from tools import causes, letters, units, vocabulary
 from tools.asking import cause_of
+from tools.basis_faults import BasisFaults
 from tools.faults import at_row, years_said
+from tools.parted_numbers import PartedNumbers
 from tools.percent_faults import BOTH_SIDES, EXACT, PercentFaults, figure_of, written
 from tools.vocabulary import HALF_LIFE_UNIT, limit, listed
 
@@ -29,7 +31,7 @@ ALL_YEARS = {"", "all", "all years", "any", "every", "every year", "each year", 
 UNCERTAIN = {"value": "activity", "low": "factor"}
 
 
-class NumberFaults(PercentFaults):
+class NumberFaults(PercentFaults, BasisFaults, PartedNumbers):
     """Explanations of numbers."""
 
     def number(self, row, column):
@@ -87,7 +89,7 @@ class NumberFaults(PercentFaults):
             return at_row(row, "a number and a notation key; write one of the two", column), None
         mended = causes.number(text)
         if not mended.sure:
-            return self.held_by_bounds(row, column) or (at_row(row, cause_of(mended.causes), column), None)
+            return self.comma_in_quotes(row, column) or (at_row(row, cause_of(mended.causes), column), None)
         otherwise = number_otherwise(column, mended.text, row)
         return self.first_taken(row, column, [(cause_of(mended.causes), mended.text, True)], otherwise)
 
@@ -100,17 +102,6 @@ class NumberFaults(PercentFaults):
             return None
         cause = "low and high are empty where there are no bounds"
         return at_row(row, cause, column, listed([f"nothing in {name}" for name in blank], "and")), changed
-
-    def held_by_bounds(self, row, column):
-        """A value with a comma of which low and high tell whether it stands between thousands, or None."""
-        if column != "value" or not row.field("low"):
-            return None
-        meant = [row.with_fields(value=row.field("value").strip().replace(",", mark)) for mark in ("", ".")]
-        held = [changed for changed in meant if self.takes(changed, None)]
-        if len(held) != 1:
-            return None
-        cause = "a comma between thousands" if held[0] is meant[0] else "a decimal comma"
-        return at_row(row, f"{cause}, by low and high", column, held[0].field("value")), held[0]
 
     def key(self, row, column, keys):
         """A notation key, or what looks like one."""
@@ -179,6 +170,9 @@ class NumberFaults(PercentFaults):
         if not meant or not figure.sure:
             return None
         cause, unit = "a unit behind the number; it stands in the column unit alone", row.field("unit")
+        based = self.other_basis(row, found.group(2))
+        if based:
+            return at_row(row, f"{cause}; {based}", column), None
         text = figure.text if meant.times == 1 else units.multiplied(figure.text, meant.times)
         has_other = meant.word != unit and unit in vocabulary.units()
         is_other = has_other and vocabulary.measured_by(meant.word) != vocabulary.measured_by(unit)

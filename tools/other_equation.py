@@ -2,7 +2,8 @@
 from tools import vocabulary
 from tools.book import lines_taken_by
 from tools.faults import at_row
-from tools.figure_notices import CO2_OF_FUELS, figures
+from tools.figure_notices import figures
+from tools.usual import CO2_OF_FUELS
 from tools.vocabulary import listed
 
 # A line with fewer bindings does not tell its equation.

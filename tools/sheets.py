@@ -249,8 +249,8 @@ def unread_in(folder, named):
                 what = f"this folder has {files}, and is not read"
                 found.append((path.name, f"{what}; move {them} up, or give the folder to the command too"))
         elif ending in SPREADSHEETS and not path.with_suffix(".csv").exists():
-            what = "this file of a spreadsheet is not read"
-            found.append((path.name, f"{what}; save each of its sheets as CSV UTF-8"))
+            what = "this file of a spreadsheet is not read; read it with ./workbook from-sheets or import"
+            found.append((path.name, f"{what}, or save its sheets as CSV UTF-8"))
         elif ending in OTHER_TEXTS and has_rows(path):
             what = "this file has rows, and is not read; save it as CSV UTF-8 with commas"
             found.append((path.name, f"{what}, under a name that ends with .csv"))

@@ -1,13 +1,16 @@
-"""Compiles a workbook's files and writes the tables of a year."""
+"""Compiles a workbook's files and writes the tables of years."""
 import pathlib
 import shlex
 import sys
 
-from tools import headers, vocabulary
+from tools import headers, tables_file, vocabulary
 from tools.book import book_of
-from tools.faults import counted
+from tools.faults import counted, years_said
+from tools.progress import Progress
 from tools.sheets import FolderFault
+from tools.sources import words_of
 from tools.vocabulary import listed
+from tools.whole_files import write_whole
 
 
 def said_of(sheet, reply):
@@ -20,22 +23,25 @@ def said_of(sheet, reply):
     return f"{sheet.name}: {reply.text}{place}"
 
 
-def submit_all(program, sheets):
-    """Submits the files and says each reply on standard error. Gives those that were accepted."""
-    accepted, terminal = [], sys.stderr.isatty()
-    for number, sheet in enumerate(sheets, 1):
-        if terminal:
-            print(f"{number} of {len(sheets)}: {sheet.name} ...", end="\r", file=sys.stderr, flush=True)
+def submit_all(program, sheets, is_quiet=False):
+    """Submits the files and says each reply on standard error, but if it is quiet, refusals alone. Gives
+    those that were accepted.
+    """
+    accepted, progress = [], Progress(sheets, is_quiet)
+    for sheet in sheets:
+        progress.before(sheet)
         reply = program.submit(sheet.data)
-        print(f"{said_of(sheet, reply)}{'     ' if terminal else ''}", file=sys.stderr)
+        progress.clear()
+        if not (is_quiet and reply.accepted):
+            print(said_of(sheet, reply), file=sys.stderr)
         if reply.accepted:
             accepted.append(sheet)
     return accepted
 
 
-def say_lacking(sheets, accepted, folders, so):
+def say_lacking(sheets, accepted, words, so):
     """Says on standard error which quotes take in further rows, how many files are refused, what comes of it,
-    and where the causes are told. Answers whether anything lacks.
+    and where the causes are told, with the words that name the files. Answers whether anything lacks.
     """
     faults = [fault for sheet in sheets for fault in headers.close_quotes(sheet)[0]]
     refused = len(sheets) - len(accepted)
@@ -48,28 +54,50 @@ def say_lacking(sheets, accepted, folders, so):
         what = f"{counted(len(faults), 'quote')} {'is' if len(faults) == 1 else 'are'} open"
         so = so.format("the rows in it" if len(faults) == 1 else "the rows in them")
     if faults or refused:
-        tells = f"./workbook check {shlex.join(folders)} tells why"
+        tells = f"./workbook check {shlex.join(words)} tells why"
         print(f"./workbook: {what}, and {so}; {tells}", file=sys.stderr)
     return bool(faults or refused)
 
 
 def run(program, sheets, arguments):
-    """Writes the tables of the year, where each file is accepted and no quote is open, and answers the
+    """Writes the tables of the years, where each file is accepted and no quote is open, and answers the
     status.
     """
-    accepted = submit_all(program, sheets)
+    accepted = submit_all(program, sheets, arguments.quiet)
     so = "the tables are without {}" if arguments.partial else "no table is written"
-    lacking = say_lacking(sheets, accepted, arguments.folders, so)
+    lacking = say_lacking(sheets, accepted, words_of(arguments), so)
     if lacking and not arguments.partial:
         return 1
+    return 0 if show_all(program, accepted, arguments) and not lacking else 1
+
+
+def run_of_service(service, arguments):
+    """Writes the tables of the years that a service has, and answers the status."""
+    return 0 if show_all(service, [], arguments) else 1
+
+
+def show_all(program, accepted, arguments):
+    """Writes the tables of the years where all of them are there, and tells whether they are."""
     names = arguments.table or vocabulary.words()["tables"]
-    shown = {name: program.show(name, arguments.year) for name in names}
-    missing = [name for name, lines in shown.items() if lines is None]
+    shown = read_tables(program, names, arguments.years, arguments.quiet)
+    missing = [key for key, lines in shown.items() if lines is None]
     if missing:
-        print(f"./workbook: {said_of_missing(missing, arguments.year, accepted)}", file=sys.stderr)
-        return 1
+        names, years = ({key[at] for key in missing} for at in (0, 1))
+        accepted = [program.sheet()] if arguments.url else accepted
+        print(f"./workbook: {said_of_missing(sorted(names), years_said(years), accepted)}", file=sys.stderr)
+        return False
     write(shown, arguments)
-    return 1 if lacking else 0
+    return True
+
+
+def read_tables(program, names, years, is_quiet):
+    """The lines of the tables of these names and years, and None of those that are not there."""
+    shown, progress = {}, Progress([], is_quiet)
+    for year in years:
+        progress.show(f"tables of {year}")
+        shown.update({(name, year): program.show(name, year) for name in names})
+    progress.clear()
+    return shown
 
 
 def said_of_missing(names, year, accepted):
@@ -86,13 +114,19 @@ def said_of_missing(names, year, accepted):
 def write(shown, arguments):
     """Writes each table to its file, or to standard output where there is no folder to write to."""
     if arguments.output is None:
-        print("\n\n".join("\n".join(lines) for lines in shown.values()))
+        texts = ["\n".join(lines) for lines in shown.values()]
+        if len(arguments.years) > 1:
+            texts = [f"{name} {year}\n{text}" for (name, year), text in zip(shown, texts)]
+        print("\n\n".join(texts))
+        return
+    if tables_file.is_meant(arguments.output):
+        tables_file.write(pathlib.Path(arguments.output), shown)
         return
     folder = pathlib.Path(arguments.output)
     if folder.exists() and not folder.is_dir():
         raise FolderFault(f"{folder} is no folder")
     folder.mkdir(parents=True, exist_ok=True)
-    for name, lines in shown.items():
-        path = folder / f"{name}-{arguments.year}.csv"
-        path.write_text("\n".join(lines) + "\n", encoding="utf-8", newline="\n")
+    for (name, year), lines in shown.items():
+        path = folder / f"{name}-{year}.csv"
+        write_whole(path, ("\n".join(lines) + "\n").encode())
         print(f"{path}: {counted(len(lines) - 1, 'row')}", file=sys.stderr)

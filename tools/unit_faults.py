@@ -4,12 +4,13 @@ import fractions
 import re
 
 from tools import causes, units, vocabulary
-from tools.asking import Asking, cause_of
+from tools.asking import base_unit, cause_of
+from tools.basis_faults import BasisFaults
 from tools.faults import at_row
 from tools.vocabulary import HALF_LIFE_UNIT, limit, listed, nearest
 
 
-class UnitFaults(Asking):
+class UnitFaults(BasisFaults):
     """Explanations of units."""
 
     def unit(self, row, column):
@@ -19,6 +20,9 @@ class UnitFaults(Asking):
         if rate:
             return rate
         measures = self.measured(row)
+        based = self.of_basis(row, bare.text, measures)
+        if based:
+            return based
         meant = units.meant(bare.text, measures)
         record = self.book.some_record(row.field("kind"), row.field("name"))
         if meant and record and measures != vocabulary.measured_by(meant.word):
@@ -41,12 +45,6 @@ class UnitFaults(Asking):
         if meant or measures:
             changed = changed or self.in_unit(row, meant.word if meant else base_unit(measures))
         return fault, changed
-
-    def in_unit(self, row, word):
-        """The row in a unit of the table that may have another size, where the program takes it."""
-        changed = row.with_fields(unit=word)
-        changed.has_other_figure = True
-        return changed if self.takes(changed, "unit") else None
 
     def rate_of_decay(self, row, text):
         """The fault of a factor in the unit of a yearly share that a line takes by decay, or may take so,
@@ -74,11 +72,6 @@ class UnitFaults(Asking):
             return at_row(row, f"{where}, {write}; else a share of a year is a ratio in 1", "unit"), None
         half_life.has_other_figure = not years
         return at_row(row, f"no rate of decay; {write}", "unit"), half_life
-
-
-def base_unit(measures):
-    """The base unit of what is measured."""
-    return vocabulary.units_that_measure(measures)[0]
 
 
 def unit_beside(row, measures=None):

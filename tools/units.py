@@ -31,7 +31,7 @@ OTHERS = {
     ("energy", "0.001055056"): ["MMBtu"], ("energy", "0.000000001055056"): ["Btu"],
     ("energy", "0.0001055056"): ["therm"],
     ("area", "100"): ["km2"], ("area", "0.0001"): ["m2"], ("area", "0.40468564224"): ["acre"],
-    ("volume", "1"): ["m3", "Nm3", "Sm3", "cbm"], ("volume", "1000000"): ["Mm3", "mcm"],
+    ("volume", "1"): ["m3", "Nm3", "Sm3", "cbm"], ("volume", "1000000"): ["Mm3", "mcm", "MNm3", "MSm3"],
     ("volume", "1000000000"): ["km3", "bcm"], ("volume", "1000"): ["ML", "megalitre"],
     ("volume", "0.1"): ["hl"], ("volume", "0.158987294928"): ["bbl", "barrel"],
     ("people", "1"): ["person", "people", "capita", "cap", "inhabitant", "inh", "population", "pop"],

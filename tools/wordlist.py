@@ -1,11 +1,18 @@
-"""Searches the vocabulary, and shows an equation with a template of its rows."""
+"""Searches the vocabulary and the default factors, and shows templates of rows."""
+import csv
+import pathlib
 import re
 
+from tools import people_words
 from tools import units as readings
 from tools import vocabulary
+from tools.row_templates import TEMPLATES
 from tools.sheets import COLUMNS
 
-PARTS = ["units", "categories", "equations", "parameters"]
+PARTS = ["units", "categories", "equations", "parameters", "templates", "defaults"]
+DEFAULTS = pathlib.Path(__file__).resolve().parent.parent / "defaults"
+# So many default factors are listed where no part is named.
+MOST_DEFAULTS = 8
 # What a row of each year has; what measures anything else is a factor.
 MEASURED_YEARLY = {
     "mass", "energy", "area", "volume", "animals", "people", "carbon", "gas", "days", "anode effect minutes",
@@ -49,10 +56,34 @@ def parameters():
         yield name, f"{said}: {', '.join(codes)}", ""
 
 
+def templates():
+    """Each template of rows with what it is of."""
+    for name, template in TEMPLATES.items():
+        yield name, template.title, "template"
+
+
+def defaults():
+    """Each default factor with its figure, its source and its file."""
+    for path in sorted(DEFAULTS.glob("*.csv")):
+        with open(path, encoding="utf-8", newline="") as file:
+            for row in csv.DictReader(file):
+                unit = f" {row['unit']}" if row["unit"] != "1" else ""
+                bounds = f", {row['low']} to {row['high']}" if row["low"] else ""
+                said = f"{row['value']}{unit}{bounds}: {row['note']} ({DEFAULTS.name}/{path.name})"
+                yield row["name"], said, ""
+
+
 def found_in(items, words):
-    """The items that have all words in them."""
+    """The items that have all words in them, or are meant by them."""
     return [(word, said) for word, said, also in items
-            if all(any(form in f"{word} {said} {also}".casefold() for form in forms(part)) for part in words)]
+            if all(is_found(part, word, f"{word} {said} {also}".casefold()) for part in words)]
+
+
+def is_found(part, key, text):
+    """Tells whether a word stands in the text of an item, or means it."""
+    if people_words.of(part) is not None:
+        return people_words.is_meant(part, key, text)
+    return any(form in text for form in forms(part))
 
 
 def forms(word):
@@ -110,30 +141,55 @@ def print_equation(code):
     print("\n".join([bound for bound, _ in rows] + [figure for _, figure in rows if figure]))
 
 
+def print_template(name):
+    """A template with what to know of it."""
+    template = TEMPLATES[name]
+    print(f"{name}: {template.title}\n{template.about}\n\n{','.join(COLUMNS)}")
+    print("\n".join(template.rows))
+
+
 def run(words):
     """Prints what has all words in it, and answers the status."""
-    if words and words[0] in PARTS:
-        parts, words = [words[0]], words[1:]
-    else:
-        parts = PARTS
-    codes = [word.upper() for word in words]
-    if len(codes) == 1 and codes[0] in vocabulary.equations() and "equations" in parts:
-        print_equation(codes[0])
+    parts = PARTS
+    if words and (words[0] in PARTS or words[0] == "template"):
+        parts, words = [words[0].removesuffix("s") + "s"], words[1:]
+    code = words[0].upper() if len(words) == 1 else ""
+    if code in vocabulary.equations() and "equations" in parts:
+        print_equation(code)
         return 0
-    lists = {"units": units, "categories": categories, "equations": equations, "parameters": parameters}
-    found = {part: found_in(lists[part](), words) for part in parts}
+    if parts == ["templates"] and words[:1] and words[0] in TEMPLATES:
+        print_template(words[0])
+        return 0
+    lists = {"units": units, "categories": categories, "equations": equations, "parameters": parameters,
+             "templates": templates, "defaults": defaults}
+    found = {part: found_in(lists[part](), people_words.phrases(words)) for part in parts}
     if not any(found.values()):
         found = near(parts, words)
-    if found.get("equations") and len(found["equations"]) == 1 and sum(map(len, found.values())) == 1:
-        print_equation(found["equations"][0][0])
-        return 0
-    for part, items in found.items():
-        if items:
-            print_items(part, items, len(parts) > 1)
     if not any(found.values()):
         print(f"nothing has {' and '.join(words)} in it")
         return 1
+    print_found(found, parts, words)
     return 0
+
+
+def print_found(found, parts, words):
+    """Prints what was found: of one equation or one template alone its rows."""
+    printers = {"equations": print_equation, "templates": print_template}
+    only = [(part, items[0][0]) for part, items in found.items() for _ in items]
+    if len(only) == 1 and only[0][0] in printers:
+        printers[only[0][0]](only[0][1])
+        return
+    for part, items in found.items():
+        if items:
+            print_items(part, items if len(parts) == 1 else shortened(part, items, words), len(parts) > 1)
+
+
+def shortened(part, items, words):
+    """The first of many default factors, and how to see all."""
+    if part != "defaults" or len(items) <= MOST_DEFAULTS + 1:
+        return items
+    said = f"{len(items) - MOST_DEFAULTS} more: ./workbook words defaults {' '.join(words)}".rstrip()
+    return items[:MOST_DEFAULTS] + [("...", said)]
 
 
 def print_items(part, items, with_heading):

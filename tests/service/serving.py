@@ -9,7 +9,7 @@ TOP = pathlib.Path(__file__).resolve().parent.parent.parent
 PROGRAM = os.path.abspath(os.environ.get("GHG_PROGRAM") or TOP / "crates/ghg/out/ghg")
 HOST = "127.0.0.1"
 SECONDS = 60
-# The body of the worked session of docs/FORMATS.md: one gas line, 291 bytes.
+# The body of the worked session of docs/SCRIPTS.md: one gas line, 291 bytes.
 GAS = b"""act,kind,subject,name,year,value,low,high,unit,note
 enter,span,,,1990,1991,1990,,,
 enter,line,1A1a,ELEC.GAS,,Q10,,,,

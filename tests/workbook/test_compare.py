@@ -1,0 +1,183 @@
+"""What differs between two states. The figures due are worked out by hand: 1000 TJ at 56100 kg/TJ are 56.1
+Gg, and 1100 TJ are 61.71 Gg; 2 TJ at 1000 kg/TJ of CH4 are 0.002 Gg, with 25 0.05 Gg of CO2 equivalent.
+"""
+import json
+import pathlib
+import subprocess
+import tempfile
+import unittest
+
+from tests.workbook.running import HEADER, PROGRAM, workbook
+
+ROWS = f"""{HEADER}enter,span,,,1990,1992,1990,,,
+enter,factor,,GWP.CO2,1990,1,,,1,
+enter,factor,,GWP.CH4,1990,25,,,1,
+enter,line,1A1a,GAS,,Q10,,,,
+enter,bind,GAS,FC,,activity,GAS,,,
+enter,bind,GAS,EF,,factor,EF,,,
+enter,line,1A2,STEEL,,Q10,,,,
+enter,bind,STEEL,FC,,prev,FUEL,,,
+enter,bind,STEEL,EF,,factor,EF,,,
+enter,line,1A2,FUEL,,Q23,,,,
+enter,bind,FUEL,IM,,activity,GAS,,,
+enter,bind,FUEL,EX,,key,NO,,,
+enter,bind,FUEL,IB,,key,NO,,,
+enter,bind,FUEL,SC,,key,NO,,,
+enter,line,1A2,COKE,,Q11,,,,
+enter,bind,COKE,FC,,activity,COKE,,,
+enter,bind,COKE,EF,,factor,COKE,,,
+enter,line,MB,SHIPS,,Q10,,,,
+enter,bind,SHIPS,FC,,activity,SHIPS,,,
+enter,bind,SHIPS,EF,,factor,EF,,,
+enter,activity,,GAS,1990,1000,,,TJ,
+enter,activity,,GAS,1991,1000,900,1100,TJ,
+enter,activity,,GAS,1992,1000.50,,,TJ,
+enter,activity,,COKE,1991,2,,,TJ,
+enter,activity,,SHIPS,1991,10,,,TJ,
+enter,factor,,EF,1990,56100,,,kg/TJ,
+enter,factor,,COKE,1990,1000,,,kg/TJ,
+"""
+
+
+class Comparisons(unittest.TestCase):
+    maxDiff = None
+
+    def compared(self, after: str, *words: str, before: str = ROWS, status: int = 0) -> str:
+        """What is printed of two states of one file each."""
+        with tempfile.TemporaryDirectory() as room:
+            for name, rows in (("old", before), ("new", after)):
+                (pathlib.Path(room) / name).mkdir()
+                (pathlib.Path(room) / name / "1.csv").write_text(rows)
+            options = [word for word in words if word.startswith("--")]
+            years = [word for word in words if not word.startswith("--")]
+            ran = workbook("compare", *options, "old", "--", "new", *years, cwd=room)
+        self.assertEqual(ran.returncode, status, ran.stderr)
+        return ran.stdout
+
+    def test_a_corrected_activity(self) -> None:
+        after = ROWS + "correct,activity,,GAS,1991,1100,900,1100,TJ,the new balance\n"
+        self.assertEqual(self.compared(after), """\
+nothing differs in 1990
+national total in Gg of CO2 equivalent:
+  1991: 112.250 to 117.860, +5.610, 5.00 %
+  1992: 112.228 to 117.838, +5.610, 5.00 %
+1991, totals in Gg of CO2 equivalent:
+  0 National total: 112.250 to 117.860, +5.610, 5.00 %
+  1 Energy: 112.250 to 117.860, +5.610, 5.00 %
+  1A Fuel combustion activities: 112.250 to 117.860, +5.610, 5.00 %
+  1A1 Energy industries: 56.100 to 61.710, +5.610, 10.00 %
+  1A1a Main activity electricity and heat production: 56.100 to 61.710, +5.610, 10.00 %
+  total without land: 112.250 to 117.860, +5.610, 5.00 %
+1991, categories by gas in Gg of CO2 equivalent:
+  1A1a, CO2: 56.100 to 61.710, +5.610, 10.00 %
+1991, lines:
+  GAS, 1A1a, CO2, in Gg of CO2 equivalent: 56.100 to 61.710, +5.610, 10.00 %
+1991, rows:
+  activity GAS 1991: 1000 (900 to 1100) TJ to 1100 (900 to 1100) TJ; new/1.csv:29, before old/1.csv:23, \
+"the new balance"
+    in GAS, +5.610
+1992, totals in Gg of CO2 equivalent:
+  0 National total: 112.228 to 117.838, +5.610, 5.00 %
+  1 Energy: 112.228 to 117.838, +5.610, 5.00 %
+  1A Fuel combustion activities: 112.228 to 117.838, +5.610, 5.00 %
+  1A2 Manufacturing industries and construction: 56.100 to 61.710, +5.610, 10.00 %
+  total without land: 112.228 to 117.838, +5.610, 5.00 %
+1992, categories by gas in Gg of CO2 equivalent:
+  1A2, CO2: 56.100 to 61.710, +5.610, 10.00 %
+1992, lines:
+  STEEL, 1A2, CO2, in Gg of CO2 equivalent: 56.100 to 61.710, +5.610, 10.00 %
+1992, rows:
+  activity GAS 1991: 1000 (900 to 1100) TJ to 1100 (900 to 1100) TJ; new/1.csv:29, before old/1.csv:23, \
+"the new balance"
+    in STEEL, +5.610
+""")
+
+    def rows(self, after: str, year: int, before: str = ROWS) -> list[tuple[str, str, str, list[str]]]:
+        """The rows that made a year differ, each with its lines."""
+        made = json.loads(self.compared(after, "--json", str(year), before=before))["years"][0]
+        return [(row["record"], row["before"], row["after"], row["lines"]) for row in made["rows"]]
+
+    def test_rows_of_each_kind(self) -> None:
+        for change, year, due in [
+            ("correct,factor,,GWP.CH4,1990,28,,,1,", 1991,
+             [("factor GWP.CH4 1990", "25 1", "28 1", ["COKE"])]),
+            ("enter,factor,,EF,1991,55000,,,kg/TJ,", 1991,
+             [("factor EF 1991", "none", "55000 kg/TJ", ["GAS", "STEEL", "SHIPS"])]),
+            ("withdraw,activity,,GAS,1992,,,,,", 1992,
+             [("activity GAS 1992", "1000.50 TJ", "none", ["GAS"])]),
+            ("correct,bind,COKE,EF,,factor,EF,,,", 1991,
+             [("binding of COKE EF", "factor COKE", "factor EF", ["COKE"])]),
+            ("correct,line,1A5,GAS,,Q10,,,,", 1991, [("line GAS", "1A1a Q10", "1A5 Q10", ["GAS"])]),
+            ("correct,span,,,1991,1992,1991,,,", 1991,
+             [("span", "1990 1992 1990", "1991 1992 1991", ["STEEL"])]),
+            ("correct,activity,,GAS,1992,1000.5,1000.5,1000.500,TJ,", 1992, []),
+        ]:
+            self.assertEqual(self.rows(f"{ROWS}{change}\n", year), due, change)
+
+    def test_the_greatest_comes_first(self) -> None:
+        after = ROWS + "correct,factor,,COKE,1990,2000,,,kg/TJ,\ncorrect,activity,,GAS,1991,999,,,TJ,\n"
+        names = [row[0] for row in self.rows(after, 1991)]
+        self.assertEqual(names, ["activity GAS 1991", "factor COKE 1990"])
+
+    def test_lines_outside_the_tree(self) -> None:
+        after = ROWS + "correct,activity,,SHIPS,1991,20,,,TJ,\n"
+        self.assertIn("  SHIPS, MB, CO2, in Gg of CO2: 0.561 to 1.122, +0.561, 100.00 %\n",
+                      self.compared(after, "1991"))
+
+    def test_what_one_state_lacks(self) -> None:
+        after = ROWS + ("withdraw,line,,COKE,,,,,,\nwithdraw,bind,COKE,FC,,,,,,\nwithdraw,bind,COKE,EF,,,,,,"
+                        "closed\n")
+        self.assertIn("  COKE, 1A2, CH4, in Gg of CO2 equivalent: 0.050 to -, -0.050, -100.00 %\n",
+                      self.compared(after, "1991"))
+        self.assertIn("  COKE, 1A2, CH4, in Gg of CO2 equivalent: - to 0.050, +0.050\n",
+                      self.compared(ROWS, "1991", before=after))
+        self.assertIn("  1A2, CH4: 0.050 to -, -0.050, -100.00 %\n", self.compared(after, "1991"))
+
+    def test_nothing_differs(self) -> None:
+        self.assertEqual(self.compared(ROWS), "nothing differs in 1990 to 1992\n")
+
+    def test_a_refused_file(self) -> None:
+        after = ROWS + "correct,factor,,EF,1990,5e4,,,kg/TJ,\n"
+        self.assertEqual(self.compared(after, status=2), "")
+        ran = workbook("compare", "examples/power-plants", "--", "examples/power-plants", "2020")
+        self.assertEqual((ran.returncode, ran.stdout), (1, "nothing differs in 2020\n"))
+        self.assertEqual(ran.stderr.count("1 of 4 files is refused, and the figures are without it"), 2)
+
+    def test_a_store_as_of_two_submissions(self) -> None:
+        more = [f"{HEADER}correct,activity,,GAS,1991,{value},,,TJ,the {value}\n" for value in (1100, 1200)]
+        bodies = [ROWS, *more]
+        script = "".join(f"SUBMIT s{at} {len(body)}\n{body}" for at, body in enumerate(bodies)) + "END\n"
+        with tempfile.TemporaryDirectory() as room:
+            store = f"{room}/country.db"
+            subprocess.run([PROGRAM, "compile", "--store", "country.db"], input=script.encode(), check=True,
+                           capture_output=True, cwd=room)
+            ran = workbook("compare", "--store", store, "2", "3", "1991")
+            wrong = [workbook("compare", "--store", store, *words)
+                     for words in (["2", "4"], ["2"], ["2", "--", "3"], ["0", "3"])]
+        self.assertEqual(ran.returncode, 0, ran.stderr)
+        self.assertIn("  GAS, 1A1a, CO2, in Gg of CO2 equivalent: 61.710 to 67.320, +5.610, 9.09 %\n",
+                      ran.stdout)
+        self.assertIn("  activity GAS 1991: 1100 TJ to 1200 TJ; country.db/s2:2, before country.db/s1:2, "
+                      "\"the 1200\"\n", ran.stdout)
+        for one in wrong[:3]:
+            due = (f"with --store the words are the numbers of two submissions of {store}, of which the last "
+                   "is 3, and years")
+            self.assertEqual((one.returncode, one.stderr), (2, f"./workbook: {due}\n"))
+        self.assertEqual(wrong[3].returncode, 2)
+
+    def test_words(self) -> None:
+        for words, due in {
+            ("examples/how-to", "examples/how-to"):
+                "-- has to stand once, between the folders of the two states",
+            ("examples/how-to", "--"): "a folder has to stand on both sides of --",
+            ("examples/how-to", "--", "examples/how-to", "2017", "2018"):
+                "there is no 2017 in both states: both have 2018 to 2020",
+            ("examples/how-to", "--", "no-such-folder"): "no-such-folder is no folder",
+        }.items():
+            ran = workbook("compare", *words)
+            self.assertEqual((ran.returncode, ran.stdout), (2, ""))
+            self.assertTrue(ran.stderr.endswith(f"./workbook: {due}\n"), ran.stderr)
+
+
+if __name__ == "__main__":
+    unittest.main()

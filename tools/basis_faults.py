@@ -1,0 +1,388 @@
+"""Explains a unit that says what its figure is of, as `TJ (GCV)` or `kg N2O/kg N`: whether the parameters
+that take the record are of that, and how to come to what they are of. No such word is dropped silently.
+"""
+import collections.abc
+import fractions
+import typing
+
+from tools import causes, unit_bases, units, vocabulary
+from tools.asking import Asking, base_unit
+from tools.faults import Fault, at_row
+from tools.recognisers import Recogniser
+from tools.sheets import Row
+from tools.unit_bases import (
+    ASH_FREE, DRY, ELECTRICITY, EQUIVALENTS, GROSS, LIVESTOCK_UNITS, NET, NORMAL, OF_20_C, OF_GAS, PLACES,
+    PRODUCT, RATIOS, SAME, STANDARD, Words)
+
+# What a net calorific value is of a gross one (Volume 2, Section 1.4.1.2), and words in the names of fuels.
+NET_OF_GROSS = {
+    "0.95": "OIL COAL LIGNITE COKE ANTHRACITE DIESEL GASOLINE PETROL KEROSENE NAPHTHA", "0.9": "GAS LNG",
+}
+GASES = ("CO2", "CH4", "N2O", "CF4", "C2F6")
+ELEMENTS = ("C", "N", "N2O-N", "CH4-C")
+# What is measured of energy in a denominator: a figure for one of a gross one is divided.
+PER_ENERGY = ("emission factor of fuel", "carbon content of fuel")
+# What is measured in units that say themselves what they are of.
+SAID_BY_UNITS = ("gas", "carbon", "carbon content of fuel")
+# A cubic metre at 20 C of one at another temperature.
+TO_20_C = {NORMAL: "1.07", STANDARD: "1.02"}
+
+
+class Asked(typing.NamedTuple):
+    """A unit with what it says; its record, with what it measures and the equations and parameters that take
+    it; the unit of the table to write, with how to come to a figure in it; whether the text is read as
+    that; and the potentials of gases.
+    """
+    words: Words
+    name: str
+    measures: str | None
+    takers: list[tuple[str, str]]
+    meant: units.Meant | None
+    is_read: bool
+    potential: collections.abc.Callable[[str], str | None]
+
+    def write(self, how: str = "") -> str:
+        """What to do to come to a figure in a unit of the table."""
+        size = self.meant.said if self.meant and self.meant.times != 1 else ""
+        unit = f"write {self.meant.word}" if self.meant else ""
+        return ", and ".join(filter(None, (how, size, unit)))
+
+    def due(self) -> list[tuple[str, str]]:
+        """What parameters take that take the record, each with its name in a sentence."""
+        taken = ((unit_bases.taken_by(*taker), said_of(taker)) for taker in self.takers)
+        return [(of, taker) for of, taker in dict.fromkeys(taken) if of]
+
+    def due_per(self) -> list[tuple[str, str]]:
+        """What parameters are for one of that take the record, each with its name in a sentence."""
+        taken = ((unit_bases.per_what(*taker), said_of(taker)) for taker in self.takers)
+        return [(of, taker) for of, taker in dict.fromkeys(taken) if of]
+
+    @property
+    def taker(self) -> str:
+        """The first parameter that takes the record as the subject of a sentence."""
+        return f"{said_of(self.takers[0])} takes" if self.takers else "equations take"
+
+
+class Told(typing.NamedTuple):
+    """What is said of a unit, and whether the figure stays as it is."""
+    cause: str
+    is_same: bool = False
+
+
+def said_of(taker: tuple[str, str]) -> str:
+    """A parameter with its equation."""
+    return f"{taker[1]} of {taker[0]}"
+
+
+def named(of: str) -> str:
+    """What a figure is of as a word of a sentence."""
+    return {"N": "nitrogen", "C": "carbon"}.get(of, of)
+
+
+def gross_values(asked: Asked) -> Told | None:
+    """A figure of gross calorific values."""
+    if GROSS not in asked.words.numerator + asked.words.denominator or asked.measures in units.COUNTED:
+        return None
+    parts = set(asked.name.replace("-", ".").replace("_", ".").split("."))
+    found = [(ratio, of) for ratio, of in NET_OF_GROSS.items() if parts & set(of.split())]
+    ratio = found[0][0] if found else "0.9 (natural gas) or 0.95 (coal, oil)"
+    does = "divide" if asked.measures in PER_ENERGY else "multiply"
+    cause = f"gross calorific value, and energy is net here: {asked.write(f'{does} by about {ratio}')}"
+    return Told(f"{cause}, in all its records; what it is multiplied by has to be of net values too")
+
+
+def net_values(asked: Asked) -> Told | None:
+    """A figure of net calorific values, which is right."""
+    if NET not in asked.words.numerator + asked.words.denominator or not asked.meant:
+        return None
+    return Told(f"energy is of net calorific values here: the unit is written {asked.meant.word}", True)
+
+
+def equivalents(asked: Asked) -> Told | None:
+    """A figure in equivalents."""
+    if EQUIVALENTS not in asked.words.numerator:
+        return None
+    for due, taker in asked.due():
+        gas = {"N2O-N": "N2O", "C": "CO2"}.get(due, due)
+        ratio = f" and multiply by {RATIOS[gas, due]}" if gas != due else ""
+        if gas == "CO2":
+            mass = asked.write(f"multiply by {RATIOS[gas, due]}" if gas != due else "")
+            return Told(f"CO2 equivalents, and {taker} takes {named(due)}: {mass} if they count CO2 alone")
+        if gas in GASES:
+            potential = asked.potential(gas)
+            by = f"GWP.{gas}" + (f", {potential} here" if potential else "")
+            mass = asked.write(f"divide by {by}{ratio}")
+            return Told(f"CO2 equivalents, and {taker} takes {named(due)}: {mass}")
+        return Told(f"CO2 equivalents, and {taker} takes {named(due)}: another figure is needed")
+    alone = asked.write() or "write its mass"
+    return Told(f"CO2 equivalents: {alone} if they count CO2 alone; divide by its potential for another gas")
+
+
+def other_substances(asked: Asked) -> Told | None:
+    """A figure of another substance than that of its parameter, if the one is made out of the other."""
+    for said in asked.words.numerator:
+        for due, taker in asked.due():
+            if (said, due) in RATIOS and said != due:
+                cause = f"{named(said)}, and {taker} takes {named(due)}"
+                return Told(f"{cause}: {asked.write(f'multiply by {RATIOS[said, due]}')}")
+    return None
+
+
+def other_denominators(asked: Asked) -> Told | None:
+    """A figure for one of another substance than that of its parameter."""
+    for said in asked.words.denominator:
+        for due, taker in asked.due_per():
+            if (said, due) in RATIOS and said != due:
+                cause = f"for one of {named(said)}, and {taker} is for one of {named(due)}"
+                return Told(f"{cause}: {asked.write(f'divide by {RATIOS[said, due]}')}")
+    return None
+
+
+def other_gases_of_factors(asked: Asked) -> Told | None:
+    """A factor of a gas that is not the gas of its line."""
+    for said in asked.words.numerator:
+        for taker in asked.takers:
+            due = unit_bases.taken_by(*taker) or ""
+            if {said, due} <= set(GASES + ELEMENTS) and said != due and (said, due) not in SAME:
+                others = vocabulary.equations_alike(taker[0], said)
+                gives = f" ({others[0]} gives {said})" if others else ""
+                return Told(f"{named(said)}, and {said_of(taker)} takes {named(due)}{gives}; "
+                            f"write the figure of {named(due)}")
+    return None
+
+
+def product_for_nitrogen(asked: Asked) -> Told | None:
+    """A mass of product in place of its nitrogen."""
+    for due, taker in asked.due():
+        if PRODUCT in asked.words.numerator and due == "N":
+            how = "multiply by the nitrogen in it, as 0.46 of urea"
+            return Told(f"mass of a product, and {taker} takes its nitrogen: {asked.write(how)}")
+    return None
+
+
+def ash_free_fuels(asked: Asked) -> Told | None:
+    """A mass of fuel without water and ash."""
+    if ASH_FREE not in asked.words.numerator + asked.words.denominator:
+        return None
+    return Told("fuel without water and ash: write it as it is burnt, or a calorific value of the same")
+
+
+def dry_weights(asked: Asked) -> Told | None:
+    """A mass of dry matter, or a factor for one, if both weights may be meant."""
+    is_mass = asked.measures == "mass" and DRY in asked.words.numerator
+    is_due = DRY in [due for due, _ in asked.due() + asked.due_per()]
+    if is_due or not is_mass and DRY not in asked.words.denominator:
+        return None
+    what = "the factor" if is_mass else "the mass"
+    return Told(f"dry weight: {asked.write()} if {what} that it is multiplied by is of dry weight too")
+
+
+def electricity(asked: Asked) -> Told | None:
+    """Electricity in place of fuel, or a factor for it."""
+    if ELECTRICITY in asked.words.denominator and asked.measures in PER_ENERGY:
+        how = "multiply by the efficiency of the plants"
+        return Told(f"for electricity made, and {asked.taker} the energy of fuel: {asked.write(how)}")
+    if ELECTRICITY not in asked.words.numerator or asked.measures not in ("energy", None):
+        return None
+    how = "divide by the efficiency of the plants"
+    cause = f"electricity, and {asked.taker} the energy of fuel: {asked.write(how)}"
+    return Told(f"{cause}; electricity that is bought has no emission of its own")
+
+
+def animal_places(asked: Asked) -> Told | None:
+    """Animal places or livestock units in place of animals."""
+    if PLACES in asked.words.numerator:
+        how = "multiply by the part of the year in which they are taken"
+        return Told(f"animal places, and {asked.taker} animals: {asked.write(how)}")
+    if LIVESTOCK_UNITS in asked.words.numerator:
+        how = "divide by the units of one animal"
+        return Told(f"livestock units, and {asked.taker} animals: {asked.write(how)}")
+    return None
+
+
+def volumes_at_other_states(asked: Asked) -> Told | None:
+    """Cubic metres of gas at 0 or 15 C."""
+    said = [of for of in asked.words.numerator + asked.words.denominator if of in TO_20_C]
+    if said and OF_20_C & set(asked.takers):
+        how = f"multiply by {TO_20_C[said[0]]}"
+        due = f"{asked.taker} those at 20 \u00b0C, of 0.67 kg"
+        return Told(f"cubic metres at {said[0]}, and {due}: {asked.write(how)}")
+    if said and OF_GAS & set(asked.takers):
+        other = "the factor" if asked.measures == "volume" else "the volume"
+        return Told(f"cubic metres at {said[0]}: {asked.write()} if {other} is of them too")
+    return None
+
+
+def unknown_words(asked: Asked) -> Told | None:
+    """Words beside a unit of which it is not known whether they change the figure."""
+    def is_harmless(word: str) -> bool:
+        return any(vocabulary.is_said_of(*taker, word.strip(",;")) for taker in asked.takers)
+
+    odd = [word for word in asked.words.others if not is_harmless(word)]
+    odd += [said for said in asked.words.denominator if said == "COD"]
+    if not odd or not asked.takers or not asked.meant or not asked.is_read:
+        return None
+    cause = f"the unit is written {asked.meant.word}"
+    return Told(f"{cause}: {asked.write()} if {' '.join(odd)} changes no figure")
+
+
+def right_substances(asked: Asked) -> Told | None:
+    """A unit that says what its parameter takes: the figure is right."""
+    for said in asked.words.numerator:
+        takers = [taker for due, taker in asked.due() if said == due or (said, due) in SAME]
+        if takers and asked.meant and asked.measures not in SAID_BY_UNITS:
+            cause = f"{takers[0]} takes {named(said)}, as here: the unit is written {asked.meant.word}"
+            return Told(cause, True)
+    return None
+
+
+# A right inventory of cement, urea and burnt waste, coal mining and effluent.
+KILNS = """\
+enter,span,,,2019,2020,2019,,,
+enter,factor,,GWP.CO2,2019,1,,,1,
+enter,factor,,GWP.CH4,2019,28,,,1,
+enter,line,2A1,CEMENT.CO2,,Q31,,,,
+enter,bind,CEMENT.CO2,CL,,activity,CLINKER,,,
+enter,bind,CEMENT.CO2,IM,,key,NO,,,
+enter,bind,CEMENT.CO2,EX,,key,NO,,,
+enter,bind,CEMENT.CO2,EF,,factor,CEMENT.EF,,,
+enter,factor,,CEMENT.EF,2019,0.52,,,t/t,
+enter,activity,,CLINKER,2019,1600,,,kt,
+enter,activity,,CLINKER,2020,1620,,,kt,
+enter,line,3C3,UREA.CO2,,Q75,,,,
+enter,bind,UREA.CO2,M,,activity,UREA,,,
+enter,bind,UREA.CO2,EF,,factor,UREA.EF,,,
+enter,factor,,UREA.EF,2019,0.2,,,t/t,
+enter,activity,,UREA,2019,15000,,,t,
+enter,activity,,UREA,2020,14800,,,t,
+enter,line,1B1,MINE.CH4,,Q14,,,,
+enter,bind,MINE.CH4,P,,activity,MINED,,,
+enter,bind,MINE.CH4,EF,,factor,MINE.EF,,,
+enter,factor,,MINE.EF,2019,18,,,m3/t,
+enter,activity,,MINED,2019,310,,,kt,
+enter,activity,,MINED,2020,300,,,kt,
+enter,line,4B,COMPOST.CH4,,Q95,,,,
+enter,bind,COMPOST.CH4,M,,activity,COMPOST,,,
+enter,bind,COMPOST.CH4,EF,,factor,COMPOST.EF,,,
+enter,bind,COMPOST.CH4,R,,key,NO,,,
+enter,factor,,COMPOST.EF,2019,4,,,g/kg,
+enter,activity,,COMPOST,2019,140,,,kt,
+enter,activity,,COMPOST,2020,145,,,kt,
+"""
+RECOGNISERS = (
+    Recogniser(
+        gross_values, "gross calorific values, as `TJ (GCV)`, with their usual ratio to net ones",
+        "enter,factor,,COAL.NCV,2019,27.1,,,GJ/t GCV,",
+        "gross calorific value, and energy is net here: multiply by about 0.95, and write GJ/t",
+        "enter,factor,,COAL.NCV,2019,25.8,,,GJ/t,27.1 by the gross calorific value"),
+    Recogniser(
+        equivalents, "CO2 equivalents, as `kg CO2e/head`, with the potential of the gas",
+        "enter,factor,,COWS.EF,2019,3528,,,kg CO2e/head,",
+        "CO2 equivalents, and EF of Q55 takes CH4: divide by GWP.CH4, 28 here, and write kg/head",
+        "enter,factor,,COWS.EF,2019,126,,,kg/head,3528 kg CO2e"),
+    Recogniser(
+        other_substances, "N2O for N2O-N, CO2 for carbon, carbon for dry matter, product for nitrogen, dry "
+        "for wet weight, and the other way round, with the ratio",
+        "enter,factor,,SOILS.EF1,2019,0.0157,,,kg N2O/kg N,",
+        "N2O, and EF1 of Q69 takes N2O-N: multiply by 28/44, and write kg/kg",
+        "enter,factor,,SOILS.EF1,2019,0.01,,,kg/kg,of N2O-N"),
+    Recogniser(
+        other_denominators, "a factor for a tonne of cement in place of clinker",
+        "enter,factor,,CEMENT.EF,2019,0.39,,,t CO2/t cement,",
+        "for one of cement, and EF of Q31 is for one of clinker: divide by the clinker fraction",
+        "enter,factor,,CEMENT.EF,2019,0.52,,,t/t,for a t of clinker and not of cement", KILNS),
+    Recogniser(
+        other_gases_of_factors, "a factor of another gas than that of its line",
+        "enter,factor,,COAL.EF,2019,1,,,kg CH4/TJ,",
+        "CH4, and EF of Q10 takes CO2 (Q11 gives CH4); write the figure of CO2",
+        "enter,factor,,COAL.EF,2019,94.6,,,t/TJ,CH4 has a factor of its own"),
+    Recogniser(
+        product_for_nitrogen, "a mass of fertiliser in place of its nitrogen",
+        "enter,activity,,FERTILISER.N,2019,120000,,,t product,",
+        "mass of a product, and FSN of Q69 takes its nitrogen: multiply by the nitrogen in it",
+        "enter,activity,,FERTILISER.N,2019,41.2,,,kt,in 120 kt of product"),
+    Recogniser(
+        ash_free_fuels, "fuel without its water and ash", "enter,activity,,COAL,2019,850,,,kt daf,",
+        "fuel without water and ash: write it as it is burnt", "enter,activity,,COAL,2019,1010,,,kt,850 daf"),
+    Recogniser(
+        dry_weights, "dry weights, if both weights may be meant",
+        "enter,activity,,COMPOST,2019,56,,,kt dry,",
+        "dry weight: write kt if the factor that it is multiplied by is of dry weight too",
+        "enter,activity,,COMPOST,2019,141,,,kt,56 dry", KILNS),
+    Recogniser(
+        electricity, "electricity in place of fuel",
+        "enter,line,1A2,COKE.CO2,,Q10,,,,\nenter,bind,COKE.CO2,FC,,activity,COKE,,,\n"
+        "enter,bind,COKE.CO2,EF,,factor,COAL.EF,,,\nenter,activity,,COKE,2019,290,,,GWh el,\n"
+        "enter,activity,,COKE,2020,2100,,,TJ,\nenter,activity,,COKE,2021,2100,,,TJ,",
+        "electricity, and FC of Q10 takes the energy of fuel: divide by the efficiency of the plants",
+        "enter,line,1A2,COKE.CO2,,Q10,,,,\nenter,bind,COKE.CO2,FC,,activity,COKE,,,\n"
+        "enter,bind,COKE.CO2,EF,,factor,COAL.EF,,,\nenter,activity,,COKE,2019,590,,,GWh,\n"
+        "enter,activity,,COKE,2020,2100,,,TJ,\nenter,activity,,COKE,2021,2100,,,TJ,"),
+    Recogniser(
+        animal_places, "animal places and livestock units in place of animals",
+        "enter,activity,,COWS,2019,260000,,,animal places,",
+        "animal places, and N of Q55 takes animals: multiply by the part of the year in which they are taken",
+        "enter,activity,,COWS,2019,249000,,,head,in 260000 places"),
+    Recogniser(
+        volumes_at_other_states, "cubic metres at 0 or 15 \u00b0C in place of those at 20 \u00b0C",
+        "enter,factor,,MINE.EF,2019,16.8,,,Nm3/t,", "those at 20 \u00b0C, of 0.67 kg: multiply by 1.07",
+        "enter,factor,,MINE.EF,2019,17.9,,,m3/t,16.8 at 0 C", KILNS),
+    Recogniser(
+        unknown_words, "a word of which it is not known whether it changes the figure",
+        "enter,activity,,COAL,2019,1000,,,kt (screened),",
+        "the unit is written kt: write kt if screened changes no figure",
+        "enter,activity,,COAL,2019,1000,,,kt,screened"),
+    Recogniser(
+        net_values, "net calorific values, which are right", "enter,factor,,COAL.NCV,2019,25.8,,,GJ/t (NCV),",
+        "energy is of net calorific values here: the unit is written GJ/t; write GJ/t",
+        "enter,factor,,COAL.NCV,2019,25.8,,,GJ/t,"),
+    Recogniser(
+        right_substances, "the basis that is due, as `kg N2O-N/kg N` for Q69, of which the cure says so",
+        "enter,factor,,SOILS.EF1,2019,0.01,,,kg N2O-N/kg N,",
+        "EF1 of Q69 takes N2O-N, as here: the unit is written kg/kg; write kg/kg",
+        "enter,factor,,SOILS.EF1,2019,10,,,g/kg,"),
+)
+
+
+def told(asked: Asked) -> Told | None:
+    """What is said of a unit by what its figure is of, or None if it says nothing of that."""
+    return next(filter(None, (each.function(asked) for each in RECOGNISERS)), None)
+
+
+class BasisFaults(Asking):
+    """Explanations of units that say what their figure is of."""
+
+    def of_basis(self, row: Row, text: str, measures: str | None) -> tuple[Fault, Row | None] | None:
+        """The fault of a unit that says what its figure is of, and the row to go on with; or None if it says
+        nothing of that, or if that is right and the figure has another size.
+        """
+        asked = self.asked_of_basis(row, text, measures)
+        said = told(asked) if row.field("name") not in vocabulary.words()["potentials"] else None
+        if said is None or said.is_same and asked.meant and asked.meant.times != 1:
+            return None
+        word = asked.meant.word if asked.meant else None
+        if said.is_same:
+            sure = [(said.cause, word, True)]
+            found: tuple[Fault, Row | None] = self.first_taken(row, "unit", sure, said.cause)
+            return found
+        return at_row(row, said.cause, "unit"), self.in_unit(row, word) if word else None
+
+    def other_basis(self, row: Row, text: str) -> str | None:
+        """Why a figure with a unit after it is not of what its record is of, or None."""
+        said = told(self.asked_of_basis(row, text, self.measured(row)))
+        return said.cause if said and not said.is_same else None
+
+    def asked_of_basis(self, row: Row, text: str, measures: str | None) -> Asked:
+        """What a unit says that its figure is of, with what takes its record."""
+        kind, name = row.field("kind"), causes.name(row.field("name")).text
+        words = unit_bases.words_of(text)
+        meant = units.meant(words.bare, measures)
+        is_read = meant is not None and measures in (None, vocabulary.measured_by(meant.word))
+        if measures and not is_read:
+            meant = units.Meant(base_unit(measures), fractions.Fraction(1))
+        return Asked(words, name, measures, self.ahead.takers(kind, name), meant, is_read, self.potential_of)
+
+    def potential_of(self, gas: str) -> str | None:
+        """The warming potential of a gas that is entered first, or None."""
+        record = self.book.some_record("factor", f"GWP.{gas}") or self.ahead.row_of("factor", f"GWP.{gas}")
+        return record.field("value") if record else None

@@ -1,0 +1,494 @@
+"""Warnings of what is counted twice, in the wrong place or not at all: quantities that two lines take, shares
+above one, a line beside its parts, and bunkers and biomass in national totals.
+"""
+import decimal
+import functools
+import re
+
+from tools import vocabulary
+from tools.book import lines_taken_by
+from tools.faults import Fault, warn, years_said
+from tools.fuels import is_of_biomass, is_of_bunkers, is_of_fossil_fuel
+from tools.recognisers import Recogniser
+from tools.results import ZERO, Results, gas_of, plain
+from tools.sheets import Row
+from tools.vocabulary import MEMOS, listed
+
+# What a line takes, by year.
+Amounts = dict[int, decimal.Decimal]
+# The equations that compute the same emission in other ways: of two of them over one quantity one is enough.
+ALIKE = ({"Q31", "Q32"}, {"Q35", "Q36"}, {"Q38", "Q39"}, {"Q42", "Q44"}, {"Q10", "Q46"})
+# The equations that add quantities up or convert them.
+ADDING = {"Q13", "Q20", "Q21", "Q22", "Q23", "Q67", "Q83"}
+# The parameters that are shares of one whole by equation, and the parameter that tells which whole that is.
+SHARES = {"Q57": ("MS", ""), "Q59": ("MS", "N"), "Q60": ("MS", "N"), "Q63": ("MS", "N"), "Q64": ("MS", "N"),
+          "Q101": ("T", "U")}
+# Manure that is managed and that stays on pasture: the systems of a herd.
+SYSTEMS = ("Q59", "Q64")
+# Shares are written with two or three digits.
+MOST_OF_SHARES = decimal.Decimal("1.005")
+# The CO2 factors of Volume 2, Table 1.4 that only biomass has, in kg/TJ.
+OF_BIOMASS_ALONE = {decimal.Decimal(factor) for factor in (112000, 70800, 79600)}
+# How far the parts of a line may be from the whole.
+APART = decimal.Decimal("0.005")
+
+
+def same_quantity_twice(results: Results) -> list[Fault]:
+    """Two lines that emit the same gas of one quantity, of which one takes it through another line, or by
+    another equation, where no share tells them apart.
+    """
+    found: list[Fault] = []
+    seen: dict[tuple[str, tuple[str, str, str], frozenset[str]], tuple[Row, bool]] = {}
+    for row in results.emitting:
+        name, code = row.field("name"), row.field("value")
+        if row.field("subject") in MEMOS or not any(results.series(name).values()):
+            continue
+        for activity, is_direct in sorted(quantities(results, name).items()):
+            key = (activity, family(row), told_apart(results, name))
+            before, was_direct = seen.setdefault(key, (row, is_direct))
+            if before is row or before.field("value") == code and is_direct and was_direct:
+                continue
+            said = f"line {name} and line {before.field('name')} ({before.place}) both emit {gas_of(row)} of"
+            found.append(warn(row, f"{said} activity {activity}; is it counted twice?"))
+            break
+    return found
+
+
+def quantities(results: Results, line: str) -> dict[str, bool]:
+    """The activities that are amounts and that a line takes, by whether it takes them itself, without those
+    that are taken off on the way.
+    """
+    found: dict[str, bool] = {}
+    taken_off: set[str] = set()
+    for other in results.below(line):
+        off = subtracted(results.book.lines[other].field("value")) if other in results.book.lines else ()
+        for parameter, bound in results.bindings(other).items():
+            names = [bound.field("low")] if bound.field("value") == "activity" else []
+            if parameter in off:
+                taken_off.update(names, *(activities(results, name) for name in lines_taken_by(bound)))
+            elif names and is_amount(results, names[0]):
+                found.setdefault(names[0], other == line)
+    return {name: is_direct for name, is_direct in found.items() if name not in taken_off}
+
+
+def activities(results: Results, line: str) -> list[str]:
+    """The activities that a line takes, directly or through others."""
+    return [bound.field("low") for bound in results.bound_below(line) if bound.field("value") == "activity"]
+
+
+def subtracted(code: str) -> list[str]:
+    """The parameters that an equation takes off."""
+    return re.findall(r"- ([A-Z][A-Z0-9]*)", vocabulary.equations()[code]["expression"])
+
+
+def is_amount(results: Results, activity: str) -> bool:
+    """Tells whether an activity is an amount."""
+    measures = results.book.measured_by("activity", activity)
+    return measures is not None and bool(vocabulary.is_amount(measures))
+
+
+def family(row: Row) -> tuple[str, str, str]:
+    """The gas of a line with the least equation that computes the same, and its category where the equation
+    is of two sources, as enteric fermentation and manure.
+    """
+    code = row.field("value")
+    alike = next((codes for codes in ALIKE if code in codes), None)
+    of_two = not alike and " or " in vocabulary.equations()[code]["computes"]
+    return gas_of(row) or "", min(alike or {code}), row.field("subject") if of_two else ""
+
+
+def told_apart(results: Results, line: str) -> frozenset[str]:
+    """What tells lines of one quantity apart: the shares and half-lives that a line takes, directly or
+    through others, and the equations of these others but for those that add and convert. Of a line whose
+    emission other equations compute too its own ratios are factors.
+    """
+    code = results.book.lines[line].field("value")
+    others = [other for other in results.below(line) if other != line]
+    has_shares = others if any(code in alike for alike in ALIKE) else [line, *others]
+    shares = {bound.field("low") for other in has_shares for bound in results.bindings(other).values()
+              if is_share(results, bound)}
+    below = [results.book.lines.get(other) for other in others]
+    return frozenset(shares.union(row.field("value") for row in below if row) - ADDING)
+
+
+def is_share(results: Results, bound: Row) -> bool:
+    """Tells whether a binding is of a ratio of less than one, or of a half-life."""
+    if bound.field("value") == "decay":
+        return True
+    line = results.book.lines.get(bound.field("subject"))
+    parameters = vocabulary.parameters_of(line.field("value")) if line else {}
+    parameter = parameters.get(bound.field("name"))
+    is_record = bound.field("value") in ("activity", "factor")
+    if not parameter or parameter["measures"] != "ratio" or not is_record:
+        return False
+    return results.taken(bound, results.years[0]) != 1
+
+
+def shares_above_one(results: Results) -> list[Fault]:
+    """Shares of one whole whose sum is above one: those of a sum of lines, and the systems of a herd."""
+    wholes: dict[tuple[str, str], list[Row]] = {}
+    for row in results.lines:
+        name = row.field("name")
+        for parameter, bound in results.bindings(name).items():
+            if bound.field("value") == "sum":
+                for other in lines_taken_by(bound):
+                    add_shares(results, other, f"{parameter} of line {name}", wholes)
+        if row.field("value") in SYSTEMS and "N" in results.bindings(name):
+            herd = results.bindings(name)["N"].field("low")
+            wholes.setdefault(("herd", herd), []).append(results.bindings(name)["MS"])
+    found, told = [], set()
+    for (what, of), bindings in wholes.items():
+        over = years_above_one(results, bindings)
+        names = tuple(sorted({bound.field("low") for bound in bindings}))
+        if over and names not in told:
+            told.add(names)
+            year, size = next(iter(over.items()))
+            whole = f"under {what}" if what != "herd" else f"of {of}"
+            said = f"the shares {listed(names, 'and')} {whole} are {plain(size)} together in"
+            row = latest(results, bindings, year)
+            found.append(warn(row, f"{said} {years_said(over)}; they are parts of one"))
+    return found
+
+
+def latest(results: Results, bindings: list[Row], year: int) -> Row:
+    """The record that begins last of those that bindings take in a year, and of these the last one."""
+    records = [record for bound in bindings if (record := results.record(bound, year))]
+    return max(reversed(records), key=lambda record: str(record.field("year")))
+
+
+def add_shares(results: Results, line: str, of: str, wholes: dict[tuple[str, str], list[Row]]) -> None:
+    """Adds the share of a line to those of its whole under a sum."""
+    row = results.book.lines.get(line)
+    parameter, whole = SHARES.get(row.field("value"), ("", "")) if row else ("", "")
+    bindings = results.bindings(line)
+    if parameter in bindings:
+        which = bindings[whole].field("low") if whole in bindings else ""
+        wholes.setdefault((of, which), []).append(bindings[parameter])
+        if whole == "U" and whole in bindings:
+            wholes.setdefault((of, "U"), []).append(bindings[whole])
+
+
+def years_above_one(results: Results, bindings: list[Row]) -> dict[int, decimal.Decimal]:
+    """The years in which the shares that bindings take are above one together, each record once."""
+    found = {}
+    each = {bound.field("low"): bound for bound in bindings
+            if bound.field("value") in ("activity", "factor")}
+    for year in results.years:
+        shares = [results.taken(bound, year) for bound in each.values()]
+        size = sum((share for share in shares if share), ZERO)
+        if len(each) > 1 and size > MOST_OF_SHARES:
+            found[year] = size
+    return found
+
+
+def whole_beside_parts(results: Results) -> list[Fault]:
+    """Lines that stand beside the lines which split them: the quantities of these are its own together."""
+    found = []
+    lines = [row for row in results.emitting if row.field("subject") not in MEMOS]
+    amounts = {row.field("name"): amounts_of(results, row) for row in lines}
+    groups, names_of_files = groups_of_lines(lines), list({row.sheet.name: None for row in lines})
+    for row in lines:
+        for parts in groups_of_parts(row, groups, names_of_files):
+            own, others = amounts[row.field("name")], [amounts[part.field("name")] for part in parts]
+            years = years_of_whole(own, others)
+            if years:
+                names = listed([part.field("name") for part in parts], "and")
+                said = f"line {row.field('name')} takes as much as {names} ({parts[0].place}) together in"
+                said += f" {years_said(years)}; withdraw it, or enter its activity as IE in these years"
+                found.append(warn(row, said))
+                break
+    return found
+
+
+def groups_of_lines(lines: list[Row]) -> dict[tuple[str, ...], list[Row]]:
+    """The lines of one equation by their category, by the first part of their names and by their file, the
+    last two near each other in the tree; and by each beginning of their names.
+    """
+    groups: dict[tuple[str, ...], list[Row]] = {}
+    for row in lines:
+        code, category, parts = row.field("value"), row.field("subject"), re.split("[._-]", row.field("name"))
+        keys = [(code, "in", category), (code, "first", category[:3], parts[0]),
+                (code, "file", category[:3], row.sheet.name)]
+        lengths = [len(".".join(parts[:at])) for at in range(1, len(parts))]
+        for key in keys + [(code, "name", row.field("name")[:length]) for length in lengths]:
+            groups.setdefault(key, []).append(row)
+    return groups
+
+
+def groups_of_parts(row: Row, groups: dict[tuple[str, ...], list[Row]], files: list[str]) -> list[list[Row]]:
+    """The groups of lines that may be the parts of another one, without it."""
+    name, code, category = row.field("name"), row.field("value"), row.field("subject")
+    first = re.split("[._-]", name)[0]
+    keys = [(code, "name", name), (code, "in", category), (code, "first", category[:3], first)]
+    keys += [(code, "file", category[:3], file) for file in files if file != row.sheet.name]
+    found = [[other for other in groups.get(key, []) if other is not row] for key in keys]
+    return [group for group in found if len(group) > 1]
+
+
+def years_of_whole(own: Amounts, parts: list[Amounts]) -> list[int]:
+    """The years in which the quantities of parts are that of a line together, where all are above zero: these
+    have to be all such years, and the quantity none that stays the same.
+    """
+    years = []
+    for year, amount in own.items():
+        others = [part[year] for part in parts if part.get(year)]
+        if not amount or len(others) < len(parts):
+            continue
+        if abs(sum(others, ZERO) - amount) > APART * abs(amount):
+            return []
+        years.append(year)
+    is_one_year = len(years) == len(own) == 1
+    return years if is_one_year or len({own[year] for year in years}) > 1 else []
+
+
+def amounts_of(results: Results, row: Row) -> Amounts:
+    """The first amount that a line takes, by year."""
+    bindings = results.bindings(row.field("name"))
+    bound = next((bindings[name] for name in amounts_taken(row.field("value"))
+                  if name in bindings and bindings[name].field("value") != "key"), None)
+    return {year: results.taken(bound, year) or ZERO for year in results.years} if bound else {}
+
+
+@functools.cache
+def amounts_taken(code: str) -> list[str]:
+    """The parameters of an equation that are amounts."""
+    return [parameter["name"] for parameter in vocabulary.equations()[code]["parameters"]
+            if not vocabulary.is_decay(parameter) and vocabulary.is_amount(parameter["measures"])]
+
+
+def bunkers_in_totals(results: Results) -> list[Fault]:
+    """Fuel of international bunkers at a national category, by the name of a line or of what it takes, or
+    since a line at MB takes the same.
+    """
+    found = []
+    at_bunkers: dict[tuple[str | None, str], Row] = {}
+    for row in results.emitting:
+        if row.field("subject") == "MB":
+            at_bunkers.update({(gas_of(row), activity): row
+                               for activity in quantities(results, row.field("name"))})
+    for row in results.emitting:
+        name, code = row.field("name"), row.field("subject")
+        if not code.startswith("1A"):
+            continue
+        taken = quantities(results, name)
+        keys = [(gas_of(row), activity) for activity in taken]
+        there = [at_bunkers[key] for key in keys if key in at_bunkers]
+        of_bunkers = "fuel of international bunkers stands at MB, outside the totals"
+        if there:
+            said = f"line {name} at {code} takes the fuel of line {there[0].field('name')} at MB"
+            found.append(warn(row, f"{said} ({there[0].place}); {of_bunkers}"))
+        elif is_of_bunkers([name, *taken]):
+            found.append(warn(row, f"line {name} at {code} is of bunkers by its names; {of_bunkers}"))
+    return found
+
+
+def biomass_in_totals(results: Results) -> list[Fault]:
+    """CO2 of biomass that is burnt for energy, at a national category."""
+    found = []
+    for row in results.emitting:
+        name, code = row.field("name"), row.field("subject")
+        if code.startswith("1A") and row.field("value") == "Q10":
+            bound = results.bindings(name).get("EF")
+            why = "by its names" if is_of_biomass(names_of(results, name)) else ""
+            if bound and not why and not is_of_fossil_fuel(names_of(results, name)):
+                taken = results.taken(bound, results.years[-1])
+                why = f"by its factor, {plain(taken)} kg/TJ" if taken in OF_BIOMASS_ALONE else ""
+            if why:
+                said = f"line {name} at {code} is CO2 of biomass, {why}"
+                found.append(warn(row, f"{said}; that stands at MC, outside the totals"))
+    return found
+
+
+def others_at_biomass(results: Results) -> list[Fault]:
+    """Lines at MC that are of another gas than CO2, or of a fossil fuel by their names."""
+    found = []
+    for row in results.emitting:
+        name, gas = row.field("name"), gas_of(row)
+        if row.field("subject") != "MC":
+            continue
+        why = f"gives {gas}" if gas != "CO2" else "is of a fossil fuel by its names"
+        if gas != "CO2" or is_of_fossil_fuel(names_of(results, name)):
+            said = f"line {name} at MC {why}, and MC is of CO2 of biomass alone, outside the totals"
+            found.append(warn(row, f"{said}; enter it at the category in which the fuel is burnt"))
+    return found
+
+
+def names_of(results: Results, line: str) -> list[str]:
+    """The names of a line, and of the activities and factors that it takes."""
+    bindings = results.bindings(line).values()
+    factors = [bound.field("low") for bound in bindings if bound.field("value") == "factor"]
+    return [line, *quantities(results, line), *factors]
+
+
+def line_in_a_sum_twice(results: Results) -> list[Fault]:
+    """Sums of lines of which one takes another one already."""
+    found = []
+    for row in results.lines:
+        for parameter, bound in results.bindings(row.field("name")).items():
+            taken = lines_taken_by(bound) if bound.field("value") == "sum" else []
+            for other in taken:
+                within = [name for name in added(results, other) if name in taken]
+                if within:
+                    said = f"{parameter} of line {row.field('name')} takes {within[0]} twice: by itself, and"
+                    found.append(warn(bound, f"{said} in line {other}, which takes it"))
+    return found
+
+
+def added(results: Results, line: str) -> list[str]:
+    """The lines that a line adds up, directly or through others."""
+    found = []
+    for other in results.below(line):
+        row = results.book.lines.get(other)
+        if row and row.field("value") in ADDING:
+            off = subtracted(row.field("value"))
+            found += [name for parameter, bound in results.bindings(other).items() if parameter not in off
+                      and bound.field("value") != "prev" for name in lines_taken_by(bound)]
+    return found
+
+
+def carbon_in_two_lines(results: Results) -> list[Fault]:
+    """Changes of carbon that two lines turn into CO2, with the same sign."""
+    found: list[Fault] = []
+    seen: dict[tuple[str, int], Row] = {}
+    for row in results.emitting:
+        if row.field("value") != "Q84":
+            continue
+        twice = [key for key in signed(results, row.field("name"), 1) if key in seen]
+        for key in signed(results, row.field("name"), 1):
+            seen.setdefault(key, row)
+        if twice:
+            before = seen[twice[-1]]
+            said = f"line {row.field('name')} and line {before.field('name')} ({before.place}) both count the"
+            found.append(warn(row, f"{said} carbon of line {twice[-1][0]}; is it counted twice?"))
+    return found
+
+
+def signed(results: Results, line: str, sign: int) -> list[tuple[str, int]]:
+    """The lines that a line adds up or takes off, directly or through others, each with its sign."""
+    found = []
+    row = results.book.lines.get(line)
+    if row and row.field("value") in (*ADDING, "Q84"):
+        off = subtracted(row.field("value"))
+        for parameter, bound in results.bindings(line).items():
+            of_bound = -sign if parameter in off else sign
+            if bound.field("value") in ("line", "sum"):
+                for other in lines_taken_by(bound):
+                    found += [(other, of_bound), *signed(results, other, of_bound)]
+    return found
+
+
+# Pigs whose manure is in a pit and in heaps.
+PIGS = """\
+enter,line,3A2,PIT.N2O,,Q59,,,,
+enter,bind,PIT.N2O,N,,activity,PIGS,,,
+enter,bind,PIT.N2O,NEX,,factor,PIGS.NEX,,,
+enter,bind,PIT.N2O,MS,,factor,PIT,,,
+enter,bind,PIT.N2O,EF3,,factor,PIT.EF3,,,
+enter,line,3A2,HEAP.N2O,,Q59,,,,
+enter,bind,HEAP.N2O,N,,activity,PIGS,,,
+enter,bind,HEAP.N2O,NEX,,factor,PIGS.NEX,,,
+enter,bind,HEAP.N2O,MS,,factor,HEAP,,,
+enter,bind,HEAP.N2O,EF3,,factor,HEAP.EF3,,,
+enter,factor,,PIGS.NEX,2019,9.3,,,kg/head,
+enter,factor,,PIT.EF3,2019,0.002,,,kg/kg,
+enter,factor,,HEAP.EF3,2019,0.005,,,kg/kg,
+enter,factor,,PIT,2019,80,,,pct,
+enter,factor,,HEAP,2019,{},,,pct,
+enter,activity,,PIGS,2019,500000,,,head,
+enter,activity,,PIGS,2020,510000,,,head,
+enter,activity,,PIGS,2021,520000,,,head,
+"""
+# A line that burns another fuel, by the fuel's name, or by one that says nothing.
+BURNT = """\
+enter,line,{0},{1}.CO2,,Q10,,,,
+enter,bind,{1}.CO2,FC,,activity,{1},,,
+enter,bind,{1}.CO2,EF,,factor,{1}.EF,,,
+enter,factor,,{1}.EF,2019,{2},,,kg/TJ,
+enter,activity,,{1},2019,1000,,,TJ,
+enter,activity,,{1},2020,1010,,,TJ,
+enter,activity,,{1},2021,1020,,,TJ,
+"""
+# Two plants that burn as much coal as COAL.CO2 together, or another amount.
+PLANTS = """\
+enter,line,1A1a,COAL.CO2.A,,Q10,,,,
+enter,bind,COAL.CO2.A,FC,,activity,PLANT.A,,,
+enter,bind,COAL.CO2.A,EF,,factor,COAL.EF,,,
+enter,line,1A1a,COAL.CO2.B,,Q10,,,,
+enter,bind,COAL.CO2.B,FC,,activity,PLANT.B,,,
+enter,bind,COAL.CO2.B,EF,,factor,COAL.EF,,,
+enter,activity,,PLANT.A,2019,10000,,,TJ,
+enter,activity,,PLANT.A,2020,10000,,,TJ,
+enter,activity,,PLANT.A,2021,10000,,,TJ,
+enter,activity,,PLANT.B,2019,{},,,TJ,
+enter,activity,,PLANT.B,2020,{},,,TJ,
+enter,activity,,PLANT.B,2021,{},,,TJ,
+"""
+FOREST = """\
+enter,line,3B1,GROWTH,,Q78,,,,
+enter,bind,GROWTH,A,,activity,FOREST,,,
+enter,bind,GROWTH,GW,,factor,GROWTH,,,
+enter,bind,GROWTH,R,,factor,ROOTS,,,
+enter,bind,GROWTH,CF,,factor,CARBON,,,
+enter,line,3B1,LOGS,,Q80,,,,
+enter,bind,LOGS,H,,activity,LOGS,,,
+enter,bind,LOGS,BCEF,,factor,BCEF,,,
+enter,bind,LOGS,R,,factor,ROOTS,,,
+enter,bind,LOGS,CF,,factor,CARBON,,,
+enter,line,3B1,NET,,Q83,,,,
+enter,bind,NET,G,,line,GROWTH,,,
+enter,bind,NET,L,,line,LOGS,,,
+enter,line,3B1,FOREST.CO2,,Q84,,,,
+enter,bind,FOREST.CO2,C,,{},,,
+enter,factor,,GROWTH,2019,4,,,t/ha,
+enter,factor,,ROOTS,2019,0.29,,,1,
+enter,factor,,CARBON,2019,0.47,,,t/t,
+enter,factor,,BCEF,2019,0.77,,,t/m3,
+enter,activity,,FOREST,2019,900,,,kha,
+enter,activity,,FOREST,2020,901,,,kha,
+enter,activity,,FOREST,2021,902,,,kha,
+enter,activity,,LOGS,2019,2.1,,,Mm3,
+enter,activity,,LOGS,2020,2.2,,,Mm3,
+enter,activity,,LOGS,2021,2.15,,,Mm3,
+"""
+SECOND = "enter,line,3B6,MORE.CO2,,Q84,,,,\nenter,bind,MORE.CO2,C,,line,GROWTH,,,"
+COAL_ONCE_MORE = """\
+enter,line,{0},MILLS.CO2,,Q10,,,,
+enter,bind,MILLS.CO2,FC,,line,COAL.TJ,,,
+enter,bind,MILLS.CO2,EF,,factor,COAL.EF,,,
+"""
+
+RECOGNISERS: tuple[Recogniser, ...] = (
+    Recogniser(
+        same_quantity_twice, "two lines that emit the gas of one quantity, through other lines or by another"
+        " equation of it",
+        example=COAL_ONCE_MORE.format("1A2"), right=PIGS.format(20),
+        says="line MILLS.CO2 and line COAL.CO2 (1.csv:9) both emit CO2 of activity COAL; is it"),
+    Recogniser(
+        shares_above_one, "shares of one whole that are more than one together",
+        example=PIGS.format(30), right=PIGS.format(20),
+        says="the shares HEAP and PIT of PIGS are 1.1 together in 2019 to 2021; they are parts of one"),
+    Recogniser(
+        whole_beside_parts, "a line beside the lines that split it",
+        example=PLANTS.format(15800, 17090, 16316), right=PLANTS.format(3000, 3100, 3050),
+        says="line COAL.CO2 takes as much as COAL.CO2.A and COAL.CO2.B (1.csv:37) together in 2019 to 2021"),
+    Recogniser(
+        bunkers_in_totals, "fuel of international bunkers in a national category",
+        example=BURNT.format("1A3a", "BUNKERS", 71500), right=BURNT.format("MB", "BUNKERS", 71500),
+        says="line BUNKERS.CO2 at 1A3a is of bunkers by its names"),
+    Recogniser(
+        biomass_in_totals, "CO2 of biomass in a national category",
+        example=BURNT.format("1A4b", "WOOD", 112000), right=BURNT.format("MC", "WOOD", 112000),
+        says="line WOOD.CO2 at 1A4b is CO2 of biomass, by its names; that stands at MC, outside the totals"),
+    Recogniser(
+        others_at_biomass, "fossil fuels, CH4 and N2O at MC",
+        example=BURNT.format("MC", "PEAT", 106000), right=BURNT.format("1A4b", "PEAT", 106000),
+        says="line PEAT.CO2 at MC is of a fossil fuel by its names"),
+    Recogniser(
+        line_in_a_sum_twice, "a line that a sum takes by itself and within another line",
+        example=FOREST.format("sum,NET GROWTH"), right=FOREST.format("line,NET"),
+        says="C of line FOREST.CO2 takes GROWTH twice: by itself, and in line NET, which takes it"),
+    Recogniser(
+        carbon_in_two_lines, "carbon that two lines turn into CO2",
+        example=FOREST.format("line,NET") + SECOND, right=FOREST.format("line,NET"),
+        says="line MORE.CO2 and line FOREST.CO2 (1.csv:50) both count the carbon of line GROWTH"),
+)

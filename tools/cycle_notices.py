@@ -1,0 +1,221 @@
+"""Warnings of a year's cycle: corrections, withdrawals and new years that do not do what is meant."""
+import decimal
+
+from tools.book import Book
+from tools.faults import Fault, counted, warn, years_said
+from tools.recognisers import Recogniser
+from tools.results import NUMBER, Results
+from tools.sheets import Row, Sheet
+from tools.vocabulary import listed
+
+FIGURES = ("value", "low", "high", "unit")
+FIGURES_SHOWN = 3
+
+
+class Cycle:
+    """The rows of the files by the record that they speak of, in their order, beside the results."""
+
+    def __init__(self, sheets: list[Sheet], results: Results) -> None:
+        self.results, self.book = results, results.book
+        self.rows: dict[tuple[str, ...], list[Row]] = {}
+        self.order: dict[int, int] = {}
+        for row in (row for sheet in sheets for row in sheet.meant[1:] if len(row.fields) == 10):
+            self.order[id(row)] = len(self.order)
+            self.rows.setdefault(row.key, []).append(row)
+        self.spans = [self.order[id(row)] for row in self.rows.get(("span",), [])]
+
+    def corrections(self) -> list[tuple[Row, Row]]:
+        """Each correction of a record that is in force, with the row that set it before."""
+        found = []
+        for key, rows in self.rows.items():
+            if key in self.book.rows:
+                found += [(one, other) for one, other in zip(rows, rows[1:])
+                          if other.field("act") == "correct" and one.field("act") != "withdraw"]
+        return found
+
+    def are_of_one_cycle(self, one: Row, other: Row) -> bool:
+        """Tells whether no row of the span stands between two rows."""
+        return not any(self.order[id(one)] < at < self.order[id(other)] for at in self.spans)
+
+
+def figures_said(row: Row) -> str:
+    """The figure of a record with its bounds and unit."""
+    bounds = f" ({row.field('low')} to {row.field('high')})" if row.field("low") else ""
+    return f"{row.field('value')}{bounds} {row.field('unit')}".strip()
+
+
+def record_said(row: Row) -> str:
+    """The record that a row speaks of."""
+    kind = row.field("kind")
+    if kind == "bind":
+        return f"{row.field('name')} of line {row.field('subject')}"
+    if kind == "span":
+        return "the span"
+    of_year = f" of {row.field('year')}" if kind in ("activity", "factor") else ""
+    return f"{'the uncertainty of ' if kind == 'uncert' else f'{kind} '}{row.field('name')}{of_year}"
+
+
+def corrected_twice(cycle: Cycle) -> list[Fault]:
+    """Records that one cycle corrects twice, to different figures."""
+    found = []
+    for one, other in cycle.corrections():
+        both = one.field("act") == "correct" and other.field("kind") != "span"
+        if both and cycle.are_of_one_cycle(one, other) and not are_same(one, other):
+            said = f"{record_said(other)} is corrected twice: to {target(one)} at {one.place}, and here to"
+            found.append(warn(other, f"{said} {target(other)}, which holds"))
+    return found
+
+
+def target(row: Row) -> str:
+    """What a row sets."""
+    return str(row.field("low")) if row.field("kind") == "bind" else figures_said(row)
+
+
+def are_same(one: Row, other: Row) -> bool:
+    """Tells whether two rows set the same."""
+    return all(numbers(one, column) == numbers(other, column) for column in ("subject", *FIGURES))
+
+
+def numbers(row: Row, column: str) -> str | decimal.Decimal:
+    """A field, or its number where it is one."""
+    text = row.field(column)
+    return decimal.Decimal(text) if NUMBER.fullmatch(text) else text
+
+
+def corrected_to_the_same(cycle: Cycle) -> list[Fault]:
+    """Corrections that change nothing."""
+    found = []
+    for one, other in cycle.corrections():
+        if are_same(one, other):
+            said = f"this correction changes nothing: {record_said(other)} is {target(one)} already"
+            found.append(warn(other, f"{said} ({one.place})"))
+    return found
+
+
+def bounds_dropped(cycle: Cycle) -> list[Fault]:
+    """Corrections of a figure that leave out the bounds that it had."""
+    found = []
+    for one, other in cycle.corrections():
+        kept = other.field("low") or other.field("kind") not in ("activity", "factor")
+        if one.field("low") and not kept and NUMBER.fullmatch(other.field("value")):
+            said = f"{record_said(other)} had the bounds {one.field('low')} to {one.field('high')}"
+            said += f" {one.field('unit')} ({one.place}), and this correction drops them"
+            found.append(warn(other, f"{said}; low and high of the figure are then the figure itself"))
+    return found
+
+
+def base_year_changed(cycle: Cycle) -> list[Fault]:
+    """A correction of the span that changes the base year."""
+    row, rows = cycle.book.rows.get(("span",)), cycle.rows.get(("span",), [])
+    before = [other for other in rows if row and other.place != row.place]
+    if row is None or row.field("act") != "correct" or not before:
+        return []
+    if before[-1].field("low") == row.field("low") or not NUMBER.fullmatch(before[-1].field("low")):
+        return []
+    said = f"the base year changes from {before[-1].field('low')} ({before[-1].place}) to {row.field('low')}"
+    return [warn(row, f"{said}, and the table trend of each year with it")]
+
+
+def earlier_factor_holds_on(cycle: Cycle) -> list[Fault]:
+    """Withdrawals of a factor after which the one of an earlier year holds on."""
+    found = []
+    for key, row in cycle.book.withdrawn.items():
+        if key[0] != "factor" or key in cycle.book.rows or key[1] not in cycle.book.years["factor"]:
+            continue
+        years = cycle.book.years["factor"][key[1]]
+        earlier = [year for year in years if year < int(key[2])]
+        if earlier:
+            holds = years[max(earlier)]
+            later = [year for year in years if year > int(key[2])]
+            until = f" to {min(later) - 1}" if later else " on"
+            said = f"after this withdrawal the factor {key[1]} of {max(earlier)}, {figures_said(holds)}"
+            found.append(warn(row, f"{said} ({holds.place}), holds from {key[2]}{until}"))
+    return found
+
+
+def gaps_of_withdrawals(cycle: Cycle) -> list[Fault]:
+    """Withdrawals of an activity that lines take, in a year of the span."""
+    taken = cycle.book.taken()
+    found = []
+    for key, row in cycle.book.withdrawn.items():
+        bound = taken.get(key[:2])
+        if key[0] != "activity" or key in cycle.book.rows:
+            continue
+        if bound and int(key[2]) in cycle.results.years:
+            lines = listed(sorted({other.field("subject") for other in bound})[:FIGURES_SHOWN], "and")
+            said = f"after this withdrawal activity {key[1]} has no record of {key[2]}"
+            found.append(warn(row, f"{said}, and what takes it is blank there: {lines}"))
+    return found
+
+
+def year_behind_the_span(cycle: Cycle) -> list[Fault]:
+    """New years of activities, to which the span does not go."""
+    span = cycle.book.rows.get(("span",))
+    if span is None:
+        return []
+    first, last = cycle.book.span
+    rows = new_years(cycle.book)
+    if not rows:
+        return []
+    years = sorted({int(row.field("year")) for row in rows})
+    row = min(rows, key=lambda row: cycle.order.get(id(row), 0))
+    said = f"{counted(len(rows), 'activity').replace('activitys', 'activities')} of {years_said(years)}"
+    said += f" {'stands' if len(rows) == 1 else 'stand'} after the span, {first} to {last}, and no line reads"
+    said += f" {'it' if len(rows) == 1 else 'them'}"
+    return [warn(row, f"{said}; write a row correct,span,,,{first},{years[-1]},{span.field('low')},,,")]
+
+
+def new_years(book: Book) -> list[Row]:
+    """The activities of the years behind the span, that have the last year of it too and that lines take."""
+    last, taken = book.span[1], book.taken()
+    named = [years for name, years in book.years["activity"].items() if ("activity", name) in taken]
+    return [row for years in named if last in years for year, row in years.items() if year > last]
+
+
+# The rows of a new year behind the small inventory.
+NEW_YEAR = """\
+enter,activity,,COAL,2022,1010,,,kt,
+enter,activity,,COWS,2022,244000,,,head,
+enter,activity,,FERTILISER.N,2022,40900,,,t,
+enter,activity,,MANURE.N,2022,20600,,,t,
+"""
+LONGER = "correct,span,,,2019,2022,2019,,,\n"
+
+RECOGNISERS: tuple[Recogniser, ...] = (
+    Recogniser(
+        corrected_twice, "a record that one cycle corrects twice, to different figures",
+        example="correct,activity,,COAL,2020,1055,,,kt,\n\ncorrect,activity,,COAL,2020,1060,,,kt,",
+        says="activity COAL of 2020 is corrected twice: to 1055 kt at 1.csv:37, and here to 1060 kt",
+        right=f"correct,activity,,COAL,2020,1055,,,kt,\n\n{LONGER}{NEW_YEAR}"
+              "correct,activity,,COAL,2020,1060,,,kt,"),
+    Recogniser(
+        corrected_to_the_same, "corrections that change nothing",
+        example="correct,activity,,COAL,2020,1050.0,,,kt,",
+        says="this correction changes nothing: activity COAL of 2020 is 1050 kt already",
+        right="correct,activity,,COAL,2020,1050.5,,,kt,"),
+    Recogniser(
+        bounds_dropped, "corrections that leave out the bounds that a figure had",
+        example="correct,factor,,COAL.EF,2019,95100,,,kg/TJ,",
+        says="factor COAL.EF of 2019 had the bounds 89500 to 99700 kg/TJ (1.csv:13), and this correction",
+        right="correct,factor,,COAL.EF,2019,95100,90000,99900,kg/TJ,"),
+    Recogniser(
+        base_year_changed, "a correction of the span that changes the base year",
+        example=f"{LONGER.replace('2022,2019', '2022,2020')}{NEW_YEAR}",
+        says="the base year changes from 2019 (1.csv:2) to 2020", right=f"{LONGER}{NEW_YEAR}"),
+    Recogniser(
+        earlier_factor_holds_on, "the withdrawal of a factor after which an earlier one holds on",
+        example="enter,factor,,COWS.EF,2021,131,,,kg/head,\n\nwithdraw,factor,,COWS.EF,2021,,,,,",
+        says="after this withdrawal the factor COWS.EF of 2019, 126 kg/head (1.csv:20), holds from 2021 on",
+        right="enter,factor,,COWS.EF,2021,131,,,kg/head,\n\nwithdraw,factor,,COWS.EF,2021,,,,,\n"
+              "enter,factor,,COWS.EF,2021,132,,,kg/head,"),
+    Recogniser(
+        gaps_of_withdrawals, "the withdrawal of an activity that lines take",
+        example="withdraw,activity,,COAL,2020,,,,,",
+        says="after this withdrawal activity COAL has no record of 2020, and what takes it is blank there",
+        right="enter,activity,,COAL,2020,1050,,,kt,\n\nwithdraw,activity,,COAL,2020,,,,,\n"
+              "enter,activity,,COAL,2020,1049,,,kt,"),
+    Recogniser(
+        year_behind_the_span, "a new year without the span, with the row to write",
+        example=f"{NEW_YEAR}", right=f"{LONGER}{NEW_YEAR}",
+        says="4 activities of 2022 stand after the span, 2019 to 2021, and no line reads them; write a row"),
+)

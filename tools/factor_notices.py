@@ -1,0 +1,281 @@
+"""Warnings of factors, in a record or given by a line: such as no fuel, animal or process has, those that are
+off by a known ratio, and those that jump.
+"""
+import decimal
+
+from tools import vocabulary
+from tools.book import record_taken_by
+from tools.faults import Fault, warn
+from tools.figure_notices import NO_SHARES
+from tools.fuels import fuels_of
+from tools.line_notices import is_measured
+from tools.recognisers import Recogniser
+from tools.results import NUMBER, Results, figure_of, gas_of, plain
+from tools.sheets import Row
+from tools.usual import CO2_OF_FUELS, Usual, usual, usual_row
+
+Number = decimal.Decimal
+Ratio = tuple[Number, str, str]
+# What a factor is off by, and what that speaks of.
+RATIOS: tuple[Ratio, ...] = (
+    (Number(44) / 12, "44/12, CO2 for C", "is it of carbon"),
+    (Number(12) / 44, "12/44, C for CO2", "is it of CO2"),
+    (Number(44) / 28, "44/28, N2O for N2O-N", "is it of nitrogen"),
+    (Number(28) / 44, "28/44, N2O-N for N2O", "is it of N2O"),
+    (Number("3.6"), "3.6, GJ in a MWh", "is it for a MWh or a GWh"),
+    (1 / Number("3.6"), "1/3.6, MWh in a GJ", "is it of a MWh or a GWh"),
+    (1 / Number("41.868"), "1/41.868, toe in a GJ", "is it for a toe or a ktoe"),
+    (Number("41.868"), "41.868, GJ in a toe", "is it of a toe or a ktoe"),
+    (Number(10) / 9, "10/9, net for gross calorific value of gases", "is it for gross calorific value"),
+    (Number(1000), "1000", "is its unit a thousand times off"),
+    (1 / Number(1000), "1/1000", "is its unit a thousand times off"),
+    (Number(1000000), "1000000", "is its unit a million times off"),
+    (1 / Number(1000000), "1/1000000", "is its unit a million times off"),
+)
+# Those by which activities jump that are given in another unit for a year, and how near these are met.
+RATIOS_OF = {"energy": (RATIOS[4][1], RATIOS[7][1]), "carbon": (RATIOS[0][1],), "gas": (RATIOS[0][1],)}
+NEAR, LEAST_OF_THESE = Number("0.12"), 3
+WIDE = 20
+GASES_ALONE = "10/9, net for gross calorific value of gases"
+DEFAULT_APART = Number("0.006")
+# A factor that changes by more than this from one record to the next jumps.
+JUMP = Number("1.3")
+STEADY = ("net calorific value", "carbon content of fuel", "mass per head or per head and year",
+          "mass per head and day", "excretion per live mass and day")
+JUMP_OF_OTHERS = Number(5)
+
+
+def factors(results: Results) -> list[tuple[Row, str, Row]]:
+    """Each binding of a line with a factor, a rate or a line that gives one, with the line and the
+    parameter.
+    """
+    found = []
+    for line in results.lines:
+        parameters = vocabulary.parameters_of(line.field("value"))
+        for parameter, bound in results.bindings(line.field("name")).items():
+            if parameter in parameters and bound.field("value") in ("factor", "activity", "line"):
+                found.append((line, parameter, bound))
+    return found
+
+
+def unusual_factors(results: Results) -> list[Fault]:
+    """Factors that no fuel, animal or process has, with the known ratio by which they are off."""
+    found, told = [], set()
+    for line, parameter, bound in factors(results):
+        known = usual(results, line, parameter, bound)
+        if known is None or not results.is_own(bound) or is_of_another_gas(line, bound):
+            continue
+        for year in results.years:
+            figure = results.taken(bound, year)
+            if figure and not known.has(figure, known.margin):
+                row = results.record(bound, year) or bound
+                if id(row) not in told and not is_told_or_measured(results, line, parameter, figure):
+                    told.add(id(row))
+                    found.append(warn(row, said_of_unusual(results, line, bound, figure, known)))
+                break
+    return found
+
+
+def is_of_another_gas(line: Row, bound: Row) -> bool:
+    """Tells whether the name of a factor has another gas than its line gives, which is told of by itself."""
+    return vocabulary.gas_in(bound.field("low")) not in (None, gas_of(line))
+
+
+def is_told_or_measured(results: Results, line: Row, parameter: str, figure: Number) -> bool:
+    """Tells whether a figure is a ratio above one, which is told of by itself, or that of a measured
+    emission.
+    """
+    name, equation = line.field("name"), line.field("value")
+    if vocabulary.parameters_of(equation)[parameter]["measures"] != "ratio":
+        return bool(line.has_other_figure)
+    is_share = parameter not in NO_SHARES.get(equation, ())
+    return is_share and figure > 1 or bool(is_measured(results.book, name, equation))
+
+
+def said_of_unusual(results: Results, line: Row, bound: Row, figure: Number, known: Usual) -> str:
+    """A factor that is not usual, with what is, and what it is most likely."""
+    parameter = vocabulary.parameters_of(line.field("value"))[bound.field("name")]
+    unit, given = parameter["unit"].replace("1", ""), bound.field("value")
+    what = f"line {bound.field('low')} gives" if given == "line" else f"{given} {bound.field('low')} is"
+    row = results.record(bound, results.years[0])
+    is_other = row and row.field("unit") != parameter["unit"] and row.field("value") != plain(figure)
+    written = f" ({row.field('value')} {row.field('unit')})" if row and is_other else ""
+    least, greatest = plain(known.range.least), plain(known.range.greatest)
+    between = least if least == greatest else f"{least} to {greatest}"
+    said = f"{what} {plain(figure)} {unit}".rstrip() + f"{written}, and {known.of} {verb(known.of)} {between}"
+    said += f" ({known.range.source})"
+    if gas_of(line) in ("CH4", "N2O") and CO2_OF_FUELS.least <= figure <= CO2_OF_FUELS.greatest:
+        return f"{said}; is it of CO2?"
+    ratio = known_ratio(figure, known, gas_of(line))
+    if ratio:
+        return f"{said}; times {ratio[1]}, it is {plain(figure * ratio[0])}: {ratio[2]}?"
+    if gas_of(line) and fuels_of([bound.field("low")]):
+        return f"{said}; line {line.field('name')} takes it: is another factor meant, or another unit?"
+    return f"{said}; is it of something else, or in another unit?"
+
+
+def verb(of: str) -> str:
+    """The verb behind what is usual of something."""
+    return "is" if " of " in of else "has"
+
+
+def known_ratio(figure: Number, known: Usual, gas: str | None) -> Ratio | None:
+    """The known ratio that leads from a figure nearest to a default; or None, also where almost anything is
+    usual and no default is met.
+    """
+    ratios = [ratio for ratio in RATIOS if ("gas" in known.of or ratio[1] != GASES_ALONE)
+              and ("N2O" not in ratio[1] or gas == "N2O")]
+    distances = {known.distance(figure * ratio[0]): ratio for ratio in ratios
+                 if known.has(figure * ratio[0], Number("1.02"))}
+    nearest = min(distances, default=None)
+    is_wide = known.range.greatest > WIDE * known.range.least
+    return None if nearest is None or is_wide and nearest > DEFAULT_APART else distances[nearest]
+
+
+def defaults_times_a_ratio(results: Results) -> list[Fault]:
+    """Factors that are 44/28 or 44/12 of a default, of equations that have this ratio themselves."""
+    found, told = [], set()
+    for line, parameter, bound in factors(results):
+        row = usual_row(line, parameter)
+        record = results.record(bound, results.years[-1])
+        figure = figure_of(record) if record and not record.has_other_figure else None
+        if not row or not record or not figure or id(record) in told:
+            continue
+        for text in row["defaults"].split():
+            for ratio, word in own_ratios(line):
+                if abs(figure / ratio / Number(text) - 1) < DEFAULT_APART and not is_default(figure, row):
+                    told.add(id(record))
+                    said = f"factor {record.field('name')} is {record.field('value')} {record.field('unit')},"
+                    said += f" {word} of the default {text} {row['unit']} of {parameter} ({row['source']})"
+                    found.append(warn(record, f"{said}; {line.field('value')} takes it times {word} itself"))
+    return found
+
+
+def own_ratios(line: Row) -> list[tuple[Number, str]]:
+    """The ratios of molecules that the equation of a line has itself, each with how it is written."""
+    words = ((Number(44) / 12, "44/12"), (Number(44) / 28, "44/28"))
+    return [pair for pair in words if pair[1] in vocabulary.equations()[line.field("value")]["expression"]]
+
+
+def is_default(figure: Number, row: dict[str, str]) -> bool:
+    """Tells whether a figure is one of the defaults itself."""
+    return any(abs(figure / Number(text) - 1) < DEFAULT_APART for text in row["defaults"].split())
+
+
+def factors_that_jump(results: Results) -> list[Fault]:
+    """Factors that change from one record to the next by more than such a factor does."""
+    found, told = [], set()
+    for line, parameter, bound in factors(results):
+        record = record_taken_by(bound)
+        measures = vocabulary.parameters_of(line.field("value"))[parameter]["measures"]
+        if record is None or record in told or vocabulary.is_amount(measures) or not results.is_own(bound):
+            continue
+        least = jump_of(line, parameter, measures)
+        rows = [row for _, row in sorted(results.book.years[record[0]][record[1]].items())]
+        pairs = [(one, other) for one, other in zip(rows, rows[1:]) if times_of(one, other) > least]
+        if pairs and any(int(other.field("year")) <= results.years[-1] for _, other in pairs):
+            told.add(record)
+            found.append(warn(pairs[0][1], said_of_jump(record, *pairs[0])))
+    return found
+
+
+def jump_of(line: Row, parameter: str, measures: str) -> Number:
+    """How many times its figure before a factor has to be to be told of: little for what a fuel or an animal
+    has, much for what a plant or a rule changes.
+    """
+    is_co2 = measures == "emission factor of fuel" and gas_of(line) == "CO2"
+    return JUMP if measures in STEADY or is_co2 or has_default(line, parameter) else JUMP_OF_OTHERS
+
+
+def has_default(line: Row, parameter: str) -> bool:
+    """Tells whether a parameter has a default that does not come of a plant."""
+    row = usual_row(line, parameter)
+    return bool(row and row["defaults"])
+
+
+def times_of(one: Row, other: Row) -> Number:
+    """How many times one figure another is, or the inverse where that is more; zero where one is blank or
+    nothing.
+    """
+    figures = [figure_of(row) for row in (one, other) if not row.has_other_figure]
+    known = [abs(figure) for figure in figures if figure]
+    return max(known) / min(known) if len(known) == 2 else Number(0)
+
+
+def said_of_jump(record: tuple[str, str], one: Row, other: Row) -> str:
+    """A factor that jumps, with the known ratio by which it does."""
+    kind, name = record
+    figures = [f"{row.field('value')} {row.field('unit')} in {row.field('year')}" for row in (one, other)]
+    times = times_of(one, other)
+    known = [(size, word) for size, word, _ in RATIOS if abs(times / size - 1) < Number("0.01")]
+    by = f"by {known[0][1]}" if known else f"{plain(times.quantize(Number('0.01')))} times"
+    return f"{kind} {name} jumps from {figures[0]} to {figures[1]}, {by}; is one of them wrong?"
+
+
+def activities_by_a_ratio(results: Results) -> list[Fault]:
+    """Activities that move little but for one jump, which is by a known ratio of units."""
+    found = []
+    for name, years in sorted(results.book.years["activity"].items()):
+        rows = [row for year, row in sorted(years.items()) if NUMBER.fullmatch(row.field("value"))]
+        times = [times_of(one, other) for one, other in zip(rows, rows[1:])]
+        jumps = [at for at, size in enumerate(times) if fitting(rows[at], size)]
+        others = [size for at, size in enumerate(times) if at not in jumps]
+        if jumps and len(others) > 1 and 0 < min(others) and max(others) < JUMP:
+            one, other = rows[jumps[0]:jumps[0] + 2]
+            found.append(warn(other, said_of_ratio(name, one, other, fitting(one, times[jumps[0]]))))
+    return found
+
+
+def fitting(row: Row, times: Number) -> str | None:
+    """The ratio of units of what an activity measures by which it jumps, far from all growth, or None."""
+    if times < LEAST_OF_THESE:
+        return None
+    words = RATIOS_OF.get(vocabulary.measured_by(row.field("unit")), ())
+    return next((word for size, word, _ in RATIOS if word in words and abs(times / size - 1) < NEAR), None)
+
+
+def said_of_ratio(name: str, one: Row, other: Row, word: str | None) -> str:
+    """An activity that jumps by a known ratio."""
+    figures = [f"{row.field('value')} {row.field('unit')} in {row.field('year')}" for row in (one, other)]
+    return f"activity {name} is {figures[0]} and {figures[1]}, some {word} times apart; is a unit wrong?"
+
+
+# A right inventory of coal in TJ.
+COAL = """\
+enter,span,,,2018,2022,2018,,,
+enter,factor,,GWP.CO2,2018,1,,,1,
+enter,line,1A1a,COAL.CO2,,Q10,,,,
+enter,bind,COAL.CO2,FC,,activity,COAL,,,
+enter,bind,COAL.CO2,EF,,factor,COAL.EF,,,
+enter,factor,,COAL.EF,2018,94600,,,kg/TJ,
+enter,activity,,COAL,2018,25200,,,TJ,
+enter,activity,,COAL,2019,25800,,,TJ,
+enter,activity,,COAL,2020,26100,,,TJ,
+enter,activity,,COAL,2021,26500,,,TJ,
+enter,activity,,COAL,2022,25700,,,TJ,
+"""
+
+RECOGNISERS: tuple[Recogniser, ...] = (
+    Recogniser(
+        defaults_times_a_ratio, "factors that are 44/28 or 44/12 of a default, of equations that have this"
+        " ratio themselves",
+        example="enter,factor,,SOILS.EF1,2019,0.0157,,,kg/kg,",
+        says="factor SOILS.EF1 is 0.0157 kg/kg, 44/28 of the default 0.01 kg/kg of EF1",
+        right="enter,factor,,SOILS.EF1,2019,0.013,,,kg/kg,"),
+    Recogniser(
+        unusual_factors, "factors that no fuel, animal or process has, with the known ratio that leads there"
+        " (44/12, 44/28, 3.6, 41.868, 10/9, 1000)",
+        example="enter,factor,,COAL.EF,2019,25.8,,,t/TJ,",
+        says="times 44/12, CO2 for C, it is 94600: is it of carbon?",
+        right="enter,factor,,COAL.EF,2019,101,,,t/TJ,"),
+    Recogniser(
+        factors_that_jump, "factors that jump from one record to the next",
+        example="enter,factor,,COWS.EF,2021,66,,,kg/head,",
+        says="factor COWS.EF jumps from 126 kg/head in 2019 to 66 kg/head in 2021, 1.91 times",
+        right="enter,factor,,COWS.EF,2021,131,,,kg/head,"),
+    Recogniser(
+        activities_by_a_ratio, "activities that jump by a ratio of units",
+        example="enter,activity,,COAL,2021,95400,,,TJ,",
+        says="activity COAL is 26100 TJ in 2020 and 95400 TJ in 2021, some 3.6, GJ in a MWh times apart",
+        right="enter,activity,,COAL,2021,28500,,,TJ,", base=COAL),
+)

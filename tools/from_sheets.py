@@ -1,0 +1,206 @@
+"""Reads the sheets of a spreadsheet that hold rows, and writes each as a CSV file of a folder.
+
+A sheet of rows has a header with `act` and `kind` among its headings. What a cell holds is written as it
+stands, since the program judges it. What a spreadsheet makes of rows is told with its place.
+"""
+from __future__ import annotations
+
+import argparse
+import decimal
+import pathlib
+import re
+import sys
+
+from tools import spreadsheet, vocabulary
+from tools.faults import counted, shown
+from tools.sheets import COLUMNS, FolderFault, joined
+from tools.spreadsheet import DATE, ERROR, NUMBER, TRUTH, UNSAVED, Cell, Grid, letters_of
+from tools.whole_files import write_whole
+
+NO_TEXTS = {
+    DATE: "a date, which the spreadsheet made of what was typed; write a year as 2020, and a number as one",
+    TRUTH: "a truth value; write a text or a number",
+    ERROR: "an error of the spreadsheet; write the figure, or a notation key",
+    UNSAVED: "a formula whose value the file does not have; open the file in a spreadsheet, and save it",
+}
+PERCENTAGE = "shown as a percentage, so that the cell has {}, and the row needs percent; write {}"
+# So many headings of a row make it a header.
+HEADINGS = 4
+
+
+class Rows:
+    """The rows of one sheet: what is written of it, its faults, and what is told besides."""
+
+    def __init__(self, grid: Grid, header: int) -> None:
+        self.grid, self.header = grid, header
+        self.fields = [COLUMNS]
+        self.faults: list[str] = []
+        self.notes: list[str] = []
+        self.formulas: list[str] = []
+        self.rounded: list[str] = []
+        self.column_of: dict[str, int] = {}
+
+    @property
+    def body(self) -> bytes:
+        """The rows as a file."""
+        return b"".join(joined(row) + b"\n" for row in self.fields)
+
+    def read(self) -> None:
+        """Reads the header and the rows."""
+        self.read_headings()
+        self.look_at_areas()
+        for row, cells in self.grid.rows():
+            if row > self.header and not self.is_header(row, cells):
+                self.read_row(row, cells)
+        self.tell_gathered("formula", self.formulas, "the values that the file has are taken")
+        decimals = vocabulary.limit("decimals")
+        self.tell_gathered("number", self.rounded, f"more than {decimals} decimals; rounded to {decimals}")
+        if len(self.body) > int(vocabulary.limit("body").replace(",", "")):
+            what = f"{len(self.body):,} bytes of rows, and at most {vocabulary.limit('body')} are taken"
+            self.fault(self.header, 1, f"{what}; divide this sheet in two")
+
+    def fault(self, row: int, column: int, cause: str) -> None:
+        """Tells what cannot be read, with the text that stands there."""
+        text = self.grid.cell(row, column).text
+        self.faults.append(f"{self.grid.place(row, column)} {shown(text)}: {cause}")
+
+    def read_headings(self) -> None:
+        """Finds the columns by their headings, and tells what stands above and beside them."""
+        for row, cells in self.grid.rows():
+            if row < self.header:
+                self.notes.append(f"{self.grid.place(row, min(cells))}: above the header; left out")
+        for column, cell in sorted(dict(self.grid.rows())[self.header].items()):
+            heading = plain(cell)
+            if heading in self.column_of:
+                self.fault(self.header, column, "a second column with this heading; take one of them out")
+            elif heading in COLUMNS:
+                self.column_of[heading] = column
+            else:
+                due = f"none of the headings {', '.join(COLUMNS)}"
+                place = self.grid.place(self.header, column)
+                self.notes.append(f"{place} {shown(cell.text)}: {due}; left out")
+
+    def look_at_areas(self) -> None:
+        """Tells merged cells, and hidden rows and columns that have cells."""
+        for area in self.grid.merged:
+            if area.bottom > self.header:
+                last = f"{letters_of(area.right)}{area.bottom}"
+                self.fault(area.top, area.left, f"merged up to {last}; part the cells, and fill in each")
+        hidden = sorted({row for row, _ in self.grid.cells} & self.grid.hidden_rows)
+        hidden_columns = sorted(set(self.column_of.values()) & self.grid.hidden_columns)
+        for what in [*map(str, hidden), *map(letters_of, hidden_columns)]:
+            place = f"{self.grid.shown_name}!{what}:{what}"
+            self.notes.append(f"{place}: hidden, and read; delete it if it is not meant")
+
+    def is_header(self, row: int, cells: dict[int, Cell]) -> bool:
+        """Tells whether a row is a header once more, which is a fault."""
+        if sum(plain(cell) in COLUMNS for cell in cells.values()) < HEADINGS:
+            return False
+        self.fault(row, min(cells), "a second header; take this row out")
+        return True
+
+    def read_row(self, row: int, cells: dict[int, Cell]) -> None:
+        """Reads a row, if it has a cell in a column of the header."""
+        fields = [self.text(row, name, cells) for name in COLUMNS]
+        if any(fields):
+            self.fields.append(fields)
+
+    def text(self, row: int, name: str, cells: dict[int, Cell]) -> str:
+        """What stands in a column of a row, as it is written."""
+        column = self.column_of.get(name, 0)
+        cell = cells.get(column, spreadsheet.EMPTY)
+        if cell.kind in NO_TEXTS and name != "note":
+            self.fault(row, column, NO_TEXTS[cell.kind])
+        if cell.is_percentage and self.is_in_percent(cells):
+            percent = f"{decimal.Decimal(cell.text) * 100:f}"
+            self.fault(row, column, PERCENTAGE.format(cell.text, percent.rstrip("0").rstrip(".")))
+        if cell.is_formula:
+            self.formulas.append(self.grid.place(row, column))
+        return self.in_decimals(row, column, cell) if cell.kind == NUMBER else cell.text
+
+    def is_in_percent(self, cells: dict[int, Cell]) -> bool:
+        """Tells whether the figures of a row are percentages as the program takes them."""
+        unit, kind = (cells.get(self.column_of.get(name, 0), spreadsheet.EMPTY) for name in ("unit", "kind"))
+        return unit.text == "pct" or kind.text == "uncert"
+
+    def in_decimals(self, row: int, column: int, cell: Cell) -> str:
+        """A number in as many decimals as the program takes."""
+        most = int(vocabulary.limit("decimals"))
+        if len(cell.text.partition(".")[2]) <= most:
+            return cell.text
+        self.rounded.append(self.grid.place(row, column))
+        number = f"{round(decimal.Decimal(cell.text), most):f}".rstrip("0").rstrip(".")
+        return "0" if number == "-0" else number
+
+    def tell_gathered(self, what: str, places: list[str], so: str) -> None:
+        """Tells cells of one kind by the first of them."""
+        if places:
+            self.notes.append(f"{places[0]}: {counted(len(places), what)} from here on; {so}")
+
+
+def plain(cell: Cell) -> str:
+    """A heading without case and blanks at its ends."""
+    return cell.text.strip().casefold()
+
+
+def header_of(grid: Grid) -> int | None:
+    """The row of a sheet that is the header of rows, or None."""
+    rows = ((row, set(map(plain, cells.values()))) for row, cells in grid.rows())
+    return next((row for row, headings in rows if {"act", "kind"} <= headings), None)
+
+
+def read_all(grids: list[Grid]) -> tuple[list[Rows], list[str]]:
+    """The sheets that hold rows, and what is told of the others."""
+    found, notes = [], []
+    for grid in grids:
+        header = header_of(grid)
+        if grid.is_hidden and grid.cells:
+            notes.append(f"{grid.shown_name}: this sheet is hidden, and is not read; show it if it is meant")
+        elif header is not None:
+            found.append(Rows(grid, header))
+            found[-1].read()
+        elif grid.cells:
+            notes.append(f"{grid.shown_name}: no header with act and kind; this sheet is left out")
+    return found, notes
+
+
+def named(sheets: list[Rows]) -> dict[str, Rows]:
+    """The sheets by the names of their files, which keep their order."""
+    found = {}
+    for number, sheet in enumerate(sheets, 1):
+        name = re.sub(r"^\d+[-. ]*", "", sheet.grid.name.casefold())
+        name = re.sub(r"[^\w]+", "-", name).strip("-") or "rows"
+        found[f"{number}-{name}.csv"] = sheet
+    return found
+
+
+def check_folder(folder: pathlib.Path, names: set[str]) -> None:
+    """Refuses a folder that has other files than those that are written."""
+    if folder.exists() and not folder.is_dir():
+        raise FolderFault(f"{folder} is no folder")
+    there = sorted(path.name for path in folder.iterdir()) if folder.exists() else []
+    other = next((name for name in there if name not in names), None)
+    if other is not None:
+        raise FolderFault(f"{folder} has another file, {other}; name a folder that is new or empty")
+
+
+def run(arguments: argparse.Namespace) -> int:
+    """Writes the sheets of rows as the files of a folder, all or none, and answers the status."""
+    path, folder = pathlib.Path(arguments.sheets), pathlib.Path(arguments.output)
+    sheets, notes = read_all(spreadsheet.read(path))
+    if not sheets:
+        raise FolderFault(f"{path} has no sheet with a header of rows: {','.join(COLUMNS)}")
+    for note in [*notes, *(note for sheet in sheets for note in sheet.notes)]:
+        print(note, file=sys.stderr)
+    faults = [fault for sheet in sheets for fault in sheet.faults]
+    if faults:
+        print("\n".join(faults))
+        print(f"{counted(len(sheets), 'sheet')}: {counted(len(faults), 'fault')}; nothing is written")
+        return 1
+    files = named(sheets)
+    check_folder(folder, set(files))
+    folder.mkdir(parents=True, exist_ok=True)
+    for name, sheet in files.items():
+        write_whole(folder / name, sheet.body)
+        print(f"{folder / name}: {counted(len(sheet.fields) - 1, 'row')}")
+    return 0

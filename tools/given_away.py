@@ -1,0 +1,37 @@
+"""What the results of all years and the files of a year's cycle give away, once all files are checked."""
+import typing
+
+from tools import counting_notices, cycle_notices, factor_notices, potential_notices, result_notices
+from tools.cycle_notices import Cycle
+from tools.faults import Fault, in_order
+from tools.notices import all_warnings
+from tools.results import Results
+
+# What is told of records, and of results, which are an inventory's own where no file has a fault.
+OF_RECORDS = (factor_notices, potential_notices)
+OF_RESULTS = (counting_notices, result_notices)
+
+
+def warnings_of(program: typing.Any, checked: typing.Any) -> list[Fault]:
+    """Every warning of a check, in the order of the rows."""
+    found: list[Fault] = all_warnings(checked.book, checked.refused, checked.sheets, checked.left)
+    found += all_given_away(program, checked)
+    return in_order(found, checked.sheets)
+
+
+def all_given_away(program: typing.Any, checked: typing.Any) -> list[Fault]:
+    """Every warning of these, for the files that a check accepted in a session of the program."""
+    results = Results(program, checked.book, checked.refused)
+    if not results.years:
+        return []
+    cycle = Cycle([sheet for sheet in checked.sheets if sheet not in checked.left], results)
+    modules = OF_RECORDS if checked.faults else OF_RECORDS + OF_RESULTS
+    found = [each.function(cycle) for each in cycle_notices.RECOGNISERS]
+    found += [each.function(results) for module in modules for each in module.RECOGNISERS]
+    return once_a_row([warning for warnings in found for warning in warnings])
+
+
+def once_a_row(warnings: list[Fault]) -> list[Fault]:
+    """Of the warnings of each row the first, which comes of a recogniser that says more."""
+    by_row = {id(warning.row): warning for warning in reversed(warnings)}
+    return [warning for warning in warnings if by_row[id(warning.row)] is warning]

@@ -1,0 +1,216 @@
+"""Begins a workbook: the years, the potentials, the lines of chosen categories at tier 1 with their bindings,
+and an empty row for each figure that they need.
+
+The lines stand in tier-1.csv. There TERM is what a category is a sum over, as a fuel or a species, and
+CATEGORY the code in capitals. A line without TERM in its name is one for all terms; a sum in it is over the
+lines of all of them.
+"""
+from __future__ import annotations
+
+import argparse
+import csv
+import dataclasses
+import functools
+import os
+import pathlib
+import re
+import sys
+import tempfile
+
+from tools import vocabulary
+from tools.faults import counted
+from tools.sheets import COLUMNS, FolderFault, joined
+
+TIER_1 = vocabulary.PATH.parent / "tier-1.csv"
+DEFAULTS = vocabulary.PATH.parent.parent / "defaults"
+POTENTIALS = "potentials-fifth-assessment-report.csv"
+NAME = re.compile(r"[A-Z][A-Z0-9._-]*")
+LINE_END = b"\n"
+FILES = ["1-years-and-potentials.csv", "2-factors.csv", "3-activities.csv", "4-lines.csv"]
+
+
+@dataclasses.dataclass(frozen=True)
+class Figure:
+    """A record that a line needs: its kind and name, its unit, and what it is."""
+    kind: str
+    name: str
+    unit: str
+    what: str
+
+
+@functools.cache
+def tier_1() -> dict[str, list[dict[str, str]]]:
+    """The rows of the table by the leaf categories that they are of."""
+    found: dict[str, list[dict[str, str]]] = {}
+    with open(TIER_1, encoding="utf-8", newline="") as file:
+        for row in csv.DictReader(file):
+            for code in row["categories"].split():
+                for leaf in vocabulary.leaves_under(code):
+                    found.setdefault(leaf, []).append(row)
+    return found
+
+
+@functools.cache
+def default_files() -> dict[str, str]:
+    """The file of defaults/ that has a factor, by its name."""
+    return {row["name"]: path.name for path in sorted(DEFAULTS.glob("volume-*.csv"))
+            for row in csv.DictReader(path.read_text(encoding="utf-8").splitlines())}
+
+
+def chosen(words: list[str]) -> dict[str, list[str]]:
+    """The leaf categories of words as 1A1a:LIGNITE,PEAT or 3, each with its terms. Those without a line of
+    tier 1 are told.
+    """
+    found: dict[str, list[str]] = {}
+    for word in words:
+        text, _, terms = word.partition(":")
+        code = vocabulary.same_code(text)
+        if code is None:
+            raise FolderFault(f"there is no category {text}; ./workbook words categories lists them")
+        for leaf in vocabulary.leaves_under(code):
+            if leaf in tier_1():
+                found.setdefault(leaf, []).extend(terms_of(leaf, terms, code == leaf))
+            else:
+                name = vocabulary.categories()[leaf]["name"]
+                print(f"{leaf} {name}: no equation of tier 1 is known, and no line is made", file=sys.stderr)
+    return {leaf: list(dict.fromkeys(terms)) for leaf, terms in found.items()}
+
+
+def terms_of(leaf: str, words: str, is_alone: bool) -> list[str]:
+    """The terms that words name, or the one of the table; nothing if a category is no sum over terms."""
+    known = [row for row in tier_1()[leaf] if row["form"] == "term"]
+    terms = words.upper().split(",") if words else []
+    wrong = next((term for term in terms if not NAME.fullmatch(term)), None)
+    if wrong is not None:
+        raise FolderFault(f'"{wrong}" is no name: a letter, then letters, digits, ".", "_" and "-"')
+    if not known and terms and is_alone:
+        raise FolderFault(f"{leaf} has one set of lines; write it without a colon")
+    return (terms or [row["target"] for row in known]) if known else []
+
+
+def rows_of(leaf: str, terms: list[str]) -> list[dict[str, str]]:
+    """The bindings of the lines of a category: those of each term, then those that all terms share."""
+    rows = [row for row in tier_1()[leaf] if row["form"] != "term"]
+    of_terms = [row for row in rows if "TERM" in row["line"]]
+    found = [with_names(row, leaf, term, [term]) for term in terms for row in of_terms]
+    return found + [with_names(row, leaf, "", terms) for row in rows if row not in of_terms]
+
+
+def with_names(row: dict[str, str], leaf: str, term: str, summed: list[str]) -> dict[str, str]:
+    """A binding with the names of its category and term, and a sum over terms."""
+    targets = [placed(row["target"], leaf, other) for other in summed or [term]]
+    target = " ".join(dict.fromkeys(targets))
+    return {**row, "line": placed(row["line"], leaf, term), "target": target, "category": leaf}
+
+
+def placed(text: str, leaf: str, term: str) -> str:
+    """A name of the table with the category and the term in it."""
+    return text.replace("CATEGORY", leaf.upper()).replace("TERM", term)
+
+
+def figure_of(row: dict[str, str]) -> Figure | None:
+    """The record that a binding takes, or None if it takes a line."""
+    if row["form"] not in ("activity", "factor", "decay"):
+        return None
+    parameter = vocabulary.parameters_of(row["equation"])[row["parameter"]]
+    kind = "activity" if row["form"] == "activity" else "factor"
+    return Figure(kind, row["target"], parameter["unit"] or vocabulary.HALF_LIFE_UNIT, row["what"])
+
+
+def lines_with_bindings(rows: list[dict[str, str]]) -> list[list[str]]:
+    """The rows of the lines, each with its bindings after it."""
+    made, entered = [], set()
+    for row in rows:
+        if row["line"] not in entered:
+            made.append(["enter", "line", row["category"], row["line"], "", row["equation"], "", "", "", ""])
+            entered.add(row["line"])
+        bound = ["enter", "bind", row["line"], row["parameter"], "", row["form"], row["target"], "", "", ""]
+        made.append(bound)
+    return made
+
+
+def figures(rows: list[dict[str, str]]) -> list[Figure]:
+    """The records that the lines take, each once."""
+    found: dict[tuple[str, str], Figure] = {}
+    for figure in filter(None, map(figure_of, rows)):
+        found.setdefault((figure.kind, figure.name), figure)
+    return list(found.values())
+
+
+def empty_row(figure: Figure, year: int) -> list[str]:
+    """The row of a figure, without the figure. Its note says what it is, and where a default stands."""
+    default = default_files().get(figure.name) if figure.kind == "factor" else None
+    note = f"{figure.what}; a default: defaults/{default}" if default else figure.what
+    return ["enter", figure.kind, "", figure.name, str(year), "", "", "", figure.unit, note]
+
+
+def check_names(rows: list[dict[str, str]], needed: list[Figure]) -> None:
+    """Refuses names that are too long, and those that two lines or two figures would have."""
+    bound = [(row["line"], row["parameter"]) for row in rows]
+    units = {(figure.kind, figure.name): figure.unit for figure in needed}
+    double = [line for line, parameter in bound if bound.count((line, parameter)) > 1]
+    double += [figure.name for figure in filter(None, map(figure_of, rows))
+               if units[figure.kind, figure.name] != figure.unit]
+    if double:
+        raise FolderFault(f"the name {double[0]} would mean two things; write other names after the colon")
+    most = int(vocabulary.limit("name"))
+    names = [row["line"] for row in rows] + [figure.name for figure in needed]
+    long = max(names, key=len)
+    if len(long) > most:
+        raise FolderFault(f"the name {long} would have {len(long)} letters, and at most {most} are taken; "
+                          "write a shorter one after the colon")
+
+
+def years_of(first: int, last: int) -> range:
+    """The years of the span, if the program takes it."""
+    earliest, latest = int(vocabulary.limit("first_year")), int(vocabulary.limit("last_year"))
+    longest = int(vocabulary.limit("span"))
+    if not earliest <= first <= last <= latest or last - first > longest:
+        raise FolderFault(f"{first} to {last} is no span of years; it lies in {earliest} to {latest}, "
+                          f"and ends at most {longest} years after its first year")
+    return range(first, last + 1)
+
+
+def made_files(years: range, rows: list[dict[str, str]]) -> dict[str, bytes]:
+    """The files of the folder by their names."""
+    needed = figures(rows)
+    check_names(rows, needed)
+    first = years[0]
+    span = ["enter", "span", "", "", str(first), str(years[-1]), str(first), "", "", "years of the inventory"]
+    with open(DEFAULTS / POTENTIALS, encoding="utf-8", newline="") as file:
+        potentials = list(csv.reader(file))[1:]
+    factors = [empty_row(figure, first) for figure in needed if figure.kind == "factor"]
+    activities = [empty_row(figure, year) for figure in needed if figure.kind == "activity" for year in years]
+    parts = [[span, *potentials], factors, activities, lines_with_bindings(rows)]
+    files = zip(FILES, parts)
+    return {name: b"".join(joined(row) + LINE_END for row in [COLUMNS, *part]) for name, part in files}
+
+
+def write_folder(folder: pathlib.Path, files: dict[str, bytes]) -> None:
+    """Writes the files of a folder that is not there yet, or is empty, all of them or none."""
+    if folder.exists() and (not folder.is_dir() or any(folder.iterdir())):
+        raise FolderFault(f"{folder} is there already; name a folder that is new or empty")
+    folder.parent.mkdir(parents=True, exist_ok=True)
+    with tempfile.TemporaryDirectory(dir=folder.parent) as room:
+        made = pathlib.Path(room) / "folder"
+        made.mkdir()
+        for name, data in files.items():
+            (made / name).write_bytes(data)
+        os.rename(made, folder)
+
+
+def run(arguments: argparse.Namespace) -> int:
+    """Writes the folder, says what it holds, and answers the status."""
+    years = years_of(arguments.first, arguments.last)
+    leaves = chosen(arguments.categories)
+    rows = [row for leaf in vocabulary.leaves() if leaf in leaves for row in rows_of(leaf, leaves[leaf])]
+    if not rows:
+        raise FolderFault("no line is made, and no folder")
+    files = made_files(years, rows)
+    folder = pathlib.Path(arguments.folder)
+    write_folder(folder, files)
+    for name, data in files.items():
+        print(f"{folder / name}: {counted(data.count(LINE_END) - 1, 'row')}")
+    what = f"Fill in the column value of {FILES[1]} and {FILES[2]}"
+    print(f"{what}; ./workbook check {folder} tells what is missing")
+    return 0

@@ -1,0 +1,96 @@
+"""The form of a recogniser of `check`: the function with its words on the page, an example that it tells of,
+and a right inventory that looks alike and that it must not tell of.
+
+Each module of recognisers has a table of them, and tools/recognised.py gathers these tables. `check` calls
+the functions out of the tables, docs/WORKBOOK.md has the words, and the tests try each example.
+"""
+import collections.abc
+import dataclasses
+import typing
+
+HEADER = "act,kind,subject,name,year,value,low,high,unit,note"
+# How a row of an example begins that takes a row of the inventory out.
+OUT = "-"
+# The fields that tell which row of the inventory a row of an example stands in place of.
+FIELDS_ALIKE = 5
+
+# A right inventory, of which no warning is due: coal in power plants, dairy cows and managed soils.
+SMALL = """\
+enter,span,,,2019,2021,2019,,,
+enter,factor,,GWP.CO2,2019,1,,,1,
+enter,factor,,GWP.CH4,2019,28,,,1,
+enter,factor,,GWP.N2O,2019,265,,,1,
+enter,line,1A1a,COAL.TJ,,Q13,,,,
+enter,bind,COAL.TJ,FM,,activity,COAL,,,
+enter,bind,COAL.TJ,NCV,,factor,COAL.NCV,,,
+enter,line,1A1a,COAL.CO2,,Q10,,,,
+enter,bind,COAL.CO2,FC,,line,COAL.TJ,,,
+enter,bind,COAL.CO2,EF,,factor,COAL.EF,,,
+enter,factor,,COAL.NCV,2019,25.8,,,TJ/Gg,
+enter,factor,,COAL.EF,2019,94600,89500,99700,kg/TJ,
+enter,activity,,COAL,2019,1000,,,kt,
+enter,activity,,COAL,2020,1050,,,kt,
+enter,activity,,COAL,2021,1020,,,kt,
+enter,line,3A1,COWS.CH4,,Q55,,,,
+enter,bind,COWS.CH4,N,,activity,COWS,,,
+enter,bind,COWS.CH4,EF,,factor,COWS.EF,,,
+enter,factor,,COWS.EF,2019,126,,,kg/head,
+enter,activity,,COWS,2019,250000,,,head,
+enter,activity,,COWS,2020,248000,,,head,
+enter,activity,,COWS,2021,245000,,,head,
+enter,line,3C4,SOILS.N2O,,Q69,,,,
+enter,bind,SOILS.N2O,FSN,,activity,FERTILISER.N,,,
+enter,bind,SOILS.N2O,FON,,activity,MANURE.N,,,
+enter,bind,SOILS.N2O,FCR,,key,NO,,,
+enter,bind,SOILS.N2O,FSOM,,key,NO,,,
+enter,bind,SOILS.N2O,EF1,,factor,SOILS.EF1,,,
+enter,factor,,SOILS.EF1,2019,0.01,0.003,0.03,kg/kg,
+enter,activity,,FERTILISER.N,2019,41000,,,t,
+enter,activity,,FERTILISER.N,2020,42000,,,t,
+enter,activity,,FERTILISER.N,2021,40500,,,t,
+enter,activity,,MANURE.N,2019,21000,,,t,
+enter,activity,,MANURE.N,2020,20800,,,t,
+enter,activity,,MANURE.N,2021,20700,,,t,
+"""
+
+
+@dataclasses.dataclass(frozen=True)
+class Recogniser:
+    """A function of `check`, and what the page and the tests have of it.
+
+    `told` are the words of the page. The rows of an example change the inventory `base`: each stands in place
+    of the row with the same first five fields, else after all; one that begins with OUT takes out the rows
+    that begin like the rest of it; and an empty line begins the next file. `says` is a part of the line that
+    `check` prints of the example. The rows of `right` make an inventory of which nothing is told.
+    """
+    function: collections.abc.Callable[..., typing.Any]
+    told: str
+    example: str
+    says: str
+    right: str
+    base: str = SMALL
+
+    @property
+    def name(self) -> str:
+        """The name of the function as words."""
+        return self.function.__name__.replace("_", " ")
+
+
+def files_of(base: str, example: str) -> list[str]:
+    """The files of an inventory, changed by the rows of an example."""
+    first, *further = example.strip("\n").split("\n\n")
+    rows = base.splitlines()
+    for row in first.splitlines():
+        if row.startswith(OUT):
+            rows = [other for other in rows if not other.startswith(row.removeprefix(OUT))]
+        else:
+            rows = with_row(rows, row)
+    return ["\n".join([HEADER, *body, ""]) for body in (rows, *map(str.splitlines, further))]
+
+
+def with_row(rows: list[str], row: str) -> list[str]:
+    """Rows with one in place of that with the same first fields, else after them."""
+    alike = row.split(",")[:FIELDS_ALIKE]
+    if not any(other.split(",")[:FIELDS_ALIKE] == alike for other in rows):
+        return [*rows, row]
+    return [row if other.split(",")[:FIELDS_ALIKE] == alike else other for other in rows]

@@ -1,0 +1,462 @@
+"""Warnings of what the tables of all years give away: values that cannot be, gaps, jumps, and years that are
+alike.
+"""
+import collections
+import decimal
+import functools
+import re
+import typing
+
+from tools import vocabulary
+from tools.book import lines_taken_by, record_taken_by
+from tools.fuels import KINDS, fuels_of
+from tools.faults import Fault, counted, warn, years_said
+from tools.recognisers import Recogniser
+from tools.results import NUMBER, ZERO, Figure, Results, figure_of, gas_of, plain
+from tools.sheets import Row
+from tools.vocabulary import listed
+
+# The equations whose result has either sign: the apparent consumption of secondary fuels, of which a country
+# may export more than it imports, what is computed of it, and changes of carbon stocks.
+EITHER_SIGN = {"Q21", "Q23", "Q25", "Q26", "Q83", "Q84", "Q86"}
+# So many figures alike are no chance.
+FIGURES_ALIKE = 3
+YEARS_SHOWN = 3
+MOST_PERCENT = 20
+# A record changes much where it does by more than this, and by so many times its change in the middle of the
+# years. The least change keeps a record that never moves comparable.
+HUNDREDFOLD = 100
+MOST_CHANGE, EXCEPTIONAL, LEAST_CHANGE = decimal.Decimal("0.1"), 3, decimal.Decimal("0.02")
+
+
+class Change(typing.NamedTuple):
+    """A change of a line to a year, in Gg of CO2 equivalent and in percent."""
+    size: decimal.Decimal
+    year: int
+    percent: decimal.Decimal
+    line: str
+
+
+def below_zero(results: Results) -> list[Fault]:
+    """Lines below zero that cannot be: those of which no line that they take is below zero too."""
+    found = []
+    for row in results.lines:
+        name = row.field("name")
+        years = negative_years(results, row)
+        taken = [other for other in results.below(name) if other != name and other in results.book.lines]
+        if not years or any(negative_years(results, results.book.lines[other]) for other in taken):
+            continue
+        if not takes_negative_activity(results, name, years[0]):
+            found.append(warn(row, said_of_negative(results, row, years)))
+    return found
+
+
+def negative_years(results: Results, row: Row) -> list[int]:
+    """The years in which a line is below zero, where it cannot be."""
+    if row.field("value") in EITHER_SIGN:
+        return []
+    return [year for year, value in results.series(row.field("name")).items() if value < 0]
+
+
+def takes_negative_activity(results: Results, line: str, year: int) -> bool:
+    """Tells whether a line takes an activity below zero, which is told of by itself."""
+    records = (results.record(bound, year) for bound in results.bindings(line).values())
+    return any(record and record.field("kind") == "activity" and record.field("value").startswith("-")
+               for record in records)
+
+
+def said_of_negative(results: Results, row: Row, years: list[int]) -> str:
+    """What is below zero, and the greatest of what is taken off in the first of these years."""
+    name, equation = row.field("name"), vocabulary.equations()[row.field("value")]
+    value = plain(results.cells[name, years[0]] or ZERO)
+    what = f"Gg {gas_of(row)}" if gas_of(row) else equation["output"]["unit"]
+    more = f", and in {counted(len(years) - 1, 'more year')}" if len(years) > 1 else ""
+    cause = f"line {name} is below zero: {value} {what} in {years[0]}{more}"
+    bindings = results.bindings(name)
+    for parameter in re.findall(r"(?<!1 )- ([A-Z][A-Z0-9]*)", equation["expression"]):
+        taken = results.taken(bindings[parameter], years[0]) if parameter in bindings else None
+        if taken:
+            cause += f"; {parameter}, which is taken off, is {plain(taken)} ({bindings[parameter].place})"
+    return cause
+
+
+def blank_between(results: Results) -> list[Fault]:
+    """Records that are NE between years with figures, with the lines that are blank there."""
+    lines: dict[tuple[str, str], set[str]] = {}
+    for row in results.lines:
+        name = row.field("name")
+        known = results.series(name)
+        blank = [year for year in results.years if known and min(known) < year < max(known)
+                 and year not in known]
+        for bound in results.bindings(name).values():
+            record = record_taken_by(bound)
+            if record and any(is_not_estimated(results.record(bound, year)) for year in blank):
+                lines.setdefault(record, set()).add(name)
+    return [warn(*said_of_blank(results, kind, name, sorted(blank)))
+            for (kind, name), blank in sorted(lines.items())]
+
+
+def is_not_estimated(record: Row | None) -> bool:
+    """Tells whether a record is NE."""
+    return record is not None and record.field("value") == "NE"
+
+
+def said_of_blank(results: Results, kind: str, name: str, lines: list[str]) -> tuple[Row, str]:
+    """The first row of a record that is NE between figures, and what is said of it."""
+    years = [year for year in results.years
+             if is_not_estimated(results.book.in_force(kind, name, year))]
+    row = results.book.in_force(kind, name, years[0])
+    blank = f"{'line' if len(lines) == 1 else 'lines'} {listed(lines[:YEARS_SHOWN], 'and')}"
+    more = f" and {len(lines) - YEARS_SHOWN} more" if len(lines) > YEARS_SHOWN else ""
+    said = f"{kind} {name} is NE in {years_said(years)}, between years with figures; {blank}{more}"
+    return row, f"{said} {'is' if len(lines) == 1 else 'are'} blank there, and totals count zero"
+
+
+def approaches_apart(results: Results) -> list[Fault]:
+    """Years in which the reference approach is more than 5 percent from the sectoral one, or from the lines
+    of the one kind of fuels that it has.
+    """
+    of_co2 = [row for row in results.emitting if gas_of(row) == "CO2"]
+    rows = [row for row in of_co2 if row.field("subject") == "RA"]
+    burnt = [row for row in of_co2 if row.field("subject").startswith("1A")]
+    kinds = {kind for row in rows for kind in kinds_of_fuels(results, row)}
+    alike = [row for row in burnt if kinds & kinds_of_fuels(results, row)]
+    own = alike if len(kinds) == 1 else burnt
+    apart = {}
+    for year in results.years:
+        one, other = sum_of(results, rows, year), sum_of(results, own, year)
+        if one and other and abs(one - other) * 20 > abs(other):
+            apart[year] = (100 * (one - other) / abs(other), one, other)
+    if not apart:
+        return []
+    worst = max(apart, key=lambda year: abs(apart[year][0]))
+    percent, one, other = apart[worst]
+    what = "the sectoral approach" if own == burnt else f"what lines of {min(kinds)} give under 1A"
+    said = f"the reference approach is {one} Gg CO2 and {what} {other} in {worst}, {percent:+.2f} %"
+    others = [year for year in apart if year != worst]
+    more = f"; above 5 % in {years_said(others)} too" if others else ""
+    return [warn(rows[0], f"{said}{more}; {fuels_of_one(results, rows, own)}")]
+
+
+def sum_of(results: Results, rows: list[Row], year: int) -> Figure:
+    """The sum of what lines give in a year as it is printed, without the blank ones in the sectoral approach,
+    or None where a line of the reference approach is blank.
+    """
+    values = [results.cells[row.field("name"), year] for row in rows]
+    is_reference = any(row.field("subject") == "RA" for row in rows)
+    return None if is_reference and None in values else sum((value for value in values if value), ZERO)
+
+
+def fuels_of_one(results: Results, rows: list[Row], burnt: list[Row]) -> str:
+    """The kinds of fuels, by names, that one approach alone has; or what to ask for."""
+    kinds = [{kind for row in lines for kind in kinds_of_fuels(results, row)} for lines in (rows, burnt)]
+    alone = [f"lines of {listed(sorted(own - other), 'and')} stand {where} alone" for own, other, where in
+             ((kinds[0], kinds[1], "at RA"), (kinds[1], kinds[0], "under 1A")) if own - other]
+    return "; ".join(alone) or "is a change of stocks, a bunker or a use as feedstock in one of them alone?"
+
+
+def kinds_of_fuels(results: Results, row: Row) -> set[str]:
+    """The kinds of fuels that the names of a line and of what it takes are of, each by its first fuel."""
+    name = row.field("name")
+    names = [name, *(bound.field("low") for bound in results.bound_below(name))]
+    fuels = {fuel for name in names for fuel in fuels_of([name])[:1]}
+    return {kind for kind, words in KINDS.items() if fuels & set(words)}
+
+
+def large_changes(results: Results) -> list[Fault]:
+    """Changes of lines above 20 percent from one year to the next, the largest first, gathered at the
+    activity that makes them.
+    """
+    found: dict[int, list[Change]] = {}
+    records: dict[int, Row] = {}
+    for year in results.years[1:]:
+        before, now = results.equivalents(year - 1), results.equivalents(year)
+        for line, value in before.items():
+            change = change_of(line, year, value, now[line])
+            record = cause_of_change(results, line, year) if change else None
+            if change and record:
+                records[id(record)] = record
+                found.setdefault(id(record), []).append(change)
+    gathered = [(at, sorted(changes, key=lambda change: -abs(change.size))) for at, changes in found.items()]
+    gathered.sort(key=lambda pair: -abs(pair[1][0].size))
+    return [warn(records[at], said_of_changes(results, records[at], changes)) for at, changes in gathered]
+
+
+def change_of(line: str, year: int, before: Figure, now: Figure) -> Change | None:
+    """The change of a line to a year, where it is above 20 percent of a year before that is not zero."""
+    if not before or now is None or abs(now - before) * 100 <= MOST_PERCENT * abs(before):
+        return None
+    return Change(now - before, year, 100 * (now - before) / abs(before), line)
+
+
+def said_of_changes(results: Results, row: Row, changes: list[Change]) -> str:
+    """Changes by one activity, of which the largest is said in full."""
+    size, year, percent, line = changes[0]
+    before = results.book.in_force(row.field("kind"), row.field("name"), year - 1)
+    others = listed([change.line for change in changes[1:4]], "and")
+    more = f" and {len(changes) - 4} more" if len(changes) > 4 else ""
+    also = f", and so {'does' if len(changes) == 2 else 'do'} {others}{more}" if others else ""
+    said = f"line {line} changes by {percent:+.1f} % in {year}, {size:+} Gg CO2 equivalent{also}: activity"
+    said += f" {row.field('name')} is {row.field('value')} {row.field('unit')}"
+    return f"{said}, and was {before.field('value')} {before.field('unit')} in {year - 1}"
+
+
+def cause_of_change(results: Results, line: str, year: int) -> Row | None:
+    """The activity that changes most beyond its usual change between two years among those of a line; or
+    None.
+    """
+    below = results.bound_below(line)
+    if year == results.years[1] and any(bound.field("value") == "prev" for bound in below):
+        return None
+    names = [bound.field("low") for bound in below if bound.field("value") == "activity"]
+    changes = [(exceptional(results, name, year), name) for name in names]
+    most, name = max(changes, default=(ZERO, ""))
+    record: Row | None = results.book.in_force("activity", name, year)
+    return record if most and not is_return(results, name, year) else None
+
+
+def is_return(results: Results, name: str, year: int) -> bool:
+    """Tells whether an activity comes back to what it was two years before, which is told of already."""
+    if year - 2 not in results.years or not exceptional(results, name, year - 1):
+        return False
+    one, other = (results.book.in_force("activity", name, at) for at in (year - 2, year))
+    return apart(one, other) < 2 * MOST_CHANGE
+
+
+def exceptional(results: Results, name: str, year: int) -> decimal.Decimal:
+    """How many times the usual change of an activity its change to a year is, or zero where that is usual."""
+    changes = changes_of(results, name)
+    others = sorted(change for other, change in changes.items() if other != year)
+    middle, change = others[len(others) // 2] if others else ZERO, changes[year]
+    return change / (middle + LEAST_CHANGE) if change > max(MOST_CHANGE, EXCEPTIONAL * middle) else ZERO
+
+
+@functools.cache
+def changes_of(results: Results, name: str) -> dict[int, decimal.Decimal]:
+    """How much of the greater of two years' figures an activity changes by to each year of the span. What
+    begins or ends, with a notation key before or after, does not change.
+    """
+    rows = results.book.years["activity"].get(name, {})
+    known = [year for year, row in rows.items() if NUMBER.fullmatch(row.field("value"))]
+    first, last = min(known, default=0), max(known, default=0)
+    inner = [year for year in results.years[1:] if first < year <= last and {year - 1, year} <= rows.keys()]
+    return {year: apart(rows[year - 1], rows[year]) if year in inner else ZERO for year in results.years[1:]}
+
+
+def apart(one: Row, other: Row) -> decimal.Decimal:
+    """How much of the greater of two figures they are apart, but for a hundred times, which is told of by
+    itself.
+    """
+    figures = [abs(figure) for figure in (figure_of(one), figure_of(other)) if figure is not None]
+    if len(figures) < 2 or not any(figures) or max(figures) >= HUNDREDFOLD * min(figures) > 0:
+        return ZERO
+    return (max(figures) - min(figures)) / max(figures)
+
+
+def whole_stock_at_first(results: Results) -> list[Fault]:
+    """Changes of a stock that are the whole stock in the first year of the span, since nothing is known of
+    the year before.
+    """
+    found = []
+    for row in results.lines:
+        name, first = row.field("name"), results.cells[row.field("name"), results.years[0]]
+        bound = prev_of_own_stock(results, row) if row.field("value") in ("Q83", "Q86") else None
+        if bound and first:
+            found.append(warn(bound, said_of_stock(name, lines_taken_by(bound), first, results.years[0])))
+    return found
+
+
+def prev_of_own_stock(results: Results, row: Row) -> Row | None:
+    """The binding that takes the stock of the year before, where a line takes the stock of this year and that
+    one, by itself or through a line that is zero in the first year; or None.
+    """
+    bindings = results.bindings(row.field("name")).values()
+    own = [lines_taken_by(bound) for bound in bindings if bound.field("value") in ("line", "sum")]
+    through = [name for names in own for name in names if results.cells.get((name, results.years[0])) == 0]
+    for bound in [*bindings, *(other for name in through for other in results.bindings(name).values())]:
+        if bound.field("value") == "prev" and lines_taken_by(bound) in own:
+            return bound
+    return None
+
+
+def said_of_stock(line: str, stock: list[str], first: decimal.Decimal, year: int) -> str:
+    """What is said of a change that is a whole stock."""
+    said = f"line {line} counts the whole stock of {listed(stock, 'and')} in the first year of the span,"
+    said += f" {plain(first)} GgC in {year}, since prev is zero there; let the span begin a year earlier, or"
+    return f"{said} take off the stock of the year before (docs/WORKBOOK.md)"
+
+
+def years_alike(results: Results) -> list[Fault]:
+    """Years in which all activities of a file, that move in other years, have the figures of the year
+    before.
+    """
+    pairs: dict[tuple[int, int], list[tuple[Row, Row]]] = {}
+    for years in results.book.years["activity"].values():
+        own = {year: row for year, row in years.items() if year in results.years}
+        counts = collections.Counter(row.field("value") for row in own.values())
+        for year, row in own.items():
+            others = len(counts) - (counts[row.field("value")] == 1)
+            if year - 1 in own and others > 1:
+                pairs.setdefault((id(row.sheet), year), []).append((own[year - 1], row))
+    found = []
+    for (_, year), both in pairs.items():
+        if len(both) >= FIGURES_ALIKE and all(are_alike(*pair) for pair in both):
+            row = min((row for _, row in both), key=lambda row: int(row.line))
+            said = f"all {len(both)} activities of this file that change in other years have in {year}"
+            found.append(warn(row, f"{said} the figures of {year - 1}; was that year copied?"))
+    return found
+
+
+def are_alike(one: Row, other: Row) -> bool:
+    """Tells whether two records have the same figure that is none of nothing."""
+    figure = figure_of(one)
+    return figure is not None and figure != 0 and figure == figure_of(other)
+
+
+def untaken_lines(results: Results) -> list[Fault]:
+    """Lines that give carbon, energy, nitrogen or anything else for others, and that no line takes."""
+    taken = results.book.lines_taken()
+    found = []
+    for row in results.lines:
+        name = row.field("name")
+        if gas_of(row) or name in taken:
+            continue
+        output = vocabulary.equations()[row.field("value")]["output"]
+        said = f"line {name} gives {output['measures']} ({output['unit']}), and no line takes it"
+        found.append(warn(row, f"{said}; it is in no total"))
+    return found
+
+
+def base_year_without_values(results: Results) -> list[Fault]:
+    """A base year in which no line has a value, where other years have."""
+    row = results.book.rows[("span",)]
+    known = {year for line in results.emitting for year in results.series(line.field("name"))}
+    if not known or int(row.field("low")) in known:
+        return []
+    said = f"no line has a value in the base year, {row.field('low')}; the years with values are"
+    return [warn(row, f"{said} {years_said(known)}")]
+
+
+# A right inventory of a stock of carbon in mineral soils, whose stock before the span is taken off.
+STOCKS = """\
+enter,span,,,2019,2021,2019,,,
+enter,factor,,GWP.CO2,2019,1,,,1,
+enter,line,3B3,STOCK,,Q85,,,,
+enter,bind,STOCK,SREF,,factor,REFERENCE,,,
+enter,bind,STOCK,FLU,,factor,ONE,,,
+enter,bind,STOCK,FMG,,factor,ONE,,,
+enter,bind,STOCK,FI,,factor,ONE,,,
+enter,bind,STOCK,A,,activity,GRASS,,,
+enter,line,3B3,BEFORE,,Q83,,,,
+enter,bind,BEFORE,G,,prev,STOCK,,,
+enter,bind,BEFORE,L,,activity,FIRST,,,
+enter,line,3B3,CHANGE,,Q83,,,,
+enter,bind,CHANGE,G,,line,STOCK,,,
+enter,bind,CHANGE,L,,line,BEFORE,,,
+enter,line,3B3,GRASS.CO2,,Q84,,,,
+enter,bind,GRASS.CO2,C,,line,CHANGE,,,
+enter,factor,,REFERENCE,2019,95,,,t/ha,
+enter,factor,,ONE,2019,1,,,1,
+enter,activity,,GRASS,2019,100,,,kha,
+enter,activity,,GRASS,2020,101,,,kha,
+enter,activity,,GRASS,2021,101.5,,,kha,
+enter,activity,,FIRST,2019,-9405,,,GgC,
+enter,activity,,FIRST,2020,0,,,GgC,
+enter,activity,,FIRST,2021,0,,,GgC,
+"""
+# The rows of the reference approach beside the small inventory, with a third more coal, and with as much.
+APPROACH = """\
+enter,line,RA,COAL.USE,,Q20,,,,
+enter,bind,COAL.USE,PR,,activity,COAL.MINED,,,
+enter,bind,COAL.USE,IM,,key,NO,,,
+enter,bind,COAL.USE,EX,,key,NO,,,
+enter,bind,COAL.USE,IB,,key,NO,,,
+enter,bind,COAL.USE,SC,,key,NO,,,
+enter,line,RA,COAL.RA,,Q25,,,,
+enter,bind,COAL.RA,AC,,line,COAL.USE,,,
+enter,bind,COAL.RA,CONV,,factor,COAL.NCV,,,
+enter,bind,COAL.RA,CC,,factor,COAL.C,,,
+enter,bind,COAL.RA,XC,,key,NO,,,
+enter,bind,COAL.RA,COF,,factor,ALL,,,
+enter,factor,,COAL.C,2019,25.8,,,tC/TJ,
+enter,factor,,ALL,2019,1,,,1,
+enter,activity,,COAL.MINED,2019,{},,,kt,
+enter,activity,,COAL.MINED,2020,{},,,kt,
+enter,activity,,COAL.MINED,2021,{},,,kt,
+"""
+WETLANDS = """\
+enter,line,3B4,PEAT.LOSS,,Q87,,,,
+enter,bind,PEAT.LOSS,A,,activity,PEAT.AREA,,,
+enter,bind,PEAT.LOSS,EF,,factor,PEAT.EF,,,
+enter,factor,,PEAT.EF,2019,5,,,t/ha,
+enter,activity,,PEAT.AREA,2019,10,,,kha,
+enter,activity,,PEAT.AREA,2020,11,,,kha,
+enter,activity,,PEAT.AREA,2021,12,,,kha,
+"""
+TAKEN = """\
+enter,line,3B4,PEAT.CHANGE,,Q83,,,,
+enter,bind,PEAT.CHANGE,G,,key,NO,,,
+enter,bind,PEAT.CHANGE,L,,line,PEAT.LOSS,,,
+enter,line,3B4,PEAT.CO2,,Q84,,,,
+enter,bind,PEAT.CO2,C,,line,PEAT.CHANGE,,,
+"""
+IMPORTS = """\
+enter,line,2A1,CEMENT.CO2,,Q31,,,,
+enter,bind,CEMENT.CO2,CL,,activity,CLINKER,,,
+enter,bind,CEMENT.CO2,IM,,activity,IMPORTS,,,
+enter,bind,CEMENT.CO2,EX,,key,NO,,,
+enter,bind,CEMENT.CO2,EF,,factor,CLINKER.EF,,,
+enter,factor,,CLINKER.EF,2019,0.52,,,t/t,
+enter,activity,,CLINKER,2019,1000,,,kt,
+enter,activity,,CLINKER,2020,1010,,,kt,
+enter,activity,,CLINKER,2021,1020,,,kt,
+enter,activity,,IMPORTS,2019,{},,,kt,
+enter,activity,,IMPORTS,2020,{},,,kt,
+enter,activity,,IMPORTS,2021,{},,,kt,
+"""
+
+RECOGNISERS: tuple[Recogniser, ...] = (
+    Recogniser(
+        below_zero, "emissions and stocks below zero that cannot be, with what is taken off",
+        example=IMPORTS.format(900, 1900, 950), right=IMPORTS.format(100, 110, 105),
+        says="line CEMENT.CO2 is below zero: -462.8 Gg CO2 in 2020; IM, which is taken off, is 1900000"),
+    Recogniser(
+        blank_between, "records that are `NE` between years with figures",
+        example="enter,activity,,COWS,2020,NE,,,head,",
+        says="activity COWS is NE in 2020, between years with figures; line COWS.CH4 is blank there",
+        right="enter,activity,,COWS,2019,NE,,,head,"),
+    Recogniser(
+        approaches_apart, "a reference approach more than 5 percent from the sectoral one, or from the lines"
+        " of its one kind of fuels",
+        example=APPROACH.format(1300, 1365, 1326), right=APPROACH.format(1000, 1050, 1020),
+        says="the reference approach is 3172.884 Gg CO2 and the sectoral approach 2440.680 in 2019, +30"),
+    Recogniser(
+        whole_stock_at_first, "changes of a stock that are the whole stock in the first year",
+        example="enter,bind,CHANGE,L,,prev,STOCK,,,\n-enter,bind,BEFORE\n-enter,line,3B3,BEFORE\n"
+                "-enter,activity,,FIRST",
+        says="line CHANGE counts the whole stock of STOCK in the first year of the span, 9500 GgC in 2019",
+        right="enter,activity,,FIRST,2019,-9400,,,GgC,", base=STOCKS),
+    Recogniser(
+        years_alike, "a year whose figures are all those of the year before",
+        example="enter,activity,,COAL,2021,1050,,,kt,\nenter,activity,,COWS,2021,248000,,,head,\n"
+                "enter,activity,,FERTILISER.N,2021,42000,,,t,\nenter,activity,,MANURE.N,2021,20800,,,t,",
+        says="all 4 activities of this file that change in other years have in 2021 the figures of 2020",
+        right="enter,activity,,COAL,2021,1050,,,kt,\nenter,activity,,COWS,2021,248000,,,head,"),
+    Recogniser(
+        untaken_lines, "lines that give carbon, energy or nitrogen, and that no line takes",
+        example=WETLANDS, right=WETLANDS + TAKEN,
+        says="line PEAT.LOSS gives carbon (GgC), and no line takes it; it is in no total"),
+    Recogniser(
+        base_year_without_values, "a base year without values",
+        example="-enter,span\nenter,span,,,2017,2021,2017,,,\n-enter,factor,,GWP\n"
+                "enter,factor,,GWP.CO2,2017,1,,,1,\nenter,factor,,GWP.CH4,2017,28,,,1,\n"
+                "enter,factor,,GWP.N2O,2017,265,,,1,",
+        says="no line has a value in the base year, 2017; the years with values are 2019 to 2021",
+        right="-enter,span\nenter,span,,,2019,2021,2020,,,"),
+    Recogniser(
+        large_changes, "changes of a line above 20 percent, where its activity usually changes less, the"
+        " largest first",
+        example="enter,activity,,COWS,2021,145000,,,head,",
+        says="line COWS.CH4 changes by -41.5 % in 2021, -363.384 Gg CO2 equivalent: activity COWS is 145000",
+        right="enter,activity,,COWS,2021,205000,,,head,"),
+)

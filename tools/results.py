@@ -1,0 +1,139 @@
+"""The results of all years, as the program prints them, beside the records that they come of."""
+import decimal
+import functools
+import re
+import typing
+
+from tools import vocabulary
+from tools.book import Book, lines_taken_by, record_taken_by
+from tools.sheets import Row
+
+# A figure in the base unit of what it measures, or None where it is blank.
+Figure = decimal.Decimal | None
+NUMBER = re.compile(r"-?\d+(\.\d+)?")
+ZERO = decimal.Decimal(0)
+
+
+class Results:
+    """The table `cells` of each year of the span, further tables as they are asked for, and what each
+    parameter takes.
+    """
+
+    def __init__(self, program: typing.Any, book: Book, refused: typing.Any) -> None:
+        self.book, self.refused, self._program = book, refused, program
+        self.years = range(book.span[0], book.span[1] + 1) if book.span else range(0)
+        self.cells: dict[tuple[str, int], Figure] = {}
+        for year in self.years:
+            for fields in self.table("cells", year):
+                self.cells[fields[0], year] = printed(fields[5])
+
+    @functools.cache
+    def table(self, name: str, year: int) -> list[list[str]]:
+        """The fields of each row of a table, or none where the program has no such table."""
+        return [line.split(",") for line in (self._program.show(name, year) or [])[1:]]
+
+    @functools.cache
+    def equivalents(self, year: int) -> dict[str, Figure]:
+        """What each line emits in a year in Gg of CO2 equivalent."""
+        return {fields[0]: printed(fields[3]) for fields in self.table("uncertainty", year)}
+
+    @functools.cached_property
+    def lines(self) -> list[Row]:
+        """The lines that have results, by their files and the rows in them."""
+        first = min(self.years, default=0)
+        there = (row for name, row in self.book.lines.items() if (name, first) in self.cells)
+        return sorted(there, key=lambda row: (row.sheet.name, row.line))
+
+    @functools.cached_property
+    def emitting(self) -> list[Row]:
+        """The lines that emit a gas."""
+        return [row for row in self.lines if gas_of(row)]
+
+    def series(self, line: str) -> dict[int, decimal.Decimal]:
+        """The values of a line by year, without the blank ones."""
+        found = ((year, self.cells[line, year]) for year in self.years)
+        return {year: value for year, value in found if value is not None}
+
+    def bindings(self, line: str) -> dict[str, Row]:
+        """The bindings of a line by parameter."""
+        bound: dict[str, Row] = self.book.bindings.get(line, {})
+        return bound
+
+    def taken(self, bound: Row, year: int) -> Figure:
+        """What a parameter takes in a year."""
+        form = bound.field("value")
+        if form == "key":
+            return None if bound.field("low") == "NE" else ZERO
+        if form == "prev" and year == self.years[0]:
+            return ZERO
+        if form in ("line", "prev", "sum"):
+            at = year - 1 if form == "prev" else year
+            return total(self.cells.get((line, at)) for line in lines_taken_by(bound))
+        record = self.record(bound, year)
+        return figure_of(record) if record else None
+
+    def record(self, bound: Row, year: int) -> Row | None:
+        """The record that a binding takes in a year, or None where it takes no figure or there is none."""
+        if bound.field("value") not in ("activity", "factor"):
+            return None
+        found: Row | None = self.book.in_force(bound.field("value"), bound.field("low"), year)
+        return found
+
+    @functools.cache
+    def below(self, line: str) -> list[str]:
+        """A line and the lines that it takes, directly or through others."""
+        found: list[str] = []
+        waiting = [line]
+        while waiting:
+            at = waiting.pop()
+            if at not in found:
+                found.append(at)
+                waiting += [taken for bound in self.bindings(at).values() for taken in lines_taken_by(bound)]
+        return found
+
+    def bound_below(self, line: str) -> list[Row]:
+        """The bindings of a line and of those that it takes."""
+        return [bound for other in self.below(line) for bound in self.bindings(other).values()]
+
+    def is_own(self, bound: Row) -> bool:
+        """Tells whether a binding and the records that it takes are all the writer's."""
+        kind, name = record_taken_by(bound) or (None, "")
+        if bound.has_other_figure or kind and self.refused.that_enters(kind, name):
+            return False
+        rows = self.book.years[kind].get(name, {}).values() if kind else ()
+        return not any(row.has_other_figure for row in rows)
+
+
+def printed(text: str) -> Figure:
+    """A printed value, or None where it is blank or not defined."""
+    return None if text in ("NE", "-") else decimal.Decimal(text)
+
+
+def total(figures: typing.Iterable[Figure]) -> Figure:
+    """The sum of figures, or None where one of them is blank."""
+    known = list(figures)
+    return None if None in known else sum((figure for figure in known if figure), ZERO)
+
+
+@functools.cache
+def figure_of(record: Row) -> Figure:
+    """The figure of a record in the base unit: zero for the keys NO, NA and IE, and None for NE."""
+    text = record.field("value")
+    if not NUMBER.fullmatch(text):
+        return None if text == "NE" else ZERO
+    unit = vocabulary.units()[record.field("unit")]
+    over, under = decimal.Decimal(unit["over"]), decimal.Decimal(unit["under"])
+    return decimal.Decimal(text) * over / under
+
+
+def gas_of(line: Row) -> str | None:
+    """The gas that a line emits, or None."""
+    gas: str | None = vocabulary.gas_of(line.field("value"))
+    return gas
+
+
+def plain(figure: decimal.Decimal) -> str:
+    """A figure in digits without an exponent, in six that count."""
+    rounded = +figure.quantize(decimal.Decimal(1)) if abs(figure) >= 100000 else figure
+    text = f"{decimal.Context(prec=6).create_decimal(rounded):f}" if abs(figure) < 100000 else f"{rounded:f}"
+    return text.rstrip("0").rstrip(".") if "." in text else text

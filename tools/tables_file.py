@@ -1,0 +1,78 @@
+"""Writes the tables of years as a file of a spreadsheet, with a sheet for each table."""
+from __future__ import annotations
+
+import pathlib
+import re
+import sys
+import typing
+
+from tools import vocabulary
+from tools.faults import counted
+from tools.xlsx import Spreadsheet
+
+# The table that has a row for each year itself.
+OF_ALL_YEARS = "series"
+# Columns of codes, with the heading of what is written beside them.
+NAMES = {"category": "category name", "equation": "equation name"}
+TEXTS = {"code", "category", "equation", "gas", "unit", "item", "flag", "key"}
+NUMBER = re.compile(r"-?\d+(?:\.\d+)?")
+WIDTHS = {"code": 26, "category name": 40, "equation name": 40}
+
+
+def name_of(column: str, code: str) -> str:
+    """The name of a category or an equation, or nothing if a code is none."""
+    known = vocabulary.categories() if column == "category" else vocabulary.equations()
+    key = "name" if column == "category" else "computes"
+    return str(known[code][key]) if code in known else ""
+
+
+def headings_of(table: str, header: list[str]) -> list[str]:
+    """The headings of a sheet: the year, and the columns with names beside codes."""
+    found = [] if table == OF_ALL_YEARS else ["year"]
+    for column in header:
+        found += [column, NAMES[column]] if column in NAMES else [column]
+    return found
+
+
+def fields_of(table: str, year: int, header: list[str], line: str) -> list[str]:
+    """The fields of a row of a sheet, as texts."""
+    found = [] if table == OF_ALL_YEARS else [str(year)]
+    for column, field in zip(header, line.split(",")):
+        found += [field, name_of(column, field)] if column in NAMES else [field]
+    return found
+
+
+def cells_of(book: Spreadsheet, sheet: typing.Any, headings: list[str],
+             fields: list[str]) -> list[typing.Any]:
+    """The cells of a row: figures as numbers, in the decimals that were printed."""
+    return [book.number(sheet, field) if heading not in TEXTS and NUMBER.fullmatch(field) else field
+            for heading, field in zip(headings, fields)]
+
+
+def add_table(book: Spreadsheet, table: str, shown: dict[int, list[str]]) -> int:
+    """Adds the sheet of a table with the rows of its years, and answers how many these are."""
+    years = [max(shown)] if table == OF_ALL_YEARS else sorted(shown)
+    header = shown[years[0]][0].split(",")
+    headings = headings_of(table, header)
+    sheet = book.add(table, headings, {at: WIDTHS.get(heading, 14) for at, heading in enumerate(headings, 1)})
+    lines = [(year, line) for year in years for line in shown[year][1:]]
+    for year, line in lines:
+        sheet.append(cells_of(book, sheet, headings, fields_of(table, year, header, line)))
+    return len(lines)
+
+
+def is_meant(output: str | None) -> bool:
+    """Tells whether tables are to be written as a file of a spreadsheet."""
+    return output is not None and output.lower().endswith(".xlsx")
+
+
+def write(path: pathlib.Path, shown: dict[tuple[str, int], list[str]]) -> None:
+    """Writes the tables of years as a file, and says how many rows each has."""
+    book = Spreadsheet(path)
+    by_table: dict[str, dict[int, list[str]]] = {}
+    for (table, year), lines in shown.items():
+        by_table.setdefault(table, {})[year] = lines
+    counts = {table: add_table(book, table, years) for table, years in by_table.items()}
+    book.save()
+    for table, count in counts.items():
+        print(f"{path}, {table}: {counted(count, 'row')}", file=sys.stderr)

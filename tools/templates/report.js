@@ -1,0 +1,22 @@
+"use strict";
+function openAbove(id) {
+  let at = document.getElementById(decodeURIComponent(id));
+  while (at) {
+    if (at.tagName === "DETAILS") at.open = true;
+    at = at.parentElement;
+  }
+}
+function openTarget() {
+  if (location.hash.length > 1) {
+    openAbove(location.hash.slice(1));
+    const target = document.getElementById(decodeURIComponent(location.hash.slice(1)));
+    if (target) target.scrollIntoView();
+  }
+}
+for (const button of document.querySelectorAll("button[data-open]")) {
+  button.addEventListener("click", () => {
+    for (const one of document.querySelectorAll("details")) one.open = button.dataset.open === "true";
+  });
+}
+window.addEventListener("hashchange", openTarget);
+openTarget();

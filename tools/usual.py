@@ -1,0 +1,132 @@
+"""What is usual of the factor that a parameter takes: by the fuel or the animal that names speak of, out of
+`defaults/`, else by the equation, out of usual-values.csv.
+"""
+import csv
+import functools
+import pathlib
+import re
+import typing
+
+from tools import vocabulary
+from tools.fuels import Number, Range, fuels_of, rows_of, together, usual_of
+from tools.results import Results, gas_of
+from tools.sheets import Row
+
+USUAL = pathlib.Path(__file__).resolve().parent / "usual-values.csv"
+# The CO2 of fuels in kg/TJ, from coke oven gas to blast furnace gas, and the carbon in CO2.
+CO2_OF_FUELS = Range(Number(37000), Number(300000), (), "Volume 2, Table 1.4")
+ENERGY_OF_FUELS = Range(Number(1), Number(150), (), "Volume 2, Table 1.2, and hydrogen")
+CARBON_IN_CO2 = Number(12) / Number(44)
+# The tables of CH4 and N2O of fuels burnt, and those of enteric fermentation.
+OTHER_GASES = ("volume-2-table-2.2", "volume-2-table-2.3", "volume-2-table-2.4", "volume-2-table-2.5",
+               "volume-2-table-3.2.2")
+ENTERIC = ("volume-4-table-10.10", "volume-4-table-10.11")
+ANIMALS = ("DAIRY", "CATTLE", "BUFFALO", "SHEEP", "GOATS", "CAMELS", "HORSES", "MULES", "DEER", "ALPACAS",
+           "SWINE")
+# What people call them.
+CALLED = {"COW": "DAIRY", "BEEF": "CATTLE", "BULL": "CATTLE", "HEIFER": "CATTLE", "CALVE": "CATTLE",
+          "EWE": "SHEEP", "LAMB": "SHEEP", "PIG": "SWINE", "SOW": "SWINE", "ASSES": "MULES",
+          "DONKEY": "MULES"}
+# How far a factor may be from what is usual: of the carbon and the energy of a known fuel little, of others
+# twice.
+OF_FUELS, MARGIN = Number("1.05"), Number(2)
+
+
+@functools.cache
+def usual_values() -> dict[tuple[str, str], dict[str, str]]:
+    """The rows of usual-values.csv, by equation and parameter."""
+    with open(USUAL, encoding="utf-8", newline="") as file:
+        return {(row["equation"], row["parameter"]): row for row in csv.DictReader(file)}
+
+
+def usual_row(line: Row, parameter: str) -> dict[str, str] | None:
+    """The row of usual values of a parameter of a line, or None."""
+    row = usual_values().get((line.field("value"), parameter))
+    return row if row and line.field("subject").startswith(row["category"]) else None
+
+
+class Usual(typing.NamedTuple):
+    """What is usual of a factor, what it is of, and how far off it has to be to be told of."""
+    range: Range
+    of: str
+    margin: Number
+
+    def has(self, figure: Number, margin: Number) -> bool:
+        """Tells whether a figure is usual within a margin."""
+        return self.range.least / margin <= figure <= self.range.greatest * margin
+
+    def distance(self, figure: Number) -> Number:
+        """How far a figure is from the nearest default, else from the middle of what is usual."""
+        known = self.range.defaults or ((self.range.least + self.range.greatest) / 2,)
+        return min(abs(figure / each - 1) for each in known)
+
+
+def usual(results: Results, line: Row, parameter: str, bound: Row) -> Usual | None:
+    """What is usual of what a parameter of a line takes, or None where nothing is known."""
+    measures = vocabulary.parameters_of(line.field("value"))[parameter]["measures"]
+    row = usual_row(line, parameter)
+    if row:
+        return Usual(range_of(row), f"{parameter} of {line.field('value')}", MARGIN)
+    said = names(results, line, bound)
+    if measures == "net calorific value":
+        return of_fuels("volume-2-table-1.2", "NCV", said, ENERGY_OF_FUELS)
+    if measures == "carbon content of fuel":
+        of_co2 = of_fuels("volume-2-table-1.4", "CO2", said, CO2_OF_FUELS)
+        return Usual(of_carbon(of_co2.range), of_co2.of, OF_FUELS)
+    if measures == "emission factor of fuel" and gas_of(line) == "CO2":
+        return of_fuels("volume-2-table-1.4", "CO2", said, CO2_OF_FUELS)
+    if measures == "emission factor of fuel":
+        gas = gas_of(line) or ""
+        return Usual(of_other_gas(gas), f"{gas} of fuels", MARGIN)
+    if line.field("value") == "Q55" and parameter == "EF" and line.field("subject") == "3A1":
+        return of_animals(said)
+    return None
+
+
+def range_of(row: dict[str, str]) -> Range:
+    """What a row of usual values has."""
+    defaults = tuple(map(Number, row["defaults"].split()))
+    return Range(Number(row["least"] or 0), Number(row["greatest"]), defaults, row["source"])
+
+
+def of_carbon(co2: Range) -> Range:
+    """The carbon content of fuels in tC/TJ, out of their CO2 in kg/TJ."""
+    times = CARBON_IN_CO2 / 1000
+    defaults = tuple(each * times for each in co2.defaults)
+    return Range(co2.least * times, co2.greatest * times, defaults, co2.source)
+
+
+def names(results: Results, line: Row, bound: Row) -> list[list[str]]:
+    """The names that tell what a factor is of, the best first: those of the activities that its line takes,
+    that of the line, and its own.
+    """
+    bindings = results.bound_below(line.field("name"))
+    taken = [other.field("low") for other in bindings if other.field("value") == "activity"]
+    return [taken, [line.field("name")], [bound.field("low")]]
+
+
+def of_fuels(table: str, what: str, said: list[list[str]], any_fuel: Range) -> Usual:
+    """What a table of `defaults/` has of the fuels that names speak of, else what any fuel has."""
+    fuels = next(filter(None, map(fuels_of, said)), ())
+    found = usual_of(table, [f"{what}.{fuel}" for fuel in fuels])
+    if found is None:
+        return Usual(any_fuel, "fuels", Number(1))
+    return Usual(found, " or ".join(fuel.replace(".", " ").lower() for fuel in fuels[:3]), OF_FUELS)
+
+
+@functools.cache
+def of_other_gas(gas: str) -> Range:
+    """What is usual of CH4 or N2O of fuels burnt, of all fuels in all their uses."""
+    found = [each for table in OTHER_GASES for name, each in rows_of(table).items() if name.startswith(gas)]
+    return together(found)._replace(source="Volume 2, Tables 2.2 to 2.5 and 3.2.2")
+
+
+def of_animals(said: list[list[str]]) -> Usual | None:
+    """The emission factor of enteric fermentation of the animals that names speak of, or None."""
+    parts = {part for name in sum(said, []) for part in re.split("[._-]", name)}
+    called = {CALLED.get(part.removesuffix("S"), part) for part in parts}
+    animals = [animal for animal in ANIMALS if {animal, animal.removesuffix("S")} & called]
+    tables = [usual_of(table, [name for name in rows_of(table) if name.split(".")[1] in animals])
+              for table in ENTERIC]
+    known = [each for each in tables if each]
+    return Usual(together(known), " and ".join(animals).lower(), MARGIN) if known else None

@@ -1,0 +1,28 @@
+"""Files that appear whole or not at all: each is written beside its place, and then takes its name."""
+from __future__ import annotations
+
+import os
+import pathlib
+import tempfile
+
+
+def write_whole(path: pathlib.Path, data: bytes) -> None:
+    """Writes a file, in the place of one that is there. Where that fails, what was there stays."""
+    handle, beside = tempfile.mkstemp(prefix=f".{path.name}.", dir=path.parent)
+    try:
+        with os.fdopen(handle, "wb") as file:
+            file.write(data)
+        os.chmod(beside, mode_of(path))
+        os.replace(beside, path)
+    except BaseException:
+        os.unlink(beside)
+        raise
+
+
+def mode_of(path: pathlib.Path) -> int:
+    """The permissions of a file; of one that is not there yet, those of a new one."""
+    if path.exists():
+        return path.stat().st_mode & 0o777
+    mask = os.umask(0)
+    os.umask(mask)
+    return 0o666 & ~mask
