@@ -15,7 +15,7 @@ use Rattle.ghg_office.specs.declared.reply.Reply.{Reply}
 use Rattle.ghg_office.specs.declared.reply.Reply.TheVariants as answered
 use Rattle.ghg_tables.specs.declared.table.Table.{Table}
 use Rattle.ghg_tables.specs.Names.{table_in}
-use Rattle.ghg_http.specs.Receive.{EndsEarly, Stopped, TakesRequest}
+use Rattle.ghg_http.specs.Receive.{EndsEarly, IsPrompt, Stopped, TakesRequest}
 use Rattle.ghg_http.specs.Reply.{HttpReply, reply_bytes}
 use Rattle.ghg_http.specs.Serve.{AnswersRequest, BreaksOff, Exchange, Exchanges, IsUnanswered, Sends, ServesLink, TellsFaults, evaluations_for, shown, snapshot}
 use Rattle.ghg_http.specs.declared.reply.Message.{Message}
@@ -100,7 +100,7 @@ module _ (s : State) (a b : Tape) (n : ℕ) where
     spent = omega arith;
   }
 
-  pub link_failed : Stopped EndsEarly a b stopped.Failed → ServesLink (snapshot s a n) (snapshot s b n) None LinkFault
+  pub link_failed : Stopped EndsEarly IsPrompt a b stopped.Failed → ServesLink (snapshot s a n) (snapshot s b n) None LinkFault
   link_failed h = record {
     exchange = quiet h.text;
     from = refl;
@@ -111,13 +111,13 @@ module _ (s : State) (a b : Tape) (n : ℕ) where
     spent = omega arith;
   }
 
-  pub ran_out : Stopped EndsEarly a b stopped.Memory → ServesLink (snapshot s a n) (snapshot s b n) None Memory
+  pub ran_out : Stopped EndsEarly IsPrompt a b stopped.Memory → ServesLink (snapshot s a n) (snapshot s b n) None Memory
   ran_out h = record {
     exchange = quiet h.text;
     from = refl;
     to = refl;
     link = read_only h.text h.read;
-    passes = quietly h.text;
+    passes = record { prompt = h.taken; unanswered = quietly h.text };
     cause = tt;
     spent = omega arith;
   }

@@ -36,13 +36,14 @@ pub record ReadsLast (old new : List ℕ) (size : ℕ) : Type 0 where
 abbrev pub IsFilled : List ℕ → List ℕ → ℕ → Type 0
 IsFilled old new size = (new ≡ old) ⊎ ReadsLast old new size
 
--- Some text was read. Then the link failed, where its count rose and the text is of this kind, or memory ran
--- out.
-pub record Stopped (Kind : List ℕ → Type 0) (before after : Tape) (error : ReceiveError) : Type 0 where
+-- Some text was read, of which `Taken` holds. Then the link failed, and its count rose and `Kind` holds of the
+-- text too; or memory ran out.
+pub record Stopped (Kind Taken : List ℕ → Type 0) (before after : Tape) (error : ReceiveError) : Type 0 where
   pub text : List ℕ
   pub read : Consumes before after text
   pub cause : error ≡ Failed → Rose before after
   pub kind : error ≡ Failed → Kind text
+  pub taken : Taken text
 
 -- What was read completes this body, of which the rest had come before. Some bytes may have come behind it,
 -- but then nothing more was read.

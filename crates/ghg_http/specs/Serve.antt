@@ -103,6 +103,11 @@ pub record IsCutOff (x : Exchange) : Type 0 where
   pub early : EndsEarly x.taken
   pub unanswered : IsUnanswered x
 
+-- Memory ran out before a request was answered. Nothing was taken once a whole request had come.
+pub record RunsOut (x : Exchange) : Type 0 where
+  pub prompt : IsPrompt x.taken
+  pub unanswered : IsUnanswered x
+
 -- what passes over a link that ends so, where this reply was due, or none was
 abbrev pub Passes : Exchange → Option HttpReply → LinkEnd → Type 0
 Passes x (Some due) (Served code) = IsReplied x due code
@@ -112,7 +117,7 @@ Passes x (Some due) Memory = BreaksOff x due
 Passes x None (Served code) = ⊥
 Passes x None Cut = IsCutOff x
 Passes x None LinkFault = IsCutOff x
-Passes x None Memory = IsUnanswered x
+Passes x None Memory = RunsOut x
 
 -- The bytes that were taken were read from the link, and then those that were written were appended to it.
 pub record Exchanges (before after : Tape) (x : Exchange) : Type 0 where

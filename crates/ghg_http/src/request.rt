@@ -68,7 +68,7 @@ pub fn receive_request<T: Source>(
 ) -> Result<Option<Request>, ReceiveError>
     requires { router.now ≡ routes }
     ensures request { IfOk result (TakesRequest (T.tape link.old) (T.tape link.new)) }
-    ensures stopped { IfErr result (Stopped EndsEarly (T.tape link.old) (T.tape link.new)) }
+    ensures stopped { IfErr result (Stopped EndsEarly IsPrompt (T.tape link.old) (T.tape link.new)) }
 {
     let mut buffer = Vec::new(alloc);
     'head: loop {
@@ -101,7 +101,7 @@ fn receive_rest<T: Source>(
     requires prompt { IsPrompt bytes.now }
     ensures request { IfOk result (FollowsHead (T.tape link.old) (T.tape link.new) bytes.now) }
     ensures stopped { IfErr result (Stopped (λ text. EndsEarly (bytes.now ++ text))
-        (T.tape link.old) (T.tape link.new)) }
+        (λ text. IsPrompt (bytes.now ++ text)) (T.tape link.old) (T.tape link.new)) }
 {
     match decision {
         Decision::Refuse(reason) => Ok(Some(Request::Refused(reason))),
@@ -143,7 +143,7 @@ fn receive_body<T: Source>(
         (CompletesBody (T.tape link.old) (T.tape link.new) rest.now)) }
     ensures size { IfOk result (λ body. IfSome body (λ bytes. length bytes ≡ size)) }
     ensures stopped { IfErr result (Stopped (λ text. length (rest.now ++ text) < size)
-        (T.tape link.old) (T.tape link.new)) }
+        (λ text. IsFilled rest.now (rest.now ++ text) size) (T.tape link.old) (T.tape link.new)) }
 {
     let mut body = Vec::from_slice(alloc, rest)?;
     if !fill(link, &mut body, size)? {
@@ -163,7 +163,7 @@ fn fill<T: Source>(link: &mut T, body: &mut Vec<u8>, size: usize) -> Result<bool
     ensures cut { IfOk result (λ whole. whole ≡ false → length body.new.items < size) }
     ensures end { IfOk result (λ whole. whole ≡ false → IsAtEnd (T.tape link.new)) }
     ensures stopped { IfErr result (Stopped (λ text. length (body.old.items ++ text) < size)
-        (T.tape link.old) (T.tape link.new)) }
+        (λ text. IsFilled body.old.items (body.old.items ++ text) size) (T.tape link.old) (T.tape link.new)) }
 {
     while body.len() < size {
         if receive(link, body, size - body.len())? == 0 {
@@ -186,7 +186,8 @@ fn receive<T: Source>(
     ensures bound { IfOk result (λ n. n ≤ most) }
     ensures once { IfOk result (λ n. n ≤ max_read) }
     ensures end { IfOk result (λ n. n ≡ 0 → IsAtEnd (T.tape link.new)) }
-    ensures stopped { IfErr result (Stopped (λ text. text ≡ []) (T.tape link.old) (T.tape link.new)) }
+    ensures stopped { IfErr result (Stopped (λ text. text ≡ []) (λ text. length text ≤ max_read)
+        (T.tape link.old) (T.tape link.new)) }
 {
     let mut chunk = [0; MAX_READ];
     let room = most.min(chunk.len());

@@ -60,7 +60,7 @@ passes_stay x (Some due) ended.Memory p h = reply_stays x.before x.after _ due p
 passes_stay x None (ended.Served code) p h = absurd p
 passes_stay x None ended.Cut p h = subst IsInForce (sym p.unanswered.same) h
 passes_stay x None ended.LinkFault p h = subst IsInForce (sym p.unanswered.same) h
-passes_stay x None ended.Memory p h = subst IsInForce (sym p.same) h
+passes_stay x None ended.Memory p h = subst IsInForce (sym p.unanswered.same) h
 
 -- However a link ends, the data stay in force.
 pub link_stays : (before after : LinkSnapshot) (due : Option HttpReply) (end : LinkEnd) → ServesLink before after due end

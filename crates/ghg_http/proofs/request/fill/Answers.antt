@@ -1,6 +1,7 @@
 use Rattle.std.proofs.Common.{◌<◌, arith, inl, inr, length, refl}
 use Rattle.std.proofs.lemmas.Result.{err_from_is_err_and}
-use Rattle.ghg_http.proofs.Received.{filled_more, grows_more, grows_nothing, stopped_grown}
+use Rattle.ghg_http.proofs.Received.{filled_last, filled_more, grows_more, grows_nothing, stopped_grown}
+use Rattle.ghg_http.specs.Receive.{IsFilled}
 use Rattle.ghg_http.proofs.request.fill.Goals as goal
 
 pub loop-link-init : goal.loop-link-init
@@ -11,7 +12,8 @@ returns-in_err-receive-clause-stopped g c =
     let p = err_from_is_err_and c.from_residual.result c.from_residual.ensures.1 in
     let room : length c.loop-link.body.items < c.args.size = omega (arith, c.loop-link-test.true, c.len.ensures) in
     rw (p.1, p.2)
-    (stopped_grown (λ all. length all < c.args.size) _ _ _ _ _ _ c.loop-link.invariant.0 room c.in_err-receive.ensures.stopped)
+    (stopped_grown (λ all. length all < c.args.size) (λ all. IsFilled c.args.body.now.items all c.args.size) _ _ _ _ _ _
+    c.loop-link.invariant.0 room (filled_last _ _ _ _ _ c.loop-link.invariant.0 room) c.in_err-receive.ensures.stopped)
 
 pub returns-then-branch-eq0-clause-got : goal.returns-then-branch-eq0-clause-got
 returns-then-branch-eq0-clause-got g c = grows_more _ _ _ _ _ _ c.loop-link.invariant.0 c.in_ok-receive.ensures.got

@@ -1,7 +1,7 @@
 use Rattle.std.proofs.Common.{[], arith, inl, inr, refl}
 use Rattle.std.proofs.lemmas.Result.{err_from_is_err_and}
-use Rattle.ghg_http.specs.Receive.{EndsEarly}
-use Rattle.ghg_http.proofs.Received.{all_read, follows, follows_stopped, grows_more, prompt_more, still_read, stopped_grown}
+use Rattle.ghg_http.specs.Receive.{EndsEarly, IsPrompt}
+use Rattle.ghg_http.proofs.Received.{all_read, follows, follows_stopped, grows_more, prompt_last, prompt_more, still_read, stopped_grown}
 use Rattle.ghg_http.proofs.request.receive_request.Goals as goal
 
 pub returns-in_err-receive-in-Unfinished-clause-stopped : goal.returns-in_err-receive-in-Unfinished-clause-stopped
@@ -10,7 +10,7 @@ returns-in_err-receive-in-Unfinished-clause-stopped g c =
     let p = err_from_is_err_and residual.result residual.ensures.1 in
     let head = rw c.deref.ensures.value at (rw c.in-Unfinished.is at c.in_ok-read_head.ensures) in
     rw (p.1, p.2)
-    (stopped_grown EndsEarly _ _ _ [] _ _ c.head.invariant.0 (inl head) c.in_err-receive-in-Unfinished.ensures.stopped)
+    (stopped_grown EndsEarly IsPrompt _ _ _ [] _ _ c.head.invariant.0 (inl head) (prompt_last _ (inl head)) c.in_err-receive-in-Unfinished.ensures.stopped)
 
 pub returns-then-branch-eq0-clause-request : goal.returns-then-branch-eq0-clause-request
 returns-then-branch-eq0-clause-request g c =

@@ -1,5 +1,5 @@
 use Rattle.std.proofs.lemmas.Result.{err_from_is_err_and}
-use Rattle.ghg_http.proofs.Received.{cuts, refuses, shows, stops_short, submits}
+use Rattle.ghg_http.proofs.Received.{cuts, refuses, shows, stops_at_head, stops_short, submits}
 use Rattle.ghg_http.proofs.request.receive_rest.Goals as goal
 
 pub returns-in-Refuse-clause-request : goal.returns-in-Refuse-clause-request
@@ -9,6 +9,12 @@ pub returns-in_ok-year-in-Show-clause-request : goal.returns-in_ok-year-in-Show-
 returns-in_ok-year-in-Show-clause-request g c =
     shows _ _ _ c.requires.whole c.requires.short _ c.in-Show.table c.in-Show.year _ _ c.requires.prompt c.in-Show.is
     c.in_ok-table-in-Show.ensures c.in_ok-year-in-Show.ensures
+
+pub returns-in_err-year-in-Show-clause-stopped : goal.returns-in_err-year-in-Show-clause-stopped
+returns-in_err-year-in-Show-clause-stopped g c =
+    let residual = c.from_residual-in_err-year-in-Show in
+    let p = err_from_is_err_and residual.result residual.ensures.1 in
+    rw (p.1, p.2) (stops_at_head _ _ _ c.requires.whole c.requires.short _ c.requires.prompt)
 
 pub returns-in-Some-clause-request : goal.returns-in-Some-clause-request
 returns-in-Some-clause-request g c =
@@ -28,4 +34,4 @@ returns-in_err-body-in-Submit-clause-stopped g c =
     let p = err_from_is_err_and residual.result residual.ensures.1 in
     let stopped = rw c.split_at.ensures.back at c.in_err-body-in-Submit.ensures.stopped in
     rw (p.1, p.2)
-    (stops_short _ _ _ c.requires.whole c.requires.short _ _ _ c.in-Submit.id c.in-Submit.body_size c.in-Submit.is stopped)
+    (stops_short _ _ _ c.requires.whole c.requires.short _ _ _ c.in-Submit.id c.in-Submit.body_size c.requires.prompt c.in-Submit.is stopped)
