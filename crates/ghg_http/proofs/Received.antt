@@ -20,8 +20,9 @@ use Rattle.ghg_http.specs.declared.request.Request.TheVariants.{Refused, Submit,
 -- ---- stopping
 
 -- some text was read before
-pub stopped_later : (Kind Late Taken Came : List ℕ → Type 0) (a b c : Tape) (text : List ℕ) (e : ReceiveError) → Consumes a b text
-    → ((more : List ℕ) → Late more → Kind (text ++ more)) → ((more : List ℕ) → Came more → Taken (text ++ more))
+pub stopped_later : (Kind Late Taken Came : List ℕ → Type 0) (a b c : Tape) (text : List ℕ) (e : ReceiveError)
+    → Consumes a b text → ((more : List ℕ) → Late more → Kind (text ++ more))
+    → ((more : List ℕ) → Came more → Taken (text ++ more))
     → Stopped Late Came b c e → Stopped Kind Taken a c e
 stopped_later Kind Late Taken Came a b c text e read known took s = record {
   text = text ++ s.text;
@@ -32,7 +33,8 @@ stopped_later Kind Late Taken Came a b c text e read known took s = record {
 }
 
 -- the same text is of another kind
-pub stopped_so : (Kind Given Taken Came : List ℕ → Type 0) (a b : Tape) (e : ReceiveError) → ((text : List ℕ) → Given text → Kind text)
+pub stopped_so : (Kind Given Taken Came : List ℕ → Type 0) (a b : Tape) (e : ReceiveError)
+    → ((text : List ℕ) → Given text → Kind text)
     → ((text : List ℕ) → Came text → Taken text) → Stopped Given Came a b e → Stopped Kind Taken a b e
 stopped_so Kind Given Taken Came a b e known took s = record {
   text = s.text;
@@ -122,15 +124,17 @@ still_read a b c old new n before grows count none =
     (all_read a c new (grows_more a b c [] old new before grows))
 
 -- a read that failed leaves it, and one for whose bytes there was no memory took them behind it
-pub stopped_grown : (Kind Taken : List ℕ → Type 0) (a b c : Tape) (old new : List ℕ) (e : ReceiveError) → Grows a b old new → Kind new
+pub stopped_grown : (Kind Taken : List ℕ → Type 0) (a b c : Tape) (old new : List ℕ) (e : ReceiveError)
+    → Grows a b old new → Kind new
     → ((more : List ℕ) → length more ≤ max_read → Taken (new ++ more))
     → Stopped (λ text. text ≡ []) (λ text. length text ≤ max_read) b c e
     → Stopped (λ text. Kind (old ++ text)) (λ text. Taken (old ++ text)) a c e
 stopped_grown Kind Taken a b c old new e grows h took =
-    stopped_later (λ text. Kind (old ++ text)) (λ text. text ≡ []) (λ text. Taken (old ++ text)) (λ text. length text ≤ max_read)
-    a b c grows.got e grows.read
+    stopped_later (λ text. Kind (old ++ text)) (λ text. text ≡ [])
+    (λ text. Taken (old ++ text)) (λ text. length text ≤ max_read) a b c grows.got e grows.read
     (λ more none. subst Kind (grows.buffer ∙ sym (ap (λ t. old ++ t) (ap (λ t. grows.got ++ t) none ∙ append-nil grows.got))) h)
-    (λ more few. subst Taken (ap (λ t. t ++ more) grows.buffer ∙ append_assoc old grows.got more) (took more few))
+    (λ more few. subst Taken (ap (λ t. t ++ more) grows.buffer ∙ append_assoc old grows.got more)
+    (took more few))
 
 -- what a read takes while the buffer is shorter than this size
 pub filled_last : (a b : Tape) (old new : List ℕ) (size : ℕ) → Grows a b old new → length new < size
@@ -145,8 +149,15 @@ filled_last a b old new size grows room more few =
     })
 
 -- or while the bytes end early
-pub prompt_last : (new : List ℕ) → EndsEarly new → (more : List ℕ) → length more ≤ max_read → IsPrompt (new ++ more)
-prompt_last new early more few = record { front = new; last = more; whole = refl; early = inr early; few = few }
+pub prompt_last : (new : List ℕ) → EndsEarly new → (more : List ℕ) → length more ≤ max_read
+    → IsPrompt (new ++ more)
+prompt_last new early more few = record {
+  front = new;
+  last = more;
+  whole = refl;
+  early = inr early;
+  few = few;
+}
 
 -- ---- a body
 
@@ -246,7 +257,8 @@ module _ (bytes : List ℕ) (made : Decision) (size : ℕ) (h : IsWhole bytes ma
   prompt_body : (id : Bor (List ℕ)) (n : ℕ) (text : List ℕ) → IsPrompt bytes → made ≡ decided.Submit id n
       → IsFilled (drop size bytes) (drop size bytes ++ text) n → IsPrompt (bytes ++ text)
   prompt_body id n text prompt is (inl same) =
-      let none : text ≡ [] = append_cancel_left (drop size bytes) text [] (same ∙ sym (append-nil (drop size bytes))) in
+      let none : text ≡ [] =
+      append_cancel_left (drop size bytes) text [] (same ∙ sym (append-nil (drop size bytes))) in
       subst (λ t. IsPrompt (bytes ++ t)) (sym none) (still_prompt prompt)
   prompt_body id n text prompt is (inr some) = record {
     front = bytes ++ some.front;
@@ -260,18 +272,24 @@ module _ (bytes : List ℕ) (made : Decision) (size : ℕ) (h : IsWhole bytes ma
     few = some.few;
   }
 
-  pub stops_short : (a b : Tape) (e : ReceiveError) (id : Bor (List ℕ)) (n : ℕ) → IsPrompt bytes → made ≡ decided.Submit id n
-      → Stopped (λ text. length (drop size bytes ++ text) < n) (λ text. IsFilled (drop size bytes) (drop size bytes ++ text) n) a b e
+  pub stops_short : (a b : Tape) (e : ReceiveError) (id : Bor (List ℕ)) (n : ℕ) → IsPrompt bytes
+      → made ≡ decided.Submit id n
+      → Stopped (λ text. length (drop size bytes ++ text) < n)
+      (λ text. IsFilled (drop size bytes) (drop size bytes ++ text) n) a b e
       → Stopped (λ text. EndsEarly (bytes ++ text)) (λ text. IsPrompt (bytes ++ text)) a b e
   stops_short a b e id n prompt is =
       stopped_so (λ text. EndsEarly (bytes ++ text)) (λ text. length (drop size bytes ++ text) < n)
-      (λ text. IsPrompt (bytes ++ text)) (λ text. IsFilled (drop size bytes) (drop size bytes ++ text) n) a b e
-      (λ text short. inr (has_short_body id n text is short)) (λ text filled. prompt_body id n text prompt is filled)
+      (λ text. IsPrompt (bytes ++ text))
+      (λ text. IsFilled (drop size bytes) (drop size bytes ++ text) n) a b e
+      (λ text short. inr (has_short_body id n text is short))
+      (λ text filled. prompt_body id n text prompt is filled)
 
   -- there was no memory for a text of the head
   pub stops_at_head : (a : Tape) → IsPrompt bytes
       → Stopped (λ text. EndsEarly (bytes ++ text)) (λ text. IsPrompt (bytes ++ text)) a a Memory
-  stops_at_head a prompt = stopped_at_once (λ text. EndsEarly (bytes ++ text)) (λ text. IsPrompt (bytes ++ text)) a (still_prompt prompt)
+  stops_at_head a prompt =
+      stopped_at_once (λ text. EndsEarly (bytes ++ text))
+      (λ text. IsPrompt (bytes ++ text)) a (still_prompt prompt)
 
   -- it is a submission whose body came
   pub submits : (a b : Tape) (id : Bor (List ℕ)) (n : ℕ) (name body : List ℕ) → IsPrompt bytes → made ≡ decided.Submit id n
@@ -289,7 +307,8 @@ module _ (bytes : List ℕ) (made : Decision) (size : ℕ) (h : IsWhole bytes ma
         near = near_body a b came.all came.extra came.grows came.near;
       },
       prompt_body id n came.grows.got prompt is
-          (subst (λ t. IsFilled (drop size bytes) t n) came.grows.buffer (subst (IsFilled (drop size bytes) came.all) count came.last)),
+          (subst (λ t. IsFilled (drop size bytes) t n) came.grows.buffer
+          (subst (IsFilled (drop size bytes) came.all) count came.last)),
     );
   }
 
@@ -317,5 +336,6 @@ pub follows_stopped : (a b c : Tape) (buffer : List ℕ) (r : Result (Option Req
     → IfErr r (Stopped EndsEarly IsPrompt a c)
 follows_stopped a b c buffer (Ok found) grows h = tt
 follows_stopped a b c buffer (Err e) grows h =
-    stopped_later EndsEarly (λ text. EndsEarly (buffer ++ text)) IsPrompt (λ text. IsPrompt (buffer ++ text)) a b c buffer e
-    (all_read a b buffer grows) (λ more early. early) (λ more prompt. prompt) h
+    stopped_later EndsEarly (λ text. EndsEarly (buffer ++ text))
+    IsPrompt (λ text. IsPrompt (buffer ++ text)) a b c buffer e (all_read a b buffer grows)
+    (λ more early. early) (λ more prompt. prompt) h

@@ -100,7 +100,8 @@ module _ (s : State) (a b : Tape) (n : ℕ) where
     spent = omega arith;
   }
 
-  pub link_failed : Stopped EndsEarly IsPrompt a b stopped.Failed → ServesLink (snapshot s a n) (snapshot s b n) None LinkFault
+  pub link_failed : Stopped EndsEarly IsPrompt a b stopped.Failed
+      → ServesLink (snapshot s a n) (snapshot s b n) None LinkFault
   link_failed h = record {
     exchange = quiet h.text;
     from = refl;
@@ -111,7 +112,8 @@ module _ (s : State) (a b : Tape) (n : ℕ) where
     spent = omega arith;
   }
 
-  pub ran_out : Stopped EndsEarly IsPrompt a b stopped.Memory → ServesLink (snapshot s a n) (snapshot s b n) None Memory
+  pub ran_out : Stopped EndsEarly IsPrompt a b stopped.Memory
+      → ServesLink (snapshot s a n) (snapshot s b n) None Memory
   ran_out h = record {
     exchange = quiet h.text;
     from = refl;
@@ -129,7 +131,8 @@ reply_some : (due : HttpReply) → 0 < length (reply_bytes due)
 unfolding reply_bytes
 reply_some due = omega arith
 
-module _ (s after : State) (a b : Tape) (n m : ℕ) (request : Request) (due : HttpReply) (t : TakesRequest a b (Some request))
+module _ (s after : State) (a b : Tape) (n m : ℕ) (request : Request) (due : HttpReply)
+    (t : TakesRequest a b (Some request))
     (spent : m ≤ n + evaluations_for s request) where
   abbrev loud : List ℕ → Exchange
   loud written = record {
@@ -159,7 +162,8 @@ module _ (s after : State) (a b : Tape) (n m : ℕ) (request : Request) (due : H
   }
 
   module _ (message : Message) (h : AnswersRequest s request due after (Ok message)) (c : Tape) where
-    breaks : (count : ℕ) → count < length message.bytes.items → BreaksOff (loud (take count message.bytes.items)) due
+    breaks : (count : ℕ) → count < length message.bytes.items
+        → BreaksOff (loud (take count message.bytes.items)) due
     breaks count short = record {
       answered = record { request = request; holds = t.holds.0; prompt = t.holds.1; replies = h.replies; asks = refl };
       count = count;
@@ -168,7 +172,8 @@ module _ (s after : State) (a b : Tape) (n m : ℕ) (request : Request) (due : H
     }
 
     -- the reply was written, or a part of it
-    pub sent : (end : LinkEnd) → Sends b c message end → ServesLink (snapshot s a n) (snapshot after c m) (Some due) end
+    pub sent : (end : LinkEnd) → Sends b c message end
+        → ServesLink (snapshot s a n) (snapshot after c m) (Some due) end
     sent (Served code) w = record {
       exchange = loud message.bytes.items;
       from = refl;

@@ -36,8 +36,8 @@ pub record ReadsLast (old new : List ℕ) (size : ℕ) : Type 0 where
 abbrev pub IsFilled : List ℕ → List ℕ → ℕ → Type 0
 IsFilled old new size = (new ≡ old) ⊎ ReadsLast old new size
 
--- Some text was read, of which `Taken` holds. Then the link failed, and its count rose and `Kind` holds of the
--- text too; or memory ran out.
+-- Some text was read, of which `Taken` holds. Then the link failed: its count rose, and `Kind` holds of the
+-- text too. Or memory ran out.
 pub record Stopped (Kind Taken : List ℕ → Type 0) (before after : Tape) (error : ReceiveError) : Type 0 where
   pub text : List ℕ
   pub read : Consumes before after text

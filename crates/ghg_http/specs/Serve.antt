@@ -170,8 +170,8 @@ abbrev pub is_unavailable : Option HttpReply → Bool
 is_unavailable (Some due) = due.code == 503
 is_unavailable None = false
 
--- The keeper's count of faults does not fall. Where the reply that was due is that the keeper failed, the count
--- rose, and submissions are stored.
+-- The keeper's count of faults does not fall. Where the reply that was due is that the keeper failed, the
+-- count rose, and submissions are stored.
 pub record TellsFaults (due : Option HttpReply) (stored : Bool) (before now : ℕ) : Type 0 where
   pub counted : IsCounted before now (is_unavailable due ≡ true)
   pub store : is_unavailable due ≡ true → stored ≡ true

@@ -52,7 +52,8 @@ reply_stays s after (on_link.Submit id body) due r h =
     answer_stays s after (submitted s id body) r.0 r.1 h (states_stay.later s id body h)
 reply_stays s after (on_link.Show name year) due r h = subst IsInForce (sym r.4) h
 
-passes_stay : (x : Exchange) (due : Option HttpReply) (end : LinkEnd) → Passes x due end → IsInForce x.before → IsInForce x.after
+passes_stay : (x : Exchange) (due : Option HttpReply) (end : LinkEnd) → Passes x due end
+    → IsInForce x.before → IsInForce x.after
 passes_stay x (Some due) (ended.Served code) p h = reply_stays x.before x.after _ due p.answered.replies h
 passes_stay x (Some due) ended.Cut p h = absurd p
 passes_stay x (Some due) ended.LinkFault p h = reply_stays x.before x.after _ due p.answered.replies h
@@ -63,7 +64,7 @@ passes_stay x None ended.LinkFault p h = subst IsInForce (sym p.unanswered.same)
 passes_stay x None ended.Memory p h = subst IsInForce (sym p.unanswered.same) h
 
 -- However a link ends, the data stay in force.
-pub link_stays : (before after : LinkSnapshot) (due : Option HttpReply) (end : LinkEnd) → ServesLink before after due end
-    → IsInForce before.state → IsInForce after.state
+pub link_stays : (before after : LinkSnapshot) (due : Option HttpReply) (end : LinkEnd)
+    → ServesLink before after due end → IsInForce before.state → IsInForce after.state
 link_stays before after due end s h =
     subst IsInForce s.to (passes_stay s.exchange due end s.passes (subst IsInForce (sym s.from) h))

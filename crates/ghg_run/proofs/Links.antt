@@ -96,7 +96,8 @@ serving_more a b c (first ∷ links) one all s = (all.0, all.1, serving_more all
 
 -- the keeper failed at least as often as that reply was due
 unavailable_more : (links : List ServedLink) (one : ServedLink) (first before after : ℕ)
-    → raised_by (unavailable_count links) first ≤ before → IsCounted before after (is_unavailable one.due ≡ true)
+    → raised_by (unavailable_count links) first ≤ before
+    → IsCounted before after (is_unavailable one.due ≡ true)
     → raised_by (unavailable_count (links ++ one ∷ [])) first ≤ after
 unavailable_more links one first before after h counted =
     let more = sum_by_push (λ (s : ServedLink). cond (is_unavailable s.due) 1 0) links one in
@@ -109,10 +110,11 @@ unavailable_more links one first before after h counted =
     by false e more = rw more (omega (arith, h, counted.later))
 
 -- and that is never due where nothing is stored
-available_more : (links : List ServedLink) (one : ServedLink) → unavailable_count links ≡ 0 → (is_unavailable one.due ≡ true → ⊥)
-    → unavailable_count (links ++ one ∷ []) ≡ 0
+available_more : (links : List ServedLink) (one : ServedLink) → unavailable_count links ≡ 0
+    → (is_unavailable one.due ≡ true → ⊥) → unavailable_count (links ++ one ∷ []) ≡ 0
 available_more links one none other =
-    by (is_unavailable one.due) refl (sum_by_push (λ (s : ServedLink). cond (is_unavailable s.due) 1 0) links one)
+    by (is_unavailable one.due) refl
+    (sum_by_push (λ (s : ServedLink). cond (is_unavailable s.due) 1 0) links one)
   where
     by : (failed : Bool) → is_unavailable one.due ≡ failed
         → unavailable_count (links ++ one ∷ []) ≡ unavailable_count links + cond failed 1 0
@@ -162,7 +164,8 @@ module _ (stored : Bool) (a b c : Station) (number : ℕ) (one : ServedLink) (so
   given_more = rw length-append (given ∙ ap (option_map (λ n. n + 1)) so_far.given ∙ counted_more (length so_far.links) 1 a.door.given)
 
   available_still : stored ≡ false → unavailable_count (so_far.links ++ one ∷ []) ≡ 0
-  available_still plain = available_more so_far.links one (so_far.available plain) (λ e. false≢true (sym plain ∙ faults.store e))
+  available_still plain = available_more so_far.links one (so_far.available plain)
+      (λ e. false≢true (sym plain ∙ faults.store e))
 
   pub one_more : c.door.finished ≡ option_map (λ links. links ++ one.link ∷ []) b.door.finished → ServedSoFar stored a c (number + 1)
   one_more finished = record {
@@ -172,7 +175,8 @@ module _ (stored : Bool) (a b c : Station) (number : ℕ) (one : ServedLink) (so
     finished = rw map-append (finished ∙ ap (option_map (λ links. links ++ one.link ∷ [])) so_far.finished
         ∙ links_more (map (λ (s : ServedLink). s.link) so_far.links) (one.link ∷ []) a.door.finished);
     given = given_more;
-    unavailable = unavailable_more so_far.links one a.faults b.faults c.faults so_far.unavailable faults.counted;
+    unavailable = unavailable_more so_far.links one a.faults b.faults c.faults
+        so_far.unavailable faults.counted;
     available = available_still;
   }
 
@@ -186,7 +190,8 @@ module _ (stored : Bool) (a b c : Station) (number : ℕ) (one : ServedLink) (so
     finished = finished ∙ so_far.finished;
     given = given_more;
     ends = (omega (arith, fewer, so_far.number_is), inl refl);
-    unavailable = unavailable_more so_far.links one a.faults b.faults c.faults so_far.unavailable faults.counted;
+    unavailable = unavailable_more so_far.links one a.faults b.faults c.faults
+        so_far.unavailable faults.counted;
     available = λ none. available_still (store ∙ ap is_some none);
   }
 

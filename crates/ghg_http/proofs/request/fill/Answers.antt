@@ -12,8 +12,10 @@ returns-in_err-receive-clause-stopped g c =
     let p = err_from_is_err_and c.from_residual.result c.from_residual.ensures.1 in
     let room : length c.loop-link.body.items < c.args.size = omega (arith, c.loop-link-test.true, c.len.ensures) in
     rw (p.1, p.2)
-    (stopped_grown (λ all. length all < c.args.size) (λ all. IsFilled c.args.body.now.items all c.args.size) _ _ _ _ _ _
-    c.loop-link.invariant.0 room (filled_last _ _ _ _ _ c.loop-link.invariant.0 room) c.in_err-receive.ensures.stopped)
+    (stopped_grown (λ all. length all < c.args.size)
+    (λ all. IsFilled c.args.body.now.items all c.args.size) _ _ _ _ _ _
+    c.loop-link.invariant.0 room (filled_last _ _ _ _ _ c.loop-link.invariant.0 room)
+    c.in_err-receive.ensures.stopped)
 
 pub returns-then-branch-eq0-clause-got : goal.returns-then-branch-eq0-clause-got
 returns-then-branch-eq0-clause-got g c = grows_more _ _ _ _ _ _ c.loop-link.invariant.0 c.in_ok-receive.ensures.got

@@ -10,7 +10,8 @@ returns-in_err-receive-in-Unfinished-clause-stopped g c =
     let p = err_from_is_err_and residual.result residual.ensures.1 in
     let head = rw c.deref.ensures.value at (rw c.in-Unfinished.is at c.in_ok-read_head.ensures) in
     rw (p.1, p.2)
-    (stopped_grown EndsEarly IsPrompt _ _ _ [] _ _ c.head.invariant.0 (inl head) (prompt_last _ (inl head)) c.in_err-receive-in-Unfinished.ensures.stopped)
+    (stopped_grown EndsEarly IsPrompt _ _ _ [] _ _ c.head.invariant.0 (inl head)
+    (prompt_last _ (inl head)) c.in_err-receive-in-Unfinished.ensures.stopped)
 
 pub returns-then-branch-eq0-clause-request : goal.returns-then-branch-eq0-clause-request
 returns-then-branch-eq0-clause-request g c =

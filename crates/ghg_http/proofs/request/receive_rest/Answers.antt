@@ -34,4 +34,5 @@ returns-in_err-body-in-Submit-clause-stopped g c =
     let p = err_from_is_err_and residual.result residual.ensures.1 in
     let stopped = rw c.split_at.ensures.back at c.in_err-body-in-Submit.ensures.stopped in
     rw (p.1, p.2)
-    (stops_short _ _ _ c.requires.whole c.requires.short _ _ _ c.in-Submit.id c.in-Submit.body_size c.requires.prompt c.in-Submit.is stopped)
+    (stops_short _ _ _ c.requires.whole c.requires.short _ _ _ c.in-Submit.id c.in-Submit.body_size
+    c.requires.prompt c.in-Submit.is stopped)

@@ -37,9 +37,20 @@ returns-in-Err-finish-clause-links g c =
     let given = tells_given g.D.Link.Told.tape (g.D.Door.register c.links.door) (g.D.Door.register c.next.new.self) c.in-Ok.ensures.given in
     let same = tells_same g.D.Link.Told.tape (g.D.Door.register c.next.new.self) (g.D.Door.register c.finish.new.self) c.in-Err-finish.ensures.kept in
     serving_drops _ _ _ _ c.links._served
-    (record { link = g.D.Link.Told.tape c.serve_one.new.link; due = c.serve_one.ensures.serves.0; end = c.serve_one.result }) c.links.invariant.served
-    (record { new = g.D.Link.Told.tape c.in-Ok.link; fresh = c.in-Ok.ensures.fresh; serves = c.serve_one.ensures.serves.1; bounds = requested_sound _ c.links.invariant.in_force })
-    (same.given_is ∙ given.given_is) c.serve_one.ensures.serves.2 c.args.service.now c.is_some-stored.ensures (same.finished_is ∙ given.finished_is) c.links-test.true
+    (record {
+      link = g.D.Link.Told.tape c.serve_one.new.link;
+      due = c.serve_one.ensures.serves.0;
+      end = c.serve_one.result;
+    })
+    c.links.invariant.served
+    (record {
+      new = g.D.Link.Told.tape c.in-Ok.link;
+      fresh = c.in-Ok.ensures.fresh;
+      serves = c.serve_one.ensures.serves.1;
+      bounds = requested_sound _ c.links.invariant.in_force;
+    })
+    (same.given_is ∙ given.given_is) c.serve_one.ensures.serves.2 c.args.service.now
+    c.is_some-stored.ensures (same.finished_is ∙ given.finished_is) c.links-test.true
 
 pub links-preserved : goal.links-preserved
 links-preserved g c =
@@ -47,8 +58,18 @@ links-preserved g c =
     let taken = tells_taken g.D.Link.Told.tape (g.D.Door.register c.next.new.self) (g.D.Door.register c.finish.new.self) c.serve_one.new.link c.in_default-finish.ensures.finished in
     record {
       served = one_more _ _ _ _ c.links._served
-          (record { link = g.D.Link.Told.tape c.serve_one.new.link; due = c.serve_one.ensures.serves.0; end = c.serve_one.result }) c.links.invariant.served
-          (record { new = g.D.Link.Told.tape c.in-Ok.link; fresh = c.in-Ok.ensures.fresh; serves = c.serve_one.ensures.serves.1; bounds = requested_sound _ c.links.invariant.in_force })
+          (record {
+            link = g.D.Link.Told.tape c.serve_one.new.link;
+            due = c.serve_one.ensures.serves.0;
+            end = c.serve_one.result;
+          })
+          c.links.invariant.served
+          (record {
+            new = g.D.Link.Told.tape c.in-Ok.link;
+            fresh = c.in-Ok.ensures.fresh;
+            serves = c.serve_one.ensures.serves.1;
+            bounds = requested_sound _ c.links.invariant.in_force;
+          })
           (taken.given_is ∙ given.given_is) c.serve_one.ensures.serves.2
           (taken.finished_is ∙ ap (option_map (λ links. links ++ g.D.Link.Told.tape c.serve_one.new.link ∷ [])) given.finished_is);
       in_force = link_stays _ _ _ _ c.serve_one.ensures.serves.1 c.links.invariant.in_force;
