@@ -6,11 +6,11 @@ use Rattle.std.specs.Str.{bytes_eq}
 use Rattle.std.proofs.lemmas.List.{append_assoc, drop_at, length_push}
 use Rattle.std.proofs.lemmas.Cmp.{nat_list_eq_equiv}
 use Rattle.std.proofs.lemmas.Grind.{common_steps}
-use Rattle.ghg_words.specs.Command.{command_in, command_named, compile_of, serve_of}
+use Rattle.ghg_words.specs.Command.{command_in, command_named, compile_of, number_from, options_of_compile, options_of_serve, serve_of}
 use Rattle.ghg_words.specs.declared.command.Command.{Command}
 use Rattle.ghg_words.specs.Laws.{IsReordered, OptionsStandInAnyOrder, Spelled, option_of, words_of}
 use Rattle.ghg_words.specs.Laws.IsReordered.{unchanged, behind, exchanged, in_turn}
-use Rattle.ghg_words.specs.Options.{Options, are_named, is_among, is_equals, leading, option_word, if_all, value_of, with_first}
+use Rattle.ghg_words.specs.Options.{Options, are_named, is_among, is_equals, leading, only, option_word, if_all, value_of, with_first}
 use Rattle.ghg_words.proofs.Steps.{leading_end, leading_one, leading_two}
 use Rattle.ghg_words.proofs.Words.{name_and_value_none, name_and_value_there}
 
@@ -63,10 +63,14 @@ all_lead (x ∷ xs) = words_lead x (flat_map words_of xs) ∙ ap (with_first (op
 
 -- ---- the order of options
 
--- the same names stand there, each once, and then each name has the same value
+-- each name has the same value
+abbrev HaveSameValues : Options → Options → Type 0
+HaveSameValues xs ys = (name : List ℕ) → value_of name xs ≡ value_of name ys
+
+-- the same names stand there, and where each stands once, it has the same value
 record IsSame (xs ys : Options) : Type 0 where
   names : (names : List (List ℕ)) → are_named names xs ≡ are_named names ys
-  values : (names : List (List ℕ)) → are_named names xs ≡ true → (name : List ℕ) → value_of name xs ≡ value_of name ys
+  values : (names : List (List ℕ)) → are_named names xs ≡ true → HaveSameValues xs ys
 
 -- an option in front
 none_named : (known first : Bool) → (known && first && false) ≡ false
@@ -146,23 +150,29 @@ same xs ys (in_turn us vs ws h k) =
     }
 
 -- a command looks at the names, and then at the values
-settled : (names : List (List ℕ)) (xs ys : Options) (f g : Option Command) → IsSame xs ys
-    → (are_named names xs ≡ true → f ≡ g)
-    → (if are_named names xs then f else None) ≡ (if are_named names ys then g else None)
-settled names xs ys f g h e = rw (← h.names names) (by_names (are_named names xs) e)
+named_same : (names : List (List ℕ)) (xs ys : Options) (f : Options → Option Command) → IsSame xs ys
+    → (HaveSameValues xs ys → f xs ≡ f ys)
+    → option_and_then f (only names xs) ≡ option_and_then f (only names ys)
+unfolding only
+named_same names xs ys f h e =
+    rw (← h.names names) (by_names (are_named names xs) (λ named. e (h.values names named)))
   where
-    by_names : (b : Bool) → (b ≡ true → f ≡ g) → (if b then f else None) ≡ (if b then g else None)
+    by_names : (b : Bool) → (b ≡ true → f xs ≡ f ys)
+        → option_and_then f (if b then Some xs else None) ≡ option_and_then f (if b then Some ys else None)
     by_names true k = k refl
     by_names false k = refl
 
-compile_same : (xs ys : Options) → IsSame xs ys → compile_of xs ≡ compile_of ys
-compile_same xs ys h = settled _ xs ys _ _ h (λ e. simp (h.values _ e))
+compile_same : (xs ys : Options) → HaveSameValues xs ys → compile_of xs ≡ compile_of ys
+compile_same xs ys e = simp e
 
-serve_same : (xs ys : Options) → IsSame xs ys → serve_of xs ≡ serve_of ys
-serve_same xs ys h = settled _ xs ys _ _ h (λ e. simp (h.values _ e))
+serve_same : (xs ys : Options) → HaveSameValues xs ys → serve_of xs ≡ serve_of ys
+unfolding number_from
+serve_same xs ys e = simp e
 
 same_command : (word : List ℕ) (xs ys : Options) → IsSame xs ys → command_named word xs ≡ command_named word ys
-same_command word xs ys h = cc (compile_same xs ys h, serve_same xs ys h)
+unfolding options_of_compile options_of_serve
+same_command word xs ys h =
+    cc (named_same _ xs ys compile_of h (compile_same xs ys), named_same _ xs ys serve_of h (serve_same xs ys))
 
 pub any_order : OptionsStandInAnyOrder
 unfolding command_in

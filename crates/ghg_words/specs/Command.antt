@@ -5,7 +5,7 @@ use Rattle.ghg_words.specs.declared.command.Command.{Command}
 use Rattle.ghg_words.specs.declared.command.Command.TheVariants.{Compile, Serve}
 use Rattle.ghg_words.specs.declared.command.Settings.{Settings}
 use Rattle.ghg_words.specs.declared.command.TheConstants.{MOST_WORKERS}
-use Rattle.ghg_words.specs.Options.{Options, are_named, options_in, value_of}
+use Rattle.ghg_words.specs.Options.{Options, only, options_in, value_of}
 use Rattle.ghg_words.specs.Values.{number_within, store_name}
 
 -- one worker, unless a number is given
@@ -24,25 +24,34 @@ settings_of o =
     option_map (λ store. record { workers = workers; store = store }) (store_of (value_of (codes "store") o)))
     (workers_of (value_of (codes "workers") o))
 
+-- the number that the option of that name gives, between two bounds
+unfoldable pub number_from : List ℕ → ℕ → ℕ → Options → Option ℕ
+number_from name low high o = option_and_then (number_within low high) (value_of name o)
+
 abbrev pub compile_of : Options → Option Command
-compile_of o =
-    if are_named (codes "workers" ∷ codes "store" ∷ []) o then option_map Compile (settings_of o) else None
+compile_of o = option_map Compile (settings_of o)
 
 abbrev pub serve_of : Options → Option Command
 serve_of o =
-    if are_named (codes "workers" ∷ codes "store" ∷ codes "port" ∷ codes "connections" ∷ []) o then (
     option_and_then (λ settings.
     option_and_then (λ port.
     option_map (λ connections. Serve (record { settings = settings; port = port; connections = connections }))
-    (option_and_then (number_within 1 1000000) (value_of (codes "connections") o)))
-    (option_and_then (number_within 1 65535) (value_of (codes "port") o)))
-    (settings_of o)) else None
+    (number_from (codes "connections") 1 1000000 o))
+    (number_from (codes "port") 1 65535 o))
+    (settings_of o)
+
+-- the options, if the command takes them
+unfoldable pub options_of_compile : Options → Option Options
+options_of_compile = only (codes "workers" ∷ codes "store" ∷ [])
+
+unfoldable pub options_of_serve : Options → Option Options
+options_of_serve = only (codes "workers" ∷ codes "store" ∷ codes "port" ∷ codes "connections" ∷ [])
 
 -- the command of that name, with these options
 abbrev pub command_named : List ℕ → Options → Option Command
 command_named word o =
-    if bytes_eq word (codes "compile") then compile_of o else (
-    if bytes_eq word (codes "serve") then serve_of o else None)
+    if bytes_eq word (codes "compile") then option_and_then compile_of (options_of_compile o) else (
+    if bytes_eq word (codes "serve") then option_and_then serve_of (options_of_serve o) else None)
 
 -- the command that the words are
 unfoldable pub command_in : List (List ℕ) → Option Command

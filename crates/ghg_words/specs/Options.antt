@@ -70,6 +70,10 @@ are_named names [] = true
 are_named names (option ∷ options) =
     is_among option.0 names && is_none (value_of option.0 options) && are_named names options
 
+-- these options, if they are so
+unfoldable pub only : List (List ℕ) → Options → Option Options
+only names options = if are_named names options then Some options else None
+
 -- ---- what the reader keeps of them
 
 abbrev pub seen : declared.Options → Options

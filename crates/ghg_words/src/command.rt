@@ -1,8 +1,8 @@
 //! Commands, and the words that ask for them.
 
-ghost use Rattle.std.specs.Prelude.{◌≡◌, IfSome, map, option_map, option_and_then};
+ghost use Rattle.std.specs.Prelude.{◌≡◌, ◌≤◌, IfSome, map, option_map, option_and_then};
 ghost use Rattle.std.specs.String.{string_bytes};
-ghost use Rattle.ghg_words.specs.Command.{ServesSome, command_in, compile_of, serve_of, settings_of};
+ghost use Rattle.ghg_words.specs.Command.{ServesSome, command_in, compile_of, number_from, options_of_compile, options_of_serve, serve_of, settings_of};
 ghost use Rattle.ghg_words.specs.Options.{seen};
 
 use crate::options::{Options, read_options};
@@ -45,19 +45,32 @@ pub fn read_command(words: &[String]) -> Option<Command<'_>>
     let (word, rest) = words.split_first()?;
     let options = read_options(rest)?;
     match word.as_str() {
-        "compile" => compile_with(options),
-        "serve" => serve_with(options),
+        "compile" => compile_with(options_of_compile(options)?),
+        "serve" => serve_with(options_of_serve(options)?),
         _ => None,
     }
+}
+
+// The options, if `compile` takes them.
+#[tactic(auto, unfolding(crate::specs::Command::options_of_compile))]
+fn options_of_compile(options: Options<'_>) -> Option<Options<'_>>
+    ensures { option_map seen result ≡ options_of_compile (seen options.entry) }
+{
+    options.only(&["workers", "store"])
+}
+
+// The options, if `serve` takes them.
+#[tactic(auto, unfolding(crate::specs::Command::options_of_serve))]
+fn options_of_serve(options: Options<'_>) -> Option<Options<'_>>
+    ensures { option_map seen result ≡ options_of_serve (seen options.entry) }
+{
+    options.only(&["workers", "store", "port", "connections"])
 }
 
 fn compile_with(options: Options<'_>) -> Option<Command<'_>>
     ensures command { result ≡ compile_of (seen options.entry) }
     ensures some { IfSome result ServesSome }
 {
-    if !options.are_named(&["workers", "store"]) {
-        return None;
-    }
     Some(Command::Compile(settings_from(options)?))
 }
 
@@ -65,14 +78,21 @@ fn serve_with(options: Options<'_>) -> Option<Command<'_>>
     ensures command { result ≡ serve_of (seen options.entry) }
     ensures some { IfSome result ServesSome }
 {
-    if !options.are_named(&["workers", "store", "port", "connections"]) {
-        return None;
-    }
     Some(Command::Serve(Service {
         settings: settings_from(options)?,
-        port: number_within(1, 65_535, options.value_of("port")?)? as u16,
-        connections: number_within(1, 1_000_000, options.value_of("connections")?)?,
+        port: number_from(options, "port", 1, 65_535)? as u16,
+        connections: number_from(options, "connections", 1, 1_000_000)?,
     }))
+}
+
+// The number that an option gives, between two bounds.
+#[tactic(auto, unfolding(crate::specs::Command::number_from))]
+fn number_from(options: Options<'_>, name: &str, low: u32, high: u32) -> Option<u32>
+    ensures value { result ≡ number_from name.now low high (seen options.entry) }
+    ensures least { IfSome result (λ n. low ≤ n) }
+    ensures bound { IfSome result (λ n. n ≤ high) }
+{
+    number_within(low, high, options.value_of(name)?)
 }
 
 // The settings that the options give.

@@ -5,7 +5,7 @@ ghost use Rattle.std.specs.List.{list_any};
 ghost use Rattle.std.specs.Option.{option_copied};
 ghost use Rattle.std.specs.Str.{bytes_eq};
 ghost use Rattle.std.specs.String.{string_bytes};
-ghost use Rattle.ghg_words.specs.Options.{are_named, leading, option_word, options_in, seen, text_of, value_of, with_first};
+ghost use Rattle.ghg_words.specs.Options.{are_named, leading, only, option_word, options_in, seen, text_of, value_of, with_first};
 
 /// The options of a command line: names with their values.
 #[derive(Clone, Copy)]
@@ -71,9 +71,21 @@ fn option_word(word: &str) -> Option<(&str, Option<&str>)>
 }
 
 impl<'a> Options<'a> {
-    /// Whether each has one of these names, and no two have the same.
+    /// These options. `None` if one has another name than these, or if two have the same.
+    #[tactic(auto, unfolding(crate::specs::Options::only))]
+    pub fn only(self, names: &[&str]) -> Option<Options<'a>>
+        ensures { option_map seen result ≡ only (map text_of names.now) (seen self.entry) }
+    {
+        if self.are_named(names) {
+            Some(self)
+        } else {
+            None
+        }
+    }
+
+    // Whether each has one of these names, and no two have the same.
     #[tactic(auto, using(crate::proofs::Words::among_texts), unfolding(crate::specs::Options::are_named))]
-    pub fn are_named(self, names: &[&str]) -> bool
+    fn are_named(self, names: &[&str]) -> bool
         ensures { result ≡ are_named (map text_of names.now) (seen self.entry) }
     {
         let mut rest = self.words;
