@@ -55,7 +55,7 @@ fn main(rt: HostRuntime) -> ExitCode {
     let Ok(hasher) = RandomState::new(&rt) else {
         return ExitCode::from(Status::OutOfMemory.code());
     };
-    let (status, _) = run_counted::<_, _, _, _, Brand>(
+    let status = run_counted::<_, _, _, _, Brand>(
         alloc,
         hasher,
         &words,

@@ -69,8 +69,7 @@ pub fn run<S: Source, W: Sink, K: Keeper, D: Door, L: Ledger>(
 
 const BAD_COMMAND_LINE: &[u8] = b"bad command line\n";
 
-/// Does what the words ask for, as [`run`] does, with a new ledger: answers the status, and the steps that it
-/// counted there.
+/// Does what the words ask for, as [`run`] does, and counts the steps in a new ledger, from 0.
 pub fn run_counted<S: Source, W: Sink, K: Keeper, D: Door, L: Ledger>(
     alloc: Global,
     hasher: RandomState,
@@ -80,21 +79,21 @@ pub fn run_counted<S: Source, W: Sink, K: Keeper, D: Door, L: Ledger>(
     keeper: &mut K,
     door: &mut D,
     blank: Blank,
-) -> (u8, Steps<L>)
+) -> u8
     requires name { blank.name ≡ L.name }
     requires parts { blank.parts ≡ L.parts }
     requires some { 0 < blank.parts }
-    ensures run { IsRun (asked_for words.now) (K.shelf keeper.old) (K.shelf keeper.new)
+    // No type of the signature may name the ledger, so the steps are not answered.
+    ensures run { (steps : _) × IsRun (asked_for words.now) (K.shelf keeper.old) (K.shelf keeper.new)
         (S.tape input.old) (S.tape input.new) (W.tape out.old) (W.tape out.new)
         (register_of D.Link.Told.tape (D.register door.old))
-        (register_of D.Link.Told.tape (D.register door.new)) 0 result.1 result.0 }
+        (register_of D.Link.Told.tape (D.register door.new)) 0 steps result }
     ensures unread { reads_input (asked_for words.now) ≡ false → input.new ≡ input.old }
     ensures unkept { store_in (asked_for words.now) ≡ None → keeper.new ≡ keeper.old }
     ensures unopened { opens_door (asked_for words.now) ≡ false → door.new ≡ door.old }
 {
     let mut steps = Steps::<L>::new(blank);
-    let status = run(alloc, hasher, words, input, out, keeper, door, &mut steps);
-    (status, steps)
+    run(alloc, hasher, words, input, out, keeper, door, &mut steps)
 }
 
 // Answers the script that the input holds. With a store, its rows are replayed first.

@@ -59,7 +59,7 @@ fn check(rt: &(impl Abort + AllocGlobal + RandomSource), case: &Case) -> Result<
     let rows = kept_rows(alloc, case.kept)?;
     let mut keeper = MemoryKeeper::new(alloc, rows, [case.failing_keep].to_vec(alloc)?);
     let mut door = MemoryDoor::new(alloc, Vec::new(alloc), Vec::new(alloc));
-    let (status, _) = run_counted::<_, _, _, _, Brand>(
+    let status = run_counted::<_, _, _, _, Brand>(
         alloc,
         RandomState::new(rt)?,
         &words,

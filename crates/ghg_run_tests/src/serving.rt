@@ -55,7 +55,7 @@ fn check<K: Keeper>(
     let mut input = MemorySource::new(Vec::new(alloc), Vec::new(alloc));
     let mut out = MemorySink::new(alloc, Vec::new(alloc));
     let mut door = MemoryDoor::new(alloc, links, Vec::new(alloc));
-    let (ended, _) = run_counted::<_, _, _, _, Brand>(
+    let ended = run_counted::<_, _, _, _, Brand>(
         alloc,
         RandomState::new(rt)?,
         &words,
