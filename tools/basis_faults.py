@@ -7,7 +7,7 @@ import typing
 
 from tools import causes, unit_bases, units, vocabulary
 from tools.asking import Asking, base_unit
-from tools.faults import Fault, at_row
+from tools.faults import Explained, at_row
 from tools.recognisers import Recogniser
 from tools.sheets import Row
 from tools.unit_bases import (
@@ -352,7 +352,7 @@ def told(asked: Asked) -> Told | None:
 class BasisFaults(Asking):
     """Explanations of units that say what their figure is of."""
 
-    def of_basis(self, row: Row, text: str, measures: str | None) -> tuple[Fault, Row | None] | None:
+    def of_basis(self, row: Row, text: str, measures: str | None) -> Explained | None:
         """The fault of a unit that says what its figure is of, and the row to go on with; or None if it says
         nothing of that, or if that is right and the figure has another size.
         """
@@ -362,9 +362,7 @@ class BasisFaults(Asking):
             return None
         word = asked.meant.word if asked.meant else None
         if said.is_same:
-            sure = [(said.cause, word, True)]
-            found: tuple[Fault, Row | None] = self.first_taken(row, "unit", sure, said.cause)
-            return found
+            return self.first_taken(row, "unit", [(said.cause, word, True)] if word else [], said.cause)
         return at_row(row, said.cause, "unit"), self.in_unit(row, word) if word else None
 
     def other_basis(self, row: Row, text: str) -> str | None:

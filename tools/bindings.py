@@ -4,18 +4,17 @@ They are judged with all rows of a file applied. What stands where is looked up 
 To find the next fault, the row at fault is taken out, or a binding takes NE in its place, so that its line
 stays and is blank.
 """
-import itertools
 import re
 
 from tools import absent_records, line_targets, other_equation, swapped_bindings, units, vocabulary
-from tools.ahead import said_of_later
+from tools.after import After, added
 from tools.asking import article, line_above
-from tools.book import record_taken_by
-from tools.faults import at_row, counted
-from tools.sheets import COLUMNS, Row, joined
+from tools.book import Book, record_in, record_taken_by
+from tools.faults import Rewritten, at_row, counted
+from tools.sheets import Row
 from tools.shifts import said_of_swapped
 from tools.unit_faults import years_of_rate
-from tools.vocabulary import limit, listed, nearest, said_of_parameter
+from tools.vocabulary import Parameter, listed, nearest, said_of_parameter
 
 
 # The parameter by which the program names an uncertainty whose line there is not.
@@ -24,111 +23,9 @@ UNCERTAINTY = "uncert"
 CARBON_OF_FUEL, CO2_OF_FUEL = "carbon content of fuel", "emission factor of fuel"
 # What stands between the parts of a name.
 PARTS = re.compile("[._-]")
-# The name of a half-life that no workbook has.
-HALF_LIFE = "NO.SUCH.HALF.LIFE.-.-.-."
 
 
-class After:
-    """The data after a file's rows, of which some are the file's own; the rows that were refused; and all
-    rows as they are meant.
-    """
-
-    def __init__(self, book, rows, refused, ahead):
-        self.book, self.rows, self.refused, self.ahead = book, rows, refused, ahead
-
-    def is_own(self, row):
-        """Tells whether a row is of the file at hand."""
-        return row is not None and row.sheet is self.rows[0].sheet
-
-    def acts_on(self, kind, name, acts=("enter", "correct", "withdraw")):
-        """The file's own rows on a record of a kind and name."""
-        named = [row for row in self.rows[1:] if row.field("kind") == kind and row.field("name") == name]
-        return [row for row in named if row.field("act") in acts]
-
-    def without(self, rows):
-        """The file's rows without some of them."""
-        out = {id(row) for row in rows}
-        return [row for row in self.rows if id(row) not in out]
-
-    def without_line(self, line):
-        """The file's rows without what they say of a line and of its bindings, which stay as they were."""
-        return self.without([*self.acts_on("line", line), *self.bindings_of(line)])
-
-    def bindings_of(self, line):
-        """The file's own rows on bindings of a line."""
-        return [row for row in self.rows[1:] if row.field("kind") == "bind" and row.field("subject") == line]
-
-    def bindings_below(self, holder):
-        """The file's own rows of bindings between the row of a line and that of the next one."""
-        below = holder.sheet.rows_below(holder.line)
-        lines = {row.line for row in itertools.takewhile(lambda row: row.field("kind") != "line", below)}
-        return [row for row in self.rows[1:] if row.line in lines and row.field("kind") == "bind"]
-
-    def in_later_file(self, kind, name):
-        """That a later file enters what is not there, or nothing."""
-        row = self.ahead.entry(kind, name)
-        return said_of_later(f"{kind} {name}", row) if row else ""
-
-    def line_of(self, name):
-        """The row of a line, there or meant to be there, or None."""
-        return self.book.lines.get(name) or self.ahead.row_of("line", name)
-
-    def refused_line(self, name):
-        """The refused row of a line, or None."""
-        return self.refused.that_sets(("line", name)) or self.refused.that_has(name, ["line"])
-
-    def nearest_line(self, near):
-        """The nearest line that there is, with its place, as the end of a sentence; or nothing."""
-        return f"; the nearest is {near[0]} ({self.book.lines[near[0]].place})" if near else ""
-
-    @staticmethod
-    def taken_away(gone, what, bound, rest):
-        """The fault of rows that withdraw what a binding of an earlier file takes, and the other rows."""
-        if not gone:
-            return None, None
-        cause = f"{what} is withdrawn, and line {bound.field('subject')} takes it at {bound.place}"
-        return at_row(gone[-1], cause), rest
-
-    def records_left(self, wanted):
-        """The records that measure what a parameter takes, and that nothing takes nor was meant to."""
-        taken = set(self.book.taken()) | self.refused.meant_records
-        return [(kind, name) for kind, named in self.book.years.items() for name in named
-                if (kind, name) not in taken and not name.startswith("GWP.")
-                and self.book.measured_by(kind, name) == vocabulary.record_of(wanted)]
-
-    def changed(self, changed, **fields):
-        """The file's rows with other fields in one of them."""
-        return [row.with_fields(**fields) if row is changed else row for row in self.rows]
-
-    def blank(self, bound):
-        """The file's rows with NE in place of what a binding takes."""
-        blank = bound.with_fields(value="key", low="NE")
-        blank.has_other_figure = True
-        return [blank if row is bound else row for row in self.rows]
-
-    def with_half_life(self, bound):
-        """The file's rows with a half-life in place of what a binding takes, and that half-life where it
-        is not there.
-        """
-        rows = self.changed(bound, value="decay", low=HALF_LIFE)
-        if self.book.some_record("factor", HALF_LIFE):
-            return rows
-        key = ["enter", "factor", "", HALF_LIFE, limit("first_year")]
-        return rows + [added(bound, *key, "1", "", "", vocabulary.HALF_LIFE_UNIT)]
-
-    def without_target(self, bound, parameter):
-        """The file's rows with something else in place of what a parameter takes."""
-        return self.with_half_life(bound) if vocabulary.is_decay(parameter) else self.blank(bound)
-
-
-def added(place, *fields):
-    """A row of the tools' own at the place of another row, with nothing behind its fields."""
-    made = Row(place.sheet, place.line, joined([*fields, *[""] * (len(COLUMNS) - len(fields))]))
-    made.has_other_figure = made.is_added = True
-    return made
-
-
-def explain(line, parameter, after):
+def explain(line: str, parameter: str, after: After) -> Rewritten:
     """The fault of an unsound binding or uncertainty, and the rows to go on with, or None.
 
     Without a fault there are rows to go on with where something that stands in for a target is no sound one.
@@ -145,7 +42,7 @@ def explain(line, parameter, after):
         return meant
     code = holder.field("value")
     parameters = vocabulary.parameters_of(code)
-    if parameter not in parameters:
+    if bound and parameter not in parameters:
         return without_parameter(holder, bound, parameters, after)
     if bound is None:
         return without_binding(holder, parameters[parameter], after)
@@ -157,14 +54,14 @@ def explain(line, parameter, after):
     return line_targets.explain(bound, holder, wanted, after)
 
 
-def without_line(line, parameter, bound, after):
+def without_line(line: str, parameter: str, bound: Row | None, after: After) -> Rewritten:
     """A binding of a line that there is not."""
     gone = after.acts_on("line", line, ("withdraw",))
     if gone:
         names = after.book.bindings[line]
-        bindings = f"binding{'' if len(names) == 1 else 's'} of {listed(names, 'and')}"
+        stay = f"binding{'' if len(names) == 1 else 's'} of {listed(names, 'and')}"
         more = ", and its uncertainty" if (UNCERTAINTY, line) in after.book.rows else ""
-        cause = f"the line is withdrawn and its bindings stay; withdraw the {bindings} too{more}"
+        cause = f"the line is withdrawn and its bindings stay; withdraw the {stay} too{more}"
         return at_row(gone[0], cause), after.without_line(line)
     if not after.is_own(bound):
         return None, None
@@ -198,7 +95,7 @@ def without_line(line, parameter, bound, after):
     return fault, after.without(own)
 
 
-def uncertainty_without_line(line, after):
+def uncertainty_without_line(line: str, after: After) -> Rewritten:
     """An uncertainty of a line that there is not."""
     row = after.book.rows.get((UNCERTAINTY, line))
     gone = after.acts_on("line", line, ("withdraw",))
@@ -207,15 +104,15 @@ def uncertainty_without_line(line, after):
         return at_row(gone[0], cause), after.rows + [added(gone[0], "withdraw", UNCERTAINTY, "", line)]
     if not after.is_own(row):
         return None, None
-    refused = after.refused_line(line)
+    refused, named = after.refused_line(line), after.book.record_named(line)
     near = nearest(line, after.book.lines, 1, 0.75)
     if refused:
         cause = f"there is no line {line}, since its row was refused"
         fault = at_row(row, cause, "name", follows=refused.place)
     elif after.in_later_file("line", line):
         fault = at_row(row, after.in_later_file("line", line), "name")
-    elif after.book.record_named(line)[1]:
-        return uncertainty_of_record(row, after)
+    elif named:
+        return uncertainty_of_record(row, *named, after)
     else:
         other = after.book.rows.get((UNCERTAINTY, near[0])) if near else None
         known = f", whose uncertainty stands at {other.place}; take one of the two out" if other else ""
@@ -226,11 +123,10 @@ def uncertainty_without_line(line, after):
     return fault, after.without([row])
 
 
-def uncertainty_of_record(row, after):
+def uncertainty_of_record(row: Row, kind: str, record: Row, after: After) -> Rewritten:
     """An uncertainty of an activity or a factor. It is one of the line that emits what is made of it, where
     one alone does.
     """
-    kind, record = after.book.record_named(row.field("name"))
     cause = f"{row.field('name')} is no line but {article(kind)} ({record.place})"
     lines = after.book.emitting(kind, row.field("name"))
     if len(lines) == 1 and (UNCERTAINTY, lines[0]) not in after.book.rows:
@@ -242,7 +138,7 @@ def uncertainty_of_record(row, after):
     return at_row(row, f"{cause}{made}; an uncertainty is of a line", "name"), after.without([row])
 
 
-def misnamed_line(bound, line, after):
+def misnamed_line(bound: Row, line: str, after: After) -> Rewritten | None:
     """A line that nothing names, where its bindings and other rows name one that is not there: it goes on
     under that name. Else None.
     """
@@ -254,7 +150,7 @@ def misnamed_line(bound, line, after):
     return at_row(holder, cause, "name", meant), after.changed(holder, name=meant)
 
 
-def of_line_above(bound, line, after):
+def of_line_above(bound: Row, line: str, after: After) -> Rewritten:
     """A binding of no line, below a line that lacks it. It goes on as that line's."""
     renamed, parameter = misnamed_line(bound, line, after), bound.field("name")
     if renamed:
@@ -263,7 +159,7 @@ def of_line_above(bound, line, after):
     return at_row(bound, f"{cause} {parameter}", "subject", line), after.changed(bound, subject=line)
 
 
-def misspelt_line(bound, line, after):
+def misspelt_line(bound: Row, line: str, after: After) -> Rewritten:
     """A binding whose line is most likely another, which lacks it. It goes on as that line's."""
     renamed = misnamed_line(bound, line, after)
     if renamed:
@@ -272,7 +168,7 @@ def misspelt_line(bound, line, after):
     return at_row(bound, cause, "subject"), after.changed(bound, subject=line)
 
 
-def without_parameter(holder, bound, parameters, after):
+def without_parameter(holder: Row, bound: Row, parameters: dict[str, Parameter], after: After) -> Rewritten:
     """A binding of a parameter that the line's equation has not.
 
     It goes on as that of the parameter that is meant.
@@ -287,7 +183,7 @@ def without_parameter(holder, bound, parameters, after):
         withdrawn = added(holder, "withdraw", "bind", line, parameter)
         return at_row(holder, cause, "value"), after.rows + [withdrawn]
     above = line_above(bound)
-    if above != line and bound.field("name") in after.ahead.parameters_left(above):
+    if above and above != line and bound.field("name") in after.ahead.parameters_left(above):
         cause = f"{has}; the line above is {above}, which has no binding of {bound.field('name')}"
         return at_row(bound, cause, "subject", above), after.changed(bound, subject=above)
     unbound = [name for name in parameters if name not in after.book.bindings[line]]
@@ -303,7 +199,7 @@ def without_parameter(holder, bound, parameters, after):
     return at_row(bound, f"{has}{done}", "name"), after.without([bound])
 
 
-def may_take(bound, parameter, after):
+def may_take(bound: Row, parameter: Parameter, after: After) -> bool:
     """Tells whether what a binding takes, where that is a record there is, measures what a parameter
     takes.
     """
@@ -312,7 +208,7 @@ def may_take(bound, parameter, after):
     return record is None or vocabulary.measured_by(record.field("unit")) == vocabulary.record_of(parameter)
 
 
-def without_binding(holder, wanted, after):
+def without_binding(holder: Row, wanted: Parameter, after: After) -> Rewritten:
     """A parameter of a line that no row binds."""
     line, code, name = holder.field("name"), holder.field("value"), wanted["name"]
     needs = f"{code} takes {said_of_parameter(wanted)}"
@@ -342,7 +238,7 @@ def without_binding(holder, wanted, after):
     return at_row(holder, f"{needs}, and no row binds it", "name", write), with_blank
 
 
-def binding_astray(holder, name, after):
+def binding_astray(holder: Row, name: str, after: After) -> Rewritten | None:
     """The fault of the row that is meant to bind a parameter of a line, and binds another one or another
     line's; or None.
     """
@@ -367,7 +263,7 @@ def binding_astray(holder, name, after):
     return None
 
 
-def target_left(wanted, line, after):
+def target_left(wanted: Parameter, line: str, after: After) -> tuple[str, str]:
     """The form and the target of a binding that is missing: the one record that measures what is wanted and
     that nothing takes, or the one of these that has most of the line's name; else placeholders.
     """
@@ -382,13 +278,13 @@ def target_left(wanted, line, after):
     return "decay" if decays else most[0][0], most[0][1]
 
 
-def is_astray(bound, line, after):
+def is_astray(bound: Row, line: str, after: After) -> bool:
     """Tells whether a binding of no line is most likely one of this line."""
     subject = bound.field("subject")
     return subject not in after.book.lines and bool(nearest(subject, [line], 1, 0.75))
 
 
-def of_another_form(bound, holder, wanted, after):
+def of_another_form(bound: Row, holder: Row, wanted: Parameter, after: After) -> Rewritten:
     """A yearly decay factor that is not bound by decay, or another parameter that is."""
     if bound.has_other_figure:
         return None, after.with_half_life(bound)
@@ -411,7 +307,7 @@ def of_another_form(bound, holder, wanted, after):
         after.refused.meant_records.add(taken)
     if taken and taken[0] == "factor" and measures in (None, vocabulary.record_of(wanted)):
         return at_row(bound, cause, "value", meant), after.changed(bound, value=meant)
-    if record and vocabulary.is_decay(wanted):
+    if taken and record and vocabulary.is_decay(wanted):
         cause += f", and {taken[0]} {taken[1]} is in {record.field('unit')} ({measures}) at {record.place}"
         cause += way_to(wanted, record)
     elif vocabulary.is_decay(wanted):
@@ -419,9 +315,9 @@ def of_another_form(bound, holder, wanted, after):
     return at_row(bound, cause, "value"), after.without_target(bound, wanted)
 
 
-def of_record(bound, holder, wanted, after):
+def of_record(bound: Row, holder: Row, wanted: Parameter, after: After) -> Rewritten:
     """A binding to an activity or a factor that there is not, or that measures something else."""
-    kind, name = record_taken_by(bound)
+    kind, name = record_in(bound)
     record = after.book.some_record(kind, name)
     swapped = swapped_bindings.explain(bound, holder, wanted, after) if after.is_own(bound) else None
     if swapped:
@@ -456,9 +352,9 @@ def of_record(bound, holder, wanted, after):
     return None, None
 
 
-def taken_as_measured(bound, book):
+def taken_as_measured(bound: Row, book: Book) -> list[str]:
     """The other lines that take the record of a binding as what it measures."""
-    taken, found = record_taken_by(bound), []
+    taken, found = record_in(bound), []
     for line, bindings in book.bindings.items():
         known = vocabulary.parameters_of(book.lines[line].field("value")) if line in book.lines else {}
         found += [line for name, other in bindings.items() if other is not bound and name in known
@@ -467,7 +363,7 @@ def taken_as_measured(bound, book):
     return found
 
 
-def made_by_line(bound, wanted, book):
+def made_by_line(bound: Row, wanted: Parameter, book: Book) -> str | None:
     """The one line that makes what a parameter takes of the record that its binding takes, or None."""
     taken = record_taken_by(bound)
     lines = [line for line, row in book.lines.items() if line != bound.field("subject")
@@ -476,7 +372,7 @@ def made_by_line(bound, wanted, book):
     return lines[0] if len(lines) == 1 else None
 
 
-def way_to(wanted, record):
+def way_to(wanted: Parameter, record: Row) -> str:
     """How a record that measures something else comes to what a parameter takes, where that is known."""
     unit, measures = record.field("unit"), vocabulary.record_of(wanted)
     years = years_of_rate(record.field("value")) if measures == vocabulary.half_life() else None

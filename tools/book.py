@@ -2,6 +2,8 @@
 never to judge.
 """
 from tools import vocabulary
+from tools.sheets import Key, Row, Sheet
+from tools.vocabulary import Parameter
 
 
 # What kind of record a form of a binding takes. A half-life is a factor.
@@ -16,15 +18,15 @@ class Book:
     parameter), ("uncert", line), ("span",).
     """
 
-    def __init__(self):
-        self.rows = {}
-        self.entered = {}
-        self.withdrawn = {}
-        self.years = {"activity": {}, "factor": {}}
-        self.bindings = {}
-        self.lines = {}
+    def __init__(self) -> None:
+        self.rows: dict[Key, Row] = {}
+        self.entered: dict[Key, Row] = {}
+        self.withdrawn: dict[Key, Row] = {}
+        self.years: dict[str, dict[str, dict[int, Row]]] = {"activity": {}, "factor": {}}
+        self.bindings: dict[str, dict[str, Row]] = {}
+        self.lines: dict[str, Row] = {}
 
-    def copy(self):
+    def copy(self) -> "Book":
         """A book of its own with the same records."""
         other = Book()
         other.rows, other.entered = dict(self.rows), dict(self.entered)
@@ -35,7 +37,7 @@ class Book:
         other.lines = dict(self.lines)
         return other
 
-    def apply(self, row):
+    def apply(self, row: Row) -> None:
         """Applies an accepted row."""
         key = row.key
         if row.field("act") == "withdraw":
@@ -52,7 +54,7 @@ class Book:
         elif key[0] == "bind":
             self.bindings.setdefault(key[1], {})[key[2]] = row
 
-    def _take_out(self, key):
+    def _take_out(self, key: Key) -> None:
         self.rows.pop(key, None)
         if key[0] in self.years:
             named = self.years[key[0]].get(key[1], {})
@@ -65,35 +67,45 @@ class Book:
             self.bindings.get(key[1], {}).pop(key[2], None)
 
     @property
-    def span(self):
+    def span(self) -> tuple[int, int] | None:
         """The first and the last year, or None."""
-        row = self.rows.get(("span",))
-        return (int(row.field("year")), int(row.field("value"))) if row else None
+        return self.known_span() if ("span",) in self.rows else None
 
-    def some_record(self, kind, name):
+    def known_span(self) -> tuple[int, int]:
+        """The first and the last year of the span, which is in force."""
+        row = self.rows["span",]
+        return int(row.field("year")), int(row.field("value"))
+
+    def some_record(self, kind: str, name: str) -> Row | None:
         """The earliest record of an activity or a factor, or None."""
-        years = self.years[kind].get(name)
-        return years[min(years)] if years else None
+        return self.known_record(kind, name) if self.years[kind].get(name) else None
 
-    def record_named(self, name):
-        """The kind and the earliest record of an activity or a factor of a name, or None twice."""
-        found = [(kind, self.some_record(kind, name)) for kind in self.years if self.some_record(kind, name)]
-        return found[0] if found else (None, None)
+    def known_record(self, kind: str, name: str) -> Row:
+        """The earliest record of an activity or a factor that is in force."""
+        years = self.years[kind][name]
+        return years[min(years)]
 
-    def named_by(self, bound):
+    def record_named(self, name: str) -> tuple[str, Row] | None:
+        """The kind and the earliest record of an activity or a factor of a name, or None."""
+        kind = next((kind for kind in self.years if self.some_record(kind, name)), None)
+        return (kind, self.known_record(kind, name)) if kind else None
+
+    def named_by(self, bound: Row) -> Row | None:
         """The earliest record that a binding of a record names, of the kind that its form takes or else of
         the other one; or None.
         """
-        kind, name = record_taken_by(bound) or (None, None)
-        kinds = sorted(self.years, key=lambda other: other != kind) if kind else []
+        if not record_taken_by(bound):
+            return None
+        kind, name = record_in(bound)
+        kinds = sorted(self.years, key=lambda other: other != kind)
         return next(filter(None, (self.some_record(other, name) for other in kinds)), None)
 
-    def measured_by(self, kind, name):
+    def measured_by(self, kind: str, name: str) -> str | None:
         """What an activity or a factor measures, or None where there is none."""
         record = self.some_record(kind, name)
         return vocabulary.measured_by(record.field("unit")) if record else None
 
-    def in_force(self, kind, name, year):
+    def in_force(self, kind: str, name: str, year: int) -> Row | None:
         """The record that an activity or a factor has in a year, or None."""
         years = self.years[kind].get(name, {})
         if kind == "activity":
@@ -101,7 +113,7 @@ class Book:
         begun = [start for start in years if start <= year]
         return years[max(begun)] if begun else None
 
-    def parameters_that_take(self, kind, name):
+    def parameters_that_take(self, kind: str, name: str) -> list[tuple[Parameter, str]]:
         """The parameters that a record is bound to, each with the form of its binding, but for those of lines
         whose equation lacks one that is bound.
         """
@@ -113,11 +125,11 @@ class Book:
                           if record_taken_by(row) == (kind, name)]
         return found
 
-    def taken(self):
+    def taken(self) -> dict[tuple[str, str], list[Row]]:
         """The activities and factors that lines take, as pairs of kind and name, each with the bindings
         that take it.
         """
-        found = {}
+        found: dict[tuple[str, str], list[Row]] = {}
         for bound in self.bindings.values():
             for row in bound.values():
                 record = record_taken_by(row)
@@ -125,12 +137,12 @@ class Book:
                     found.setdefault(record, []).append(row)
         return found
 
-    def lines_taken(self):
+    def lines_taken(self) -> set[str]:
         """The lines that lines take."""
         rows = (row for bound in self.bindings.values() for row in bound.values())
         return {name for row in rows for name in lines_taken_by(row)}
 
-    def emitting(self, kind, name):
+    def emitting(self, kind: str, name: str) -> list[str]:
         """The lines that emit a gas and take an activity or a factor, over other lines if need be."""
         waiting = [row.field("subject") for row in self.taken().get((kind, name), [])]
         reached = []
@@ -142,13 +154,13 @@ class Book:
                             if any(line in lines_taken_by(row) for row in bound.values())]
         return sorted(line for line in reached if vocabulary.gas_of(self.lines[line].field("value")))
 
-    def is_of_last_year(self, bound):
+    def is_of_last_year(self, bound: Row) -> bool:
         """Tells whether a binding is of a parameter that takes what a line gave the year before."""
         line = self.lines.get(bound.field("subject"))
-        return bool(line) and (line.field("value"), bound.field("name")) in vocabulary.OF_LAST_YEAR
+        return line is not None and (line.field("value"), bound.field("name")) in vocabulary.OF_LAST_YEAR
 
 
-def book_of(sheets):
+def book_of(sheets: list[Sheet]) -> Book:
     """The book after the rows of accepted files."""
     book = Book()
     for sheet in sheets:
@@ -157,13 +169,17 @@ def book_of(sheets):
     return book
 
 
-def record_taken_by(row):
+def record_taken_by(row: Row) -> tuple[str, str] | None:
     """The kind and name of the record that a binding takes, or None."""
-    kind = KIND_TAKEN.get(row.field("value"))
-    return (kind, row.field("low")) if kind else None
+    return record_in(row) if row.field("value") in KIND_TAKEN else None
 
 
-def lines_taken_by(row):
+def record_in(row: Row) -> tuple[str, str]:
+    """The kind and name of the record that a binding takes, which is by activity, factor or decay."""
+    return KIND_TAKEN[row.field("value")], row.field("low")
+
+
+def lines_taken_by(row: Row) -> list[str]:
     """The lines that a binding takes."""
     if row.field("value") in ("line", "prev", "sum"):
         return row.field("low").split(" ")

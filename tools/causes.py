@@ -32,16 +32,16 @@ MARK = r"^(-?\d[\d.,\s]*?)\s*([*\u2020\u2021\u00a7]+|[\u00b9\u00b2\u00b3]|[(\[][
 @dataclasses.dataclass
 class Mended:
     """A text without what was unusual in it. It is sure where the writer can have meant nothing else."""
-    causes: list
+    causes: list[str]
     text: str
     sure: bool = True
 
-    def less(self, cause, text):
+    def less(self, cause: str, text: str) -> "Mended":
         """The same with one more cause, where the text changes by it."""
         return self if text == self.text else Mended(self.causes + [cause], text, self.sure)
 
 
-def blank_name(text):
+def blank_name(text: str) -> str:
     """How the blanks of a text are called."""
     if set(text) & set(UNSEEN):
         return "an unseen character"
@@ -54,7 +54,7 @@ def blank_name(text):
     return "a blank" if len(text) == 1 else "blanks"
 
 
-def without_blanks(text):
+def without_blanks(text: str) -> Mended:
     """The text without blanks at its ends."""
     blanks = " \t\r\n" + NO_BREAK + UNSEEN + "\u2009\u3000"
     front = text[:len(text) - len(text.lstrip(blanks))]
@@ -67,7 +67,7 @@ def without_blanks(text):
     return mended
 
 
-def number(text, most_decimals=None):
+def number(text: str, most_decimals: int | None = None) -> Mended:
     """A number as it is written elsewhere, as this program takes it."""
     mended = ascii_digits(without_blanks(text))
     mended = mended.less("a word for a number", re.sub("^zero$", "0", mended.text, flags=re.IGNORECASE))
@@ -84,9 +84,9 @@ def number(text, most_decimals=None):
     if bracketed:
         mended = mended.less("parentheses for a negative number", "-" + bracketed.group(1))
     mended = mended.less("a plus sign", re.sub(r"^\+(?=[\d.,])", "", mended.text))
-    for separator, name in SEPARATORS:
+    for separator, called in SEPARATORS:
         joined = re.sub(rf"(?<=\d)[{separator}](?=\d{{3}}(\D|$))", "", mended.text)
-        mended = mended.less(f"{name} between thousands", joined)
+        mended = mended.less(f"{called} between thousands", joined)
     mended = product(fraction(exponent(points(power_of_ten(mended)))))
     mended = mended.less("no digit in front of the point", re.sub(r"^(-?)\.(?=\d)", r"\g<1>0.", mended.text))
     mended = mended.less("no digit behind the point", re.sub(r"^(-?\d+)\.$", r"\1", mended.text))
@@ -94,7 +94,7 @@ def number(text, most_decimals=None):
     return decimals(mended, int(limit("decimals")) if most_decimals is None else most_decimals)
 
 
-def ascii_digits(mended):
+def ascii_digits(mended: Mended) -> Mended:
     """With the digits 0 to 9 in place of those of another script, and of letters that look like them."""
     if re.fullmatch(r"-?[OoIl]*[0-9][0-9OoIl]*([.,][0-9OoIl]+)?", mended.text):
         digits = mended.text.translate(str.maketrans("OoIl", "0011"))
@@ -105,7 +105,7 @@ def ascii_digits(mended):
     return mended.less("digits of another script", "".join(digits))
 
 
-def points(mended):
+def points(mended: Mended) -> Mended:
     """Without commas: thousands, or a decimal comma. One that may be either is not sure."""
     text = mended.text
     grouped = r"-?\d{1,3}((,\d{3}){2,}(\.\d+)?|(,\d{3})+\.\d+)|-?\d{1,2}(,\d\d)+,\d{3}(\.\d+)?"
@@ -125,7 +125,7 @@ def points(mended):
     return mended
 
 
-def exponent(mended):
+def exponent(mended: Mended) -> Mended:
     """Without an exponent."""
     if not re.fullmatch(r"-?(\d+(\.\d*)?|\.\d+)[eE][+-]?\d{1,3}", mended.text):
         return mended
@@ -134,18 +134,18 @@ def exponent(mended):
     return Mended(mended.causes, digits) if is_told else mended.less("an exponent", digits)
 
 
-def power_of_ten(mended):
+def power_of_ten(mended: Mended) -> Mended:
     """With an exponent in place of a power of ten."""
     text = re.sub(f"[{MINUS}]", "-", letters.lowered(mended.text, "^"))
     found = POWER_OF_TEN.fullmatch(text)
     return mended.less(POWER, f"{found.group(1)}e{found.group(2)}") if found else mended
 
 
-def product(mended):
+def product(mended: Mended) -> Mended:
     """Without a word for thousands or millions behind it, and without signs of multiplication."""
     found = re.fullmatch(r"(.*\d)\s*(thousand|million|mio|mln|billion|bn)\.?", mended.text.lower())
     front = number(found.group(1)) if found else None
-    if front and front.sure and re.fullmatch(r"-?\d+(\.\d+)?", front.text):
+    if found and front and front.sure and re.fullmatch(r"-?\d+(\.\d+)?", front.text):
         power = {"t": 3, "m": 6, "b": 9}[found.group(2)[0]]
         return mended.less("a word for thousands", plain(decimal.Decimal(front.text).scaleb(power)))
     factors = re.split(r"\s*[*\u00d7]\s*", mended.text)
@@ -156,13 +156,13 @@ def product(mended):
     return mended.less("a product", plain(made))
 
 
-def plain(number):
+def plain(number: decimal.Decimal) -> str:
     """A number in digits, without zeros at the end of its decimals."""
     text = format(number, "f")
     return text.rstrip("0").rstrip(".") if "." in text else text
 
 
-def fraction(mended):
+def fraction(mended: Mended) -> Mended:
     """Without a stroke, where the quotient has few decimals. Any other is not sure."""
     found = re.fullmatch(r"(-?\d{1,9})\s?/\s?([1-9]\d{0,8})", mended.text)
     if not found:
@@ -171,12 +171,14 @@ def fraction(mended):
     if min(abs(over), under) >= 1000:
         return Mended(mended.causes + ["two numbers in one field; write one"], mended.text, False)
     quotient = decimal.Decimal(over) / under
-    if quotient * under == over and quotient.as_tuple().exponent >= -int(limit("decimals")):
+    exponent_of_ten = quotient.as_tuple().exponent
+    is_short = isinstance(exponent_of_ten, int) and -exponent_of_ten <= int(limit("decimals"))
+    if quotient * under == over and is_short:
         return mended.less("a fraction", format(quotient, "f"))
     return Mended(mended.causes + [f"a fraction; write {quotient:.6f}, or more decimals"], mended.text, False)
 
 
-def decimals(mended, most):
+def decimals(mended: Mended, most: int) -> Mended:
     """With as many decimals as a number may have. One that would be zero then is not sure."""
     found = re.fullmatch(r"-?\d+\.(\d+)", mended.text)
     if not found or len(found.group(1)) <= most:
@@ -191,7 +193,7 @@ def decimals(mended, most):
     return mended.less(cause, format(rounded, "f"))
 
 
-def year(text):
+def year(text: str) -> Mended:
     """A year as it is written elsewhere. One of two is not sure."""
     mended = ascii_digits(without_blanks(text))
     found = re.fullmatch(r"(\d{4})[.,]0*", mended.text)
@@ -214,11 +216,11 @@ def year(text):
     found = re.fullmatch(r"((?:19|20)\d\d)(0[1-9]|1[0-2])([0-2]\d|3[01])", mended.text)
     if found:
         return mended.less("a date in place of a year", found.group(1))
-    found = re.findall(r"(?<!\d)(?:19|20)\d\d(?!\d)", mended.text)
-    return mended.less("more than the year", found[0]) if len(found) == 1 else mended
+    years = re.findall(r"(?<!\d)(?:19|20)\d\d(?!\d)", mended.text)
+    return mended.less("more than the year", years[0]) if len(years) == 1 else mended
 
 
-def day_of_number(text):
+def day_of_number(text: str) -> datetime.date | None:
     """The day that a spreadsheet keeps under a number of five digits, from 1982 on, or None."""
     if not re.fullmatch(r"[3-7]\d{4}(\.\d+)?", text):
         return None
@@ -226,7 +228,7 @@ def day_of_number(text):
     return day if day.year <= int(limit("last_year")) else None
 
 
-def notation_key(text):
+def notation_key(text: str) -> str:
     """The notation key that a text is, as no, N.O., not occurring or NE (no data); else the text in upper
     case.
     """
@@ -247,7 +249,7 @@ def notation_key(text):
 
 
 @functools.lru_cache(maxsize=10000)
-def name(text):
+def name(text: str) -> Mended:
     """A name as it is written elsewhere: in upper case, without blanks and accents."""
     mended = without_blanks(text)
     mended = mended.less("quotes around a name", mended.text.strip(QUOTES))

@@ -6,16 +6,19 @@ each fault is one that the program found.
 """
 import collections
 import itertools
+from collections.abc import Callable
 
 from tools import bindings, headers, limit_faults
+from tools.after import After
 from tools.ahead import Ahead
-from tools.book import Book, record_taken_by
-from tools.causes import name as mended_name
+from tools.book import Book
 from tools.explain import Explainer
-from tools.faults import Fault, counted
+from tools.faults import Fault, Rewritten, counted
 from tools.mending import Cures
-from tools.sheets import COLUMNS, COLUMNS_OF_KEY, joined
-from tools.vocabulary import limit, listed
+from tools.program import Program, Reply
+from tools.refused import Refused
+from tools.sheets import COLUMNS, COLUMNS_OF_KEY, Key, Row, Sheet, joined
+from tools.vocabulary import limit
 
 HEADER = joined(COLUMNS)
 # A row that no workbook has its line for. Behind it no body is accepted: what a row breaks by itself comes
@@ -25,69 +28,15 @@ OF_THE_ROW_ALONE = (4, 5, 6, 7)
 OF_A_ROW = (4, 5, 6, 7, 8, 9)
 
 
-class Refused:
-    """The rows that were refused and taken out, by what they would have set; the records that a refused
-    binding takes; those that measure something else than their binding takes; and the files of which no row
-    can be read.
-    """
-
-    def __init__(self):
-        self.rows, self.entering = {}, []
-        self.meant_records, self.mismeasured, self.unread = set(), set(), []
-
-    def add(self, rows):
-        """Adds rows that were taken out."""
-        for row in rows:
-            if row.field("act") == "withdraw":
-                continue
-            key = tuple(mended_name(part).text for part in row.key[1:])
-            kind = row.field("kind").strip().lower()
-            self.rows.setdefault((kind, *key), row)
-            self.rows.setdefault((kind, *key[:1]), row)
-            if kind == "bind":
-                self.meant_records.add(record_taken_by(row))
-            else:
-                self.entering.append(row)
-
-    def that_sets(self, key):
-        """The refused row that would have set a key, or None."""
-        return self.rows.get(key)
-
-    def has_activity_of(self, year):
-        """Tells whether a refused row would have set an activity of a year."""
-        return any(key[0] == "activity" and key[-1] == str(year) for key in self.rows)
-
-    def that_enters(self, kind, name):
-        """A refused row of an activity or a factor, or None."""
-        return self.rows.get((kind, name))
-
-    def that_has(self, name, kinds=("activity", "factor", "line")):
-        """A refused row with a name in some column, of some kinds or of none that there is; or None."""
-        others = set(COLUMNS_OF_KEY) - set(kinds)
-        return next((row for row in self.entering if row.field("kind").strip().lower() not in others
-                     and any(mended_name(field).text == name for field in row.fields)), None)
-
-    def that_doubles(self, key, book):
-        """A refused row of the name of a key whose own record is there already, or None."""
-        return next((row for row in self.entering if row.key[:2] == key[:2] and row.key in book.rows), None)
-
-    def where_else(self):
-        """Where a name may stand that is not there, as the end of a sentence; or nothing."""
-        named = listed(self.unread, "and")
-        return f", and {named} cannot be read; it may stand there" if named else ""
-
-    def parameters_bound(self, line):
-        """The parameters of a line that refused rows would have bound."""
-        return [key[2] for key in self.rows if key[0] == "bind" and key[1:2] == (line,) and len(key) > 2]
-
-
 class Applied:
     """The book after a file's rows. Between two tries of one file it changes by the rows that changed."""
 
-    def __init__(self, book):
-        self.book, self.rows, self.after, self.repeated = book, [], None, set()
+    def __init__(self, book: Book) -> None:
+        self.book, self.after = book, book
+        self.rows: list[Row] = []
+        self.repeated: set[Key] = set()
 
-    def book_after(self, rows):
+    def book_after(self, rows: list[Row]) -> Book:
         """The book after these rows of the file."""
         changed = [(old, new) for old, new in zip(self.rows, rows) if old is not new]
         kept = self.rows and rows[0] is self.rows[0] and len(self.rows) <= len(rows)
@@ -106,39 +55,42 @@ class Applied:
 class Check:
     """The check of a workbook's files, in their order, in one session of the program."""
 
-    def __init__(self, program, sheets):
+    def __init__(self, program: Program, sheets: list[Sheet]) -> None:
         self.program, self.sheets = program, sheets
         self.book, self.refused, self.ahead = Book(), Refused(), Ahead(sheets)
         self.applied = Applied(self.book)
-        self.faults, self.left, self.lost, self.cures = [], [], [], Cures()
-        self.clean = {}
+        self.faults: list[Fault] = []
+        self.left: list[Sheet] = []
+        self.lost: list[Row] = []
+        self.cures = Cures()
+        self.clean: dict[int, Row] = {}
 
-    def run(self, before=lambda sheet: None):
+    def run(self, before: Callable[[Sheet], None] = lambda sheet: None) -> None:
         """Checks all files. Something may be done before each."""
         for sheet in self.sheets:
             before(sheet)
             self.ahead.next_file()
             self.add(sheet)
 
-    def add(self, sheet):
+    def add(self, sheet: Sheet) -> None:
         """Checks the next file."""
         faults, rows = headers.close_quotes(sheet)
         self.faults += faults
         for fault in faults:
             self.cures.add_of_file(fault)
-        reply = self.program.submit(lines_of(rows) if faults else sheet.data)
-        reply, rows = self.behind_header(sheet, rows, reply)
-        sheet.meant = rows or sheet.rows
+        first = self.program.submit(lines_of(rows) if faults else sheet.data)
+        reply, left = self.behind_header(sheet, rows, first)
+        sheet.meant = left or sheet.rows
         if reply and reply.rule == 9 and self.is_copy(sheet):
             return
         tries = 0
-        while reply and not reply.accepted:
+        while left and reply and not reply.accepted:
             tries += 1
-            rows = self.changed(sheet, rows, reply) if tries <= 10 * len(rows) + 100 else None
-            reply = self.program.submit(lines_of(rows)) if rows else None
-        self.take(sheet, rows if reply else None)
+            left = self.changed(sheet, left, reply) if tries <= 10 * len(left) + 100 else None
+            reply = self.program.submit(lines_of(left)) if left else None
+        self.take(sheet, left if reply else None)
 
-    def is_copy(self, sheet):
+    def is_copy(self, sheet: Sheet) -> bool:
         """Tells whether all rows of a file are those of one before it. That is one fault."""
         rows = [row.fields[:-1] for row in sheet.meant[1:]]
         before = itertools.takewhile(lambda other: other is not sheet, self.sheets)
@@ -149,24 +101,26 @@ class Check:
             self.faults.append(Fault(sheet, 1, "", None, f"{cause}; take one of the two files out"))
         return twin is not None
 
-    def behind_header(self, sheet, rows, reply):
+    def behind_header(self, sheet: Sheet, rows: list[Row],
+                      reply: Reply) -> tuple[Reply | None, list[Row] | None]:
         """The reply to a file without what is wrong with its header, and its rows. A cause that comes once
         more is none that helps.
         """
-        found = set()
+        found: set[str] = set()
         while reply.rule == 4 and reply.row == 0:
-            fault, rows = headers.explain(sheet, rows)
+            fault, left = headers.explain(sheet, rows)
             if fault.cause in found or len(found) == headers.MOST_FAULTS:
                 return None, None
             found.add(fault.cause)
             self.faults.append(fault)
             self.cures.add_of_file(fault)
-            if not rows:
+            if not left:
                 return None, None
+            rows = left
             reply = self.program.submit(lines_of(rows))
         return reply, rows
 
-    def take(self, sheet, rows):
+    def take(self, sheet: Sheet, rows: list[Row] | None) -> None:
         """Keeps the rows of an accepted file, or marks those of one that no change helps."""
         if rows is None:
             self.left.append(sheet)
@@ -178,7 +132,7 @@ class Check:
             self.book.apply(row)
         self.lost = [row for row in self.lost if not self.is_entered_twice(row)]
 
-    def is_entered_twice(self, lost):
+    def is_entered_twice(self, lost: Row) -> bool:
         """Tells whether the record of a row that was taken out is entered once more. That is a fault of the
         row that comes later.
         """
@@ -192,10 +146,10 @@ class Check:
         book = Book()
         book.apply(first)
         fault, _ = self.explainer(book).exists(later)
-        self.faults.append(fault)
+        self.faults += [fault] if fault else []
         return True
 
-    def changed(self, sheet, rows, reply):
+    def changed(self, sheet: Sheet, rows: list[Row], reply: Reply) -> list[Row] | None:
         """A file's rows without the fault of a reply, which is recorded, or None where nothing helps."""
         if reply.rule in OF_A_ROW and reply.row and reply.row < len(rows):
             return self.swept(rows, reply)
@@ -207,7 +161,7 @@ class Check:
             self.faults.append(fault or Fault(sheet, 1, "", None, f"the program answers: {reply.text}"))
         return changed
 
-    def of_the_whole(self, sheet, rows, reply):
+    def of_the_whole(self, sheet: Sheet, rows: list[Row], reply: Reply) -> Rewritten:
         """The fault of a refusal that names no row, and the rows to go on with."""
         if reply.rule == 3:
             cause = f"{len(sheet.data):,} bytes where {limit('body')} are the most; split the file"
@@ -217,14 +171,14 @@ class Check:
         words = reply.rest.split()
         if reply.rule == 11:
             return limit_faults.too_many(words[0], sheet, rows)
-        after = bindings.After(self.applied.book_after(rows), rows, self.refused, self.ahead)
+        after = After(self.applied.book_after(rows), rows, self.refused, self.ahead)
         if reply.rule == 10:
-            return bindings.explain(*words, after)
+            return bindings.explain(words[0], words[1], after)
         if reply.rule == 12:
             return limit_faults.ring(words[0], after)
         return limit_faults.overflow(words[0], sheet, after)
 
-    def swept(self, rows, reply):
+    def swept(self, rows: list[Row], reply: Reply) -> list[Row]:
         """The rows without those that break a rule by themselves: the one that the reply names, and those
         that follow.
         """
@@ -236,18 +190,18 @@ class Check:
         explainer.book = self.book_behind(front[1:])
         return front + self.beside(front, rows, explainer)
 
-    def explainer(self, book):
+    def explainer(self, book: Book) -> Explainer:
         """Explains the refusals of rows beside what is in force."""
         return Explainer(self.takes, book, self.refused, self.ahead)
 
-    def book_behind(self, rows):
+    def book_behind(self, rows: list[Row]) -> Book:
         """The book with rows of the file at hand."""
         book = self.book.copy()
         for row in rows:
             book.apply(row)
         return book
 
-    def alone(self, rows, reply, explainer):
+    def alone(self, rows: list[Row], reply: Reply, explainer: Explainer) -> list[Row]:
         """The rows without what they break of rules 4 to 7.
 
         Each but the first, whose reply is known, is asked for by itself.
@@ -258,39 +212,42 @@ class Check:
         kept = []
         for row in rows:
             answer = replies.get(id(row))
-            row = self.settled(row, answer, explainer) if answer and answer.rule in OF_THE_ROW_ALONE else row
-            if row is not None:
-                kept.append(row)
-                explainer.book.apply(row)
+            is_refused = answer is not None and answer.rule in OF_THE_ROW_ALONE
+            left = self.settled(row, answer, explainer) if answer and is_refused else row
+            if left is not None:
+                kept.append(left)
+                explainer.book.apply(left)
         self.clean.update((id(row), row) for row in kept)
         return kept
 
-    def beside(self, front, rows, explainer):
+    def beside(self, front: list[Row], rows: list[Row], explainer: Explainer) -> list[Row]:
         """The rows behind others without what they break of rules 8 and 9, for which rows of one record alone
         count.
 
         In each round a row of each record is asked for, behind the rows of the record that stand before it in
         the file.
         """
-        before, waiting, kept = {}, {}, {}
+        before: dict[Key, list[Row]] = {}
+        waiting: dict[Key, list[tuple[int, Row]]] = {}
+        kept: dict[int, Row] = {}
         for row in front[1:]:
             before.setdefault(row.key[:2], []).append(row)
         for place, row in enumerate(rows):
             waiting.setdefault(row.key[:2], []).append((place, row))
         while waiting:
-            asked = [(record, *left.pop(0)) for record, left in waiting.items()]
+            asked = [(record, *rest.pop(0)) for record, rest in waiting.items()]
             in_front = [before.get(record, []) for record, _, _ in asked]
             replies = self.probe([row for _, _, row in asked], in_front)
             for (record, place, row), reply in zip(asked, replies):
-                row = self.settled(row, reply, explainer) if reply.rule in (8, 9) else row
-                if row is not None:
-                    kept[place] = row
-                    explainer.book.apply(row)
-                    before.setdefault(record, []).append(row)
-            waiting = {record: left for record, left in waiting.items() if left}
+                left = self.settled(row, reply, explainer) if reply.rule in (8, 9) else row
+                if left is not None:
+                    kept[place] = left
+                    explainer.book.apply(left)
+                    before.setdefault(record, []).append(left)
+            waiting = {record: rest for record, rest in waiting.items() if rest}
         return [kept[place] for place in sorted(kept)]
 
-    def settled(self, row, reply, explainer, lost=False):
+    def settled(self, row: Row, reply: Reply, explainer: Explainer, lost: bool = False) -> Row | None:
         """A row without its faults, which are recorded, or None where it is taken out.
 
         One that is lost is looked at for its further faults alone, with another word in place of one of its
@@ -313,7 +270,7 @@ class Check:
             return None
         return self.without_faults(changed, explainer, lost)
 
-    def look_at_rest(self, stand_in, column, explainer):
+    def look_at_rest(self, stand_in: Row | None, column: str | None, explainer: Explainer) -> None:
         """Looks for further faults of a row with a word in place of one in a column. What it enters is kept,
         where that word does not name it.
         """
@@ -323,12 +280,12 @@ class Check:
         if row is not None and column not in ["act", "kind", *COLUMNS_OF_KEY.get(row.field("kind"), [])]:
             self.lost.append(row)
 
-    def without_faults(self, row, explainer, lost):
+    def without_faults(self, row: Row, explainer: Explainer, lost: bool) -> Row | None:
         """A changed row without what it still breaks by itself, or None where it is taken out."""
         reply = self.probe([row])[0]
         return self.settled(row, reply, explainer, lost) if reply.rule in OF_THE_ROW_ALONE else row
 
-    def takes(self, row, column):
+    def takes(self, row: Row, column: str | None) -> bool:
         """Asks the program whether it takes what stands in a column of a row, or where none is named, in
         all of them.
         """
@@ -337,7 +294,7 @@ class Check:
             return reply.rule not in OF_THE_ROW_ALONE
         return reply.rule != 4 and not (reply.rule in (5, 6) and reply.column == column)
 
-    def probe(self, rows, before=None):
+    def probe(self, rows: list[Row], before: list[list[Row]] | None = None) -> list[Reply]:
         """What the program answers to each row, behind other rows if need be.
 
         None of these bodies is accepted.
@@ -352,12 +309,12 @@ class Check:
         return replies
 
 
-def lines_of(rows):
+def lines_of(rows: list[Row]) -> bytes:
     """Rows as the lines of a body."""
     return b"".join(row.raw + b"\n" for row in rows)
 
 
-def summary(faults, warnings, sheets):
+def summary(faults: list[Fault], warnings: list[Fault], sheets: list[Sheet]) -> str:
     """The last line of a check."""
     followed = sum(1 for fault in faults if fault.follows)
     found = f"{counted(len(sheets), 'file')}: {counted(len(faults), 'fault')}"

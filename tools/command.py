@@ -1,10 +1,13 @@
 """The command line of `./workbook`."""
 import argparse
+import io
 import os
 import pathlib
 import re
 import sys
 import traceback
+import typing
+from collections.abc import Callable, Iterable
 
 from tools import as_json, check, compare, complete, completion, from_sheets, gathered, import_sheet
 from tools import mending, missing, new_folder, report, send, service_notices, tables, template, trace
@@ -12,7 +15,8 @@ from tools import vocabulary, wordlist
 from tools.faults import in_order
 from tools.progress import Progress
 from tools.program import Program, ProgramFailed, found_program
-from tools.sheets import FolderFault, read_folders
+from tools.service import Service
+from tools.sheets import FolderFault, Sheet, read_folders
 from tools.sources import FOLDER, add_sources, service_of, sheets_of
 from tools.given_away import warnings_of
 from tools.notices import warn_left
@@ -25,13 +29,20 @@ STATES = (
 QUIET = "say nothing of progress, nor of files that are accepted"
 PROGRAM = "the built program; else GHG_PROGRAM of the environment, else ./ghg, which builds it"
 
+# What commands are added to; what carries one out and answers the status: on its words alone, on a program
+# and files, or on a service.
+Commands: typing.TypeAlias = "argparse._SubParsersAction[CommandParser]"
+Function = Callable[[argparse.Namespace], int]
+OnProgram = Callable[[Program, list[Sheet], argparse.Namespace], int]
+OnService = Callable[[Service, argparse.Namespace], int]
+
 
 class CommandParser(argparse.ArgumentParser):
     """The reader of the words of a command, which takes options between its other words too."""
 
     is_reading = False
 
-    def parse_known_args(self, args=None, namespace=None):
+    def parse_known_args(self, args: typing.Any = None, namespace: typing.Any = None) -> typing.Any:
         """Reads the words. The reader of words with options between them calls this in turn."""
         if self.is_reading:
             return super().parse_known_args(args, namespace)
@@ -42,7 +53,7 @@ class CommandParser(argparse.ArgumentParser):
             self.is_reading = False
 
 
-def parser():
+def parser() -> argparse.ArgumentParser:
     """The reader of the words behind `./workbook`."""
     top = argparse.ArgumentParser(
         prog="./workbook",
@@ -57,7 +68,8 @@ def parser():
     return top
 
 
-def command(commands, name, what, example, function):
+def command(commands: Commands, name: str, what: str, example: str,
+            function: Function) -> argparse.ArgumentParser:
     """A command by its name, with what it does, an example, and the function that carries it out."""
     said = f"{what[0].upper()}{what[1:]}."
     shown = f"Example: ./workbook {name} {example}"
@@ -66,7 +78,8 @@ def command(commands, name, what, example, function):
     return made
 
 
-def over_folders(commands, name, what, example, function):
+def over_folders(commands: Commands, name: str, what: str, example: str,
+                 function: Function) -> argparse.ArgumentParser:
     """A command over folders of CSV files, which the program judges."""
     made = command(commands, name, what, example, function)
     made.add_argument("folders", nargs="+", metavar="FOLDER", help=FOLDER)
@@ -75,7 +88,8 @@ def over_folders(commands, name, what, example, function):
     return made
 
 
-def over_sources(commands, name, what, example, function):
+def over_sources(commands: Commands, name: str, what: str, example: str,
+                 function: Function) -> argparse.ArgumentParser:
     """A command over folders, a store or a service."""
     made = command(commands, name, what, example, function)
     add_sources(made)
@@ -84,7 +98,7 @@ def over_sources(commands, name, what, example, function):
     return made
 
 
-def add_check(commands):
+def add_check(commands: Commands) -> None:
     """Adds the command `check`."""
     what = "find every fault of every file in one run, and tell its cause"
     made = over_sources(commands, "check", what, "examples/power-plants", run_check)
@@ -95,7 +109,7 @@ def add_check(commands):
     made.add_argument("--mend", metavar="OUT", help=out)
 
 
-def add_tables(commands):
+def add_tables(commands: Commands) -> None:
     """Adds the command `tables`."""
     what = "compile the files and write the tables of years as CSV files"
     example = "examples/fuel-combustion 2010-2020 -o out"
@@ -106,11 +120,11 @@ def add_tables(commands):
     made.add_argument("-o", "--output", metavar="OUT", help=where)
     one = f"one table only, of {', '.join(vocabulary.words()['tables'])}; may be given again"
     table = made.add_argument("--table", action="append", metavar="TABLE", help=one)
-    table.completes = vocabulary.words()["tables"]
+    completion.complete(table, vocabulary.words()["tables"])
     made.add_argument("--partial", action="store_true", help="write the tables also where a file is refused")
 
 
-def read_year(text):
+def read_year(text: str) -> int:
     """The year of tables, which stands behind the folders."""
     if not re.fullmatch("[0-9]{4}", text):
         due = "behind the folders stands a year of four digits"
@@ -118,19 +132,19 @@ def read_year(text):
     return int(text)
 
 
-def years_of(text):
+def years_of(text: str) -> list[int] | None:
     """The years that a word names, as 2020 or 2000-2011; or None."""
     found = re.fullmatch("([0-9]{4})(?:-([0-9]{4}))?", text)
     first, last = (found.group(1), found.group(2) or found.group(1)) if found else ("1", "0")
     return list(range(int(first), int(last) + 1)) or None
 
 
-def read_years(text):
+def read_years(text: str) -> list[int]:
     """Years of tables, which stand behind the folders."""
     return years_of(text) or [read_year(text)]
 
 
-def add_complete(commands):
+def add_complete(commands: Commands) -> None:
     """Adds the command `complete`."""
     what = "show for each category and gas which years are estimated, and list gaps"
     run = of_sources(complete.run, complete.run_of_service)
@@ -141,7 +155,7 @@ def add_complete(commands):
     form.add_argument("--json", action="store_true", help="print JSON")
 
 
-def add_trace(commands):
+def add_trace(commands: Commands) -> None:
     """Adds the command `trace`."""
     what = "show what a line or a total of a year comes of, down to the rows"
     example = "examples/fuel-combustion 2020 POWER.COAL"
@@ -152,7 +166,7 @@ def add_trace(commands):
     made.add_argument("--json", action="store_true", help="print JSON")
 
 
-def add_compare(commands):
+def add_compare(commands: Commands) -> None:
     """Adds the command `compare`."""
     what = "show what differs between two states of an inventory, and the rows that made it so"
     made = command(commands, "compare", what, "submitted-2023 -- submitted-2024 2020", run_compare)
@@ -161,12 +175,12 @@ def add_compare(commands):
     made.add_argument("--quiet", action="store_true", help=QUIET)
 
 
-def run_compare(arguments):
+def run_compare(arguments: argparse.Namespace) -> int:
     """Compares two states, and answers the status."""
     return compare.run(found_program(arguments.program), arguments)
 
 
-def add_report(commands):
+def add_report(commands: Commands) -> None:
     """Adds the command `report`."""
     what = "write one page with all tables of a year, their trends, pictures, and what figures come of"
     made = command(commands, "report", what, "examples/fuel-combustion 2020 -o report.html", run_report)
@@ -174,29 +188,29 @@ def add_report(commands):
     made.add_argument("--program", metavar="PATH", help=PROGRAM)
 
 
-def run_report(arguments):
+def run_report(arguments: argparse.Namespace) -> int:
     """Writes a report, and answers the status."""
     return report.run(found_program(arguments.program), arguments.words, arguments.output)
 
 
-def add_words(commands):
+def add_words(commands: Commands) -> None:
     """Adds the command `words`."""
     what = "search units, categories, equations and parameters by any word of their names"
     made = command(commands, "words", what, "equations nitric", run_words)
     words = f"optionally one of {', '.join(wordlist.PARTS)}; then words that all have to be found"
-    made.add_argument("words", nargs="*", metavar="WORD", help=words).completes = wordlist.PARTS
+    completion.complete(made.add_argument("words", nargs="*", metavar="WORD", help=words), wordlist.PARTS)
     file = "make a file .xlsx with empty sheets of rows and lists to choose words from"
     made.add_argument("--template", metavar="FILE", type=xlsx_path, help=file)
 
 
-def xlsx_path(text):
+def xlsx_path(text: str) -> pathlib.Path:
     """The path of a file of a spreadsheet to write."""
     if not text.lower().endswith(".xlsx"):
         raise argparse.ArgumentTypeError(f"{text} does not end with .xlsx")
     return pathlib.Path(text)
 
 
-def add_from_sheets(commands):
+def add_from_sheets(commands: Commands) -> None:
     """Adds the command `from-sheets`."""
     what = "write each sheet of rows of a spreadsheet as a CSV file of a folder"
     made = command(commands, "from-sheets", what, "inventory.xlsx -o inventory", from_sheets.run)
@@ -205,7 +219,7 @@ def add_from_sheets(commands):
     made.add_argument("-o", "--output", metavar="FOLDER", required=True, help=where)
 
 
-def add_import(commands):
+def add_import(commands: Commands) -> None:
     """Adds the command `import`."""
     what = "make rows of a sheet with a column or a row for each year"
     made = command(commands, "import", what, "fuels.xlsx -o 3-fuels.csv", run_import)
@@ -215,7 +229,7 @@ def add_import(commands):
     made.add_argument("--program", metavar="PATH", help=PROGRAM)
 
 
-def add_send(commands):
+def add_send(commands: Commands) -> None:
     """Adds the command `send`."""
     what = "submit the files in their order to a running service; a file that is sent again acts once"
     example = "examples/fuel-combustion --url http://127.0.0.1:8000"
@@ -223,13 +237,13 @@ def add_send(commands):
     made.add_argument("--url", metavar="URL", required=True, help="the running service")
 
 
-def run_import(arguments):
+def run_import(arguments: argparse.Namespace) -> int:
     """Makes rows of a sheet, and answers the status."""
     with Program(found_program(arguments.program)) as program:
         return import_sheet.run(program, arguments)
 
 
-def add_new(commands):
+def add_new(commands: Commands) -> None:
     """Adds the command `new`."""
     what = "begin a folder: years, potentials, lines of tier 1, and an empty row for each figure"
     example = "inventory --first 1990 --last 2022 --categories 1A1a:NATURAL.GAS,LIGNITE 2A1 3A1:DAIRY,SHEEP"
@@ -239,17 +253,17 @@ def add_new(commands):
     made.add_argument("--last", type=year_of_span, required=True, metavar="YEAR", help="the last year")
     codes = "codes of categories, each with the fuels, species or kinds that it is a sum over after a colon"
     chosen = made.add_argument("--categories", nargs="+", required=True, metavar="CODE[:NAME,..]", help=codes)
-    chosen.completes = list(vocabulary.categories())
+    completion.complete(chosen, list(vocabulary.categories()))
 
 
-def year_of_span(text):
+def year_of_span(text: str) -> int:
     """The first or the last year of a span."""
     if not re.fullmatch("[0-9]{4}", text):
         raise argparse.ArgumentTypeError(f"{text} is no year of four digits")
     return int(text)
 
 
-def add_completion(commands):
+def add_completion(commands: Commands) -> None:
     """Adds the command `completion`."""
     what = "print the script by which a shell completes these commands"
     example = "bash > ~/.workbook-completion, and in ~/.bashrc: source ~/.workbook-completion"
@@ -257,13 +271,13 @@ def add_completion(commands):
     made.add_argument("shell", choices=completion.SHELLS, help="the shell")
 
 
-def run_completion(arguments):
+def run_completion(arguments: argparse.Namespace) -> int:
     """Prints the script of a shell, and answers the status."""
     print(completion.script(arguments.shell, parser()), end="")
     return 0
 
 
-def run_check(arguments):
+def run_check(arguments: argparse.Namespace) -> int:
     """Prints every fault and every warning, then a summary, and answers the status."""
     service = service_of(arguments)
     if service:
@@ -282,14 +296,17 @@ def run_check(arguments):
         print(as_json.checked([sheet.name for sheet in sheets], faults, warnings, left))
         return 1 if faults else 0
     others = warn_left(left)
-    print_all([*faults, *(warnings if arguments.all else gathered.gathered(warnings)), *others, *largest])
+    print_all(faults)
+    print_all(warnings if arguments.all else gathered.gathered(warnings))
+    print_all(others)
+    print_all(largest)
     if arguments.mend:
         print_all(mending.write(arguments.mend, arguments.folders, sheets, checked.faults, checked.cures))
     print(check.summary(checked.faults, [*warnings, *others], sheets) + missing.progress(faults, sheets))
     return 1 if faults else 0
 
 
-def checked_of(program, sheets, quiet):
+def checked_of(program: Program, sheets: list[Sheet], quiet: bool) -> check.Check:
     """The check of all files. If the program fails, the faults up to there are printed."""
     checked, progress = check.Check(program, sheets), Progress(sheets, quiet)
     try:
@@ -302,24 +319,24 @@ def checked_of(program, sheets, quiet):
     return checked
 
 
-def print_all(lines):
+def print_all(lines: Iterable[object]) -> None:
     """Prints texts or faults, one on a line."""
     for line in lines:
         print(line)
 
 
-def compiled(run):
+def compiled(run: OnProgram) -> Function:
     """The function of a command that works on what the program makes of the files."""
-    def function(arguments):
+    def function(arguments: argparse.Namespace) -> int:
         sheets, _ = read_folders(arguments.folders)
         with Program(found_program(arguments.program)) as program:
             return run(program, sheets, arguments)
     return function
 
 
-def of_sources(run, run_of_service):
+def of_sources(run: OnProgram, run_of_service: OnService) -> Function:
     """The function of a command that works on what the program makes of files, or on what a service has."""
-    def function(arguments):
+    def function(arguments: argparse.Namespace) -> int:
         service = service_of(arguments)
         if service:
             return run_of_service(service, arguments)
@@ -329,7 +346,7 @@ def of_sources(run, run_of_service):
     return function
 
 
-def run_tables(arguments):
+def run_tables(arguments: argparse.Namespace) -> int:
     """Writes the tables of years. Of the words behind the folders, all are years that can be."""
     folders, years = arguments.folders, arguments.years
     while folders and years_of(folders[-1]) and not os.path.isdir(folders[-1]):
@@ -338,14 +355,14 @@ def run_tables(arguments):
     return of_sources(tables.run, tables.run_of_service)(arguments)
 
 
-def run_words(arguments):
+def run_words(arguments: argparse.Namespace) -> int:
     """Searches the vocabulary, and answers the status."""
     if arguments.template:
         return template.run(arguments.template)
     return wordlist.run(arguments.words)
 
 
-def said_of_own(error):
+def said_of_own(error: Exception) -> str:
     """A fault of the tools themselves as a sentence, with its place in them."""
     place = traceback.extract_tb(error.__traceback__)[-1]
     where = f"{os.path.basename(place.filename)}:{place.lineno}"
@@ -353,13 +370,14 @@ def said_of_own(error):
     return f"a fault of the tools themselves, and none of your files: {what} at {where}"
 
 
-def main(words):
+def main(words: list[str]) -> int:
     """Carries out the command that words name, and answers the status. What goes wrong is one line."""
     for stream in (sys.stdout, sys.stderr):
-        stream.reconfigure(encoding="utf-8", errors="backslashreplace")
+        if isinstance(stream, io.TextIOWrapper):
+            stream.reconfigure(encoding="utf-8", errors="backslashreplace")
     arguments = parser().parse_args(compare.words_of(words))
     try:
-        status = arguments.function(arguments)
+        status: int = arguments.function(arguments)
         sys.stdout.flush()
         return status
     except BrokenPipeError:

@@ -14,11 +14,11 @@ from collections.abc import Iterator
 from typing import Any
 
 from tools.book import KIND_TAKEN, Book, book_of
-from tools.complete import States
+from tools.complete import Taking
 from tools.faults import years_said
 from tools.printed import Printed, by_size, difference, figure, percent
 from tools.program import Program
-from tools.sheets import FolderFault, Sheet, read_folders
+from tools.sheets import FolderFault, Key, Row, Sheet, read_folders
 from tools.store import submissions
 from tools.tables import say_lacking, submit_all
 from tools.trace import said_of_category, said_of_note
@@ -28,7 +28,6 @@ BETWEEN, FOR_BETWEEN = "--", "\0"
 # The code of the national total, and what is printed of a figure that one of the states has not.
 NATIONAL = "0"
 NONE = "-"
-Key = tuple[str, ...]
 # What files come from, and the files.
 Files = tuple[list[str], list[Sheet]]
 # The columns that hold what a row sets, by its kind, and the kinds with figures.
@@ -43,18 +42,17 @@ class State:
     folders: list[str]
     sheets: list[Sheet]
     accepted: list[Sheet]
-    book: Any
+    book: Book
     printed: Printed
 
 
-class Changed(States):
+class Changed:
     """The changed records among all that a line takes in a year, over the lines that it takes."""
 
     def __init__(self, book: Book, changed: set[Key]) -> None:
-        super().__init__(book, {})
-        self.changed = changed
+        self.book, self.changed, self.taking = book, changed, Taking(book, self.of_record)
 
-    def of_record(self, bound: Any, year: int) -> set[Key]:
+    def of_record(self, bound: Row, year: int) -> set[Key]:
         """The changed records among a binding, its line, and what it takes."""
         keys: set[Key] = {bound.key, ("line", bound.field("subject"))}
         if bound.field("value") == "prev":
@@ -67,17 +65,17 @@ class Changed(States):
     def key_of(self, kind: str, name: str, year: int) -> Key:
         """The key of the record in force, or the one that is missing."""
         row = self.book.in_force(kind, name, year)
-        return tuple(row.key) if row else (kind, name, str(year))
+        return row.key if row else (kind, name, str(year))
 
     def of_line(self, name: str, gas: str, year: int) -> set[Key]:
         """The changed records that the equivalent of a line takes."""
         if name not in self.book.lines:
             return set()
         potential = {self.key_of("factor", f"GWP.{gas}", year)} & self.changed
-        return set(self.taken(name, year)) | potential
+        return self.taking.by(name, year) | potential
 
 
-def sets(row: Any) -> list[str]:
+def sets(row: Row) -> list[str]:
     """What a row sets, its figures without idle zeros, and its bounds also where they are the value."""
     kind = row.field("kind")
     fields = [row.field(column) for column in SETS.get(kind, [])]
@@ -242,9 +240,9 @@ def state_of(program: Any, files: Files, is_quiet: bool) -> State:
 def years_of(states: tuple[State, State], asked: list[int]) -> list[int]:
     """The years to compare: those that were asked for, or else all that both states have."""
     both = range(0)
-    spans = [state.book.span for state in states]
-    if None not in spans:
-        both = range(max(span[0] for span in spans), min(span[1] for span in spans) + 1)
+    spans = [state.book.span for state in states if state.book.span]
+    if len(spans) == len(states):
+        both = range(max(first for first, _ in spans), min(last for _, last in spans) + 1)
     lacking = [year for year in asked if year not in both]
     if lacking or not both:
         said = years_said(lacking) if lacking else "year"

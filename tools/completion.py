@@ -35,6 +35,11 @@ def commands_of(parser: argparse.ArgumentParser) -> dict[str, argparse.ArgumentP
     return dict(made.choices)
 
 
+def complete(action: argparse.Action, words: list[str]) -> None:
+    """Says which words may stand for an argument that has no choices of its own."""
+    vars(action)["completes"] = words
+
+
 def words_of(action: argparse.Action) -> list[str]:
     """The words that may stand for an argument, or nothing if any may."""
     return [str(word) for word in getattr(action, "completes", None) or action.choices or []]

@@ -138,9 +138,9 @@ def gaps_of_withdrawals(cycle: Cycle) -> list[Fault]:
     taken = cycle.book.taken()
     found = []
     for key, row in cycle.book.withdrawn.items():
-        bound = taken.get(key[:2])
         if key[0] != "activity" or key in cycle.book.rows:
             continue
+        bound = taken.get((key[0], key[1]))
         if bound and int(key[2]) in cycle.results.years:
             lines = listed(sorted({other.field("subject") for other in bound})[:FIGURES_SHOWN], "and")
             said = f"after this withdrawal activity {key[1]} has no record of {key[2]}"
@@ -153,7 +153,7 @@ def year_behind_the_span(cycle: Cycle) -> list[Fault]:
     span = cycle.book.rows.get(("span",))
     if span is None:
         return []
-    first, last = cycle.book.span
+    first, last = cycle.book.known_span()
     rows = new_years(cycle.book)
     if not rows:
         return []
@@ -167,7 +167,7 @@ def year_behind_the_span(cycle: Cycle) -> list[Fault]:
 
 def new_years(book: Book) -> list[Row]:
     """The activities of the years behind the span, that have the last year of it too and that lines take."""
-    last, taken = book.span[1], book.taken()
+    last, taken = book.known_span()[1], book.taken()
     named = [years for name, years in book.years["activity"].items() if ("activity", name) in taken]
     return [row for years in named if last in years for year, row in years.items() if year > last]
 

@@ -7,9 +7,10 @@ import itertools
 from tools import units, vocabulary
 from tools.ahead import is_below, said_of_later
 from tools.asking import article, is_total, line_above
-from tools.faults import at_row, shown, years_said
+from tools.faults import Explained, at_row, shown, years_said
 from tools.number_faults import NumberFaults, year_between
-from tools.sheets import COLUMNS, Row, joined
+from tools.program import Reply
+from tools.sheets import COLUMNS, Key, Row, joined
 from tools.shifts import Shifts
 from tools.vocabulary import listed, nearest
 from tools.word_faults import WordFaults
@@ -18,16 +19,16 @@ from tools.word_faults import WordFaults
 class Explainer(WordFaults, NumberFaults, Shifts):
     """Explains refusals of rows."""
 
-    def explain(self, row, reply):
+    def explain(self, row: Row, reply: Reply) -> Explained:
         """The fault, and the row to go on with where the writer can have meant nothing else."""
         if reply.rule == 4:
             return self.shape(row)
         if reply.rule == 5:
             moved = self.blanks(row) or self.shifted(row) or self.astray(row) or self.swapped(row)
-            return moved or self.rest_of_another_kind(row) or self.word(row, reply.column)
+            return moved or self.rest_of_another_kind(row) or self.word(row, reply.column or "")
         if reply.rule == 6:
             moved = self.blanks(row) or self.shifted(row) or self.swapped(row)
-            return moved or self.rest_of_another_kind(row) or self.number(row, reply.column)
+            return moved or self.rest_of_another_kind(row) or self.number(row, reply.column or "")
         if reply.rule == 7:
             return self.disorder(row)
         if reply.rule == 8:
@@ -36,7 +37,7 @@ class Explainer(WordFaults, NumberFaults, Shifts):
 
     # Rule 4
 
-    def shape(self, row):
+    def shape(self, row: Row) -> Explained:
         """Too many fields or too few. The row goes on with ten where the program takes them."""
         if any(0xDC80 <= ord(letter) <= 0xDCFF for field in row.fields for letter in field):
             return self.not_utf8(row)
@@ -67,7 +68,7 @@ class Explainer(WordFaults, NumberFaults, Shifts):
         noted = fields[:9] + [",".join(fields[9:])]
         return at_row(row, cause), self.of_ten(row, noted) or (of_rest(row, noted) if fields[8] else None)
 
-    def of_other_marks(self, row, cause):
+    def of_other_marks(self, row: Row, cause: str) -> Explained | None:
         """Semicolons or tabs between the fields, or None. A comma behind them is one of a number."""
         text = row.raw.decode("utf-8", "replace")
         for mark, marks in ((";", "semicolons"), ("\t", "tabs")):
@@ -80,7 +81,7 @@ class Explainer(WordFaults, NumberFaults, Shifts):
                 return fault, changed or of_rest(row, fields)
         return None
 
-    def comma_within(self, row, cause):
+    def comma_within(self, row: Row, cause: str) -> Explained | None:
         """One comma too many within a row of eleven fields, where the program takes it without that one and
         not without the last; or None.
         """
@@ -94,7 +95,7 @@ class Explainer(WordFaults, NumberFaults, Shifts):
                 return at_row(row, f"{cause}; take out a comma in front of {shown(behind)}"), changed
         return None
 
-    def too_few(self, row, cause):
+    def too_few(self, row: Row, cause: str) -> Explained:
         """Less than ten fields. Empty ones are put in at the end, else where the program takes them."""
         fields, empty = row.fields, [""] * (10 - len(row.fields))
         for at in range(len(fields), 1, -1):
@@ -104,12 +105,12 @@ class Explainer(WordFaults, NumberFaults, Shifts):
                 return at_row(row, f"{cause}{write}"), changed
         return at_row(row, cause), of_rest(row, fields + empty)
 
-    def of_ten(self, row, fields):
+    def of_ten(self, row: Row, fields: list[str]) -> Row | None:
         """The row with other fields, where the program takes it."""
         changed = Row(row.sheet, row.line, joined(fields))
         return changed if self.takes(changed, None) else None
 
-    def blanks(self, row):
+    def blanks(self, row: Row) -> Explained | None:
         """The fault of a row with a blank at the end of most of its fields, and the row without them, where
         the program takes it so; or None.
         """
@@ -118,7 +119,7 @@ class Explainer(WordFaults, NumberFaults, Shifts):
         changed = self.of_ten(row, bare) if len(bare) == len(COLUMNS) and 2 * odd > len(COLUMNS) else None
         return (at_row(row, "blanks around the fields; take them out"), changed) if changed else None
 
-    def not_utf8(self, row):
+    def not_utf8(self, row: Row) -> Explained:
         """Bytes that are no UTF-8. The row goes on as if they were Latin-1."""
         latin = row.raw.decode("cp1252", "replace")
         odd = next(letter for field in row.fields for letter in field if 0xDC80 <= ord(letter) <= 0xDCFF)
@@ -129,7 +130,7 @@ class Explainer(WordFaults, NumberFaults, Shifts):
 
     # Rules 8 and 9
 
-    def unit_of_another_dimension(self, row):
+    def unit_of_another_dimension(self, row: Row) -> Explained:
         """A unit that its record cannot have."""
         kind, name, unit = row.field("kind"), row.field("name"), row.field("unit")
         measures = vocabulary.measured_by(unit)
@@ -151,7 +152,7 @@ class Explainer(WordFaults, NumberFaults, Shifts):
             f"write the figure in {known}, or give this record another name"
         return at_row(row, cause, "unit"), self.blank_figure(row.with_fields(unit=other))
 
-    def activity_of_years(self, row):
+    def activity_of_years(self, row: Row) -> Explained:
         """An activity in the unit of half-lives, which are factors.
 
         It goes on as one where the program takes it.
@@ -160,7 +161,7 @@ class Explainer(WordFaults, NumberFaults, Shifts):
         fault = at_row(row, "a half-life is a factor and no activity", "kind", "factor")
         return fault, changed if self.takes(changed, None) else None
 
-    def exists(self, row):
+    def exists(self, row: Row) -> Explained:
         """A record that is entered already."""
         key = row.key
         entered = self.book.entered.get(key)
@@ -195,7 +196,7 @@ class Explainer(WordFaults, NumberFaults, Shifts):
             other = "give this one another name, here and in its bindings"
         return at_row(row, f"{cause}; to change it use correct, else {other}"), None
 
-    def not_dragged_on(self, row, entered, cause):
+    def not_dragged_on(self, row: Row, entered: Row | None, cause: str) -> Explained | None:
         """A second figure that one file has of a year, where the next year lacks: that is the one meant.
 
         Where another year lacks, one of the two may be of that. Else None.
@@ -211,7 +212,7 @@ class Explainer(WordFaults, NumberFaults, Shifts):
         cause += f", and no row is of {lacking[0]}; where one of the two is of {lacking[0]}, write that there"
         return at_row(row, f"{cause}, else take one of them out"), None
 
-    def year_behind(self, row):
+    def year_behind(self, row: Row) -> str | None:
         """The year that follows the row above, where that is of the same name and no year before it lacks; in
         a file that goes backwards, the one before. Else None.
         """
@@ -225,7 +226,7 @@ class Explainer(WordFaults, NumberFaults, Shifts):
         left = [int(year) for year in self.years_lacking(row)]
         return None if any((year - above[0]) * step < 0 for year in left) else str(above[0] + step)
 
-    def bound_for_another(self, row, cause):
+    def bound_for_another(self, row: Row, cause: str) -> Explained | None:
         """A binding that is entered already, of a row that is meant for the line above it, or for the one
         parameter that is left of its line and takes what it names; or None.
         """
@@ -241,7 +242,7 @@ class Explainer(WordFaults, NumberFaults, Shifts):
         cause = f"{cause}; {left[0]} has no binding"
         return at_row(row, cause, "name", left[0]), row.with_fields(name=left[0])
 
-    def absent(self, row):
+    def absent(self, row: Row) -> Explained:
         """Nothing to correct or withdraw. A correction goes on as an entry."""
         key, act = row.key, row.field("act")
         entered, gone = self.refused.that_sets(key), self.book.withdrawn.get(key)
@@ -258,9 +259,9 @@ class Explainer(WordFaults, NumberFaults, Shifts):
             instead = "use enter" if act == "correct" else "take the row out"
             cause = f"there is no {said_of_key(key)} to {act}, since {gone.place} withdraws it; {instead}"
             return at_row(row, cause), row.with_fields(act="enter") if act == "correct" else None
-        other = self.of_another_kind(row) or self.of_another_parameter(row)
-        if other:
-            return other
+        meant = self.of_another_kind(row) or self.of_another_parameter(row)
+        if meant:
+            return meant
         years = self.book.years.get(key[0], {}).get(key[1]) if len(key) > 1 else None
         there = f"; there are records of {years_said(years)}" if years else ""
         near = self.nearest_name(key)
@@ -269,16 +270,16 @@ class Explainer(WordFaults, NumberFaults, Shifts):
         changed = row.with_fields(act="enter") if act == "correct" and not near else None
         return at_row(row, f"there is no {said_of_key(key)} to {act}{instead}{there}{other}"), changed
 
-    def of_another_kind(self, row):
+    def of_another_kind(self, row: Row) -> Explained | None:
         """A change of a factor where an activity has its name and year, or the other way round; or None."""
-        kind = {"activity": "factor", "factor": "activity"}.get(row.field("kind"))
+        kind = {"activity": "factor", "factor": "activity"}.get(row.field("kind"), "")
         there = self.book.rows.get((kind, *row.key[1:]))
         if there is None:
             return None
         cause = f"{row.field('name')} is no {row.field('kind')} but {article(kind)} ({there.place})"
         return at_row(row, cause, "kind", kind), row.with_fields(kind=kind)
 
-    def of_another_parameter(self, row):
+    def of_another_parameter(self, row: Row) -> Explained | None:
         """A change of a binding that the equation of its line has not, or None."""
         line = self.book.lines.get(row.field("subject")) if row.field("kind") == "bind" else None
         known = vocabulary.parameters_of(line.field("value")) if line else {}
@@ -290,9 +291,9 @@ class Explainer(WordFaults, NumberFaults, Shifts):
             return at_row(row, cause, "name", near[0]), row.with_fields(name=near[0])
         return at_row(row, f"{cause}; take the row out", "name"), None
 
-    def nearest_name(self, key):
+    def nearest_name(self, key: Key) -> str | None:
         """The nearest name that there is, where the key's own is none."""
-        named = self.book.years.get(key[0], self.book.lines)
+        named = list(self.book.years.get(key[0], self.book.lines))
         if key[0] == "uncert":
             named = [other[1] for other in self.book.rows if other[0] == "uncert"]
         if len(key) == 1 or key[1] in named:
@@ -302,7 +303,7 @@ class Explainer(WordFaults, NumberFaults, Shifts):
         return there[0] if there else None
 
 
-def of_rest(row, fields):
+def of_rest(row: Row, fields: list[str]) -> Row | None:
     """The row with ten other fields, where it has an act and a kind, so that what else it breaks is told too;
     else None.
     """
@@ -311,7 +312,7 @@ def of_rest(row, fields):
     return Row(row.sheet, row.line, joined(fields)) if has_front else None
 
 
-def entered_behind(row, entry):
+def entered_behind(row: Row, entry: Row) -> str:
     """That the record that a row changes is entered behind it, and what to move."""
     what = said_of_key(row.key)
     if entry.sheet is not row.sheet:
@@ -319,7 +320,7 @@ def entered_behind(row, entry):
     return f"there is no {what} to {row.field('act')} yet; move it behind {entry.place}, which enters it"
 
 
-def said_of_key(key):
+def said_of_key(key: Key) -> str:
     """A record as a sentence names it."""
     if key[0] == "bind":
         return f"binding of {key[2]} of {key[1]}"

@@ -95,7 +95,7 @@ def is_told_or_measured(results: Results, line: Row, parameter: str, figure: Num
 def said_of_unusual(results: Results, line: Row, bound: Row, figure: Number, known: Usual) -> str:
     """A factor that is not usual, with what is, and what it is most likely."""
     parameter = vocabulary.parameters_of(line.field("value"))[bound.field("name")]
-    unit, given = parameter["unit"].replace("1", ""), bound.field("value")
+    unit, given = (parameter["unit"] or "").replace("1", ""), bound.field("value")
     what = f"line {bound.field('low')} gives" if given == "line" else f"{given} {bound.field('low')} is"
     row = results.record(bound, results.years[0])
     is_other = row and row.field("unit") != parameter["unit"] and row.field("value") != plain(figure)
@@ -230,7 +230,7 @@ def fitting(row: Row, times: Number) -> str | None:
     """The ratio of units of what an activity measures by which it jumps, far from all growth, or None."""
     if times < LEAST_OF_THESE:
         return None
-    words = RATIOS_OF.get(vocabulary.measured_by(row.field("unit")), ())
+    words = RATIOS_OF.get(vocabulary.measured_by(row.field("unit")) or "", ())
     return next((word for size, word, _ in RATIOS if word in words and abs(times / size - 1) < NEAR), None)
 
 

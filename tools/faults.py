@@ -2,8 +2,9 @@
 to write.
 """
 import dataclasses
-import typing
+from collections.abc import Iterable, Sequence
 
+from tools.sheets import Row, Sheet
 from tools.vocabulary import listed
 
 LONGEST = 60
@@ -15,26 +16,26 @@ class Fault:
 
     It follows from another where that one's row would have prevented it.
     """
-    sheet: typing.Any
+    sheet: Sheet
     line: int
     column: str = ""
     text: str | None = None
     cause: str = ""
     write: str | None = None
     follows: str | None = None
-    row: typing.Any = None
+    row: Row | None = None
     last_line: int | None = None
 
     @property
-    def place(self):
+    def place(self) -> str:
         """The file and the line."""
         return f"{self.sheet.name}:{self.line}"
 
-    def same_but_for_the_line(self):
+    def same_but_for_the_line(self) -> tuple[str, str | None, str, str | None, str | None]:
         """What like faults have in common."""
         return (self.column, self.text, self.cause, self.write, self.follows)
 
-    def __str__(self):
+    def __str__(self) -> str:
         until = f"-{self.last_line}" if self.last_line else ""
         where = f" {self.column}" if self.column else ""
         found = f" {shown(self.text)}" if self.text is not None else ""
@@ -43,35 +44,42 @@ class Fault:
         return f"{self.place}{until}{where}{found}: {written_out(self.cause + write)}{follows}"
 
 
-def at_row(row, cause, column="", write=None, follows=None):
+# What is told of a row that was refused, if anything, and the row to go on with.
+Explained = tuple[Fault | None, Row | None]
+# What is told of a file that was refused, if anything, and its rows to go on with.
+Rewritten = tuple[Fault | None, list[Row] | None]
+
+
+def at_row(row: Row, cause: str, column: str = "", write: str | None = None,
+           follows: str | None = None) -> Fault:
     """A fault of a row, or of a column of it."""
     text = row.field(column) if column else None
     return Fault(row.sheet, row.line, column, text, cause, write, follows, row)
 
 
-def warn(row, cause):
+def warn(row: Row, cause: str) -> Fault:
     """A warning of a row."""
     fault = at_row(row, cause)
     fault.column = "warning"
     return fault
 
 
-def warn_of(sheet, cause):
+def warn_of(sheet: Sheet, cause: str) -> Fault:
     """A warning of a whole file."""
     return Fault(sheet, 1, "warning", None, cause)
 
 
-def shown(text):
+def shown(text: str) -> str:
     """A text in quotes on one line, with what cannot be seen written out."""
     return f'"{written_out(text[:LONGEST])}{"..." if len(text) > LONGEST else ""}"'
 
 
-def written_out(text):
+def written_out(text: str) -> str:
     """A text with what cannot be seen written out."""
     return text if text.isascii() and text.isprintable() else "".join(map(seen, text))
 
 
-def seen(letter):
+def seen(letter: str) -> str:
     """A letter, or how it is written where it cannot be seen."""
     code = ord(letter)
     if 0xDC80 <= code <= 0xDCFF:
@@ -81,10 +89,10 @@ def seen(letter):
     return {"\n": "\\n", "\r": "\\r", "\t": "\\t"}.get(letter, f"<U+{code:04X}>")
 
 
-def in_order(faults, sheets):
+def in_order(faults: Iterable[Fault], sheets: Sequence[Sheet]) -> list[Fault]:
     """Faults by the order of the files and then by lines; like ones of lines in sequence are one."""
     at = {id(sheet): place for place, sheet in enumerate(sheets)}
-    found = []
+    found: list[Fault] = []
     for fault in sorted(faults, key=lambda fault: (at[id(fault.sheet)], fault.line)):
         before = found[-1] if found else None
         if before and before.sheet is fault.sheet and (before.last_line or before.line) + 1 == fault.line \
@@ -95,14 +103,14 @@ def in_order(faults, sheets):
     return found
 
 
-def counted(number, what):
+def counted(number: int, what: str) -> str:
     """A number with its noun: 1 fault, 2 faults."""
     return f"{number} {what}{'' if number == 1 else 's'}"
 
 
-def years_said(years):
+def years_said(years: Iterable[int]) -> str:
     """Years as runs: 1990 to 1995, 1997."""
-    runs = []
+    runs: list[list[int]] = []
     for year in sorted(years):
         if runs and runs[-1][1] == year - 1:
             runs[-1][1] = year

@@ -1,9 +1,12 @@
 """Warnings about figures: what the program takes, and is most likely another number or in another unit."""
 import decimal
 import re
+from collections.abc import Callable, Iterator
 
 from tools import vocabulary
-from tools.faults import counted, warn
+from tools.book import Book
+from tools.faults import Fault, counted, warn
+from tools.sheets import Row
 
 # The ratios that are no share of anything, by equation: corrections, emission factors of metals, biomass
 # below ground to that above, and scales of rice, soils and wastewater. None is near this.
@@ -17,14 +20,14 @@ MOST_OF_NO_SHARE = 10
 SIGNED = {"SC"}
 
 
-def all_of_figures(book, mismeasured):
+def all_of_figures(book: Book, mismeasured: set[tuple[str, str]]) -> list[Fault]:
     """Every warning about figures, but for those of activities and factors whose unit is a fault."""
     kinds = (ratios, negatives, hundredfold, shares_as_percentages, distances)
     found = (warning for kind in kinds for warning in kind(book))
-    return [warning for warning in found if warning.row.key[:2] not in mismeasured]
+    return [warning for warning in found if warning.row is None or warning.row.key[:2] not in mismeasured]
 
 
-def figures(row):
+def figures(row: Row) -> list[decimal.Decimal]:
     """The figures of a record in the base unit, without what is no number."""
     unit = vocabulary.units()[row.field("unit")]
     texts = [row.field(column) for column in ("value", "low", "high")]
@@ -32,7 +35,7 @@ def figures(row):
     return [number * unit["over"] / unit["under"] for number in numbers]
 
 
-def named_records(book):
+def named_records(book: Book) -> Iterator[tuple[str, str, str | None, list[Row]]]:
     """Each activity and factor, with what it measures and its records by years, without those whose figure is
     not the writer's, but for the potentials and what has a name like one.
     """
@@ -43,7 +46,7 @@ def named_records(book):
                 yield kind, name, vocabulary.measured_by(rows[0].field("unit")), rows
 
 
-def odd_records(book, is_odd):
+def odd_records(book: Book, is_odd: Callable[[Row, str | None], bool]) -> Iterator[tuple[str, str, Row, int]]:
     """Each activity and factor with records that are odd for what it measures: the first of these, and how
     many more there are.
     """
@@ -53,15 +56,15 @@ def odd_records(book, is_odd):
             yield kind, name, odd[0], len(odd) - 1
 
 
-def ratios(book):
+def ratios(book: Book) -> Iterator[Fault]:
     """Ratios outside 0 to 1, or beyond what those may be that are no shares: once for each name."""
     taken = book.taken()
 
-    def most(row):
+    def most(row: Row) -> int:
         bound = taken.get((row.field("kind"), row.field("name")), [])
         return MOST_OF_NO_SHARE if any(is_no_share(book, binding) for binding in bound) else 1
 
-    def is_odd(row, measures):
+    def is_odd(row: Row, measures: str | None) -> bool:
         return measures == "ratio" and any(not 0 <= figure <= most(row) for figure in figures(row))
 
     for kind, name, row, others in odd_records(book, is_odd):
@@ -72,17 +75,17 @@ def ratios(book):
         yield warn(row, f"{kind} {name} is a ratio outside 0 to {most(row)}: {figure}{more}")
 
 
-def is_no_share(book, bound):
+def is_no_share(book: Book, bound: Row) -> bool:
     """Tells whether a binding is of a ratio that may be above 1."""
     line = book.lines.get(bound.field("subject"))
-    return bool(line) and bound.field("name") in NO_SHARES.get(line.field("value"), ())
+    return line is not None and bound.field("name") in NO_SHARES.get(line.field("value"), ())
 
 
-def negatives(book):
+def negatives(book: Book) -> Iterator[Fault]:
     """Negative activities: once for each name."""
     taken = book.taken()
 
-    def is_odd(row, measures):
+    def is_odd(row: Row, measures: str | None) -> bool:
         is_amount = row.field("kind") == "activity" and measures != "ratio"
         return is_amount and row.field("value").startswith("-") and figures(row)[0] < 0
 
@@ -94,7 +97,7 @@ def negatives(book):
             yield warn(row, f"activity {name} is negative: {figure}{more}")
 
 
-def has_a_sign(book, bound):
+def has_a_sign(book: Book, bound: Row) -> bool:
     """Tells whether a binding is of a change of stocks, or takes the stock before the span beside that of the
     year before.
     """
@@ -103,9 +106,9 @@ def has_a_sign(book, bound):
     return bound.field("name") in SIGNED or before_span
 
 
-def distances(book):
+def distances(book: Book) -> Iterator[Fault]:
     """Bounds that lie at one distance to both sides of zero, and not of the value: once for each name."""
-    def is_odd(row, _):
+    def is_odd(row: Row, _: str | None) -> bool:
         return is_of_distances(row)
 
     for kind, name, row, others in odd_records(book, is_odd):
@@ -115,16 +118,16 @@ def distances(book):
         yield warn(row, f"{cause}; low and high are bounds, and no distances")
 
 
-def is_of_distances(row):
+def is_of_distances(row: Row) -> bool:
     """Tells whether the bounds of a figure that is not zero are the same but for their sign."""
     low, high = row.field("low"), row.field("high")
     if not low or row.field("value") in vocabulary.words()["keys"]:
         return False
-    value, low, high = (decimal.Decimal(text) for text in (row.field("value"), low, high))
-    return value != 0 and high > 0 and low == -high
+    value, least, most = (decimal.Decimal(text) for text in (row.field("value"), low, high))
+    return value != 0 and most > 0 and least == -most
 
 
-def hundredfold(book):
+def hundredfold(book: Book) -> Iterator[Fault]:
     """Activities that grow or shrink a hundredfold from one record to the next: once for each name."""
     for kind, name, _, rows in named_records(book):
         known = [(row, figures(row)[0]) for row in rows if kind == "activity" and figures(row)]
@@ -137,7 +140,7 @@ def hundredfold(book):
                 break
 
 
-def shares_as_percentages(book):
+def shares_as_percentages(book: Book) -> list[Fault]:
     """Uncertainties of which both percentages are below 1."""
     found = []
     for key, row in sorted(book.rows.items(), key=lambda item: item[1].line):

@@ -1,10 +1,10 @@
 """What the results of all years and the files of a year's cycle give away, once all files are checked."""
-import typing
-
 from tools import counting_notices, cycle_notices, factor_notices, potential_notices, result_notices
+from tools.check import Check
 from tools.cycle_notices import Cycle
 from tools.faults import Fault, in_order
 from tools.notices import all_warnings
+from tools.program import Program
 from tools.results import Results
 
 # What is told of records, and of results, which are an inventory's own where no file has a fault.
@@ -12,14 +12,14 @@ OF_RECORDS = (factor_notices, potential_notices)
 OF_RESULTS = (counting_notices, result_notices)
 
 
-def warnings_of(program: typing.Any, checked: typing.Any) -> list[Fault]:
+def warnings_of(program: Program, checked: Check) -> list[Fault]:
     """Every warning of a check, in the order of the rows."""
-    found: list[Fault] = all_warnings(checked.book, checked.refused, checked.sheets, checked.left)
+    found = all_warnings(checked.book, checked.refused, checked.sheets, checked.left)
     found += all_given_away(program, checked)
     return in_order(found, checked.sheets)
 
 
-def all_given_away(program: typing.Any, checked: typing.Any) -> list[Fault]:
+def all_given_away(program: Program, checked: Check) -> list[Fault]:
     """Every warning of these, for the files that a check accepted in a session of the program."""
     results = Results(program, checked.book, checked.refused)
     if not results.years:

@@ -4,11 +4,12 @@ never closed.
 import csv
 import io
 import re
+from collections.abc import Sequence
 
 from tools import causes, sheets, vocabulary, wide_rows
 from tools.faults import Fault, counted
 from tools.other_words import OTHER_COLUMNS, meant_by
-from tools.sheets import COLUMN_AT, COLUMNS, Row, joined
+from tools.sheets import COLUMNS, COLUMN_AT, Row, Sheet, joined
 from tools.vocabulary import nearest
 
 HEADER = ",".join(COLUMNS)
@@ -31,7 +32,7 @@ ROWS_IN_FRONT = 30
 MOST_FAULTS = 6
 
 
-def explain(sheet, rows):
+def explain(sheet: Sheet, rows: list[Row]) -> tuple[Fault, list[Row] | None]:
     """The fault of a file whose header was refused, and its rows as they are read without it, or None.
 
     The rows may have a further fault of that kind: whether they have, the program is asked again.
@@ -47,22 +48,22 @@ def explain(sheet, rows):
     if encoding:
         rows = sheets.split(sheet, sheet.data.decode(encoding, "replace").encode("utf-8"))
         between = delimiter(rows)
-        mended = [with_comma(row, between) for row in rows] if between else rows
-        return Fault(sheet, 1, "", None, f"the file is UTF-16; {SAVE}"), mended
+        parted = [with_comma(row, between) for row in rows] if between else rows
+        return Fault(sheet, 1, "", None, f"the file is UTF-16; {SAVE}"), parted
     cause, mended = of_rows(rows)
     return Fault(sheet, rows[0].line, "", None, cause), mended
 
 
-def rows_as_meant(sheet):
+def rows_as_meant(sheet: Sheet) -> list[Row]:
     """The rows behind the header of a file that nothing was asked of yet, as they most likely are meant."""
-    rows = close_quotes(sheet)[1]
+    rows: list[Row] | None = close_quotes(sheet)[1]
     for _ in range(MOST_FAULTS):
         if rows and rows[0].fields != COLUMNS:
             _, rows = explain(sheet, rows)
     return rows[1:] if rows else []
 
 
-def of_years(sheet, rows):
+def of_years(sheet: Sheet, rows: list[Row]) -> tuple[Fault, list[Row]] | None:
     """The fault of a file with a column for each year, and the rows that are made of it, or None."""
     is_long = len(sheet.data) > int(vocabulary.limit("body").replace(",", ""))
     if is_long or any(begins_as_a_row(row) or is_like_a_header(row) for row in rows[:ROWS_IN_FRONT]):
@@ -77,12 +78,12 @@ def of_years(sheet, rows):
     return Fault(sheet, 1, "", None, cause), [Row(sheet, line, raw) for line, raw in zip(lines, made.rows)]
 
 
-def begins_as_a_row(row):
+def begins_as_a_row(row: Row) -> bool:
     """Tells whether a row begins with an act, whatever stands behind it."""
     return sheets.BEGIN_OF_ROWS.match(row.raw.decode("utf-8-sig", "replace")) is not None
 
 
-def of_rows(rows):
+def of_rows(rows: list[Row]) -> tuple[str, list[Row] | None]:
     """Why a header in rows that can be read is none, and the rows to go on with."""
     if within_quotes(rows[0]) is not None:
         quoted = sum(within_quotes(row) is not None for row in rows)
@@ -107,12 +108,12 @@ def of_rows(rows):
     return other_names(rows, names) if found else no_header(rows)
 
 
-def utf16(data):
+def utf16(data: bytes) -> str | None:
     """The encoding of a file's bytes where it is UTF-16, or None."""
     return next((encoding for start, encoding in UTF16.items() if re.match(start, data)), None)
 
 
-def delimiter(rows):
+def delimiter(rows: list[Row]) -> str | None:
     """What stands between the fields of at least half of the rows in place of commas, or None."""
     first = rows[:ROWS_IN_FRONT]
     for between in (b";", b"\t", b"|"):
@@ -122,42 +123,42 @@ def delimiter(rows):
     return None
 
 
-def with_comma(row, between):
+def with_comma(row: Row, between: str) -> Row:
     """A row with commas between its fields."""
     # Python 3.10 reads no field with a null character.
     text = row.raw.replace(b"\0", b"").decode("utf-8", "surrogateescape")
-    fields = next(csv.reader(io.StringIO(text, newline=""), delimiter=between), [])
+    fields: list[str] = next(csv.reader(io.StringIO(text, newline=""), delimiter=between), [])
     return Row(row.sheet, row.line, joined(fields))
 
 
-def within_quotes(row):
+def within_quotes(row: Row) -> bytes | None:
     """What stands in one pair of quotes around all of a row, or None."""
     found = ROW_IN_QUOTES.fullmatch(row.raw)
     return found.group(1).replace(b'""', b'"') if found and SEPARATOR.findall(found.group(1))[4:] else None
 
 
-def unquoted(row):
+def unquoted(row: Row) -> Row:
     """A row without the quotes around all of it."""
     within = within_quotes(row)
     return row if within is None else Row(row.sheet, row.line, within)
 
 
-def bare(fields):
+def bare(fields: list[str]) -> list[str]:
     """Fields without unseen characters and without blanks at their ends, in lower case."""
     return [re.sub(f"[{causes.UNSEEN}]", "", field).strip().casefold() for field in fields]
 
 
-def is_like_a_header(row):
+def is_like_a_header(row: Row) -> bool:
     """Tells whether a row has at least half of the ten names."""
     return len(set(bare(row.fields)) & set(COLUMNS)) >= 5
 
 
-def header_of(rows):
+def header_of(rows: list[Row]) -> Row:
     """The right header at the place of the first row."""
     return Row(rows[0].sheet, rows[0].line, joined(COLUMNS))
 
 
-def other_words(rows, names):
+def other_words(rows: list[Row], names: list[str]) -> tuple[str, list[Row]]:
     """A header with the ten names in another case or order."""
     if names == COLUMNS and sum(field[:1].isspace() for field in rows[0].fields) > len(COLUMNS) // 2:
         return "a blank behind each comma; take these blanks out", [stripped(row) for row in rows]
@@ -174,7 +175,7 @@ def other_words(rows, names):
     return f"{cause}; the header is {HEADER}", [header_of(rows)] + placed
 
 
-def placed_by(rows, places):
+def placed_by(rows: list[Row], places: Sequence[int | None]) -> list[Row]:
     """The rows behind a header with their fields by the places of the columns. One that has not as many
     fields as the header stays.
     """
@@ -182,12 +183,12 @@ def placed_by(rows, places):
     return [with_columns(row, places) if len(row.fields) == width else row for row in rows[1:]]
 
 
-def is_in_order(rows, placed):
+def is_in_order(rows: list[Row], placed: list[Row]) -> bool:
     """Tells whether rows have more words of their columns as they stand than in the order of their header."""
     return len(rows[0].fields) == len(COLUMNS) and likeness(rows) > likeness(placed) if rows else False
 
 
-def likeness(rows):
+def likeness(rows: list[Row]) -> int:
     """How many fields of rows look like what their columns hold."""
     words = vocabulary.words()
     known = {"act": words["acts"], "kind": words["kinds"], "unit": ["", *vocabulary.units()]}
@@ -197,7 +198,7 @@ def likeness(rows):
     return found + sum(is_filled_in_order(row) for row in rows)
 
 
-def is_filled_in_order(row):
+def is_filled_in_order(row: Row) -> bool:
     """Tells whether a row has a value, and behind it nothing, or low alone, or bounds in their order."""
     value, low, high = (row.field(column).strip() for column in ("value", "low", "high"))
     figures = [causes.number(text).text for text in (low, high)]
@@ -206,12 +207,12 @@ def is_filled_in_order(row):
     return bool(value) and not high
 
 
-def stripped(row):
+def stripped(row: Row) -> Row:
     """A row without blanks at the ends of its fields."""
     return Row(row.sheet, row.line, joined([field.strip() for field in row.fields]))
 
 
-def eleventh(rows):
+def eleventh(rows: list[Row]) -> tuple[str, list[Row]]:
     """More than ten columns. The rows go on with the first ten."""
     width = len(rows[0].fields)
     name = next((field for field in rows[0].fields[10:] if field), "")
@@ -224,7 +225,7 @@ def eleventh(rows):
     return cause, narrow
 
 
-def other_names(rows, names):
+def other_names(rows: list[Row], names: list[str]) -> tuple[str, list[Row]]:
     """A header that has not the ten names. The rows go on with the columns that are known."""
     absent = [column for column in COLUMNS if column not in names]
     odd = ", ".join(field for field, name in zip(rows[0].fields, names) if name and name not in COLUMNS)
@@ -243,7 +244,7 @@ def other_names(rows, names):
     return f"{lacks}; it is {HEADER}", [header_of(rows)] + placed
 
 
-def places_of_columns(names):
+def places_of_columns(names: list[str]) -> list[int | None]:
     """Where each column stands under these names, or None where there is no such column."""
     first = {name: at for at, name in reversed(list(enumerate(names)))}
     once = [name if first[name] == at else "" for at, name in enumerate(names)]
@@ -253,7 +254,7 @@ def places_of_columns(names):
     return [place_of(column, once) for column in COLUMNS]
 
 
-def meant_column(name, names):
+def meant_column(name: str, names: list[str]) -> str | None:
     """The column that a name most likely is of those that the names lack, or None."""
     absent = [column for column in COLUMNS if column not in names]
     if not name or name in COLUMNS or not absent:
@@ -264,7 +265,7 @@ def meant_column(name, names):
     return next(iter(nearest(name, absent, 1, 0.7)), None)
 
 
-def place_of(column, names):
+def place_of(column: str, names: list[str]) -> int | None:
     """Where a column stands under these names, or None where there is no such column.
 
     One under another name stands at its own place, where the next name that is known does too.
@@ -279,18 +280,18 @@ def place_of(column, names):
     return at if in_place else None
 
 
-def with_columns(row, places):
+def with_columns(row: Row, places: Sequence[int | None]) -> Row:
     """A row of the fields at these places, and of empty ones."""
     return Row(row.sheet, row.line, joined(["" if at is None else row.fields[at] for at in places]))
 
 
-def no_header(rows):
+def no_header(rows: list[Row]) -> tuple[str, list[Row] | None]:
     """A first row that is no header. The rows behind it are read where they begin with an act."""
     rest = rows[1:] if rows[1:] and bare(rows[1].fields)[0] in ACTS else None
     return f"no header; the first row is {HEADER}", [header_of(rows)] + rest if rest else None
 
 
-def close_quotes(sheet):
+def close_quotes(sheet: Sheet) -> tuple[list[Fault], list[Row]]:
     """The faults of quotes that take in further rows, and the rows as they are with each such quote closed
     on its line.
     """
@@ -315,11 +316,11 @@ def close_quotes(sheet):
     return faults, rows
 
 
-def without_open_quote(row):
+def without_open_quote(row: Row) -> tuple[Row, str]:
     """A row of one line with its open quote closed at the end, or taken out where ten fields come of that
     alone; and which.
     """
-    at = sheets.open_quote(row.raw)
+    at = sheets.open_quote(row.raw) or 0
     bare = Row(row.sheet, row.line, row.raw[:at] + row.raw[at + 1:])
     closed = Row(row.sheet, row.line, row.raw + b'"')
     if len(bare.fields) == len(COLUMNS) != len(closed.fields):
@@ -327,18 +328,18 @@ def without_open_quote(row):
     return closed, "close the quote at the end of this line"
 
 
-def moved(rows, line):
+def moved(rows: list[Row], line: int) -> list[Row]:
     """Rows of a text that begins behind a line."""
     return [Row(row.sheet, row.line + line, row.raw) for row in rows]
 
 
-def takes_in_rows(row):
+def takes_in_rows(row: Row) -> bool:
     """Tells whether a quote of the row is open, or holds what looks like further rows up to a quote with a
     text behind it.
     """
     return sheets.open_quote(row.raw) is not None or holds_rows(row) and sheets.is_closed_within(row.raw)
 
 
-def holds_rows(row):
+def holds_rows(row: Row) -> bool:
     """Tells whether the row holds what looks like further rows."""
     return FURTHER_ROW.search(row.raw) is not None

@@ -16,13 +16,13 @@ RAISED = re.compile("[\u2070\u00b9\u00b2\u00b3\u2074-\u2079\u207b]+")
 LOWERED = str.maketrans("\u2070\u00b9\u00b2\u00b3\u2074\u2075\u2076\u2077\u2078\u2079\u207b", "0123456789-")
 
 
-def latin(text):
+def latin(text: str) -> str:
     """A text with Latin letters in place of those that look like them, where that makes all of it ASCII."""
     meant = text.translate(LIKE_LATIN)
     return meant if meant.isascii() else text
 
 
-def said_of_alike(text):
+def said_of_alike(text: str) -> str:
     """Which Latin letters of a text are of another alphabet."""
     odd = [letter for letter in dict.fromkeys(text) if letter.translate(LIKE_LATIN) != letter]
     alphabets = sorted({unicodedata.name(letter).split()[0].capitalize() for letter in odd})
@@ -31,12 +31,12 @@ def said_of_alike(text):
     return f"{letters} of the {' and the '.join(alphabets)} alphabet in place of {' '.join(alike)}"
 
 
-def without_accents(text):
+def without_accents(text: str) -> str:
     """A text without accents, and with the letters of ASCII that stand for others of the Latin alphabet."""
     parts = unicodedata.normalize("NFKD", text.translate(TRANSCRIBED))
     return "".join(letter for letter in parts if not unicodedata.combining(letter))
 
 
-def lowered(text, sign):
+def lowered(text: str, sign: str) -> str:
     """A text with digits in place of raised ones, behind a sign."""
     return RAISED.sub(lambda found: sign + found.group().translate(LOWERED), text)

@@ -2,12 +2,14 @@
 rules 11 to 13. They are judged with all rows of a file applied.
 """
 from tools import vocabulary
-from tools.book import lines_taken_by, record_taken_by
-from tools.faults import Fault, at_row
+from tools.after import After
+from tools.book import Book, lines_taken_by, record_in, record_taken_by
+from tools.faults import Fault, Rewritten, at_row
+from tools.sheets import Row, Sheet
 from tools.vocabulary import limit, listed
 
 
-def ring(line, after):
+def ring(line: str, after: After) -> Rewritten:
     """The fault of lines that take each other in a ring, and the rows with one of its bindings blank."""
     path = bindings_to_itself(line, after.book)
     own = [bound for bound in path if after.is_own(bound)]
@@ -26,14 +28,15 @@ def ring(line, after):
     return at_row(own[0], cause, "low"), after.blank(own[0])
 
 
-def following(path, line):
+def following(path: list[Row], line: str) -> list[str]:
     """The line that each binding of a path takes on it."""
     return [bound.field("subject") for bound in path[1:]] + [line]
 
 
-def bindings_to_itself(line, book):
+def bindings_to_itself(line: str, book: Book) -> list[Row]:
     """The bindings by which a line takes itself in the same year, over as few lines as there are."""
-    reached, waiting = {}, [line]
+    reached: dict[str, Row] = {}
+    waiting = [line]
     while waiting:
         name = waiting.pop(0)
         for bound in book.bindings.get(name, {}).values():
@@ -46,16 +49,16 @@ def bindings_to_itself(line, book):
     return []
 
 
-def path_to(name, reached):
+def path_to(name: str, reached: dict[str, Row]) -> list[Row]:
     """The bindings over which a line was reached."""
-    path = []
+    path: list[Row] = []
     while name in reached:
         path.insert(0, reached[name])
         name = reached[name].field("subject")
     return path
 
 
-def overflow(node, sheet, after):
+def overflow(node: str, sheet: Sheet, after: After) -> tuple[Fault, list[Row] | None]:
     """The fault of a node beyond the limits, and the rows with one of its figures blank."""
     kind, *rest = node.split(":")
     year = int(rest[-1])
@@ -70,7 +73,8 @@ def overflow(node, sheet, after):
     if kind == "equiv":
         what = f"line {rest[0]} in {year} is beyond {equivalents}"
         gas = f"GWP.{vocabulary.gas_of(after.book.lines[rest[0]].field('value'))}"
-        inputs.append((gas, after.book.in_force("factor", gas, year)))
+        potential = after.book.in_force("factor", gas, year)
+        inputs += [(gas, potential)] if potential else []
     figures = [f"{name} is {row.field('value')} {row.field('unit')} ({row.place})" for name, row in inputs]
     cause = f"{what}: {listed(figures, 'and')}; look at the units"
     own = [row for _, row in inputs if after.is_own(row)]
@@ -80,7 +84,7 @@ def overflow(node, sheet, after):
     return at_row(greatest, cause, "value"), after.changed(greatest, value="NE", low="", high="")
 
 
-def inputs_of(line, year, book):
+def inputs_of(line: str, year: int, book: Book) -> list[tuple[str, Row]]:
     """The figures that a line takes in a year, by their parameters, with those of the lines that it takes."""
     found, seen, waiting = [], set(), [line]
     while waiting:
@@ -91,13 +95,13 @@ def inputs_of(line, year, book):
         for parameter, bound in book.bindings.get(name, {}).items():
             waiting += lines_taken_by(bound)
             if record_taken_by(bound):
-                row = book.in_force(*record_taken_by(bound), year)
+                row = book.in_force(*record_in(bound), year)
                 if row is not None and row.field("value") not in vocabulary.words()["keys"]:
                     found.append((parameter if name == line else f"{parameter} of {name}", row))
     return found
 
 
-def too_many(named, sheet, rows):
+def too_many(named: str, sheet: Sheet, rows: list[Row]) -> tuple[Fault, list[Row] | None]:
     """The fault of a limit of the whole workbook, and the rows without its span where that is too long."""
     spans = [row for row in rows[1:] if named == "span" and row.field("kind") == "span"]
     if spans:

@@ -1,9 +1,11 @@
 """Warnings about lines: what the program takes, and is most likely another equation, category or binding."""
 import re
+from collections.abc import Iterator
 
 from tools import vocabulary
-from tools.book import lines_taken_by, record_taken_by
-from tools.faults import warn
+from tools.book import Book, lines_taken_by, record_taken_by
+from tools.faults import Fault, warn
+from tools.sheets import Row
 from tools.vocabulary import MEMOS, are, listed
 
 # The equation of the stock that the parameters of vocabulary.OF_LAST_YEAR take.
@@ -11,15 +13,18 @@ STOCK = "Q91"
 # What stocks measure.
 STOCKS = "carbon"
 
+# The equation of a line, its activities, and the forms and targets of its ratios, both with their parameters.
+Taken = tuple[str, frozenset[tuple[str, str]], frozenset[tuple[str, str, str]]]
 
-def all_of_lines(book):
+
+def all_of_lines(book: Book) -> list[Fault]:
     """Every warning about lines and their bindings."""
     kinds = (double_lines, other_codes, other_gases, stocks_of_the_year, flows_of_last_year, always_blank,
              other_volumes)
     return [warning for kind in kinds for warning in kind(book)]
 
 
-def other_volumes(book):
+def other_volumes(book: Book) -> list[Fault]:
     """Lines that emit a gas by an equation of another volume than that of their category, but for measured
     emissions, whose ratios are 1.
     """
@@ -41,17 +46,17 @@ def other_volumes(book):
     return found
 
 
-def is_measured(book, line, equation):
+def is_measured(book: Book, line: str, equation: str) -> bool:
     """Tells whether all ratios that a line takes are factors of 1."""
     bound, ratios = book.bindings.get(line, {}), []
     for name, parameter in vocabulary.parameters_of(equation).items():
         if parameter["measures"] == "ratio" and name in bound:
             record = book.some_record("factor", bound[name].field("low"))
-            ratios.append(bool(record) and record.field("value") == "1")
+            ratios.append(record is not None and record.field("value") == "1")
     return bool(ratios) and all(ratios)
 
 
-def other_codes(book):
+def other_codes(book: Book) -> Iterator[Fault]:
     """Lines at a category that has the code of theirs in other guidelines."""
     for row in by_place(book):
         code, equation = row.field("subject"), row.field("value")
@@ -62,7 +67,7 @@ def other_codes(book):
             yield warn(row, f"line {row.field('name')} at {code} ({what}) has {equation}; {other[0]}")
 
 
-def other_gases(book):
+def other_gases(book: Book) -> list[Fault]:
     """Lines that emit another gas than their name has, and their factors whose name has another one."""
     found = []
     for row in by_place(book):
@@ -85,7 +90,7 @@ def other_gases(book):
     return found
 
 
-def stocks_of_the_year(book):
+def stocks_of_the_year(book: Book) -> list[Fault]:
     """Bindings that take the stock of this year where that of the year before is due."""
     found = []
     for line, parameter in sorted(vocabulary.OF_LAST_YEAR):
@@ -93,14 +98,14 @@ def stocks_of_the_year(book):
             bindings = book.bindings.get(row.field("name"), {}) if row.field("value") == line else {}
             bound = bindings.get(parameter)
             taken = book.lines.get(bound.field("low")) if bound and bound.field("value") == "line" else None
-            if taken and taken.field("value") == STOCK:
+            if bound and taken and taken.field("value") == STOCK:
                 cause = f"{parameter} of {line} is the stock at the end of the year before, and line"
                 cause += f" {bound.field('low')} is taken of the same year; is prev meant?"
                 found.append(warn(bound, cause))
     return found
 
 
-def flows_of_last_year(book):
+def flows_of_last_year(book: Book) -> Iterator[Fault]:
     """Bindings that take what another line gave the year before, where that is no stock."""
     for row in by_place(book):
         for bound in book.bindings.get(row.field("name"), {}).values():
@@ -112,7 +117,7 @@ def flows_of_last_year(book):
                 yield warn(bound, f"{cause}; is line meant?")
 
 
-def always_blank(book):
+def always_blank(book: Book) -> list[Fault]:
     """Lines that take an activity or a line, and are blank since another parameter is bound to NE."""
     found = []
     for row in by_place(book):
@@ -126,9 +131,10 @@ def always_blank(book):
     return found
 
 
-def double_lines(book):
+def double_lines(book: Book) -> list[Fault]:
     """Lines of one equation over the same activities that no share tells apart."""
-    found, seen = [], {}
+    found: list[Fault] = []
+    seen: dict[tuple[Taken, str], Row] = {}
     for row in by_place(book):
         name = row.field("name")
         if row.field("subject") in MEMOS:
@@ -136,10 +142,9 @@ def double_lines(book):
         key = what_it_takes(book, name, row.field("value"))
         if key is None:
             continue
-        if " or " in vocabulary.equations()[key[0]]["computes"]:
-            # an equation of two sources, as enteric fermentation and manure: two categories take one herd
-            key += (row.field("subject"),)
-        before = seen.setdefault(key, row)
+        # an equation of two sources, as enteric fermentation and manure: two categories take one herd
+        is_of_two = " or " in vocabulary.equations()[key[0]]["computes"]
+        before = seen.setdefault((key, row.field("subject") if is_of_two else ""), row)
         if before is not row:
             activities = listed(sorted({taken for _, taken in key[1]}), "and")
             both = f"line {name} and line {before.field('name')} ({before.place}) are both {key[0]}"
@@ -147,7 +152,7 @@ def double_lines(book):
     return found
 
 
-def what_it_takes(book, name, code):
+def what_it_takes(book: Book, name: str, code: str) -> Taken | None:
     """The equation of a line, its activities and what its ratios are bound to;
 
     None where it takes no activity.
@@ -161,6 +166,6 @@ def what_it_takes(book, name, code):
     return (code, activities, shares) if activities else None
 
 
-def by_place(book):
+def by_place(book: Book) -> list[Row]:
     """The lines by their files and the rows in them."""
     return sorted(book.lines.values(), key=lambda row: (row.sheet.name, row.line))

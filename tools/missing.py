@@ -30,6 +30,8 @@ def named(faults: Iterable[Fault]) -> list[Fault]:
 def said(fault: Fault) -> Fault:
     """The fault of a missing figure with the name, the unit and the note of its row."""
     row = fault.row
+    if row is None:
+        return fault
     note = f" ({row.field('note')})" if row.field("note") else ""
     cause = f"{row.field('kind')} {row.field('name')} has no figure yet{note}"
     return dataclasses.replace(fault, cause=cause, write=what_to_write(row.field("unit")))

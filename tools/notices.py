@@ -1,9 +1,12 @@
 """What the program takes and a compiler would want to know of. A warning refuses nothing."""
 from tools import headers, vocabulary
+from tools.book import Book
 from tools.cycle_notices import new_years
-from tools.faults import counted, warn, warn_of, years_said
+from tools.faults import Fault, counted, warn, warn_of, years_said
 from tools.figure_notices import all_of_figures
 from tools.line_notices import all_of_lines
+from tools.refused import Refused
+from tools.sheets import Row, Sheet
 from tools.vocabulary import MEMOS, listed, nearest
 
 # A file of nothing but factors, as one of defaults, may have more than these that no line takes: they are one
@@ -12,7 +15,7 @@ FEW = 3
 NAMES_SHOWN = 6
 
 
-def all_warnings(book, refused, sheets, left):
+def all_warnings(book: Book, refused: Refused, sheets: list[Sheet], left: list[Sheet]) -> list[Fault]:
     """Every warning about a workbook, but for those that only follow from a refused row."""
     found = headers_alone([sheet for sheet in sheets if sheet not in left])
     found += rows_in_quotes(sheets) + orphans(book, refused, sheets)
@@ -22,40 +25,40 @@ def all_warnings(book, refused, sheets, left):
         return found
     if not span:
         return found + [warn_of(sheets[0], "no span is in force, so that there is no table")]
-    first, last = book.span
+    first, last = book.known_span()
     found += outside(book, first, last)
     found += holes(book, refused, first, last) + late_factors(book, refused, first, last)
     found += without_potential(book, refused) + without_uncertainty(book, refused)
     return found + ([] if refused.has_activity_of(last) else without_last_year(book, span, last))
 
 
-def headers_alone(sheets):
+def headers_alone(sheets: list[Sheet]) -> list[Fault]:
     """Files without a row."""
     cause = "a header alone: the file has no rows"
     return [warn_of(sheet, cause) for sheet in sheets if len(sheet.rows) == 1]
 
 
-def rows_in_quotes(sheets):
+def rows_in_quotes(sheets: list[Sheet]) -> list[Fault]:
     """Rows in which a closed quote holds what looks like further rows."""
     cause = "what looks like further rows stands in quotes, and counts as text"
     rows = (row for sheet in sheets for row in headers.close_quotes(sheet)[1])
     return [warn(row, cause) for row in rows if headers.holds_rows(row)]
 
 
-def untaken(book, refused, kind):
+def untaken(book: Book, refused: Refused, kind: str) -> list[str]:
     """The names of a kind that no line takes, nor was meant to."""
     taken = set(book.taken()) | refused.meant_records
     return [name for name in sorted(book.years[kind])
             if (kind, name) not in taken and not name.startswith("GWP.")]
 
 
-def orphans(book, refused, sheets):
+def orphans(book: Book, refused: Refused, sheets: list[Sheet]) -> list[Fault]:
     """Activities and factors that no line takes."""
-    found = [warn(book.some_record("activity", name), orphan_activity(book, name))
+    found = [warn(book.known_record("activity", name), orphan_activity(book, name))
              for name in untaken(book, refused, "activity")]
-    by_sheet = {}
+    by_sheet: dict[int, list[tuple[str, Row]]] = {}
     for name in untaken(book, refused, "factor"):
-        row = book.some_record("factor", name)
+        row = book.known_record("factor", name)
         by_sheet.setdefault(id(row.sheet), []).append((name, row))
     for rows in by_sheet.values():
         sheet = rows[0][1].sheet
@@ -68,13 +71,13 @@ def orphans(book, refused, sheets):
     return found
 
 
-def orphan_activity(book, name):
+def orphan_activity(book: Book, name: str) -> str:
     """What is said of an activity that no line takes."""
     years = book.years["activity"][name]
     return f"no line takes activity {name} ({years_said(years)}){other_name(book, 'activity', name)}"
 
 
-def other_name(book, kind, name):
+def other_name(book: Book, kind: str, name: str) -> str:
     """A name that is meant most likely: that of a potential, or one that a line takes, with the years that it
     lacks.
     """
@@ -86,7 +89,7 @@ def other_name(book, kind, name):
     return f"; is it {near}{of}?" if near else ""
 
 
-def taken_like(book, kind, name):
+def taken_like(book: Book, kind: str, name: str) -> tuple[str | None, set[int]]:
     """The nearest name that a line takes, where one measures the same, and the years of an activity that it
     lacks; or None and no years.
     """
@@ -98,7 +101,7 @@ def taken_like(book, kind, name):
     return near, set(book.years[kind][name]) - set(book.years[kind][near])
 
 
-def outside(book, first, last):
+def outside(book: Book, first: int, last: int) -> list[Fault]:
     """Records that no year of the span reads."""
     found = []
     new = set(map(id, new_years(book)))
@@ -115,7 +118,7 @@ def outside(book, first, last):
     return found
 
 
-def lines_of(bindings):
+def lines_of(bindings: list[Row]) -> str:
     """The lines of bindings, as the subject of a sentence."""
     names = sorted({row.field("subject") for row in bindings})
     if len(names) == 1:
@@ -125,7 +128,7 @@ def lines_of(bindings):
     return f"lines {listed(names, 'and')} are"
 
 
-def holes(book, refused, first, last):
+def holes(book: Book, refused: Refused, first: int, last: int) -> list[Fault]:
     """Activities that lines take and that lack years of the span, but for those of which another name is told
     to be this one.
     """
@@ -143,12 +146,12 @@ def holes(book, refused, first, last):
     return found
 
 
-def withdrawn_years(book, name):
+def withdrawn_years(book: Book, name: str) -> set[int]:
     """The years of which the record of an activity was withdrawn. The withdrawal is told of."""
     return {int(key[2]) for key in book.withdrawn if key[:2] == ("activity", name) and key not in book.rows}
 
 
-def years_lacking(known, first, last):
+def years_lacking(known: set[int], first: int, last: int) -> list[int]:
     """The years of a span that an activity lacks, where it has years before and after one of them, or most
     years of the span. One that has few is taken to begin or to end there.
     """
@@ -158,14 +161,14 @@ def years_lacking(known, first, last):
     return lacking if is_between or len(lacking) < len(span) - len(lacking) else []
 
 
-def reached(book, refused, last):
+def reached(book: Book, refused: Refused, last: int) -> int:
     """The last year of the span of which some activity has a record, or was meant to have one."""
     if refused.has_activity_of(last):
         return last
-    return min(last, max(map(max, book.years["activity"].values()), default=last))
+    return min(last, max((max(years) for years in book.years["activity"].values()), default=last))
 
 
-def late_factors(book, refused, first, last):
+def late_factors(book: Book, refused: Refused, first: int, last: int) -> list[Fault]:
     """Factors that lines take and that begin after the first year."""
     found = []
     taken = book.taken()
@@ -177,9 +180,9 @@ def late_factors(book, refused, first, last):
     return found
 
 
-def emitted(book):
+def emitted(book: Book) -> dict[str, list[Row]]:
     """The lines that emit a gas, by gas."""
-    found = {}
+    found: dict[str, list[Row]] = {}
     for name, row in sorted(book.lines.items()):
         gas = vocabulary.gas_of(row.field("value"))
         if gas:
@@ -187,10 +190,10 @@ def emitted(book):
     return found
 
 
-def without_potential(book, refused):
+def without_potential(book: Book, refused: Refused) -> list[Fault]:
     """Gases that lines emit and that no potential is in force for in some year."""
     found = []
-    first = book.span[0]
+    first = book.known_span()[0]
     for gas, rows in emitted(book).items():
         if refused.that_enters("factor", f"GWP.{gas}"):
             continue
@@ -205,7 +208,7 @@ def without_potential(book, refused):
     return found
 
 
-def without_uncertainty(book, refused):
+def without_uncertainty(book: Book, refused: Refused) -> list[Fault]:
     """The lines of the tree that emit a gas and have no uncertainty, where others have one."""
     emitting = [row for rows in emitted(book).values() for row in rows if row.field("subject") not in MEMOS]
     known = {key[1] for key in book.rows if key[0] == "uncert"}
@@ -218,14 +221,14 @@ def without_uncertainty(book, refused):
     return [warn(lacking[0], f"{cause}: {shortened(lacking)}")]
 
 
-def shortened(rows):
+def shortened(rows: list[Row]) -> str:
     """The names of rows, the first of them where they are many."""
     names = [row.field("name") for row in rows]
     more = f" and {len(names) - NAMES_SHOWN} more" if len(names) > NAMES_SHOWN else ""
     return f"{', '.join(names[:NAMES_SHOWN])}{more}"
 
 
-def without_last_year(book, span, last):
+def without_last_year(book: Book, span: Row, last: int) -> list[Fault]:
     """A span whose last year no activity reaches."""
     if not book.years["activity"] or any(last in years for years in book.years["activity"].values()):
         return []
@@ -234,15 +237,6 @@ def without_last_year(book, span, last):
     return [warn(span, cause)]
 
 
-def warn_left(left):
+def warn_left(left: list[tuple[str, str]]) -> list[str]:
     """The files that ORDER.txt leaves out, and what a folder has that is not read."""
     return [f"{name} warning: {why}" for name, why in left]
-
-
-class Nothing:
-    """No refused rows."""
-    meant_records = frozenset()
-
-    def that_enters(self, kind, name):
-        """No row enters anything."""
-        return None

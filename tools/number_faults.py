@@ -5,9 +5,11 @@ import re
 from tools import causes, letters, units, vocabulary
 from tools.asking import cause_of
 from tools.basis_faults import BasisFaults
-from tools.faults import at_row, years_said
+from tools.causes import Mended
+from tools.faults import Explained, at_row, years_said
 from tools.parted_numbers import PartedNumbers
 from tools.percent_faults import BOTH_SIDES, EXACT, PercentFaults, figure_of, written
+from tools.sheets import Row
 from tools.vocabulary import HALF_LIFE_UNIT, limit, listed
 
 NO_FIGURE = {
@@ -34,7 +36,7 @@ UNCERTAIN = {"value": "activity", "low": "factor"}
 class NumberFaults(PercentFaults, BasisFaults, PartedNumbers):
     """Explanations of numbers."""
 
-    def number(self, row, column):
+    def number(self, row: Row, column: str) -> Explained:
         """A number of any kind. The row goes on with another where it is not known which is meant."""
         kind = row.field("kind")
         if column == "year" or kind == "span":
@@ -47,7 +49,7 @@ class NumberFaults(PercentFaults, BasisFaults, PartedNumbers):
             fault, changed = self.figure(row, column)
         return fault, changed or self.other_figure(row, column)
 
-    def other_figure(self, row, column):
+    def other_figure(self, row: Row, column: str) -> Row | None:
         """The row with another figure in place of one, so that the rest of it is looked at; else with NE."""
         others = [row.field(other) for other in ("value", "low", "high") if other != column]
         figures = list(filter(None, others))
@@ -62,7 +64,7 @@ class NumberFaults(PercentFaults, BasisFaults, PartedNumbers):
                 return changed
         return self.blank_figure(row)
 
-    def figure(self, row, column):
+    def figure(self, row: Row, column: str) -> Explained:
         """The value, low or high of an activity or a factor."""
         text = row.field(column)
         bounds = self.blank_bounds(row, column) or self.all_in_one(row, column)
@@ -93,7 +95,7 @@ class NumberFaults(PercentFaults, BasisFaults, PartedNumbers):
         otherwise = number_otherwise(column, mended.text, row)
         return self.first_taken(row, column, [(cause_of(mended.causes), mended.text, True)], otherwise)
 
-    def blank_bounds(self, row, column):
+    def blank_bounds(self, row: Row, column: str) -> Explained | None:
         """Bounds of blanks alone or of what stands for nothing, or None."""
         blank = [name for name in ("low", "high") if row.field(name)
                  and row.field(name).strip().casefold() in ("", *NO_FIGURE)]
@@ -103,7 +105,7 @@ class NumberFaults(PercentFaults, BasisFaults, PartedNumbers):
         cause = "low and high are empty where there are no bounds"
         return at_row(row, cause, column, listed([f"nothing in {name}" for name in blank], "and")), changed
 
-    def key(self, row, column, keys):
+    def key(self, row: Row, column: str, keys: list[str]) -> Explained:
         """A notation key, or what looks like one."""
         meant = causes.notation_key(row.field(column))
         if meant == "C":
@@ -113,27 +115,28 @@ class NumberFaults(PercentFaults, BasisFaults, PartedNumbers):
             return self.first_taken(row, column, [("a notation key has two letters", meant, True)], "no key")
         return self.choice(row, column, keys, f"no number and no notation key ({listed(keys)})")
 
-    def all_in_one(self, row, column):
+    def all_in_one(self, row: Row, column: str) -> Explained | None:
         """A value with its bounds in brackets behind it, as 25 (7.5-86), or None."""
         found = ALL_IN_ONE.fullmatch(row.field(column).strip()) if column == "value" else None
-        figures = [figure_of(text) for text in found.groups()] if found else [None]
-        if None in figures:
+        figures = [figure_of(text) for text in found.groups()] if found else []
+        texts = [written(figure) for figure in figures if figure is not None]
+        if len(texts) != 3:
             return None
-        value, low, high = map(written, figures)
+        value, low, high = texts
         changed = row.with_fields(value=value, low=low, high=high)
         if not self.takes(changed, None):
             return None
         write = f"{value} in value, {low} in low and {high} in high"
         return at_row(row, "a value with its bounds", column, write), changed
 
-    def two_in_one(self, row, column):
+    def two_in_one(self, row: Row, column: str) -> Explained | None:
         """Two bounds in one field, as 89500-99700, or None. In the value they leave it open which it is."""
         at = column if row.field(column) else {"low": "high", "high": "low"}.get(column, column)
         found = TWO_BOUNDS.fullmatch(row.field(at).strip())
-        low, high = (figure_of(text) for text in found.groups()) if found else (None, None)
-        if low is None or high is None or low > high:
+        least, most = (figure_of(text) for text in found.groups()) if found else (None, None)
+        if least is None or most is None or least > most:
             return None
-        low, high = written(low), written(high)
+        low, high = written(least), written(most)
         other = {"low": "high", "high": "low"}.get(at)
         where = f"{low} in low and {high} in high"
         changed = row.with_fields(low=low, high=high)
@@ -147,12 +150,12 @@ class NumberFaults(PercentFaults, BasisFaults, PartedNumbers):
         return at_row(row, cause, at), changed if self.takes(changed, None) else None
 
     @staticmethod
-    def is_in_two(row):
+    def is_in_two(row: Row) -> bool:
         """Tells whether a number with a comma stands in value and low: what stands in low is no low bound."""
         value, low = row.field("value"), row.field("low")
         return bool(re.fullmatch(r"\d{1,3}", value)) and low.isdecimal() and int(low) > int(value)
 
-    def in_two(self, row):
+    def in_two(self, row: Row) -> Explained:
         """A number with a comma that stands in value and low."""
         value, low = row.field("value"), row.field("low")
         cause = f"a comma in the number {value},{low} has parted it"
@@ -162,12 +165,14 @@ class NumberFaults(PercentFaults, BasisFaults, PartedNumbers):
         changed = row.with_fields(value=f"{value}.{low}", low="")
         return at_row(row, cause, "low", f"{value}.{low} in value and nothing in low"), changed
 
-    def with_unit(self, row, column):
+    def with_unit(self, row: Row, column: str) -> Explained | None:
         """A number with a unit behind it, or None. It is sure where that is the row's own unit."""
         found = re.fullmatch(r"(-?[\d.,\s]*\d)\s*([A-Za-z].*)", row.field(column).strip())
         meant = units.meant(found.group(2)) if found else None
-        figure = causes.number(found.group(1)) if meant else None
-        if not meant or not figure.sure:
+        if found is None or meant is None:
+            return None
+        figure = causes.number(found.group(1))
+        if not figure.sure:
             return None
         cause, unit = "a unit behind the number; it stands in the column unit alone", row.field("unit")
         based = self.other_basis(row, found.group(2))
@@ -185,7 +190,7 @@ class NumberFaults(PercentFaults, BasisFaults, PartedNumbers):
         write = text if meant.word == unit else f"{text} and the unit {meant.word}"
         return at_row(row, cause, column, write), changed
 
-    def half_life(self, row, column):
+    def half_life(self, row: Row, column: str) -> Explained:
         """A half-life, which has no bounds, or a bound of it."""
         if column != "value":
             return self.filled(row, column, "a half-life has no bounds")
@@ -202,7 +207,7 @@ class NumberFaults(PercentFaults, BasisFaults, PartedNumbers):
         candidates = [(cause_of(found), whole.group(1), True)] if whole and mended.sure else []
         return self.first_taken(row, column, candidates, otherwise)
 
-    def percentage(self, row, column):
+    def percentage(self, row: Row, column: str) -> Explained:
         """One of the two percentages of an uncertainty."""
         text = row.field(column)
         if not text.strip():
@@ -224,7 +229,7 @@ class NumberFaults(PercentFaults, BasisFaults, PartedNumbers):
         candidates = [(cause_of(found), mended.text, True)]
         return self.first_taken(row, column, candidates, f"no percentage; it is {form}")
 
-    def year(self, row, column):
+    def year(self, row: Row, column: str) -> Explained:
         """A year, or one of the three of a span."""
         several = self.several_years(row, column)
         if several:
@@ -238,7 +243,7 @@ class NumberFaults(PercentFaults, BasisFaults, PartedNumbers):
         between, lacking = year_between(row), self.year_lacking(row)
         if not mended.text and (between or lacking):
             cause = "empty, between two years" if between else f"empty, and no other row is of {lacking}"
-            return self.first_taken(row, column, [(cause, between or lacking, True)], "no year")
+            return self.first_taken(row, column, [(cause, between or lacking or "", True)], "no year")
         mended = of_two_digits(mended, self.span())
         other = f", and no other row is of {lacking}" if lacking else ""
         candidates = [(cause_of(mended.causes), mended.text, True)]
@@ -246,16 +251,17 @@ class NumberFaults(PercentFaults, BasisFaults, PartedNumbers):
         fault, changed = self.first_taken(row, column, candidates, otherwise)
         return fault, changed or self.of_first_year(row)
 
-    def of_first_year(self, row):
+    def of_first_year(self, row: Row) -> Row | None:
         """The row of a factor in the first year of the span, so that what takes it is seen, where no row
         enters that; or None.
         """
-        if row.field("kind") != "factor" or not self.span():
+        span = self.span()
+        if row.field("kind") != "factor" or span is None:
             return None
-        first = row.with_fields(year=str(self.span()[0]))
+        first = row.with_fields(year=str(span[0]))
         return first if not self.ahead.is_entered(first) and self.takes(first, "year") else None
 
-    def year_of_span(self, row, column, mended):
+    def year_of_span(self, row: Row, column: str, mended: Mended) -> Explained:
         """One of the three years of a span. It goes on with its first year as the base, or the other way
         round.
         """
@@ -268,11 +274,11 @@ class NumberFaults(PercentFaults, BasisFaults, PartedNumbers):
             changed = row.with_fields(**{column: row.field(other)})
         return fault, changed
 
-    def several_years(self, row, column):
+    def several_years(self, row: Row, column: str) -> Explained | None:
         """A first and a last year in one field, or none where a factor holds in all years; or None."""
         text, kind = row.field(column).strip(), row.field("kind")
         found = YEARS.fullmatch(text)
-        first, last = found.groups() if found else (None, None)
+        first, last = found.groups() if found else ("", "")
         if column != "year" or found and first >= last or not found and text.casefold() not in ALL_YEARS:
             return None
         if kind == "span" and found and row.field("value").strip() in ("", last):
@@ -280,11 +286,12 @@ class NumberFaults(PercentFaults, BasisFaults, PartedNumbers):
             write = f"{first} in year and {last} in value"
             return at_row(row, "the first and the last year in one field", column, write), changed
         if row.field("act") == "withdraw" and kind in self.book.years:
-            years = self.book.years[kind].get(row.field("name"), [])
+            years = list(self.book.years[kind].get(row.field("name"), {}))
             there = f"; there are records of {years_said(years)}" if years else ""
             return at_row(row, f"a row withdraws the record of one year{there}", column), None
         if kind == "factor" and not year_between(row):
-            year = first or (str(self.span()[0]) if self.span() else None)
+            span = self.span()
+            year = first or (str(span[0]) if span else "")
             cause = "a factor holds from its year on"
             is_free = year and not self.ahead.is_entered(row.with_fields(year=year))
             candidates = [(cause, year, True)] if is_free else []
@@ -297,7 +304,7 @@ class NumberFaults(PercentFaults, BasisFaults, PartedNumbers):
             return at_row(row, cause, column), changed if is_free else None
         return None
 
-    def disorder(self, row):
+    def disorder(self, row: Row) -> Explained:
         """Bounds that do not hold their value, or a span whose years are in disorder; and the row to go on
         with.
         """
@@ -317,7 +324,7 @@ class NumberFaults(PercentFaults, BasisFaults, PartedNumbers):
         elif 0 < most < number and (number <= 100 * most or most < 100) and least in (most, -most):
             cause = "low and high are the same figure and below the value; they are bounds, and no distances"
             fault = at_row(row, f"{cause}: {said_of_distance(number, most)}", "low")
-        elif 0 < least <= 1 <= most < min(number, 10):
+        elif 0 < least <= 1 <= most < 10 and most < number:
             bounds = listed([written(EXACT.multiply(number, bound)) for bound in (least, most)], "and")
             cause = f"low and high are bounds, and no factors of the value; of these they are {bounds}"
             fault = at_row(row, cause, "low")
@@ -330,7 +337,7 @@ class NumberFaults(PercentFaults, BasisFaults, PartedNumbers):
         return fault, self.blank_figure(row)
 
     @staticmethod
-    def disorder_of_span(row, first, last, base):
+    def disorder_of_span(row: Row, first: str, last: str, base: str) -> Explained:
         """The years of a span in disorder, and the span to go on with where first and last are swapped."""
         if last < first:
             cause = f"the last year {last} is before the first, {first}"
@@ -344,12 +351,12 @@ class NumberFaults(PercentFaults, BasisFaults, PartedNumbers):
         return at_row(row, f"{cause}; write one of these here, or {span}", "low"), changed
 
 
-def year_form():
+def year_form() -> str:
     """What a year is."""
     return f"four digits from {limit('first_year')} to {limit('last_year')}"
 
 
-def of_two_digits(mended, span):
+def of_two_digits(mended: Mended, span: tuple[int, int] | None) -> Mended:
     """A year with all its digits where it has two, and one year of the span ends with these."""
     if not span or not re.fullmatch(r"['\u2019]?\d\d", mended.text):
         return mended
@@ -357,15 +364,15 @@ def of_two_digits(mended, span):
     return mended.less("two digits of a year", years[0]) if len(years) == 1 else mended
 
 
-def without_years(mended):
+def without_years(mended: Mended) -> Mended:
     """A half-life without its unit behind it."""
     found = re.fullmatch(r"(\d[\d.]*)\s*([A-Za-z]+)", mended.text)
     meant = units.meant(found.group(2)) if found else None
-    is_unit = meant and meant.word == HALF_LIFE_UNIT
-    return mended.less("a unit behind the number", found.group(1)) if is_unit else mended
+    is_unit = meant is not None and meant.word == HALF_LIFE_UNIT
+    return mended.less("a unit behind the number", found.group(1)) if found and is_unit else mended
 
 
-def year_between(row):
+def year_between(row: Row) -> str | None:
     """The year between those of the rows above and below a row, where these are of the same name, or None."""
     above = next(row.sheet.rows_above(row.line), None)
     below = next(row.sheet.rows_below(row.line), None)
@@ -377,7 +384,7 @@ def year_between(row):
     return str(int(first) + 1)
 
 
-def ten_times_off(number, least, most):
+def ten_times_off(number: decimal.Decimal, least: decimal.Decimal, most: decimal.Decimal) -> tuple[str, str]:
     """The column of the one figure of three that looks ten times too big or too small, since they are in
     order and near each other once its point has moved, and what is said of it; or nothing twice.
     """
@@ -393,7 +400,7 @@ def ten_times_off(number, least, most):
     return found[0] if len(found) == 1 else ("", "")
 
 
-def way_to_bounds(number, least, most):
+def way_to_bounds(number: decimal.Decimal, least: decimal.Decimal, most: decimal.Decimal) -> str:
     """How to come to bounds that hold a number."""
     held, inner = scaled(number, least, most), sorted((least, number, most))
     if held:
@@ -404,24 +411,24 @@ def way_to_bounds(number, least, most):
     return advice
 
 
-def said_of_distance(number, distance):
+def said_of_distance(number: decimal.Decimal, distance: decimal.Decimal) -> str:
     """The bounds at a distance from a number, and at so many percent of it, where these are meant at all."""
     meant = []
     if number <= 100 * distance:
-        bounds = written(distance), written(number - distance), written(number + distance)
-        meant.append("of a distance of {} they are {} and {}".format(*bounds))
+        meant.append(f"of a distance of {written(distance)} they are {written(number - distance)}"
+                     f" and {written(number + distance)}")
     if distance < 100:
         bounds = [written(distance), *shares(number, distance)]
         meant.append(f"of {{}} percent {'' if meant else 'they are '}{{}} and {{}}".format(*bounds))
     return ", ".join(meant)
 
 
-def shares(number, percent):
+def shares(number: decimal.Decimal, percent: decimal.Decimal) -> list[str]:
     """The bounds at a distance in percent to both sides."""
     return [written(number * (100 + sign * percent) / 100) for sign in (-1, 1)]
 
 
-def scaled(number, least, most):
+def scaled(number: decimal.Decimal, least: decimal.Decimal, most: decimal.Decimal) -> str:
     """Bounds that are some thousand times others and hold a number, as a text, or nothing."""
     for power in (-6, -3, 3, 6):
         low, high = (bound.scaleb(power) for bound in (least, most))
@@ -430,14 +437,14 @@ def scaled(number, least, most):
     return ""
 
 
-def in_years(figure):
+def in_years(figure: decimal.Decimal) -> str:
     """How a figure with a fraction comes to whole years. One below a year is most likely a rate of decay."""
     if figure >= 1:
         return f"round it to {figure:.0f}"
     return f"of a rate k it is ln 2 / k, of {figure} rounded to {decimal.Decimal(2).ln() / figure:.0f}"
 
 
-def number_otherwise(column, text, row):
+def number_otherwise(column: str, text: str, row: Row) -> str:
     """Why a text is no number."""
     keys = vocabulary.words()["keys"]
     if text.startswith("#"):

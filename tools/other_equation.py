@@ -1,10 +1,18 @@
 """Tells which equation the bindings of a line are those of, where the line has another one or none."""
+import typing
+from collections.abc import Iterable
+
 from tools import vocabulary
-from tools.book import lines_taken_by
-from tools.faults import at_row
+from tools.book import Book, lines_taken_by
+from tools.faults import Rewritten, at_row
 from tools.figure_notices import figures
+from tools.sheets import Row
 from tools.usual import CO2_OF_FUELS
 from tools.vocabulary import listed
+
+if typing.TYPE_CHECKING:
+    from tools.after import After
+    from tools.ahead import Ahead
 
 # A line with fewer bindings does not tell its equation.
 FEWEST = 2
@@ -15,7 +23,7 @@ class Fit:
     are none of its parameters, and of its parameters that have no binding; and how many are amiss.
     """
 
-    def __init__(self, code, bound):
+    def __init__(self, code: str, bound: dict[str, str | None]) -> None:
         parameters = vocabulary.parameters_of(code)
         self.code = code
         self.fitting = [name for name, taken in bound.items() if name in parameters
@@ -25,7 +33,7 @@ class Fit:
         self.amiss = len(bound) - len(self.fitting) + len(self.absent)
 
 
-def explain(holder, after):
+def explain(holder: Row, after: "After") -> Rewritten | None:
     """The fault of a line whose bindings are those of another equation, and the rows to go on with; or
     None.
     """
@@ -54,7 +62,7 @@ def explain(holder, after):
     return at_row(holder, cause, "value", write), rows
 
 
-def bindings_of(line, after):
+def bindings_of(line: str, after: "After") -> dict[str, str | None]:
     """The parameters that rows bind of a line, each with what is measured there, or None where that is not
     known.
     """
@@ -62,7 +70,7 @@ def bindings_of(line, after):
     return {**dict.fromkeys(after.refused.parameters_bound(line)), **bound}
 
 
-def measured_by(bound, book):
+def measured_by(bound: Row, book: Book) -> str | None:
     """What the record that a binding names measures, whatever its kind, or the first line that it takes; or
     None.
     """
@@ -73,7 +81,7 @@ def measured_by(bound, book):
     return vocabulary.given_by(lines[0].field("value")) if lines else None
 
 
-def nearest_fits(bound, there, category):
+def nearest_fits(bound: dict[str, str | None], there: Fit, category: str) -> list[Fit]:
     """The equations that the bindings fit best, where they are so much nearer than the line's own that this
     one is most likely wrong.
     """
@@ -91,7 +99,7 @@ def nearest_fits(bound, there, category):
     return of_volume if has_more or vocabulary.volume_of_equation(there.code) != volume else []
 
 
-def likeliest(codes, line, ahead):
+def likeliest(codes: list[str], line: Row, ahead: "Ahead") -> list[str]:
     """Those of some equations that the volume of a line's category tells, then the gas in its name and in
     those of the factors that it takes, and whether these are of CO2 of fuels.
     """
@@ -107,7 +115,7 @@ def likeliest(codes, line, ahead):
     return codes
 
 
-def nearest_by_names(line, category, ahead):
+def nearest_by_names(line: str, category: str, ahead: "Ahead") -> list[str]:
     """The equations of the volume of a category that have all but one of the parameters that rows of any file
     bind for a line, and that have one more at the most.
     """
@@ -120,7 +128,7 @@ def nearest_by_names(line, category, ahead):
     return [fit.code for fit in known if fit.amiss == least]
 
 
-def with_fewer(line, after):
+def with_fewer(line: Row, after: "After") -> str | None:
     """The one equation of the volume of a line's category that takes just what is bound for it, or None."""
     bound = bindings_of(line.field("name"), after)
     fits = [Fit(code, bound) for code in of_parameters(set(bound))]
@@ -129,11 +137,11 @@ def with_fewer(line, after):
     return codes[0] if len(codes) == 1 and vocabulary.volume_of_equation(codes[0]) == volume else None
 
 
-def of_parameters(names):
+def of_parameters(names: set[str]) -> list[str]:
     """The equations of just some parameters."""
     return [code for code in vocabulary.equations() if names == set(vocabulary.parameters_of(code))]
 
 
-def said_of(codes):
+def said_of(codes: Iterable[str]) -> str:
     """Equations with what they compute."""
     return listed([f"{code} ({vocabulary.equations()[code]['computes']})" for code in codes], "and")

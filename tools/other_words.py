@@ -27,6 +27,6 @@ OTHER_FORMS = {
 }
 
 
-def meant_by(text, others):
+def meant_by(text: str, others: dict[str, str]) -> str | None:
     """The word that others have for a text, whatever its case, blanks and signs, or None."""
     return next((word for other, word in others.items() if plain(other) == plain(text)), None)

@@ -217,11 +217,12 @@ def in_range(asking: Asking, readings: Readings) -> Readings:
     measures = vocabulary.measured_by(in_table(row).field("unit"))
     takers = asking.ahead.takers(row.field("kind"), row.field("name"))
     is_of_co2 = any(unit_bases.taken_by(*taker) == "CO2" for taker in takers)
-    least, most = OF_FUELS.get(measures, (0, MOST_OF_NO_SHARE if measures == "ratio" else None))
-    if measures == "emission factor of fuel" and is_of_co2:
-        least, most = CO2_OF_FUELS[:2]
-    if most is None or row.field("name") in vocabulary.words()["potentials"]:
+    usual = {**OF_FUELS, "ratio": (decimal.Decimal(0), decimal.Decimal(MOST_OF_NO_SHARE))}
+    if is_of_co2:
+        usual["emission factor of fuel"] = CO2_OF_FUELS[:2]
+    if measures not in usual or row.field("name") in vocabulary.words()["potentials"]:
         return []
+    least, most = usual[measures]
     return [read for read in readings if least <= size_of(read.row) <= most]
 
 
@@ -230,8 +231,7 @@ def in_table(row: Row) -> Row:
     if row.field("unit") in vocabulary.units():
         return row
     meant = units.meant(row.field("unit"))
-    found: Row = row.with_fields(unit=meant.word if meant else "")
-    return found
+    return row.with_fields(unit=meant.word if meant else "")
 
 
 def size_of(row: Row) -> decimal.Decimal:
@@ -239,9 +239,8 @@ def size_of(row: Row) -> decimal.Decimal:
     meant = in_table(row)
     known = figures(meant)[:1] if meant.field("unit") else []
     read = units.meant(row.field("unit")) if known and meant is not row else None
-    times = decimal.Decimal(read.times.numerator) / read.times.denominator if read else 1
-    size: decimal.Decimal = abs(known[0] * times) if known else decimal.Decimal(0)
-    return size
+    times = decimal.Decimal(read.times.numerator) / read.times.denominator if read else decimal.Decimal(1)
+    return abs(known[0] * times) if known else decimal.Decimal(0)
 
 
 def by_bounds(_: Asking, readings: Readings) -> Readings:

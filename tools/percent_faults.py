@@ -6,7 +6,8 @@ import re
 
 from tools import causes, vocabulary
 from tools.asking import Asking
-from tools.faults import at_row
+from tools.faults import Explained, at_row
+from tools.sheets import Row
 from tools.vocabulary import listed
 
 # A distance to both sides, or to one of them.
@@ -19,7 +20,7 @@ EXACT = decimal.Context(prec=100)
 class PercentFaults(Asking):
     """Explanations of percent signs."""
 
-    def percent(self, row, column):
+    def percent(self, row: Row, column: str) -> Explained | None:
         """A percent sign or an uncertainty in a figure, or None where it has neither."""
         text, ratio = row.field(column).strip(), is_of_a_ratio(row)
         uncertain = UNCERTAIN_FIGURE.fullmatch(text)
@@ -29,12 +30,12 @@ class PercentFaults(Asking):
             return self.both_sides(row, column)
         if column == "value":
             return self.ratio(row, column) if ratio else self.of_no_ratio(row)
-        sign = DISTANCE.fullmatch(text).group(1)
-        if sign or not ratio:
+        distance = DISTANCE.fullmatch(text)
+        if distance and distance.group(1) or not ratio:
             return self.distance(row, column)
         return self.ratio(row, column) if row.field("unit") == "pct" else self.ratio_or_distance(row, column)
 
-    def ratio(self, row, column):
+    def ratio(self, row: Row, column: str) -> Explained:
         """A ratio in percent, which the unit pct says. Bounds without the sign are in the row's unit."""
         figure = causes.number(row.field(column).strip().removesuffix("%").rstrip())
         others = [other for other in ("value", "low", "high")
@@ -56,14 +57,14 @@ class PercentFaults(Asking):
             write = listed([f"{changed.field(name)} in {name}" for name in columns], "and")
         return at_row(row, f"a percent sign{and_one_in(others)}", column, write), changed
 
-    def of_no_ratio(self, row):
+    def of_no_ratio(self, row: Row) -> Explained:
         """A value in percent beside a unit that measures no ratio."""
         others = [other for other in ("low", "high") if row.field(other).strip().endswith("%")]
         unit = row.field("unit")
         cause = f"a percent sign{and_one_in(others)}, and {unit} is no ratio; write the figure in {unit}"
         return at_row(row, cause, "value"), self.blank_figure(row) if others else None
 
-    def distance(self, row, column):
+    def distance(self, row: Row, column: str) -> Explained:
         """A bound by its distance from the value in percent."""
         cause = f"a bound is a figure in {row.field('unit')}, as the value is"
         bound, said = bound_of(row, column)
@@ -78,7 +79,7 @@ class PercentFaults(Asking):
             return at_row(row, cause, column), None
         return at_row(row, cause, column, f"{bound}, which is {said}"), changed
 
-    def both_sides(self, row, column):
+    def both_sides(self, row: Row, column: str) -> Explained | None:
         """A distance to both sides without a percent sign, in low or high or both; or None."""
         bounds = [row.field(name).strip() for name in ("low", "high") if row.field(name).strip()]
         found = [re.fullmatch(rf"(?:{BOTH_SIDES})\s*(.+)", bound) for bound in bounds]
@@ -94,7 +95,7 @@ class PercentFaults(Asking):
         at = column if row.field(column) else {"low": "high", "high": "low"}[column]
         return at_row(row, cause, at, f"{low} in low and {high} in high"), changed
 
-    def ratio_or_distance(self, row, column):
+    def ratio_or_distance(self, row: Row, column: str) -> Explained:
         """A bound of a ratio that is in percent, or by its distance from the value."""
         unit = row.field("unit")
         share = in_unit(causes.number(row.field(column).strip().removesuffix("%").rstrip()).text, unit)
@@ -105,19 +106,18 @@ class PercentFaults(Asking):
             meant.append(f"{bound} where {said} is meant")
         return at_row(row, cause, column, listed(meant)), None
 
-    def uncertain_figure(self, row, value, distance, percent):
+    def uncertain_figure(self, row: Row, value: str, distance: str, percent: str) -> Explained:
         """A value with its uncertainty behind it."""
         cause = "a value with its uncertainty; the bounds stand in low and high"
-        value, distance = figure_of(value), figure_of(distance)
-        if value is None or distance is None or (percent and is_of_a_ratio(row)):
+        figure, apart = figure_of(value), figure_of(distance)
+        if figure is None or apart is None or (percent and is_of_a_ratio(row)):
             return at_row(row, cause, "value"), None
         if percent:
-            distance = EXACT.multiply(abs(value), distance) / 100
-        changed = row.with_fields(value=written(value))
-        write = written(value)
+            apart = EXACT.multiply(abs(figure), apart) / 100
+        changed = row.with_fields(value=written(figure))
+        write = written(figure)
         if not row.field("low") and not row.field("high"):
-            low, high = (written(bound) for bound in (EXACT.subtract(value, distance),
-                                                      EXACT.add(value, distance)))
+            low, high = written(EXACT.subtract(figure, apart)), written(EXACT.add(figure, apart))
             changed = changed.with_fields(low=low, high=high)
             write += f" with low {low} and high {high}"
         if not self.takes(changed, None):
@@ -125,17 +125,17 @@ class PercentFaults(Asking):
         return at_row(row, cause, "value", write), changed
 
 
-def is_of_a_ratio(row):
+def is_of_a_ratio(row: Row) -> bool:
     """Tells whether a row's unit measures a ratio, or is none of the table."""
     return vocabulary.measured_by(row.field("unit")) in (None, "ratio")
 
 
-def and_one_in(columns):
+def and_one_in(columns: list[str]) -> str:
     """That other columns have a percent sign too."""
     return f", and one in {listed(columns, 'and')} too" if columns else ""
 
 
-def figure_of(text):
+def figure_of(text: str) -> decimal.Decimal | None:
     """The figure of a text, or None where it is not sure or there is none."""
     mended = causes.number(text)
     if not mended.sure or not re.fullmatch(r"-?\d{1,40}(\.\d+)?", mended.text):
@@ -143,13 +143,13 @@ def figure_of(text):
     return decimal.Decimal(mended.text)
 
 
-def written(figure):
+def written(figure: decimal.Decimal) -> str:
     """A figure with no more decimals than a number may have, and without zeros at their end."""
     text = causes.number(format(figure, "f")).text
     return re.sub(r"\.?0+$", "", text) if "." in text else text
 
 
-def in_unit(text, unit):
+def in_unit(text: str, unit: str) -> str | None:
     """A percentage in a unit of ratios, or None where it is no number."""
     figure = figure_of(text)
     if figure is None:
@@ -158,12 +158,13 @@ def in_unit(text, unit):
     return written(figure * size["under"] / size["over"] / 100)
 
 
-def bound_of(row, column):
+def bound_of(row: Row, column: str) -> tuple[str, str]:
     """The bound at a distance in percent from the value, and how it comes of it; or nothing.
 
     A distance to the other side is no bound.
     """
-    sign, text = DISTANCE.fullmatch(row.field(column).strip()).groups()
+    found = DISTANCE.fullmatch(row.field(column).strip())
+    sign, text = found.groups(default="") if found else ("", "")
     value, percent = figure_of(row.field("value")), figure_of(text)
     other = "+" if column == "low" else causes.MINUS + "-"
     if value is None or percent is None or row.has_other_figure or (sign and sign in other):

@@ -8,6 +8,7 @@ import os
 import pathlib
 import re
 import subprocess
+from collections.abc import Iterable
 
 TOP = pathlib.Path(__file__).resolve().parent.parent
 # So many commands are written before their replies are read: as many replies have room in a pipe.
@@ -37,12 +38,12 @@ class Reply:
     rest: str = ""
 
     @property
-    def accepted(self):
+    def accepted(self) -> bool:
         """Tells whether the submission is in force."""
         return self.rule == 0
 
 
-def read_reply(text):
+def read_reply(text: str) -> Reply:
     """A reply to a submission out of its line."""
     if re.fullmatch(r"(accepted|repeated) \d+", text):
         return Reply(text)
@@ -53,7 +54,7 @@ def read_reply(text):
     return Reply(text, int(rule), None if row is None else int(row), column, rest or "")
 
 
-def found_program(given=None):
+def found_program(given: str | None = None) -> str:
     """The program's path: the given one, or that of GHG_PROGRAM, or the launcher, which builds it where it
     is missing.
     """
@@ -66,39 +67,44 @@ def found_program(given=None):
 class Program:
     """A session of the program. It is closed at the end of a `with` block."""
 
-    def __init__(self, path):
+    def __init__(self, path: str) -> None:
         self.path, self.submitted = path, 0
         self._start()
 
-    def _start(self):
-        self.commands, self.accepted = 0, []
+    def _start(self) -> None:
+        self.commands = 0
+        self.accepted: list[bytes] = []
         try:
             self.process = subprocess.Popen([self.path, "compile"], stdin=subprocess.PIPE,
                                             stdout=subprocess.PIPE)
         except OSError as error:
             raise ProgramFailed(f"{self.path} cannot be run: {error.strerror}") from error
+        assert self.process.stdin and self.process.stdout
+        self.input, self.output = self.process.stdin, self.process.stdout
 
-    def __enter__(self):
+    def __enter__(self) -> "Program":
         return self
 
-    def __exit__(self, *_):
+    def __exit__(self, *_: object) -> None:
         self._end()
 
-    def _end(self):
-        for stream in (self.process.stdin, self.process.stdout):
+    def _end(self) -> None:
+        for stream in (self.input, self.output):
             try:
                 stream.close()
             except OSError:
                 pass
         self.process.wait()
 
-    def submit(self, body):
+    def submit(self, body: bytes) -> Reply:
         """Submits a body under an id that was not used, and reads the reply."""
         return self.submit_all([body])[0]
 
-    def submit_all(self, bodies):
+    def submit_all(self, bodies: Iterable[bytes]) -> list[Reply]:
         """Submits bodies in turn, and reads their replies."""
-        replies, waiting, size = [], [], 0
+        replies: list[Reply] = []
+        waiting: list[bytes] = []
+        size = 0
         for body in bodies:
             if self.commands == MOST_COMMANDS:
                 replies += self._replies(waiting)
@@ -114,14 +120,14 @@ class Program:
                 waiting, size = [], 0
         return replies + self._replies(waiting)
 
-    def _start_again(self):
+    def _start_again(self) -> None:
         """Starts a new process, and submits to it what the one before accepted."""
         accepted = self.accepted
         self._end()
         self._start()
         self.submit_all(accepted)
 
-    def show(self, table, year):
+    def show(self, table: str, year: int) -> list[str] | None:
         """The lines of a table with its header, or None where there is no such table.
 
         A name or a year of another form would end the session: it is no command.
@@ -137,30 +143,30 @@ class Program:
             return None
         return [self._line() for _ in range(int(first.split()[-1]))]
 
-    def _replies(self, bodies):
+    def _replies(self, bodies: list[bytes]) -> list[Reply]:
         self._flush()
         replies = [read_reply(self._line()) for _ in bodies]
         self.accepted += [body for body, reply in zip(bodies, replies) if reply.accepted]
         return replies
 
-    def _command(self, piece):
+    def _command(self, piece: bytes) -> None:
         self.commands += 1
         try:
-            self.process.stdin.write(piece)
+            self.input.write(piece)
         except OSError as error:
             raise self._ended() from error
 
-    def _flush(self):
+    def _flush(self) -> None:
         try:
-            self.process.stdin.flush()
+            self.input.flush()
         except OSError as error:
             raise self._ended() from error
 
-    def _line(self):
-        line = self.process.stdout.readline()
+    def _line(self) -> str:
+        line = self.output.readline()
         if not line.endswith(b"\n"):
             raise self._ended()
         return line[:-1].decode("ascii", "backslashreplace")
 
-    def _ended(self):
+    def _ended(self) -> ProgramFailed:
         return ProgramFailed(f"the program ended with status {self.process.wait()} before it had answered")

@@ -335,9 +335,10 @@ def write(path: pathlib.Path, text: str) -> None:
         raise OSError(error.errno, error.strerror, str(path)) from error
 
 
-def warned(program: Program, checked: Any, left: list[Any]) -> Iterator[str]:
+def warned(program: Program, checked: check.Check, left: list[tuple[str, str]]) -> Iterator[str]:
     """The warnings of `check`."""
-    yield from map(str, warnings_of(program, checked) + warn_left(left))
+    yield from map(str, warnings_of(program, checked))
+    yield from warn_left(left)
 
 
 def run(path: str, words: list[str], output: str) -> int:
@@ -355,7 +356,7 @@ def run(path: str, words: list[str], output: str) -> int:
             print(f"./workbook: {lacking}", file=sys.stderr)
             return 1
         inventory = Inventory(sheets, checked.book, Printed(program), list(warned(program, checked, left)),
-                              year or span[1])
+                              year or checked.book.known_span()[1])
         text = page_of(inventory, path, " ".join(pathlib.Path(folder).name for folder in folders))
     write(pathlib.Path(output), text)
     print(f"{output}: {inventory.year}, {len(inventory.book.lines)} lines", file=sys.stderr)

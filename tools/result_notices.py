@@ -103,9 +103,9 @@ def is_not_estimated(record: Row | None) -> bool:
 
 def said_of_blank(results: Results, kind: str, name: str, lines: list[str]) -> tuple[Row, str]:
     """The first row of a record that is NE between figures, and what is said of it."""
-    years = [year for year in results.years
-             if is_not_estimated(results.book.in_force(kind, name, year))]
-    row = results.book.in_force(kind, name, years[0])
+    records = {year: results.book.in_force(kind, name, year) for year in results.years}
+    blank_rows = {year: row for year, row in records.items() if row is not None and is_not_estimated(row)}
+    years, row = list(blank_rows), next(iter(blank_rows.values()))
     blank = f"{'line' if len(lines) == 1 else 'lines'} {listed(lines[:YEARS_SHOWN], 'and')}"
     more = f" and {len(lines) - YEARS_SHOWN} more" if len(lines) > YEARS_SHOWN else ""
     said = f"{kind} {name} is NE in {years_said(years)}, between years with figures; {blank}{more}"
@@ -198,7 +198,8 @@ def said_of_changes(results: Results, row: Row, changes: list[Change]) -> str:
     also = f", and so {'does' if len(changes) == 2 else 'do'} {others}{more}" if others else ""
     said = f"line {line} changes by {percent:+.1f} % in {year}, {size:+} Gg CO2 equivalent{also}: activity"
     said += f" {row.field('name')} is {row.field('value')} {row.field('unit')}"
-    return f"{said}, and was {before.field('value')} {before.field('unit')} in {year - 1}"
+    was = f", and was {before.field('value')} {before.field('unit')} in {year - 1}" if before else ""
+    return f"{said}{was}"
 
 
 def cause_of_change(results: Results, line: str, year: int) -> Row | None:
@@ -220,7 +221,7 @@ def is_return(results: Results, name: str, year: int) -> bool:
     if year - 2 not in results.years or not exceptional(results, name, year - 1):
         return False
     one, other = (results.book.in_force("activity", name, at) for at in (year - 2, year))
-    return apart(one, other) < 2 * MOST_CHANGE
+    return one is not None and other is not None and apart(one, other) < 2 * MOST_CHANGE
 
 
 def exceptional(results: Results, name: str, year: int) -> decimal.Decimal:

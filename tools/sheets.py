@@ -2,6 +2,7 @@
 import bisect
 import pathlib
 import re
+from collections.abc import Iterable, Iterator
 
 BYTE_ORDER_MARK = b"\xef\xbb\xbf"
 # A field to its end: a quoted one over closed pairs of quotes, or one without a quote in front. The flag of
@@ -14,7 +15,7 @@ LINE_END = re.compile(rb"\r\n|\r|\n")
 COLUMNS = ["act", "kind", "subject", "name", "year", "value", "low", "high", "unit", "note"]
 COLUMN_AT = {column: at for at, column in enumerate(COLUMNS)}
 # The columns that name a record, of each kind; of any other kind all that may.
-COLUMNS_OF_KEY = {
+COLUMNS_OF_KEY: dict[str, list[str]] = {
     "span": [], "activity": ["name", "year"], "factor": ["name", "year"], "line": ["name"],
     "bind": ["subject", "name"], "uncert": ["name"],
 }
@@ -26,6 +27,9 @@ KEY_AT = {kind: [COLUMN_AT[column] for column in columns] for kind, columns in C
 SPREADSHEETS = {".xlsx", ".xlsm", ".xlsb", ".xls", ".ods", ".numbers"}
 OTHER_TEXTS = {".txt", ".tsv", ".tab"}
 BEGIN_OF_ROWS = re.compile(r"[\s\"]*(act|enter|correct|withdraw)\"?[,;\t|]", re.IGNORECASE)
+
+# What names a record: its kind, and what it has in the columns of COLUMNS_OF_KEY.
+Key = tuple[str, ...]
 
 
 class FolderFault(Exception):
@@ -40,12 +44,14 @@ class Row:
 
     __slots__ = ("sheet", "line", "raw", "has_other_figure", "is_added", "_fields", "_key")
 
-    def __init__(self, sheet, line, raw):
+    def __init__(self, sheet: "Sheet", line: int, raw: bytes) -> None:
         self.sheet, self.line, self.raw = sheet, line, raw
-        self.has_other_figure, self.is_added, self._fields, self._key = False, False, None, None
+        self.has_other_figure, self.is_added = False, False
+        self._fields: list[str] | None = None
+        self._key: Key | None = None
 
     @property
-    def fields(self):
+    def fields(self) -> list[str]:
         """The fields as texts. Bytes that are no UTF-8 are kept as lone surrogates."""
         if self._fields is None:
             text = self.raw.decode("utf-8", "surrogateescape")
@@ -53,12 +59,12 @@ class Row:
         return self._fields
 
     @property
-    def place(self):
+    def place(self) -> str:
         """The file and the line."""
         return f"{self.sheet.name}:{self.line}"
 
     @property
-    def key(self):
+    def key(self) -> Key:
         """The key of the record that the row speaks of, out of its fields as they are."""
         if self._key is None:
             kind, fields = self.field("kind"), self.fields
@@ -68,19 +74,19 @@ class Row:
                 self._key = (kind, *[self.field(column) for column in COLUMNS_OF_KEY.get(kind, ANY_KEY)])
         return self._key
 
-    def field(self, column):
+    def field(self, column: str) -> str:
         """The field of a column by its name, or nothing where the row is too short."""
         at = COLUMN_AT[column]
         return self.fields[at] if at < len(self.fields) else ""
 
-    def with_fields(self, **changed):
+    def with_fields(self, **changed: str) -> "Row":
         """The same row with other fields, at the same place."""
         fields = list(self.fields)
         for column, text in changed.items():
             fields[COLUMN_AT[column]] = text
-        changed = Row(self.sheet, self.line, joined(fields))
-        changed.has_other_figure = self.has_other_figure
-        return changed
+        made = Row(self.sheet, self.line, joined(fields))
+        made.has_other_figure = self.has_other_figure
+        return made
 
 
 class Sheet:
@@ -88,60 +94,66 @@ class Sheet:
     header; and these rows as they are read without what is wrong with the file.
     """
 
-    def __init__(self, name, data):
+    def __init__(self, name: str, data: bytes) -> None:
         self.name, self.data = name, data
         self.rows = self.meant = split(self, data)
 
-    def rows_above(self, line):
+    def rows_above(self, line: int) -> Iterator[Row]:
         """The rows above a line up to the header, the nearest first."""
         for at in range(bisect.bisect_left(self.meant, line, key=lambda row: row.line) - 1, 0, -1):
             yield self.meant[at]
 
-    def rows_below(self, line):
+    def rows_below(self, line: int) -> Iterator[Row]:
         """The rows below a line, the nearest first."""
         for at in range(bisect.bisect_right(self.meant, line, key=lambda row: row.line), len(self.meant)):
             yield self.meant[at]
 
 
-def joined(fields):
+def joined(fields: Iterable[str]) -> bytes:
     """Fields as a record of CSV."""
     return ",".join(map(quoted, fields)).encode("utf-8", "surrogateescape")
 
 
-def quoted(field):
+def quoted(field: str) -> str:
     """A field as CSV has it, in quotes where it holds a comma, a quote or the end of a line."""
     return '"' + field.replace('"', '""') + '"' if set(field) & set(',"\r\n') else field
 
 
-def fields_of(raw):
+def fields_of(raw: bytes) -> list[str]:
     """The fields of a record with quotes in it."""
     return [unquoted(field).decode("utf-8", "surrogateescape") for field in written_fields(raw)]
 
 
-def written_fields(raw):
+def written_fields(raw: bytes) -> list[bytes]:
     """The fields of a record with their quotes."""
     found, at = [], 0
     while True:
-        end = FIELD.match(raw, at).end()
+        end = end_of_field(raw, at)
         found.append(raw[at:end])
         if end == len(raw):
             return found
         at = end + 1
 
 
-def unquoted(field):
+def end_of_field(raw: bytes, at: int) -> int:
+    """Where the field of a record ends that begins at a place."""
+    found = FIELD.match(raw, at)
+    return found.end() if found else at
+
+
+def unquoted(field: bytes) -> bytes:
     """A field without its quotes."""
     inner = QUOTED.fullmatch(field)
     return inner.group(1).replace(b'""', b'"') + inner.group(2) if inner else field
 
 
-def is_closed_within(raw):
+def is_closed_within(raw: bytes) -> bool:
     """Tells whether a text stands behind the closing quote of a field of a record."""
     quoted = (QUOTED.fullmatch(field) for field in written_fields(raw))
     return any(found and found.group(2) for found in quoted)
 
 
-def split(sheet, data):
+def split(sheet: Sheet, data: bytes) -> list[Row]:
     """The rows of a file's bytes, by the ends of lines outside quotes. Empty lines are none."""
     data = data.removeprefix(BYTE_ORDER_MARK)
     if b'"' not in data:
@@ -158,38 +170,39 @@ def split(sheet, data):
     return rows
 
 
-def end_of_record(data, at):
+def end_of_record(data: bytes, at: int) -> int:
     """Where the record ends that begins at a place."""
-    end = LINE_END.search(data, at)
-    end = end.start() if end else len(data)
+    line_end = LINE_END.search(data, at)
+    end = line_end.start() if line_end else len(data)
     if data.find(b'"', at, end) < 0:
         return end
     while True:
-        end = FIELD.match(data, at).end()
+        end = end_of_field(data, at)
         if data[end:end + 1] != b",":
             return end
         at = end + 1
 
 
-def open_quote(raw):
+def open_quote(raw: bytes) -> int | None:
     """Where a field of a record begins with a quote that is never closed, or None."""
     at = 0
     while b'"' in raw:
         found = FIELD.match(raw, at)
-        if found.group(1) is not None:
+        if found and found.group(1) is not None:
             return at
-        if found.end() == len(raw):
+        end = end_of_field(raw, at)
+        if end == len(raw):
             return None
-        at = found.end() + 1
+        at = end + 1
     return None
 
 
-def natural(name):
+def natural(name: str) -> list[tuple[int, int, str]]:
     """A key that sorts 2 before 10."""
     return [(0, int(part), "") if part.isdecimal() else (1, 0, part) for part in re.split(r"([0-9]+)", name)]
 
 
-def listed_in(order, folder):
+def listed_in(order: pathlib.Path, folder: pathlib.Path) -> list[str]:
     """The names that ORDER.txt lists, one on a line. Empty lines and lines that begin with # name none."""
     try:
         text = order.read_text(encoding="utf-8-sig")
@@ -205,7 +218,7 @@ def listed_in(order, folder):
     return names
 
 
-def names_in(folder):
+def names_in(folder: pathlib.Path) -> tuple[list[str], list[str]]:
     """The names of a folder's files in their order, and those that ORDER.txt leaves out."""
     if not folder.is_dir():
         raise FolderFault(f"{folder} is no folder")
@@ -223,7 +236,7 @@ def names_in(folder):
     return names, left
 
 
-def has_rows(path):
+def has_rows(path: pathlib.Path) -> bool:
     """Tells whether a text file begins with a header or a row of an act."""
     try:
         with path.open("rb") as file:
@@ -232,7 +245,7 @@ def has_rows(path):
         return False
 
 
-def unread_in(folder, named):
+def unread_in(folder: pathlib.Path, named: set[pathlib.Path]) -> list[tuple[str, str]]:
     """What a folder has that is most likely meant and that is not read, with what to do: the files of
     spreadsheets that no CSV file is saved of, the rows of other text files, and the folders below with CSV
     files of rows that are not named themselves.
@@ -257,7 +270,7 @@ def unread_in(folder, named):
     return found
 
 
-def files_below(folder):
+def files_below(folder: pathlib.Path) -> list[pathlib.Path]:
     """The files of a folder, or none where it cannot be read."""
     try:
         return list(folder.iterdir())
@@ -265,21 +278,26 @@ def files_below(folder):
         return []
 
 
-def read_folders(paths):
+def shown_in(folder: pathlib.Path, name: str, is_only: bool) -> str:
+    """The name to show for a file of a folder, which is the only one or one of several."""
+    return name if is_only else str(folder / name)
+
+
+def read_folders(paths: list[str]) -> tuple[list[Sheet], list[tuple[str, str]]]:
     """The files of folders, in their order, and the names of what is left out, each with the reason."""
     sheets, left = [], []
     named = {pathlib.Path(path).resolve() for path in paths}
     for path in map(pathlib.Path, paths):
         names, others = names_in(path)
-        shown = (lambda name: name) if len(paths) == 1 else (lambda name: str(path / name))
-        unlisted = f"{shown('ORDER.txt')} does not list this file, and it is left out"
-        left += [(shown(name), unlisted) for name in others]
-        left += [(shown(name), why) for name, why in unread_in(path, named)]
+        is_only = len(paths) == 1
+        unlisted = f"{shown_in(path, 'ORDER.txt', is_only)} does not list this file, and it is left out"
+        left += [(shown_in(path, name, is_only), unlisted) for name in others]
+        left += [(shown_in(path, name, is_only), why) for name, why in unread_in(path, named)]
         for name in names:
             if not (path / name).is_file():
                 raise FolderFault(f"{path / name} is no file")
             try:
-                sheets.append(Sheet(shown(name), (path / name).read_bytes()))
+                sheets.append(Sheet(shown_in(path, name, is_only), (path / name).read_bytes()))
             except OSError as error:
                 raise FolderFault(f"{path / name} cannot be read: {error.strerror}") from error
     return sheets, left

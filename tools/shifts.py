@@ -2,11 +2,12 @@
 one more; and one of which two fields stand in each other's column.
 """
 import itertools
+from collections.abc import Container, Iterable, Iterator
 
 from tools import vocabulary
 from tools.ahead import word_meant
 from tools.asking import Asking, article
-from tools.faults import at_row, shown
+from tools.faults import Explained, at_row, shown
 from tools.other_words import OTHER_KINDS
 from tools.sheets import COLUMN_AT, COLUMNS, Row, joined
 from tools.vocabulary import limit, listed
@@ -24,19 +25,19 @@ FILLED = {
 MAY_BE_FILLED = {"activity": ["low", "high"], "factor": ["low", "high"]}
 
 
-def word_of_a_column(kind):
+def word_of_a_column(kind: str) -> tuple[str, Container[str]] | None:
     """A column that holds a word of the vocabulary in a row of a kind, and these words; or None."""
-    units = ("unit", vocabulary.units())
-    return {
-        "activity": units, "factor": units,
-        "line": ("value", vocabulary.equations()), "bind": ("value", vocabulary.words()["forms"]),
-    }.get(kind)
+    if kind in ("activity", "factor"):
+        return "unit", vocabulary.units()
+    if kind == "line":
+        return "value", vocabulary.equations()
+    return ("value", vocabulary.words()["forms"]) if kind == "bind" else None
 
 
 class Shifts(Asking):
     """Explanations of shifted rows."""
 
-    def shifted(self, row):
+    def shifted(self, row: Row) -> Explained | None:
         """The fault and the row as it is meant, where the program takes it so, or None."""
         column = word_of_a_column(row.field("kind"))
         if len(row.fields) != len(COLUMN_AT) or not column:
@@ -54,7 +55,7 @@ class Shifts(Asking):
             return self.first_of(row, self.moved_left(row, due), TOO_FAR_RIGHT)
         return None
 
-    def shifted_kind(self, row):
+    def shifted_kind(self, row: Row) -> Explained | None:
         """The fault of a row without a kind whose kind stands in subject, and the row as it is meant; or
         None.
         """
@@ -63,7 +64,7 @@ class Shifts(Asking):
         meant = [(row.field("subject"), row.fields[:1] + row.fields[2:] + [""])]
         return self.first_of(row, meant, TOO_FAR_RIGHT)
 
-    def swapped(self, row):
+    def swapped(self, row: Row) -> Explained | None:
         """The fault of two fields of a row that stand in each other's column, and the row as it
         is meant, where the program takes it so; or None.
         """
@@ -82,7 +83,7 @@ class Shifts(Asking):
                 return at_row(row, *said_of_swapped(meant, one, other)), meant
         return None
 
-    def rest_of_another_kind(self, row):
+    def rest_of_another_kind(self, row: Row) -> Explained | None:
         """The fault of a row whose rest is that of another kind, and the row as it is meant; or None.
 
         A kind that is misspelt, or left out, is told as such.
@@ -96,7 +97,7 @@ class Shifts(Asking):
                 return at_row(row, f"the rest of the row is that of {article(kind)}", "kind", kind), meant
         return None
 
-    def has_known_words(self, row):
+    def has_known_words(self, row: Row) -> bool:
         """Tells whether a row has the columns of its kind filled, and a line has a category and an equation,
         a binding a parameter of its line, an uncertainty a line, or a figure a year of the workbook and a
         name that other rows have.
@@ -120,9 +121,9 @@ class Shifts(Asking):
         if kind == "uncert":
             return self.ahead.row_of("line", name) is not None
         line = self.book.lines.get(row.field("subject"))
-        return kind == "span" or bool(line) and name in vocabulary.parameters_of(line.field("value"))
+        return kind == "span" or line is not None and name in vocabulary.parameters_of(line.field("value"))
 
-    def first_of(self, row, candidates, where):
+    def first_of(self, row: Row, candidates: Iterable[tuple[str, list[str]]], where: str) -> Explained | None:
         """The fault and the first of some rows that the program takes, or None."""
         for text, fields in candidates:
             meant = Row(row.sheet, row.line, joined(fields))
@@ -132,7 +133,7 @@ class Shifts(Asking):
         return None
 
     @staticmethod
-    def moved_right(row, last, columns=1):
+    def moved_right(row: Row, last: int, columns: int = 1) -> Iterator[tuple[str, list[str]]]:
         """The row with some empty fields more in front of a field, each up to the last that may be meant; and
         that field.
         """
@@ -140,7 +141,7 @@ class Shifts(Asking):
             yield row.fields[at], row.fields[:at] + [""] * columns + row.fields[at:-columns]
 
     @staticmethod
-    def moved_left(row, last):
+    def moved_left(row: Row, last: int) -> Iterator[tuple[str, list[str]]]:
         """The row without one of its empty fields, each up to the last that may be meant; and what stands
         behind it.
         """
@@ -148,7 +149,7 @@ class Shifts(Asking):
             if not row.fields[at]:
                 yield next(filter(None, row.fields[at:])), row.fields[:at] + row.fields[at + 1:] + [""]
 
-    def astray(self, row):
+    def astray(self, row: Row) -> Explained | None:
         """The fault of a figure or an uncertainty whose name stands in subject, or of percentages in other
         columns, and the row as it is meant, where the program takes it so; or None.
         """
@@ -169,7 +170,7 @@ class Shifts(Asking):
         cause = f"the name of {what} stands in name; move it there"
         return at_row(row, cause, "subject"), meant
 
-    def unit_astray(self, row):
+    def unit_astray(self, row: Row) -> Explained | None:
         """The fault of a figure behind its unit, both in front of the column of the unit; or None."""
         value, low = row.field("value"), row.field("low")
         meant = row.with_fields(value=low, low="", unit=value)
@@ -178,7 +179,7 @@ class Shifts(Asking):
         cause = "the unit stands in value and the value in low"
         return at_row(row, cause, "", f"{low} in value, nothing in low and {value} in unit"), meant
 
-    def years_astray(self, row):
+    def years_astray(self, row: Row) -> Explained | None:
         """The fault of a span whose three years stand in other columns, or None."""
         columns = ("subject", "name", "year", "value", "low", "high", "unit")
         years = [row.field(column) for column in columns if row.field(column)]
@@ -189,7 +190,7 @@ class Shifts(Asking):
         write = "{} in year, {} in value and {} in low".format(*years)
         return at_row(row, "the three years of a span stand in year, value and low", "", write), meant
 
-    def percentages_astray(self, row):
+    def percentages_astray(self, row: Row) -> Explained | None:
         """The fault of an uncertainty whose two percentages stand in other columns, or None."""
         columns = ("year", "value", "low", "high")
         texts = [row.field(column) for column in columns if row.field(column)]
@@ -203,7 +204,7 @@ class Shifts(Asking):
         return at_row(row, "the two percentages stand in value and low", changed[0], write), meant
 
 
-def said_of_swapped(meant, one, other):
+def said_of_swapped(meant: Row, one: str, other: str) -> tuple[str, str, str]:
     """The cause of two fields in each other's column, and how the row is meant."""
     write = f"{meant.field(one) or 'nothing'} in {one} and {meant.field(other) or 'nothing'} in {other}"
     return f"{one} and {other} are swapped", "", write

@@ -1,9 +1,13 @@
 """Tells that two bindings of a line have each other's parameter or target: rule 10."""
 from tools import vocabulary
-from tools.faults import at_row
+from tools.after import After
+from tools.book import Book
+from tools.faults import Rewritten, at_row
+from tools.sheets import Row
+from tools.vocabulary import Parameter
 
 
-def explain(bound, holder, wanted, after):
+def explain(bound: Row, holder: Row, wanted: Parameter, after: After) -> Rewritten | None:
     """The fault of a binding whose record measures what another one of its line is to take, where the record
     of that measures what this one is to take, and the rows to go on with; or None.
     """
@@ -19,18 +23,18 @@ def explain(bound, holder, wanted, after):
     return None
 
 
-def measured_by(bound, book):
+def measured_by(bound: Row, book: Book) -> str | None:
     """What the record measures that a binding names, whatever its kind, or None."""
     record = book.named_by(bound)
     return vocabulary.measured_by(record.field("unit")) if record else None
 
 
-def is_of_its_form(bound, measures):
+def is_of_its_form(bound: Row, measures: str | None) -> bool:
     """Tells whether a binding takes an amount as an activity, or anything else as a factor."""
     return vocabulary.is_amount(measures) == (bound.field("value") == "activity")
 
 
-def swapped(bound, other, column, after):
+def swapped(bound: Row, other: Row, column: str, after: After) -> Rewritten:
     """The fault of two bindings with each other's parameter, in name, or with each other's target, in low."""
     first, second = sorted((bound, other), key=lambda row: row.line)
     meant = {id(first): second.field(column), id(second): first.field(column)}

@@ -1,4 +1,5 @@
 """Compiles a workbook's files and writes the tables of years."""
+import argparse
 import pathlib
 import shlex
 import sys
@@ -6,14 +7,16 @@ import sys
 from tools import headers, tables_file, vocabulary
 from tools.book import book_of
 from tools.faults import counted, years_said
+from tools.program import Program, Reply
 from tools.progress import Progress
-from tools.sheets import FolderFault
+from tools.service import Service
+from tools.sheets import FolderFault, Sheet
 from tools.sources import words_of
 from tools.vocabulary import listed
 from tools.whole_files import write_whole
 
 
-def said_of(sheet, reply):
+def said_of(sheet: Sheet, reply: Reply) -> str:
     """The reply to a file with its name, and its rows or the line that the reply names."""
     if reply.accepted:
         return f"{sheet.name}: accepted, {counted(len(sheet.rows) - 1, 'row')}"
@@ -23,7 +26,7 @@ def said_of(sheet, reply):
     return f"{sheet.name}: {reply.text}{place}"
 
 
-def submit_all(program, sheets, is_quiet=False):
+def submit_all(program: Program, sheets: list[Sheet], is_quiet: bool = False) -> list[Sheet]:
     """Submits the files and says each reply on standard error, but if it is quiet, refusals alone. Gives
     those that were accepted.
     """
@@ -39,7 +42,7 @@ def submit_all(program, sheets, is_quiet=False):
     return accepted
 
 
-def say_lacking(sheets, accepted, words, so):
+def say_lacking(sheets: list[Sheet], accepted: list[Sheet], words: list[str], so: str) -> bool:
     """Says on standard error which quotes take in further rows, how many files are refused, what comes of it,
     and where the causes are told, with the words that name the files. Answers whether anything lacks.
     """
@@ -59,7 +62,7 @@ def say_lacking(sheets, accepted, words, so):
     return bool(faults or refused)
 
 
-def run(program, sheets, arguments):
+def run(program: Program, sheets: list[Sheet], arguments: argparse.Namespace) -> int:
     """Writes the tables of the years, where each file is accepted and no quote is open, and answers the
     status.
     """
@@ -71,26 +74,27 @@ def run(program, sheets, arguments):
     return 0 if show_all(program, accepted, arguments) and not lacking else 1
 
 
-def run_of_service(service, arguments):
+def run_of_service(service: Service, arguments: argparse.Namespace) -> int:
     """Writes the tables of the years that a service has, and answers the status."""
     return 0 if show_all(service, [], arguments) else 1
 
 
-def show_all(program, accepted, arguments):
+def show_all(program: Program | Service, accepted: list[Sheet], arguments: argparse.Namespace) -> bool:
     """Writes the tables of the years where all of them are there, and tells whether they are."""
     names = arguments.table or vocabulary.words()["tables"]
     shown = read_tables(program, names, arguments.years, arguments.quiet)
     missing = [key for key, lines in shown.items() if lines is None]
     if missing:
-        names, years = ({key[at] for key in missing} for at in (0, 1))
-        accepted = [program.sheet()] if arguments.url else accepted
-        print(f"./workbook: {said_of_missing(sorted(names), years_said(years), accepted)}", file=sys.stderr)
+        names, years = sorted({name for name, _ in missing}), {year for _, year in missing}
+        accepted = [program.sheet()] if isinstance(program, Service) else accepted
+        print(f"./workbook: {said_of_missing(names, years_said(years), accepted)}", file=sys.stderr)
         return False
-    write(shown, arguments)
+    write({key: lines for key, lines in shown.items() if lines is not None}, arguments)
     return True
 
 
-def read_tables(program, names, years, is_quiet):
+def read_tables(program: Program | Service, names: list[str], years: list[int],
+                is_quiet: bool) -> dict[tuple[str, int], list[str] | None]:
     """The lines of the tables of these names and years, and None of those that are not there."""
     shown, progress = {}, Progress([], is_quiet)
     for year in years:
@@ -100,7 +104,7 @@ def read_tables(program, names, years, is_quiet):
     return shown
 
 
-def said_of_missing(names, year, accepted):
+def said_of_missing(names: list[str], year: object, accepted: list[Sheet]) -> str:
     """Why the program has none of some tables of a year."""
     known = vocabulary.words()["tables"]
     unknown = [name for name in names if name not in known]
@@ -111,7 +115,7 @@ def said_of_missing(names, year, accepted):
     return f"there is no table of {year}: {why}"
 
 
-def write(shown, arguments):
+def write(shown: dict[tuple[str, int], list[str]], arguments: argparse.Namespace) -> None:
     """Writes each table to its file, or to standard output where there is no folder to write to."""
     if arguments.output is None:
         texts = ["\n".join(lines) for lines in shown.values()]

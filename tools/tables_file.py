@@ -21,9 +21,9 @@ WIDTHS = {"code": 26, "category name": 40, "equation name": 40}
 
 def name_of(column: str, code: str) -> str:
     """The name of a category or an equation, or nothing if a code is none."""
-    known = vocabulary.categories() if column == "category" else vocabulary.equations()
-    key = "name" if column == "category" else "computes"
-    return str(known[code][key]) if code in known else ""
+    if column == "category":
+        return vocabulary.categories()[code]["name"] if code in vocabulary.categories() else ""
+    return vocabulary.equations()[code]["computes"] if code in vocabulary.equations() else ""
 
 
 def headings_of(table: str, header: list[str]) -> list[str]:

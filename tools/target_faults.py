@@ -4,15 +4,16 @@ import re
 from tools import causes, letters, vocabulary
 from tools.asking import Asking, article, cause_of
 from tools.book import KIND_TAKEN
-from tools.faults import at_row
+from tools.faults import Explained, at_row
 from tools.other_words import OTHER_FORMS, meant_by
-from tools.vocabulary import limit, listed, nearest, said_of_parameter
+from tools.sheets import Row
+from tools.vocabulary import Parameter, limit, listed, nearest, said_of_parameter
 
 
 class TargetFaults(Asking):
     """Explanations of forms and targets."""
 
-    def form(self, row, column):
+    def form(self, row: Row, column: str) -> Explained:
         """The form of a binding, which goes on with NE."""
         forms, text = vocabulary.words()["forms"], causes.without_blanks(row.field(column)).text
         key = causes.notation_key(text)
@@ -30,7 +31,7 @@ class TargetFaults(Asking):
         fault, changed = self.other_word(row, column, OTHER_FORMS, forms, "a binding is by")
         return fault, changed or self.blank_binding(row)
 
-    def form_of_target(self, row, column):
+    def form_of_target(self, row: Row, column: str) -> Explained | None:
         """The form of a binding that has a target and no form that there is, told by what the target is, or
         None.
         """
@@ -42,13 +43,14 @@ class TargetFaults(Asking):
         candidates = [(f"{what}; {low.strip()} is taken by {kind}", kind, True) for kind in kinds]
         return self.first_taken(row, column, candidates, what) if low.strip() and candidates else None
 
-    def target_in_value(self, row, text):
+    def target_in_value(self, row: Row, text: str) -> Explained | None:
         """The target of a binding in value, alone or behind its form, or None. Which form is meant is told by
         what has the name.
         """
         forms = vocabulary.words()["forms"]
         found = re.fullmatch(rf"(?:({'|'.join(forms)})[\s:=]+)?(.*)", text, re.IGNORECASE | re.DOTALL)
-        form, name = (found.group(1) or "").lower(), causes.name(found.group(2)).text
+        form, target = ((found.group(1) or "").lower(), found.group(2)) if found else ("", text)
+        name = causes.name(target).text
         entered = [(kind, self.ahead.row_of(kind, name)) for kind in ("activity", "factor", "line")]
         there = [(kind, one) for kind, one in entered if one]
         if not name or row.field("low") or not there and not form:
@@ -62,25 +64,26 @@ class TargetFaults(Asking):
             cause = f"{name} is {article(kind)} ({there[0][1].place}); {cause}"
         return at_row(row, cause, "value", f"{kind} in value and {name} in low"), changed
 
-    def blank_binding(self, row):
+    def blank_binding(self, row: Row) -> Row | None:
         """The binding with NE as its target, so that its line is not left without it, where the program
         takes it. What it names is meant to be taken all the same.
         """
         named = [causes.name(row.field(column)).text for column in ("value", "low")]
         self.refused.meant_records.update((kind, name) for kind in ("activity", "factor") for name in named)
-        for others in ({}, {"year": "", "high": "", "unit": ""}):
-            changed = row.with_fields(value="key", low="NE", **others)
+        further: dict[str, str] = {"year": "", "high": "", "unit": ""}
+        for changed in (row, row.with_fields(**further)):
+            changed = changed.with_fields(value="key", low="NE")
             changed.has_other_figure = True
             if self.takes(changed, None):
                 return changed
         return None
 
-    def target(self, row, column):
+    def target(self, row: Row, column: str) -> Explained:
         """The target of a binding. The binding goes on with NE where it is not sure what is meant."""
         fault, changed = self.target_alone(row, column)
         return fault, changed or self.blank_binding(row)
 
-    def target_alone(self, row, column):
+    def target_alone(self, row: Row, column: str) -> Explained:
         """A name, several names or a notation key."""
         text, form = row.field(column), row.field("value")
         if not text.strip():
@@ -115,17 +118,18 @@ class TargetFaults(Asking):
         candidates = [(cause_of(mended.causes), mended.text, mended.sure)]
         return self.first_taken(row, column, candidates, name_otherwise(mended.text, "name"))
 
-    def no_target(self, row, column):
+    def no_target(self, row: Row, column: str) -> Explained:
         """No target: the one record of the form's kind that measures what the parameter takes, and that no
         row takes, where there is one.
         """
         form, parameter = row.field("value"), self.parameter_of(row)
-        left = self.ahead.records_left(KIND_TAKEN.get(form), parameter) if parameter else []
+        kind = KIND_TAKEN.get(form, "")
+        left = self.ahead.records_left(kind, parameter) if parameter else []
         otherwise = f"no target; a binding by {form} names {target_of(form)}"
-        cause = f"no target; no row takes this {KIND_TAKEN.get(form)}"
+        cause = f"no target; no row takes this {kind}"
         return self.first_taken(row, column, [(cause, left[0], True)] if len(left) == 1 else [], otherwise)
 
-    def category_for_target(self, row, column, code):
+    def category_for_target(self, row: Row, column: str, code: str) -> Explained:
         """A category where lines are meant: those there that give what the parameter takes."""
         parameter = self.parameter_of(row)
         form, measures = row.field("value"), parameter["measures"] if parameter else None
@@ -139,14 +143,14 @@ class TargetFaults(Asking):
         candidates = [(cause, " ".join(lines), False)] if lines else []
         return self.first_taken(row, column, candidates, otherwise)
 
-    def parameter_of(self, row):
+    def parameter_of(self, row: Row) -> Parameter | None:
         """The parameter that a binding names, where its line is known, or None."""
         line = self.book.lines.get(row.field("subject")) or self.ahead.row_of("line", row.field("subject"))
-        code = line.field("value") if line else None
+        code = line.field("value") if line else ""
         known = vocabulary.parameters_of(code) if code in vocabulary.equations() else {}
         return known.get(row.field("name"))
 
-    def number_as_target(self, row, text):
+    def number_as_target(self, row: Row, text: str) -> str:
         """What to write in place of a number as a target: a factor of it, with the units that its parameter
         takes, and its name.
         """
@@ -159,13 +163,14 @@ class TargetFaults(Asking):
         if there:
             self.refused.meant_records.add(("factor", name))
             return f"{said}; there is factor {name} ({there.place}): write factor,{name}"
-        year = self.span()[0] if self.span() else "YEAR"
+        span = self.span()
+        year = str(span[0]) if span else "YEAR"
         units = vocabulary.units_that_measure(vocabulary.record_of(parameter))
         row_of_it = f"enter,factor,,{name},{year},{causes.number(text).text},,,UNIT,"
         said += "; enter the number as a factor, and bind that by factor"
         return f"{said}: {row_of_it} in {listed(units)}, and factor,{name}"
 
-    def sum_target(self, row, column):
+    def sum_target(self, row: Row, column: str) -> Explained:
         """The lines of a sum."""
         text = row.field(column)
         names = re.split(r"[\s,;+]+", text.strip())
@@ -180,24 +185,24 @@ class TargetFaults(Asking):
         return self.first_taken(row, column, candidates, otherwise)
 
 
-def is_number(text):
+def is_number(text: str) -> bool:
     """Tells whether a text is a number, however it is written."""
     return bool(re.fullmatch(r"-?\d+(\.\d+)?", causes.number(text).text))
 
 
-def is_zero(text):
+def is_zero(text: str) -> bool:
     """Tells whether a text is the number zero."""
     return is_number(text) and not causes.number(text).text.strip("-0.")
 
 
-def target_of(form):
+def target_of(form: str) -> str:
     """What a binding by a form names."""
     if form in KIND_TAKEN:
         return article(KIND_TAKEN[form])
     return {"key": "a notation key", "sum": "lines"}.get(form, "a line")
 
 
-def name_otherwise(text, what):
+def name_otherwise(text: str, what: str) -> str:
     """Why a text is no name, where nothing that is sure mends it."""
     if not text:
         return f"empty; here stands the {what}"

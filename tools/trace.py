@@ -10,9 +10,11 @@ from collections.abc import Iterator
 from typing import Any
 
 from tools import vocabulary
-from tools.book import KIND_TAKEN, book_of, lines_taken_by
+from tools.book import KIND_TAKEN, Book, book_of, lines_taken_by
 from tools.printed import BLANK, Printed, by_size, figure, percent
+from tools.sheets import Row
 from tools.tables import say_lacking, said_of_missing, submit_all
+from tools.vocabulary import Parameter
 
 # The category that the gross total leaves out with all under it.
 LAND = "3B"
@@ -73,7 +75,7 @@ class Line:
 class Tracer:
     """The lines of a workbook in its years."""
 
-    def __init__(self, book: Any, printed: Printed) -> None:
+    def __init__(self, book: Book, printed: Printed) -> None:
         self.book, self.printed = book, printed
         self.equivalents: dict[int, dict[str, str]] = {}
         self.cells: dict[int, dict[str, dict[str, str]]] = {}
@@ -93,7 +95,7 @@ class Tracer:
             cell["high"], self.equivalents[year].get(name, ""),
             self.record("factor", f"GWP.{gas}", year) if gas else None, row.place, row.field("note"), taken)
 
-    def taken(self, row: Any, parameter: dict[str, str], year: int) -> Taken:
+    def taken(self, row: Row, parameter: Parameter, year: int) -> Taken:
         """What a binding takes in a year."""
         form, target = row.field("value"), row.field("low")
         record, lines, said = None, [], ""
@@ -102,7 +104,7 @@ class Tracer:
         elif form in KIND_TAKEN:
             record = self.record(KIND_TAKEN[form], target, year)
             said = "" if record else f"no record of {year}, so that the line is blank"
-        elif form == "prev" and year == self.book.span[0]:
+        elif form == "prev" and year == self.book.known_span()[0]:
             said = f"zero, since {year} is the first year of the span"
         else:
             of_year = year - 1 if form == "prev" else year
@@ -133,7 +135,7 @@ def conversion(unit: str) -> str:
     """How a unit is converted to the base unit of what it measures; nothing for a base unit."""
     found = vocabulary.units().get(unit)
     base = vocabulary.units_that_measure(found["measures"])[0] if found else unit
-    if base == unit:
+    if found is None or base == unit:
         return ""
     ratio = f"{found['over']}" if found["under"] == 1 else f"{found['over']}/{found['under']}"
     return f"1 {unit} is {ratio} {base}".removesuffix(" 1")

@@ -6,14 +6,15 @@ import re
 from tools import causes, units, vocabulary
 from tools.asking import base_unit, cause_of
 from tools.basis_faults import BasisFaults
-from tools.faults import at_row
+from tools.faults import Explained, at_row
+from tools.sheets import Row
 from tools.vocabulary import HALF_LIFE_UNIT, limit, listed, nearest
 
 
 class UnitFaults(BasisFaults):
     """Explanations of units."""
 
-    def unit(self, row, column):
+    def unit(self, row: Row, column: str) -> Explained:
         """A unit. The row goes on with figures of its own size where its unit has another."""
         bare = causes.without_blanks(row.field(column))
         rate = self.rate_of_decay(row, bare.text)
@@ -46,7 +47,7 @@ class UnitFaults(BasisFaults):
             changed = changed or self.in_unit(row, meant.word if meant else base_unit(measures))
         return fault, changed
 
-    def rate_of_decay(self, row, text):
+    def rate_of_decay(self, row: Row, text: str) -> Explained | None:
         """The fault of a factor in the unit of a yearly share that a line takes by decay, or may take so,
         and the row with the half-life where a line does; or None.
         """
@@ -74,7 +75,7 @@ class UnitFaults(BasisFaults):
         return at_row(row, f"no rate of decay; {write}", "unit"), half_life
 
 
-def unit_beside(row, measures=None):
+def unit_beside(row: Row, measures: str | None = None) -> tuple[str | None, str | None]:
     """The column that has a unit of the table in place of the unit's own, and the unit; or None twice."""
     behind = re.fullmatch(r"-?[\d.,\s]*\d\s*([A-Za-z%].*)", row.field("value").strip())
     note = row.field("note") if len(row.field("note").split()) < 3 else ""
@@ -85,7 +86,7 @@ def unit_beside(row, measures=None):
     return None, None
 
 
-def years_of_rate(text, size=1):
+def years_of_rate(text: str, size: fractions.Fraction | int = 1) -> str | None:
     """The whole years of the half-life of a yearly rate of decay in a unit of a size, or None where a text
     is no such rate.
     """
@@ -101,7 +102,7 @@ def years_of_rate(text, size=1):
     return f"{years:.0f}" if round(years) in range(1, int(limit("half_life")) + 1) else None
 
 
-def unit_otherwise(text, meant, measures):
+def unit_otherwise(text: str, meant: units.Meant | None, measures: str | None) -> str:
     """Why a text is no unit."""
     of_record = ""
     if measures:

@@ -81,10 +81,13 @@ class Reading:
     writes them, those behind a stroke with it.
     """
 
-    def __init__(self):
-        self.powers, self.size, self.of, self.words = {}, Exact(1), None, []
+    def __init__(self) -> None:
+        self.powers: dict[str, int] = {}
+        self.size = Exact(1)
+        self.of: str | None = None
+        self.words: list[str] = []
 
-    def add(self, word, power):
+    def add(self, word: str, power: int) -> None:
         """Multiplies by a unit, or divides by it."""
         measures, size, symbol = known()[word]
         self.powers[measures] = self.powers.get(measures, 0) + power
@@ -93,24 +96,24 @@ class Reading:
             self.words.append(symbol if power > 0 else f"/{symbol}")
 
     @property
-    def measured(self):
+    def measured(self) -> dict[str, int]:
         """What is measured, without years: a rate per year has no year in its word."""
         return {measures: power for measures, power in self.powers.items()
                 if power and measures not in ("ratio", "years")}
 
     @property
-    def is_half_life(self):
+    def is_half_life(self) -> bool:
         """Tells whether it is a unit of years alone."""
         return self.powers == {"years": 1}
 
     @property
-    def is_yearly_share(self):
+    def is_yearly_share(self) -> bool:
         """Tells whether it is a share of a year, as 1/yr or percent per year."""
         return not self.measured and self.powers.get("years") == -1
 
 
 @functools.cache
-def known():
+def known() -> dict[str, tuple[str, Exact, str]]:
     """What each unit measures, its size and its symbol, by all its names."""
     found = {}
     for measures, base, size, powers, names in BASES:
@@ -126,21 +129,21 @@ def known():
     return found
 
 
-def symbol_of(front):
+def symbol_of(front: str) -> str:
     """The letter of a power that may be written out, as k of kilo; nothing of none."""
     return next((letter for letter, power in POWERS.items() if power == LONG_POWERS.get(front)), front)
 
 
 @functools.cache
-def without_case():
+def without_case() -> dict[str, str]:
     """The units by their letters without case. Of two that differ in it alone the first counts."""
-    found = {}
+    found: dict[str, str] = {}
     for word in known():
         found.setdefault(word.casefold(), word)
     return found
 
 
-def unit_of(text):
+def unit_of(text: str) -> str | None:
     """The unit that a text without blanks is, in the plural too, or None."""
     for plural in ("$", "s$", "es$"):
         word = re.sub(plural, "", text, flags=re.IGNORECASE)
@@ -151,7 +154,7 @@ def unit_of(text):
     return None
 
 
-def prepared(text):
+def prepared(text: str) -> str:
     """A text with one form for blanks, strokes, powers and phrases."""
     text = re.sub(f"[{MINUS}]", "-", unicodedata.normalize("NFKC", lowered(latin(text), "^")))
     text = re.sub(r"(?<=[A-Za-z0-9])[:\\](?=[A-Za-z])", "/", text.replace("**", "^").replace("_", " "))
@@ -170,17 +173,17 @@ def prepared(text):
 
 
 @functools.lru_cache(maxsize=10000)
-def read(text):
+def read(text: str) -> Reading | None:
     """The reading of a text, without what stands in brackets if need be, or None where it is no unit."""
     return read_parts(text) or read_parts(without_brackets(text))
 
 
-def without_brackets(text):
+def without_brackets(text: str) -> str:
     """A text without what stands in brackets, but for the parts of an inverse."""
     return re.sub(r"\s*\([^()]*\)(?!\s*\^?-)", "", text)
 
 
-def read_parts(text):
+def read_parts(text: str) -> Reading | None:
     """The reading of a text of units with strokes between them, or None."""
     front, *behind = [part.split() for part in prepared(text).split("/")]
     reading = Reading()
@@ -189,21 +192,21 @@ def read_parts(text):
     return reading if all(add_part(reading, words, -1) for words in behind) else None
 
 
-def add_part(reading, words, sign):
+def add_part(reading: Reading, words: list[str], sign: int) -> bool:
     """Adds the words between two strokes to a reading, and tells whether all of them are known."""
     has_unit = has_number = False
     for word in words:
         is_inverse = word.endswith("^-1")
         power = -1 if is_inverse else sign
         word = word.removesuffix("^-1")
-        unit, what = unit_of(word), word
-        if not unit and not multiple_of(word):
+        unit, what, multiple = unit_of(word), word, multiple_of(word)
+        if not unit and not multiple:
             unit, what = without_what_it_is_of(word)
         if unit and (is_inverse or not (has_unit and unit in ANIMALS)):
             reading.add(unit, power)
             has_unit = True
-        elif multiple_of(word):
-            reading.size *= multiple_of(word) ** power
+        elif multiple is not None:
+            reading.size *= multiple ** power
             has_number = True
         elif not has_unit or not is_of_something(what):
             return False
@@ -212,7 +215,7 @@ def add_part(reading, words, sign):
     return has_unit or has_number
 
 
-def without_what_it_is_of(word):
+def without_what_it_is_of(word: str) -> tuple[str | None, str]:
     """The unit in front of what it is of, as kg in kgCO2, or None; and what it is of, in lower case."""
     text = word.casefold().strip("-.,")
     for what in sorted(GLUED, key=len, reverse=True):
@@ -222,17 +225,17 @@ def without_what_it_is_of(word):
     return None, text
 
 
-def is_of_something(what):
+def is_of_something(what: str) -> bool:
     """Tells whether a word behind a unit says what it is of, and changes no figure."""
     plain = what.casefold().replace(".", "")
     return plain not in OTHER_FIGURES and bool(re.fullmatch("[a-z][a-z0-9-]*", plain))
 
 
-def multiple_of(word):
+def multiple_of(word: str) -> Exact | None:
     """The number that a word is, or None."""
     named = word.casefold().removesuffix("s")
     if named in MULTIPLES or word.casefold() in MULTIPLES:
-        return Exact(10) ** MULTIPLES.get(named, MULTIPLES.get(word.casefold()))
+        return Exact(10) ** (MULTIPLES[named] if named in MULTIPLES else MULTIPLES[word.casefold()])
     if re.fullmatch(r"10\^\d{1,2}", word):
         return Exact(10) ** int(word[3:])
     if re.fullmatch(r"\d{1,3}([,.]?000)*(\.\d+)?|1[eE]\d{1,2}", word):
@@ -242,19 +245,20 @@ def multiple_of(word):
 
 
 @functools.cache
-def table():
-    """The readings of the units of the table."""
-    return {word: read(word) for word in vocabulary.units()}
+def table() -> dict[str, Reading]:
+    """The readings of the units of the table, each of which can be read."""
+    readings = {word: read(word) for word in vocabulary.units()}
+    return {word: reading for word, reading in readings.items() if reading is not None}
 
 
 class Meant:
     """A unit of the table that is meant, and what a figure is multiplied by."""
 
-    def __init__(self, word, times):
+    def __init__(self, word: str, times: Exact) -> None:
         self.word, self.times = word, times
 
     @property
-    def said(self):
+    def said(self) -> str:
         """How to come to a figure in this unit."""
         if self.times == 1:
             return "the same number"
@@ -266,25 +270,25 @@ class Meant:
         return f"divide by {written(inverse)}"
 
 
-def multiplied(text, times):
+def multiplied(text: str, times: Exact) -> str | None:
     """A figure that is multiplied, in digits, or None where it has many decimals."""
     number = Exact(text) * times if re.fullmatch(r"-?\d{1,15}(\.\d{1,12})?", text) else None
     return written(number) if number is not None and is_short(number) else None
 
 
-def is_short(number):
+def is_short(number: Exact) -> bool:
     """Tells whether a number has few decimals."""
     return number * 10 ** 9 == int(number * 10 ** 9)
 
 
-def written(number):
+def written(number: Exact) -> str:
     """A number in digits: exact, or in six that count."""
     if is_short(number):
         return f"{number.numerator / number.denominator:.9f}".rstrip("0").rstrip(".")
     return f"{float(number):.6g}"
 
 
-def meant(text, measures=None):
+def meant(text: str, measures: str | None = None) -> Meant | None:
     """The unit of the table that a text most likely is, or None.
 
     Where it is known what is measured, it is one that measures that, if any is.
@@ -294,7 +298,7 @@ def meant(text, measures=None):
     return of_table(read(text), measures) or of_table(read_parts(without_brackets(text)), measures)
 
 
-def upside_down(text, measures):
+def upside_down(text: str, measures: str | None) -> str | None:
     """The unit of the table that a text is the inverse of, where that measures what is wanted and a figure
     stays the same; or None.
     """
@@ -307,11 +311,12 @@ def upside_down(text, measures):
     turned = [word[1:] if word.startswith("/") else f"/{word}" for word in reading.words]
     inverse.words = sorted(turned, key=lambda word: word.startswith("/"))
     found = of_table(inverse, measures)
-    is_wanted = found and found.times == 1 and vocabulary.measured_by(found.word) == measures
-    return found.word if is_wanted else None
+    if found is None or found.times != 1 or vocabulary.measured_by(found.word) != measures:
+        return None
+    return found.word
 
 
-def of_table(reading, measures):
+def of_table(reading: Reading | None, measures: str | None) -> Meant | None:
     """The unit of the table that a reading most likely is, or None."""
     if reading is None:
         return None
@@ -324,11 +329,12 @@ def of_table(reading, measures):
     found = carbon or wanted or [(word, known) for word, known in found if not known.of]
     if not found:
         return None
-    word, known = min(found, key=lambda pair: distance(reading, pair[1]))
+    far = [distance(reading, known) for _, known in found]
+    word, known = found[far.index(min(far))]
     return Meant(word, reading.size / known.size)
 
 
-def is_like(reading, of_table, word, measures):
+def is_like(reading: Reading, of_table: Reading, word: str, measures: str | None) -> bool:
     """Tells whether a text may be a unit of the table."""
     if reading.is_half_life or of_table.is_half_life:
         return reading.is_half_life and of_table.is_half_life
@@ -338,7 +344,7 @@ def is_like(reading, of_table, word, measures):
         reading.of is None and vocabulary.measured_by(word) == measures
 
 
-def distance(reading, of_table):
+def distance(reading: Reading, of_table: Reading) -> tuple[bool, bool, bool, bool, float]:
     """How far a unit of the table is from a text: the same words first, then the same size, then powers of
     ten, and the least of them.
     """
@@ -349,15 +355,15 @@ def distance(reading, of_table):
             not same_form, abs(power))
 
 
-def is_power_of_ten(number):
+def is_power_of_ten(number: Exact) -> bool:
     """Tells whether a number is a power of ten."""
     greatest = max(number.numerator, number.denominator)
     return min(number.numerator, number.denominator) == 1 and str(greatest).strip("0") == "1"
 
 
-def spellings(word):
+def spellings(word: str) -> str:
     """What people write for a unit of the table that has one part, and for others that measure the same."""
-    reading = table()[word]
+    reading = table().get(word)
     if reading is None or len(reading.powers) != 1:
         return ""
     (measures, _), = reading.powers.items()

@@ -57,7 +57,7 @@ class Variants:
 
     def begin(self, gas: str) -> list[list[str]]:
         """The row by which a gas without a potential in the first year has one."""
-        first, name = self.book.span[0], f"GWP.{gas}"
+        first, name = self.book.known_span()[0], f"GWP.{gas}"
         if self.book.in_force("factor", name, first):
             return []
         self.begun.add(gas)
@@ -65,7 +65,7 @@ class Variants:
 
     def end(self) -> list[list[str]]:
         """The rows that take out what was entered for a mass."""
-        first, begun, self.begun = str(self.book.span[0]), self.begun, set()
+        first, begun, self.begun = str(self.book.known_span()[0]), self.begun, set()
         return [["withdraw", "factor", "", f"GWP.{gas}", first, "", "", "", "", ""] for gas in sorted(begun)]
 
     def without_land(self, year: int, tables: Iterable[str]) -> dict[str, list[Row]]:

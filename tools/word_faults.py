@@ -1,17 +1,20 @@
 """Explains a word that is none of its column, or a column that has to be empty: rule 5."""
 import itertools
 import re
+from collections.abc import Container, Iterable
 
 from tools import causes, letters, other_equation, vocabulary
 from tools.asking import (
-    article, cause_of, has_figure, is_empty, is_header, is_note, is_total, kind_by_its_rest, line_above)
-from tools.faults import at_row
+    Candidate, article, cause_of, has_figure, is_empty, is_header, is_note, is_total, kind_by_its_rest,
+    line_above)
+from tools.causes import Mended
+from tools.faults import Explained, at_row
 from tools.other_equation import said_of
 from tools.other_words import OTHER_ACTS, OTHER_KINDS, meant_by
-from tools.sheets import COLUMNS_OF_KEY
+from tools.sheets import COLUMNS_OF_KEY, Row
 from tools.target_faults import TargetFaults, name_otherwise
 from tools.unit_faults import UnitFaults, unit_beside
-from tools.vocabulary import are, limit, listed, nearest
+from tools.vocabulary import Parameter, are, limit, listed, nearest
 
 
 # The columns that a merged cell may leave empty, by the kind of a row.
@@ -25,7 +28,7 @@ WORD_OF_CODE = r"^(crf|crt|nfr|ipcc|code|category)[\s:._-]+"
 class WordFaults(UnitFaults, TargetFaults):
     """Explanations of words."""
 
-    def word(self, row, column):
+    def word(self, row: Row, column: str) -> Explained:
         """A word that is none of its column, or a column that has to be empty."""
         if is_empty(row):
             return at_row(row, "an empty row; take it out", column), None
@@ -66,7 +69,7 @@ class WordFaults(UnitFaults, TargetFaults):
             return self.filled(row, column, cause)
         return self.filled(row, column, f"this column stays empty in {article(kind)} row")
 
-    def left_in_force(self, row, column):
+    def left_in_force(self, row: Row, column: str) -> Explained | None:
         """An empty field of a correction, which is as the record in force has it; or None."""
         record = self.book.rows.get(row.key) if row.field("act") == "correct" else None
         if record is None or row.field(column).strip() or not record.field(column):
@@ -74,7 +77,7 @@ class WordFaults(UnitFaults, TargetFaults):
         cause = f"empty; a correction has all columns, and {record.place} has this one"
         return self.first_taken(row, column, [(cause, record.field(column), True)], cause)
 
-    def lost(self, row, column):
+    def lost(self, row: Row, column: str) -> Explained | None:
         """An empty kind of a row whose rest is that of one kind, an empty act of one of a record that is not
         there, an empty line of a binding below a line that lacks it, or an empty name of the one factor that
         lines take and that is not there; or None.
@@ -94,7 +97,7 @@ class WordFaults(UnitFaults, TargetFaults):
         if kind in ("line", "bind", "uncert"):
             cause = f"empty; the rest of the row is that of {article(kind)}"
             return self.first_taken(row, column, [(cause, kind, True)], cause)
-        name = row.field("name") if column == "kind" and row.field("unit").strip() else None
+        name = row.field("name") if column == "kind" and row.field("unit").strip() else ""
         there = [kind for kind in ("activity", "factor")
                  if self.ahead.row_of(kind, name) or self.ahead.is_known(kind, name)]
         there = ["factor"] if name in vocabulary.words()["potentials"] else there
@@ -107,7 +110,7 @@ class WordFaults(UnitFaults, TargetFaults):
             return self.first_taken(row, column, [(cause, "enter", True)], cause)
         return None
 
-    def below_a_merged_cell(self, row, column):
+    def below_a_merged_cell(self, row: Row, column: str) -> Explained | None:
         """Empty fields that rows above fill, as a spreadsheet writes cells that were merged, or None."""
         fields = filled_from_above(row)
         changed = row.with_fields(**fields)
@@ -117,7 +120,7 @@ class WordFaults(UnitFaults, TargetFaults):
         write = listed([f"{text} in {name}" for name, text in fields.items()], "and")
         return at_row(row, "empty, as behind a merged cell; the row above has it", column, write), changed
 
-    def act(self, row, column):
+    def act(self, row: Row, column: str) -> Explained:
         """An act, or another word for one. A row with figures withdraws nothing."""
         acts = vocabulary.words()["acts"]
         meant = meant_by(row.field(column), OTHER_ACTS)
@@ -125,7 +128,7 @@ class WordFaults(UnitFaults, TargetFaults):
             return self.choice(row, column, acts)
         return self.other_word(row, column, OTHER_ACTS, acts, "act is")
 
-    def name(self, row, column):
+    def name(self, row: Row, column: str) -> Explained:
         """A name of a record, or of the line of a binding."""
         text = row.field(column)
         of_line = row.field("kind") in ("line", "bind", "uncert")
@@ -139,7 +142,7 @@ class WordFaults(UnitFaults, TargetFaults):
         otherwise = name_otherwise(mended.text, what)
         return self.first_taken(row, column, [(cause_of(mended.causes), mended.text, True)], otherwise)
 
-    def category_for_line(self, row, column, code):
+    def category_for_line(self, row: Row, column: str, code: str) -> Explained:
         """A category where the name of a line stands: that of the one line there that lacks such a row, if
         there is one.
         """
@@ -156,7 +159,7 @@ class WordFaults(UnitFaults, TargetFaults):
         otherwise = cause + (f"; there {are(there)} {listed(there, 'and')}" if there else "")
         return self.first_taken(row, column, [(cause, fit[0], True)] if len(fit) == 1 else [], otherwise)
 
-    def potential(self, row, column):
+    def potential(self, row: Row, column: str) -> Explained:
         """A name that begins like that of a warming potential."""
         known = vocabulary.words()["potentials"]
         if row.field("kind") != "factor":
@@ -171,11 +174,12 @@ class WordFaults(UnitFaults, TargetFaults):
         candidates += [("more than the name of a potential", name, True) for name in longer]
         return self.first_taken(row, column, candidates, otherwise)
 
-    def parameter(self, row, column):
+    def parameter(self, row: Row, column: str) -> Explained:
         """A parameter of a binding."""
         mended = causes.name(row.field(column))
         line = self.book.lines.get(row.field("subject"))
-        has, known = "", []
+        has = ""
+        known: dict[str, Parameter] = {}
         if line:
             known = vocabulary.parameters_of(line.field("value"))
             has = f"; {line.field('value')} has {listed(known, 'and')}"
@@ -186,7 +190,8 @@ class WordFaults(UnitFaults, TargetFaults):
         words = row.field(column).split()
         if len(unbound) == 1 and not words:
             candidates = [("empty, and no other row binds it", unbound[0], True)]
-        named = [name for name in unbound if is_said_of(line.field("value"), name, words)] if words else []
+        code = line.field("value") if line else ""
+        named = [name for name in unbound if is_said_of(code, name, words)] if words else []
         if len(named) == 1:
             candidates.append(("here stands the code of the parameter", named[0], True))
         measures = self.ahead.measured_by(row)
@@ -195,7 +200,7 @@ class WordFaults(UnitFaults, TargetFaults):
             candidates.append((f"no parameter; {fitting[0]} has no binding", fitting[0], True))
         return self.first_taken(row, column, candidates, otherwise)
 
-    def category(self, row, column):
+    def category(self, row: Row, column: str) -> Explained:
         """A code of the tree.
 
         The line goes on at a memo code where its own is not known, so that its bindings are seen.
@@ -206,8 +211,8 @@ class WordFaults(UnitFaults, TargetFaults):
         bare = bare.less("1.AA is 1A here", re.sub(r"^1\.?AA\.?(?=\d)", "1A", bare.text, flags=re.IGNORECASE))
         there = set(map(vocabulary.same_code, re.split(r"[\s,;/&+]+", bare.text)))
         if len(there & set(vocabulary.leaves())) > 1:
-            fault = at_row(row, "more than one category; a line stands at one", column)
-            return fault, self.placed(row, column)
+            cause = "more than one category; a line stands at one"
+            return at_row(row, cause, column), self.placed(row, column)
         code = re.sub(r"[\s.]", "", bare.text)
         candidates = [(cause_of(bare.causes), bare.text, True)]
         candidates.append((cause_of(bare.causes + ["a code has no dots or blanks"]), code, True))
@@ -232,13 +237,13 @@ class WordFaults(UnitFaults, TargetFaults):
         fault, changed = self.first_taken(row, column, candidates, category_otherwise(code, bare.text))
         return fault, changed or self.placed(row, column)
 
-    def placed(self, row, column):
+    def placed(self, row: Row, column: str) -> Row | None:
         """The row at a memo code, where the program takes it."""
         changed = row.with_fields(**{column: "RA"})
         changed.has_other_figure = True
         return changed if self.takes(changed, column) else None
 
-    def equation(self, row, column):
+    def equation(self, row: Row, column: str) -> Explained:
         """A code of an equation."""
         bare = plain_text(row.field(column))
         code = re.sub(r"\s", "", bare.text).upper()
@@ -257,18 +262,18 @@ class WordFaults(UnitFaults, TargetFaults):
             candidates.append(("letters in place of digits", digits, True))
         numbered = equations_numbered(code, row.field("subject"))
         if len(numbered) == 1:
-            candidates.append((f"here stands the code of {said_of_source(*numbered)}", *numbered, True))
+            candidates.append((f"here stands the code of {said_of_source(numbered[0])}", numbered[0], True))
         line = causes.name(row.field("name")).text
         fitting = other_equation.of_parameters(self.ahead.parameters_bound(line))
         of_gas = [known for known in fitting if vocabulary.gas_of(known) == code]
         if len(of_gas) == 1:
-            candidates.append((f"here stands the code of the equation that gives {code}", *of_gas, True))
+            candidates.append((f"here stands the code of the equation that gives {code}", of_gas[0], True))
         near = fitting or other_equation.nearest_by_names(line, row.field("subject").strip(), self.ahead)
         meant = other_equation.likeliest(near, row.with_fields(name=line), self.ahead)
         if len(meant) == 1:
             cause = f"{'no equation of this code' if code else 'empty'}; the bindings of this line are"
             cause += f" {'' if fitting else 'nearest to '}those of {said_of(meant)}"
-            candidates.append((cause, *meant, True))
+            candidates.append((cause, meant[0], True))
         known = numbered or of_gas or equations_near(code, bare.text) or fitting
         what = f"no equation of this code{near_it([said_of([code]) for code in known])}"
         if not code:
@@ -277,31 +282,31 @@ class WordFaults(UnitFaults, TargetFaults):
         return self.first_taken(row, column, candidates, otherwise)
 
 
-def is_said_of(equation, parameter, words):
+def is_said_of(equation: str, parameter: str, words: list[str]) -> bool:
     """Tells whether the page of equations says what a parameter is by these words."""
     return all(vocabulary.is_said_of(equation, parameter, word) for word in words)
 
 
-def plain_text(text):
+def plain_text(text: str) -> Mended:
     """A text without blanks at its ends, and without letters that look Latin and are not."""
     bare = causes.without_blanks(text)
     return bare.less(letters.said_of_alike(bare.text), letters.latin(bare.text))
 
 
-def code_in_front(text):
+def code_in_front(text: str) -> str:
     """The code that a text begins with, without its dots and blanks and without the name behind it."""
     parts = text.replace(".", "").split()
     behind = itertools.takewhile(lambda part: len(part) < 3 or part.casefold() == "iii", parts[1:])
     return "".join([*parts[:1], *behind])
 
 
-def divides(text, leaf):
+def divides(text: str, leaf: str) -> bool:
     """Tells whether a code is a part of a leaf, as 1A1ai is of 1A1a; 2B10 is none of 2B1."""
     parts, of_leaf = (re.findall("[0-9]+|[a-z]", code.casefold()) for code in (text, leaf))
     return parts[:len(of_leaf)] == of_leaf
 
 
-def is_of_leaf(other, leaf, equation):
+def is_of_leaf(other: tuple[str, str, str], leaf: str, equation: str) -> bool:
     """Tells whether a code of other guidelines may be a part of a leaf: it is of the same volume, says no
     more than the leaf does, and a line of the equation stands there.
     """
@@ -311,7 +316,7 @@ def is_of_leaf(other, leaf, equation):
     return volumes[0] == volumes[1] and len(code) <= len(leaf) and has_place
 
 
-def filled_from_above(row):
+def filled_from_above(row: Row) -> dict[str, str]:
     """What the rows above have in the columns that a merged cell may leave empty and that are, by column."""
     if not has_figure(row):
         return {}
@@ -328,13 +333,13 @@ def filled_from_above(row):
     return {column: text for column, text in fields.items() if text}
 
 
-def is_of_name_above(row, kind):
+def is_of_name_above(row: Row, kind: str) -> bool:
     """Tells whether a row without a unit of its own is of the name that stands above it."""
     name = row.field("name").strip()
     return unit_beside(row)[1] is None and name in ("", text_above(row, "name", kind))
 
 
-def text_above(row, column, kind):
+def text_above(row: Row, column: str, kind: str) -> str:
     """The nearest text above a field in its column, where that row is of a kind or none is known; or
     nothing.
     """
@@ -344,20 +349,20 @@ def text_above(row, column, kind):
     return ""
 
 
-def alone(text, known, cause):
+def alone(text: str, known: Container[str], cause: str) -> list[Candidate]:
     """The word that a text begins with, as a candidate, where it is a known one and more stands behind it."""
     first = re.split(r"[\s(,:;/-]", text, maxsplit=1)[0]
     return [(cause, first, True)] if first in known and first != text else []
 
 
-def called(text, named, cause):
+def called(text: str, named: dict[str, str], cause: str) -> list[Candidate]:
     """The code that has a text as its name, as a candidate."""
     plain = re.sub(r"\W+", " ", text).casefold().strip()
     return [(cause, code, True) for code, name in named.items()
             if plain and re.sub(r"\W+", " ", name).casefold().strip() == plain]
 
 
-def equations_numbered(code, category):
+def equations_numbered(code: str, category: str) -> list[str]:
     """The equations of the volume of a category with the number of the Guidelines that a text is."""
     found = re.fullmatch(r"(?:EQ(?:UATION|N)?\.?)?(\d{1,2}\.\d{1,2}(?:\.\d)?)", code)
     volume = vocabulary.volume_of_category(category.strip())
@@ -366,12 +371,12 @@ def equations_numbered(code, category):
             and found.group(1) in re.findall(r"[\d.]*\d", equation["source"].split(",", 1)[-1])]
 
 
-def said_of_source(code):
+def said_of_source(code: str) -> str:
     """The equation of the Guidelines that an equation is."""
     return vocabulary.equations()[code]["source"]
 
 
-def equations_near(code, text):
+def equations_near(code: str, text: str) -> list[str]:
     """The equations with the nearest numbers to a code that is none, or those whose names hold the text."""
     found = re.fullmatch(r"Q(\d+)", code)
     if found:
@@ -381,7 +386,7 @@ def equations_near(code, text):
     return named_like(text, names) or nearest(code, names, 3, 0.75)
 
 
-def named_like(text, names):
+def named_like(text: str, names: dict[str, str]) -> list[str]:
     """The codes whose names hold each word of a text of some letters, three at the most."""
     if len(text) < 3:
         return []
@@ -389,13 +394,13 @@ def named_like(text, names):
     return [code for code, name in names.items() if all(word in name.casefold() for word in words)][:3]
 
 
-def near_it(known):
+def near_it(known: Iterable[str]) -> str:
     """What is near a text that is none of its column, where anything is."""
     known = list(known)
     return f"; near it {are(known)} {listed(known, 'and')}" if known else ""
 
 
-def category_otherwise(code, text):
+def category_otherwise(code: str, text: str) -> str:
     """Why a code is no leaf of the tree."""
     known = vocabulary.categories()
     if not code:

@@ -2,12 +2,14 @@
 import csv
 import pathlib
 import re
+from collections.abc import Iterable, Iterator
 
 from tools import people_words
 from tools import units as readings
 from tools import vocabulary
 from tools.row_templates import TEMPLATES
 from tools.sheets import COLUMNS
+from tools.vocabulary import Parameter
 
 PARTS = ["units", "categories", "equations", "parameters", "templates", "defaults"]
 DEFAULTS = pathlib.Path(__file__).resolve().parent.parent / "defaults"
@@ -20,8 +22,12 @@ MEASURED_YEARLY = {
 # The line of the year before that such a parameter takes: the line itself, or that of the stock.
 LINE_OF_LAST_YEAR = {"Q91": "NAME", "Q92": "STOCK"}
 
+# A word and what is said of it; and with it what else it is found by.
+Item = tuple[str, str]
+Searched = tuple[str, str, str]
 
-def units():
+
+def units() -> Iterator[Searched]:
     """Each unit with what it measures, and what people write for it."""
     for word, unit in vocabulary.units().items():
         base = vocabulary.units_that_measure(unit["measures"])[0]
@@ -30,7 +36,7 @@ def units():
         yield word, f"{unit['measures']}{of_base}", readings.spellings(word)
 
 
-def categories():
+def categories() -> Iterator[Searched]:
     """Each category with its name and the codes under it."""
     for code, category in vocabulary.categories().items():
         children = category["children"]
@@ -39,15 +45,15 @@ def categories():
         yield code, f"{category['name']}{also}{leaf}", ""
 
 
-def equations():
+def equations() -> Iterator[Searched]:
     """Each equation with what it computes and its source, and what its parameters are."""
     for code, equation in vocabulary.equations().items():
         yield code, f"{equation['computes']}, {equation['source']}", equation["about"]
 
 
-def parameters():
+def parameters() -> Iterator[Searched]:
     """Each parameter with what it measures, and the equations that have it."""
-    found = {}
+    found: dict[tuple[str, str], list[str]] = {}
     for code, equation in vocabulary.equations().items():
         for parameter in equation["parameters"]:
             said = vocabulary.said_of_parameter(parameter)
@@ -56,13 +62,13 @@ def parameters():
         yield name, f"{said}: {', '.join(codes)}", ""
 
 
-def templates():
+def templates() -> Iterator[Searched]:
     """Each template of rows with what it is of."""
     for name, template in TEMPLATES.items():
         yield name, template.title, "template"
 
 
-def defaults():
+def defaults() -> Iterator[Searched]:
     """Each default factor with its figure, its source and its file."""
     for path in sorted(DEFAULTS.glob("*.csv")):
         with open(path, encoding="utf-8", newline="") as file:
@@ -73,27 +79,27 @@ def defaults():
                 yield row["name"], said, ""
 
 
-def found_in(items, words):
+def found_in(items: Iterable[Searched], words: list[str]) -> list[Item]:
     """The items that have all words in them, or are meant by them."""
     return [(word, said) for word, said, also in items
             if all(is_found(part, word, f"{word} {said} {also}".casefold()) for part in words)]
 
 
-def is_found(part, key, text):
+def is_found(part: str, key: str, text: str) -> bool:
     """Tells whether a word stands in the text of an item, or means it."""
     if people_words.of(part) is not None:
         return people_words.is_meant(part, key, text)
     return any(form in text for form in forms(part))
 
 
-def forms(word):
+def forms(word: str) -> set[str]:
     """How a word may stand in the vocabulary: without the s of a plural, and as a code without dots."""
     plain = word.casefold()
     found = {plain, plain.removesuffix("s") if len(plain) > 3 else plain}
     return found | ({plain.replace(".", "")} if re.match(r"\d\.?[a-z]", plain) else set())
 
 
-def near(parts, words):
+def near(parts: list[str], words: list[str]) -> dict[str, list[Item]]:
     """What is meant by words that nothing has in it: a unit that people write so, and the category that a
     code divides; by parts.
     """
@@ -108,7 +114,7 @@ def near(parts, words):
     return found
 
 
-def sample(code, parameter):
+def sample(code: str, parameter: Parameter) -> tuple[str, str | None]:
     """The rows of a template that give a parameter its figure."""
     name = f"NAME.{parameter['name']}"
     if (code, parameter["name"]) in vocabulary.OF_LAST_YEAR:
@@ -121,7 +127,7 @@ def sample(code, parameter):
     return bound, f"enter,{kind},,{name},YEAR,VALUE,LOW,HIGH,{parameter['unit']},"
 
 
-def print_equation(code):
+def print_equation(code: str) -> None:
     """An equation with its parameters and a template of its rows."""
     equation = vocabulary.equations()[code]
     output = equation["output"]
@@ -141,14 +147,14 @@ def print_equation(code):
     print("\n".join([bound for bound, _ in rows] + [figure for _, figure in rows if figure]))
 
 
-def print_template(name):
+def print_template(name: str) -> None:
     """A template with what to know of it."""
     template = TEMPLATES[name]
     print(f"{name}: {template.title}\n{template.about}\n\n{','.join(COLUMNS)}")
     print("\n".join(template.rows))
 
 
-def run(words):
+def run(words: list[str]) -> int:
     """Prints what has all words in it, and answers the status."""
     parts = PARTS
     if words and (words[0] in PARTS or words[0] == "template"):
@@ -172,7 +178,7 @@ def run(words):
     return 0
 
 
-def print_found(found, parts, words):
+def print_found(found: dict[str, list[Item]], parts: list[str], words: list[str]) -> None:
     """Prints what was found: of one equation or one template alone its rows."""
     printers = {"equations": print_equation, "templates": print_template}
     only = [(part, items[0][0]) for part, items in found.items() for _ in items]
@@ -184,7 +190,7 @@ def print_found(found, parts, words):
             print_items(part, items if len(parts) == 1 else shortened(part, items, words), len(parts) > 1)
 
 
-def shortened(part, items, words):
+def shortened(part: str, items: list[Item], words: list[str]) -> list[Item]:
     """The first of many default factors, and how to see all."""
     if part != "defaults" or len(items) <= MOST_DEFAULTS + 1:
         return items
@@ -192,7 +198,7 @@ def shortened(part, items, words):
     return items[:MOST_DEFAULTS] + [("...", said)]
 
 
-def print_items(part, items, with_heading):
+def print_items(part: str, items: list[Item], with_heading: bool) -> None:
     """Prints the words of a part with what is said of them."""
     if with_heading:
         print(f"{part}:")
