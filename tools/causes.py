@@ -101,8 +101,9 @@ def ascii_digits(mended: Mended) -> Mended:
         return mended.less("letters in place of digits", digits)
     if mended.text.isascii():
         return mended
-    digits = [str(unicodedata.decimal(letter)) if letter.isdecimal() else letter for letter in mended.text]
-    return mended.less("digits of another script", "".join(digits))
+    ascii_text = "".join(str(unicodedata.decimal(letter)) if letter.isdecimal() else letter
+                         for letter in mended.text)
+    return mended.less("digits of another script", ascii_text)
 
 
 def points(mended: Mended) -> Mended:

@@ -314,10 +314,10 @@ def lines_of(rows: list[Row]) -> bytes:
     return b"".join(row.raw + b"\n" for row in rows)
 
 
-def summary(faults: list[Fault], warnings: list[Fault], sheets: list[Sheet]) -> str:
-    """The last line of a check."""
+def summary(faults: list[Fault], warnings: int, sheets: list[Sheet]) -> str:
+    """The last line of a check, with so many warnings."""
     followed = sum(1 for fault in faults if fault.follows)
     found = f"{counted(len(sheets), 'file')}: {counted(len(faults), 'fault')}"
     if followed:
         found += f", of which {followed} only {'follows' if followed == 1 else 'follow'} from others"
-    return f"{found}, {counted(len(warnings), 'warning')}"
+    return f"{found}, {counted(warnings, 'warning')}"

@@ -302,7 +302,8 @@ def run_check(arguments: argparse.Namespace) -> int:
     print_all(largest)
     if arguments.mend:
         print_all(mending.write(arguments.mend, arguments.folders, sheets, checked.faults, checked.cures))
-    print(check.summary(checked.faults, [*warnings, *others], sheets) + missing.progress(faults, sheets))
+    summary = check.summary(checked.faults, len(warnings) + len(others), sheets)
+    print(summary + missing.progress(faults, sheets))
     return 1 if faults else 0
 
 

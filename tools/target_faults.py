@@ -124,7 +124,7 @@ class TargetFaults(Asking):
         """
         form, parameter = row.field("value"), self.parameter_of(row)
         kind = KIND_TAKEN.get(form, "")
-        left = self.ahead.records_left(kind, parameter) if parameter else []
+        left = self.ahead.records_left(kind, parameter) if kind and parameter else []
         otherwise = f"no target; a binding by {form} names {target_of(form)}"
         cause = f"no target; no row takes this {kind}"
         return self.first_taken(row, column, [(cause, left[0], True)] if len(left) == 1 else [], otherwise)

@@ -97,9 +97,9 @@ class WordFaults(UnitFaults, TargetFaults):
         if kind in ("line", "bind", "uncert"):
             cause = f"empty; the rest of the row is that of {article(kind)}"
             return self.first_taken(row, column, [(cause, kind, True)], cause)
-        name = row.field("name") if column == "kind" and row.field("unit").strip() else ""
-        there = [kind for kind in ("activity", "factor")
-                 if self.ahead.row_of(kind, name) or self.ahead.is_known(kind, name)]
+        name = row.field("name") if column == "kind" and row.field("unit").strip() else None
+        there = [kind for kind in ("activity", "factor") if name is not None
+                 and (self.ahead.row_of(kind, name) or self.ahead.is_known(kind, name))]
         there = ["factor"] if name in vocabulary.words()["potentials"] else there
         if len(there) == 1:
             cause = f"empty; other rows of this name are of {article(there[0])}"

@@ -4,6 +4,7 @@ import pathlib
 import socket
 import subprocess
 import time
+from collections.abc import Callable
 
 TOP = pathlib.Path(__file__).resolve().parent.parent.parent
 PROGRAM = os.path.abspath(os.environ.get("GHG_PROGRAM") or TOP / "crates/ghg/out/ghg")
@@ -21,23 +22,25 @@ enter,factor,,GAS.EF,1990,56100,54300,58300,kg/TJ,
 HEADER = GAS[:GAS.index(b"\n") + 1]
 
 
-def free_port():
+def free_port() -> int:
     """A port that nobody has."""
     with socket.socket() as link:
         link.bind((HOST, 0))
-        return link.getsockname()[1]
+        port: int = link.getsockname()[1]
+        return port
 
 
 class Service:
     """The program as a service of so many connections, in a `with` block; at its end it is stopped."""
 
-    def __init__(self, connections, *words, folder=None, before=None):
+    def __init__(self, connections: int, *words: str, folder: pathlib.Path | str | None = None,
+                 before: Callable[[], None] | None = None) -> None:
         self.port = free_port()
         given = ["serve", "--port", str(self.port), "--connections", str(connections + 1), *words]
         self.process = subprocess.Popen([PROGRAM, *given], stdin=subprocess.DEVNULL, stdout=subprocess.PIPE,
                                         cwd=folder, preexec_fn=before)
 
-    def __enter__(self):
+    def __enter__(self) -> "Service":
         """Waits until the program listens. The connection by which that is seen is its first."""
         until = time.monotonic() + SECONDS
         while True:
@@ -50,17 +53,18 @@ class Service:
                     raise AssertionError(f"the program does not serve: {self.process.returncode}") from None
                 time.sleep(0.01)
 
-    def __exit__(self, *_):
+    def __exit__(self, *_: object) -> None:
         if self.process.poll() is None:
             self.process.kill()
         self.process.wait()
-        self.process.stdout.close()
+        if self.process.stdout:
+            self.process.stdout.close()
 
-    def connect(self):
+    def connect(self) -> socket.socket:
         """A connection to the program."""
         return socket.create_connection((HOST, self.port), timeout=SECONDS)
 
-    def exchange(self, request):
+    def exchange(self, request: bytes) -> bytes:
         """Sends bytes over a connection of their own, closes its writing side, and reads to the end."""
         with self.connect() as link:
             try:
@@ -70,12 +74,12 @@ class Service:
                 pass  # answered and closed already
             return read_to_the_end(link)
 
-    def status(self):
+    def status(self) -> int:
         """The status that the program ends with."""
         return self.process.wait(timeout=SECONDS)
 
 
-def read_to_the_end(link):
+def read_to_the_end(link: socket.socket) -> bytes:
     """All that comes over a connection."""
     parts = []
     try:
@@ -86,19 +90,19 @@ def read_to_the_end(link):
     return b"".join(parts)
 
 
-def post(name, body, *fields, version="1.1", length=None):
+def post(name: str, body: bytes, *fields: str, version: str = "1.1", length: int | str | None = None) -> bytes:
     """A submission as a request."""
     lines = [f"POST /submissions/{name} HTTP/{version}", "Host: localhost", *fields]
     lines.append(f"Content-Length: {len(body) if length is None else length}")
     return "\r\n".join([*lines, "", ""]).encode("latin-1") + body
 
 
-def get(table, year, *fields, version="1.1"):
+def get(table: str, year: int | str, *fields: str, version: str = "1.1") -> bytes:
     """A request for a table."""
     return "\r\n".join([f"GET /tables/{table}/{year} HTTP/{version}", *fields, "", ""]).encode("latin-1")
 
 
-def reply(status, body, media="application/json"):
+def reply(status: str, body: str | bytes, media: str = "application/json") -> bytes:
     """A whole reply: a text as JSON, or the bytes of a table."""
     if isinstance(body, str):
         body = b'{"reply":"%b"}' % body.encode("ascii")
@@ -106,6 +110,6 @@ def reply(status, body, media="application/json"):
     return "\r\n".join([f"HTTP/1.1 {status}", *fields, "", ""]).encode("ascii") + body
 
 
-def table(body):
+def table(body: bytes) -> bytes:
     """The whole reply with a table."""
     return reply("200 OK", body, "text/csv")

@@ -18,6 +18,7 @@ import sys
 import tempfile
 import threading
 import time
+import typing
 import unittest
 
 from tests.service.serving import (GAS, HEADER, HOST, PROGRAM, SECONDS, TOP, Service, free_port, get, post,
@@ -43,7 +44,7 @@ LONGEST = int(limit("body").replace(",", ""))
 RESET = struct.pack("ii", 1, 0)
 
 
-def refused(text):
+def refused(text: str) -> bytes:
     """The reply to a submission that breaks a rule other than that on a kept id."""
     return reply("422 Unprocessable Entity", f"refused {text}")
 
@@ -51,14 +52,14 @@ def refused(text):
 class Exchanges(unittest.TestCase):
     maxDiff = None
 
-    def exchanged(self, *pairs):
+    def exchanged(self, *pairs: tuple[bytes, bytes]) -> None:
         """Sends each request to one program, and compares each whole reply with the bytes due."""
         with Service(len(pairs)) as service:
             for request, due in pairs:
                 self.assertEqual(service.exchange(request), due, request[:200])
             self.assertEqual(service.status(), 0)
 
-    def test_one_line_from_request_to_table(self):
+    def test_one_line_from_request_to_table(self) -> None:
         self.exchanged(
             (b"GET /nothing HTTP/1.1\r\n\r\n",
              b"HTTP/1.1 404 Not Found\r\ncontent-type: application/json\r\ncontent-length: 21\r\n"
@@ -74,7 +75,7 @@ class Exchanges(unittest.TestCase):
             (post("b", GAS), refused("9 Exists row 1")),
             (get("cells", 1989), NO_TABLE), (get("wrong", 1990), NO_TABLE), (get("cells", "90"), NO_TABLE))
 
-    def test_rules_that_refuse(self):
+    def test_rules_that_refuse(self) -> None:
         heard = b"enter,activity,,A,1990,%b,,,t,\n"
         self.exchanged(
             (post("a+b", GAS), refused("1 BadId")), (post("a" * 41, GAS), refused("1 BadId")),
@@ -95,7 +96,7 @@ class Exchanges(unittest.TestCase):
              refused("13 Overflow line:ELEC.GAS:1990")),
             (post("great", HEADER + heard % b"1"), ACCEPTED))
 
-    def test_heads_that_are_refused(self):
+    def test_heads_that_are_refused(self) -> None:
         chunked = b"POST /submissions/a HTTP/1.1\r\nTransfer-Encoding: chunked\r\n\r\n5\r\nabcde\r\n0\r\n\r\n"
         fields = [f"X-{number}: y" for number in range(65)]
         self.exchanged(
@@ -124,7 +125,7 @@ class Exchanges(unittest.TestCase):
             (get("cells", 1990, *fields), TOO_LARGE), (get("cells", 1990, *fields)[:-2], TOO_LARGE),
             (b"GET / HTTP/1.1\r\nX: " + b"y" * 16_365, TOO_LARGE))
 
-    def test_the_longest_heads_and_those_that_are_longer(self):
+    def test_the_longest_heads_and_those_that_are_longer(self) -> None:
         fields = [f"X-{number}: y" for number in range(64)]
         head = get("cells", 1990, "X: ")
         longest, longer = (head[:-4] + b"y" * (size - len(head)) + head[-4:] for size in (16_384, 16_385))
@@ -137,7 +138,7 @@ class Exchanges(unittest.TestCase):
                        (get("cells", 1990, *fields), table(CELLS)), (get("cells", 1990, *fields)[:-2], b""),
                        (get("cells", 1990, *fields, "X: y"), TOO_LARGE))
 
-    def test_heads_that_are_taken(self):
+    def test_heads_that_are_taken(self) -> None:
         self.exchanged(
             (post("a", GAS, "content-encoding: Identity", "Expect: 100-continue"), ACCEPTED),
             (post("a", GAS, "CONTENT-LENGTH: 291"), REPEATED),
@@ -146,7 +147,7 @@ class Exchanges(unittest.TestCase):
             (get("cells", 1990, "Content-Encoding: gzip"), table(CELLS)),
             (get("cells", 1990, f"Content-Length: {LONGEST + 1}"), table(CELLS)))
 
-    def test_a_body_of_four_mebibytes(self):
+    def test_a_body_of_four_mebibytes(self) -> None:
         note = b"n" * (LONGEST - len(HEADER) - len(b"enter,activity,,A,1990,1,,,t,\n"))
         body = HEADER + b"enter,activity,,A,1990,1,,,t,%b\n" % note
         self.exchanged((post("long", body), ACCEPTED),
@@ -156,26 +157,27 @@ class Exchanges(unittest.TestCase):
 class WholeReply(http.client.HTTPResponse):
     """A reply that a client of the standard library reads, and all of its bytes."""
 
-    def __init__(self, link, **given):
+    def __init__(self, link: socket.socket, **given: typing.Any) -> None:
         super().__init__(link, **given)
         with self.fp as came:
             self.whole = came.read()
-        self.fp = io.BytesIO(self.whole)
+        self.fp = typing.cast(io.BufferedReader, io.BytesIO(self.whole))
 
 
 class Country(unittest.TestCase):
     maxDiff = None
 
-    def ask(self, service, method, path, body=None):
+    def ask(self, service: Service, method: str, path: str, body: bytes | None = None) -> tuple[bytes, bytes]:
         """The bytes of a reply, and the body that a client of the standard library reads."""
         link = http.client.HTTPConnection(HOST, service.port, timeout=SECONDS)
         link.response_class = WholeReply
         link.request(method, path, body)
         answer = link.getresponse()
         link.close()
+        assert isinstance(answer, WholeReply)
         return answer.whole, answer.read()
 
-    def test_files_of_the_country_and_all_tables(self):
+    def test_files_of_the_country_and_all_tables(self) -> None:
         bodies, names = files(), sorted((TOP / "tests/country").glob("*.csv"))
         self.assertEqual(len(names), 8)
         with Service(len(bodies) + len(names)) as service:
@@ -193,7 +195,7 @@ class Country(unittest.TestCase):
 class Curl(unittest.TestCase):
     maxDiff = None
 
-    def test_the_two_lines_of_the_page(self):
+    def test_the_two_lines_of_the_page(self) -> None:
         lines = re.findall("^ *(curl .*)$", (TOP / "docs/SERVICE.md").read_text("utf-8"), re.MULTILINE)
         self.assertEqual(len(lines), 2)
         with Service(2) as service:
@@ -201,7 +203,7 @@ class Curl(unittest.TestCase):
             self.assertEqual(self.printed(lines[1], service), summary_without_lines())
             self.assertEqual(service.status(), 0)
 
-    def printed(self, line, service):
+    def printed(self, line: str, service: Service) -> bytes:
         """What a command of a page prints at the top of the repository, with the port of this program."""
         words = shlex.split(line.replace(":8000/", f":{service.port}/"))
         ran = subprocess.run([words[0], "--disable", "--noproxy", "*", "--silent", *words[1:]], cwd=TOP,
@@ -210,7 +212,7 @@ class Curl(unittest.TestCase):
         return ran.stdout
 
 
-def summary_without_lines():
+def summary_without_lines() -> bytes:
     """The summary of a year in which nothing is emitted: the categories of tests/country, with zeros."""
     header, *rows = (TOP / "tests/country/summary-2020.csv").read_bytes().splitlines()
     zeros = [b"%b,0.000,0.000,0.000" % row.split(b",")[0] for row in rows]
@@ -218,7 +220,7 @@ def summary_without_lines():
 
 
 class Links(unittest.TestCase):
-    def test_each_proper_prefix_of_a_request_is_none(self):
+    def test_each_proper_prefix_of_a_request_is_none(self) -> None:
         request = post("a", GAS)
         with Service(len(request) + 2) as service:
             for cut in range(len(request)):
@@ -227,7 +229,7 @@ class Links(unittest.TestCase):
             self.assertEqual(service.exchange(request), REPEATED)
             self.assertEqual(service.status(), 0)
 
-    def test_a_request_that_comes_in_pieces(self):
+    def test_a_request_that_comes_in_pieces(self) -> None:
         request = post("a", GAS)
         with Service(1) as service, service.connect() as link:
             link.setsockopt(socket.IPPROTO_TCP, socket.TCP_NODELAY, 1)
@@ -236,7 +238,7 @@ class Links(unittest.TestCase):
             self.assertEqual(read_to_the_end(link), ACCEPTED)
             self.assertEqual(service.status(), 0)
 
-    def test_a_client_that_breaks_off(self):
+    def test_a_client_that_breaks_off(self) -> None:
         request = post("a", GAS)
         with Service(3) as service:
             for part in (request[:100], request):
@@ -247,7 +249,7 @@ class Links(unittest.TestCase):
             self.assertIn(again, (ACCEPTED, REPEATED))
             self.assertEqual(service.status(), 0)
 
-    def test_a_client_that_goes_on_sending_behind_its_reply(self):
+    def test_a_client_that_goes_on_sending_behind_its_reply(self) -> None:
         with Service(2) as service, service.connect() as link:
             link.sendall(post("a", GAS))
             self.assertEqual(read_to_the_end(link), ACCEPTED)
@@ -260,7 +262,7 @@ class Links(unittest.TestCase):
             self.assertEqual(service.status(), 0)
 
     @unittest.skipUnless(sys.platform == "linux", "127.0.0.2 may be no address of this machine")
-    def test_no_other_address_of_loopback_is_served(self):
+    def test_no_other_address_of_loopback_is_served(self) -> None:
         with Service(1) as service:
             # A program that listened at all addresses would take this connection.
             with self.assertRaises(ConnectionRefusedError):
@@ -268,7 +270,7 @@ class Links(unittest.TestCase):
             self.assertEqual(service.exchange(post("a", GAS)), ACCEPTED)
             self.assertEqual(service.status(), 0)
 
-    def test_a_link_that_fails_before_it_is_read(self):
+    def test_a_link_that_fails_before_it_is_read(self) -> None:
         with Service(2) as service:
             with service.connect() as link:
                 link.setsockopt(socket.SOL_SOCKET, socket.SO_LINGER, RESET)
@@ -276,7 +278,7 @@ class Links(unittest.TestCase):
             self.assertEqual(service.status(), 0)
 
     @unittest.skipUnless(hasattr(resource, "prlimit"), "no limit can be set from outside")
-    def test_a_door_that_gives_no_further_link(self):
+    def test_a_door_that_gives_no_further_link(self) -> None:
         with Service(10) as service:
             self.assertEqual(service.exchange(post("a", GAS)), ACCEPTED)
             resource.prlimit(service.process.pid, resource.RLIMIT_NOFILE, (1, 1))
@@ -289,7 +291,7 @@ class Links(unittest.TestCase):
             self.assertIn(replies, ([], [b""], [REPEATED], [REPEATED, b""]))
             self.assertEqual(service.status(), 7)
 
-    def test_a_client_that_closes_while_its_reply_is_written(self):
+    def test_a_client_that_closes_while_its_reply_is_written(self) -> None:
         rows = [HEADER, b"enter,span,,,1990,1990,1990,,,\nenter,activity,,A,1990,1,,,TJ,\n"
                 b"enter,factor,,F,1990,1000,,,kg/TJ,\n"]
         names = [b"L%023d" % number for number in range(5000)]
@@ -318,7 +320,7 @@ class Links(unittest.TestCase):
             self.assertEqual(service.status(), 0)
 
 
-def send_slowly(link):
+def send_slowly(link: socket.socket) -> None:
     """Sends byte after byte until the other side refuses one."""
     with contextlib.suppress(OSError):
         while True:
@@ -326,14 +328,14 @@ def send_slowly(link):
             time.sleep(0.01)
 
 
-def without_room():
+def without_room() -> None:
     """Lets a program write files of at most 1 MiB, and go on where one would be longer."""
     signal.signal(signal.SIGXFSZ, signal.SIG_IGN)
     resource.setrlimit(resource.RLIMIT_FSIZE, (1 << 20, 1 << 20))
 
 
 class Stored(unittest.TestCase):
-    def test_what_was_accepted_is_there_in_the_next_run(self):
+    def test_what_was_accepted_is_there_in_the_next_run(self) -> None:
         with tempfile.TemporaryDirectory() as room:
             with Service(1, "--store", "book.db", folder=room) as service:
                 self.assertEqual(service.exchange(post("a", GAS)), ACCEPTED)
@@ -343,7 +345,7 @@ class Stored(unittest.TestCase):
                 self.assertEqual(service.exchange(post("a", GAS)), REPEATED)
                 self.assertEqual(service.status(), 0)
 
-    def test_a_store_that_fails(self):
+    def test_a_store_that_fails(self) -> None:
         body = HEADER + b"enter,activity,,A,1990,1,,,t,%b\n" % (b"n" * (3 << 20))
         with tempfile.TemporaryDirectory() as room:
             with Service(4, "--store", "book.db", folder=room, before=without_room) as service:
@@ -357,13 +359,13 @@ class Stored(unittest.TestCase):
 
 @unittest.skipUnless(sys.platform == "linux", "the room of a process that runs is not limited so elsewhere")
 class Memory(unittest.TestCase):
-    def limit(self, process, room):
+    def limit(self, process: subprocess.Popen[bytes], room: int | None) -> None:
         """Lets a process take so many bytes more, or as many as it asks for."""
         pages = int(pathlib.Path(f"/proc/{process.pid}/statm").read_text(encoding="ascii").split()[0])
         most = resource.RLIM_INFINITY if room is None else pages * resource.getpagesize() + room
         resource.prlimit(process.pid, resource.RLIMIT_AS, (most, resource.RLIM_INFINITY))
 
-    def test_want_of_memory_and_the_same_submission_again(self):
+    def test_want_of_memory_and_the_same_submission_again(self) -> None:
         body = HEADER + b"".join(b"enter,activity,,A%05d,1990,1,,,TJ,\n" % n for n in range(50_000))
         with Service(3) as service:
             # There is room for the body, and none for its rows.
@@ -376,34 +378,35 @@ class Memory(unittest.TestCase):
 
 
 class Ends(unittest.TestCase):
-    def ended(self, *words, folder=None):
+    def ended(self, *words: str, folder: pathlib.Path | str | None = None) -> tuple[int, bytes]:
         """What the program writes, and its status."""
         ran = subprocess.run([PROGRAM, *words], stdin=subprocess.DEVNULL, capture_output=True, cwd=folder,
                              timeout=SECONDS, check=False)
         return ran.returncode, ran.stdout
 
-    def test_words_that_are_no_command(self):
-        for words in ([], ["--port", "8000"], ["--connections", "2"], ["--port", "0", "--connections", "1"],
-                      ["--port", "65536", "--connections", "1"], ["--port", "8000", "--connections", "0"],
-                      ["--port", "8000", "--connections", "1000001"], ["--port", "8000", "--port", "8001"],
-                      ["--port", "8000", "--connections", "1", "--store", ".x"], ["--help"]):
+    def test_words_that_are_no_command(self) -> None:
+        lines = ("", "--port 8000", "--connections 2", "--port 0 --connections 1",
+                 "--port 65536 --connections 1", "--port 8000 --connections 0",
+                 "--port 8000 --connections 1000001", "--port 8000 --port 8001",
+                 "--port 8000 --connections 1 --store .x", "--help")
+        for words in map(str.split, lines):
             self.assertEqual(self.ended("serve", *words), (2, b"bad command line\n"), words)
 
-    def test_a_port_that_another_has(self):
+    def test_a_port_that_another_has(self) -> None:
         with socket.socket() as link:
             link.bind((HOST, 0))
             link.listen()
             port = str(link.getsockname()[1])
             self.assertEqual(self.ended("serve", "--port", port, "--connections", "1"), (7, b""))
 
-    def test_a_store_that_is_none(self):
+    def test_a_store_that_is_none(self) -> None:
         with tempfile.TemporaryDirectory() as room:
             words = ["serve", "--port", "18742", "--connections", "1", "--store", "book.db"]
             with open(f"{room}/book.db", "w", encoding="ascii") as file:
                 file.write("act,kind,subject,name,year,value,low,high,unit,note\n" * 100)
             self.assertEqual(self.ended(*words, folder=room), (6, b""))
 
-    def test_a_kept_row_that_is_refused(self):
+    def test_a_kept_row_that_is_refused(self) -> None:
         with tempfile.TemporaryDirectory() as room:
             with contextlib.closing(sqlite3.connect(f"{room}/book.db")) as store, store:
                 store.execute("CREATE TABLE accepted(seq INTEGER PRIMARY KEY, id TEXT UNIQUE NOT NULL, "

@@ -12,6 +12,7 @@ import sqlite3
 import subprocess
 import tempfile
 import unittest
+from collections.abc import Callable, Sequence
 
 from tests.service.serving import GAS, HEADER, PROGRAM, SECONDS
 from tests.workbook.test_country import files, script
@@ -24,12 +25,12 @@ ELEC.GAS,1A1a,Q10,CO2,Gg,56.100,54.300,58.300
 POTENTIAL = HEADER + b"enter,factor,,GWP.CO2,1990,1,,,1,\n"
 
 
-def submit(name, body):
+def submit(name: bytes, body: bytes) -> bytes:
     """A submission as a command."""
     return b"SUBMIT %b %d\n%b" % (name, len(body), body)
 
 
-def session(*commands):
+def session(*commands: bytes) -> bytes:
     """A script of commands."""
     return b"".join([*commands, b"END\n"])
 
@@ -37,13 +38,13 @@ def session(*commands):
 GAS_THEN_CELLS = session(submit(b"a", GAS), b"SHOW cells 1990\n")
 
 
-def rows_of(path):
+def rows_of(path: pathlib.Path) -> list[tuple[int, str, bytes]]:
     """The rows of a store."""
     with contextlib.closing(sqlite3.connect(path)) as connection:
         return connection.execute("SELECT seq, id, body FROM accepted ORDER BY seq").fetchall()
 
 
-def make(path, *statements, rows=()):
+def make(path: pathlib.Path, *statements: str, rows: Sequence[tuple[object, ...]] = ()) -> None:
     """Makes a database by these statements, and puts rows into its table."""
     with contextlib.closing(sqlite3.connect(path)) as connection, connection:
         connection.execute("PRAGMA synchronous = OFF")
@@ -53,13 +54,13 @@ def make(path, *statements, rows=()):
             connection.executemany("INSERT INTO accepted VALUES (?, ?, ?)", rows)
 
 
-def without_room():
+def without_room() -> None:
     """Lets a program write files of at most 1 MiB, and go on where one would be longer."""
     signal.signal(signal.SIGXFSZ, signal.SIG_IGN)
     resource.setrlimit(resource.RLIMIT_FSIZE, (1 << 20, 1 << 20))
 
 
-def as_another_user():
+def as_another_user() -> None:
     """Gives up the rights of root, for those of a user who owns nothing."""
     if os.geteuid() == 0:
         os.setgroups([])
@@ -70,33 +71,34 @@ def as_another_user():
 class Stores(unittest.TestCase):
     maxDiff = None
 
-    def setUp(self):
+    def setUp(self) -> None:
         folder = tempfile.TemporaryDirectory()
         self.addCleanup(folder.cleanup)
         self.room = pathlib.Path(folder.name)
         self.store = self.room / "book.db"
 
-    def run_with(self, given, *words, before=None):
+    def run_with(self, given: bytes, *words: str,
+                 before: Callable[[], None] | None = None) -> tuple[int, bytes]:
         """The status of a run and what it prints."""
-        words = [PROGRAM, "compile", *(words or ("--store", "book.db"))]
-        ran = subprocess.run(words, input=given, cwd=self.room, stdout=subprocess.PIPE, timeout=SECONDS,
+        command = [PROGRAM, "compile", *(words or ("--store", "book.db"))]
+        ran = subprocess.run(command, input=given, cwd=self.room, stdout=subprocess.PIPE, timeout=SECONDS,
                              preexec_fn=before, check=False)
         return ran.returncode, ran.stdout
 
-    def started(self):
+    def started(self) -> subprocess.Popen[bytes]:
         """A run that waits for its script."""
         return subprocess.Popen([PROGRAM, "compile", "--store", "book.db"], stdin=subprocess.PIPE,
                                 stdout=subprocess.PIPE, cwd=self.room)
 
 
 class Kept(Stores):
-    def test_accepted_in_one_run_is_repeated_in_the_next(self):
+    def test_accepted_in_one_run_is_repeated_in_the_next(self) -> None:
         self.assertEqual(self.run_with(GAS_THEN_CELLS), (0, b"accepted 1\n" + CELLS))
         self.assertEqual(self.run_with(GAS_THEN_CELLS), (0, b"repeated 1\n" + CELLS))
         self.assertEqual(rows_of(self.store), [(1, "a", GAS)])
         self.assertEqual(self.run_with(session(b"SHOW cells 1990\n"), "--store=book.db"), (0, CELLS))
 
-    def test_table_is_the_one_of_the_page(self):
+    def test_table_is_the_one_of_the_page(self) -> None:
         self.run_with(session())
         with contextlib.closing(sqlite3.connect(self.store)) as connection:
             columns = connection.execute("PRAGMA table_info(accepted)").fetchall()
@@ -105,19 +107,19 @@ class Kept(Stores):
         self.assertEqual([column[1:4] + column[5:] for column in columns], [
             ("seq", "INTEGER", 0, 1), ("id", "TEXT", 1, 0), ("body", "BLOB", 1, 0)])
 
-    def test_refused_and_repeated_are_not_kept(self):
+    def test_refused_and_repeated_are_not_kept(self) -> None:
         given = session(submit(b"a", GAS), submit(b"a", GAS), submit(b"a", POTENTIAL), submit(b"b", GAS),
                         submit(b"c", POTENTIAL))
         due = b"accepted 1\nrepeated 1\nrefused 2 IdReused 1\nrefused 9 Exists row 1\naccepted 2\n"
         self.assertEqual(self.run_with(given), (0, due))
         self.assertEqual(rows_of(self.store), [(1, "a", GAS), (2, "c", POTENTIAL)])
 
-    def test_a_script_that_is_cut_keeps_what_was_accepted(self):
+    def test_a_script_that_is_cut_keeps_what_was_accepted(self) -> None:
         given = submit(b"a", GAS) + submit(b"c", POTENTIAL)[:40]
         self.assertEqual(self.run_with(given), (3, b"accepted 1\nnot a script: command 2\n"))
         self.assertEqual(rows_of(self.store), [(1, "a", GAS)])
 
-    def test_country_entered_in_one_run_and_asked_in_a_later(self):
+    def test_country_entered_in_one_run_and_asked_in_a_later(self) -> None:
         entered = b"".join(b"accepted %d\n" % number for number in range(1, len(files()) + 1))
         self.assertEqual(self.run_with(script()), (0, entered))
         shown = self.run_with(b"SHOW summary 2020\nEND\n")
@@ -127,12 +129,12 @@ class Kept(Stores):
         self.assertEqual(again, (0, entered.replace(b"accepted", b"repeated")))
         self.assertEqual([row[1] for row in rows_of(self.store)], [path.stem for path in files()])
 
-    def test_a_store_of_one_row_that_sqlite3_made(self):
+    def test_a_store_of_one_row_that_sqlite3_made(self) -> None:
         make(self.store, TABLE, rows=[(1, "a", GAS)])
         self.assertEqual(self.run_with(session(submit(b"a", GAS))), (0, b"repeated 1\n"))
         self.assertEqual(rows_of(self.store), [(1, "a", GAS)])
 
-    def test_a_kept_header_alone(self):
+    def test_a_kept_header_alone(self) -> None:
         for rows, shown in (([(1, "b", HEADER)], b"no table\n"), ([(1, "a", GAS), (2, "b", HEADER)], CELLS)):
             self.store.unlink(missing_ok=True)
             make(self.store, TABLE, rows=rows)
@@ -141,35 +143,36 @@ class Kept(Stores):
             self.assertEqual(rows_of(self.store), rows)
 
     @unittest.skipUnless(os.access("/usr/bin/sqlite3", os.X_OK), "there is no sqlite3")
-    def test_the_tool_sqlite3_reads_a_store(self):
+    def test_the_tool_sqlite3_reads_a_store(self) -> None:
         self.run_with(session(submit(b"a", GAS), submit(b"c", POTENTIAL), submit(b"b", HEADER)))
         query = "select seq, id, length(body) from accepted"
         ran = subprocess.run(["/usr/bin/sqlite3", "-init", "/dev/null", "book.db", query], cwd=self.room,
                              stdin=subprocess.DEVNULL, capture_output=True, timeout=SECONDS, check=False)
         self.assertEqual((ran.returncode, ran.stdout), (0, b"1|a|291\n2|c|86\n3|b|52\n"))
 
-    def test_a_store_that_sqlite3_made(self):
+    def test_a_store_that_sqlite3_made(self) -> None:
         make(self.store, TABLE, rows=[(1, "a", GAS), (2, "c", POTENTIAL)])
         given = session(submit(b"c", POTENTIAL), b"SHOW cells 1990\n")
         self.assertEqual(self.run_with(given), (0, b"repeated 2\n" + CELLS))
 
-    def test_a_copy_by_sqlite3_is_a_store(self):
+    def test_a_copy_by_sqlite3_is_a_store(self) -> None:
         self.run_with(GAS_THEN_CELLS)
         with contextlib.closing(sqlite3.connect(self.store)) as connection, \
                 contextlib.closing(sqlite3.connect(self.room / "copy.db")) as copy:
             connection.backup(copy)
         self.assertEqual(self.run_with(GAS_THEN_CELLS, "--store", "copy.db"), (0, b"repeated 1\n" + CELLS))
 
-    def test_both_files_are_a_copy(self):
+    def test_both_files_are_a_copy(self) -> None:
         self.run_with(GAS_THEN_CELLS)
         for path in self.room.glob("book.db*"):
             (self.room / path.name.replace("book", "copy")).write_bytes(path.read_bytes())
         self.assertEqual(self.run_with(GAS_THEN_CELLS, "--store", "copy.db"), (0, b"repeated 1\n" + CELLS))
 
-    def test_a_run_that_is_killed(self):
+    def test_a_run_that_is_killed(self) -> None:
         bodies = [HEADER + b"enter,activity,,A%d,1990,1,,,t,\n" % number for number in range(200)]
         commands = [submit(b"s%d" % number, body) for number, body in enumerate(bodies, 1)]
         with self.started() as process:
+            assert process.stdin and process.stdout
             process.stdin.write(b"".join(commands))
             process.stdin.flush()
             replies = [process.stdout.readline() for _ in range(20)]
@@ -185,7 +188,7 @@ class Kept(Stores):
 
 
 class Refused(Stores):
-    def test_words_that_are_no_command(self):
+    def test_words_that_are_no_command(self) -> None:
         for words in (["--store"], ["--store", "s", "--store", "s"], ["--store", ".x"], ["--store", "-x"],
                       ["--store", "a/b"], ["--store", "s" * 65], ["--store="], ["--workers", "0"],
                       ["--workers", "65"], ["--keep", "s"]):
@@ -193,16 +196,16 @@ class Refused(Stores):
         self.assertEqual(list(self.room.iterdir()), [])
         self.assertEqual(self.run_with(session(), "--workers=1", "--store", "s" * 64), (0, b""))
 
-    def test_a_text_file(self):
+    def test_a_text_file(self) -> None:
         self.store.write_bytes(GAS * 20)
         self.assertEqual(self.run_with(GAS_THEN_CELLS), (6, b""))
         self.assertEqual(self.store.read_bytes(), GAS * 20)
 
-    def test_a_folder(self):
+    def test_a_folder(self) -> None:
         self.store.mkdir()
         self.assertEqual(self.run_with(GAS_THEN_CELLS), (6, b""))
 
-    def test_a_file_and_a_folder_that_may_not_be_written(self):
+    def test_a_file_and_a_folder_that_may_not_be_written(self) -> None:
         self.run_with(GAS_THEN_CELLS)
         # A copy, as the other user may not come to the folder of the program.
         shutil.copy(PROGRAM, self.room / "program")
@@ -221,15 +224,16 @@ class Refused(Stores):
         self.store.chmod(0o644)
         self.assertEqual(rows_of(self.store), [(1, "a", GAS)])
 
-    def test_a_store_that_sqlite3_has(self):
+    def test_a_store_that_sqlite3_has(self) -> None:
         self.run_with(GAS_THEN_CELLS)
         with contextlib.closing(sqlite3.connect(self.store)) as connection:
             connection.execute("BEGIN EXCLUSIVE")
             self.assertEqual(self.run_with(GAS_THEN_CELLS), (6, b""))
         self.assertEqual(self.run_with(GAS_THEN_CELLS), (0, b"repeated 1\n" + CELLS))
 
-    def test_a_store_that_another_run_has(self):
+    def test_a_store_that_another_run_has(self) -> None:
         with self.started() as process:
+            assert process.stdin and process.stdout
             process.stdin.write(submit(b"a", GAS))
             process.stdin.flush()
             self.assertEqual(process.stdout.readline(), b"accepted 1\n")
@@ -238,14 +242,14 @@ class Refused(Stores):
         self.assertEqual(process.returncode, 0)
         self.assertEqual(rows_of(self.store), [(1, "a", GAS)])
 
-    def test_a_disk_without_room(self):
+    def test_a_disk_without_room(self) -> None:
         long = HEADER + b"enter,activity,,A,1990,1,,,t,%b\n" % (b"n" * (3 << 20))
         given = session(submit(b"a", GAS), submit(b"long", long), submit(b"c", POTENTIAL))
         self.assertEqual(self.run_with(given, before=without_room), (6, b"accepted 1\n"))
         self.assertEqual(rows_of(self.store), [(1, "a", GAS)])
         self.assertEqual(self.run_with(given), (0, b"repeated 1\naccepted 2\naccepted 3\n"))
 
-    def test_a_first_submission_that_could_not_be_kept(self):
+    def test_a_first_submission_that_could_not_be_kept(self) -> None:
         long = HEADER + b"enter,activity,,A,1990,1,,,t,%b\n" % (b"n" * (3 << 20))
         given = session(submit(b"long", long), b"SHOW cells 1990\n")
         self.run_with(session())
@@ -254,7 +258,7 @@ class Refused(Stores):
         self.assertEqual(self.run_with(session(submit(b"long", long))), (0, b"accepted 1\n"))
         self.assertEqual(rows_of(self.store), [(1, "long", long)])
 
-    def test_a_kept_row_that_is_refused(self):
+    def test_a_kept_row_that_is_refused(self) -> None:
         for rows, due in (
                 ([(1, "a", GAS), (2, "b", b"")], b"kept row 2 refused 4 BadShape row 0\n"),
                 ([(1, "a", GAS), (2, "b", GAS)], b"kept row 2 refused 9 Exists row 1\n"),
@@ -264,14 +268,16 @@ class Refused(Stores):
             self.assertEqual(self.run_with(GAS_THEN_CELLS), (9, due))
             self.assertEqual(rows_of(self.store), rows)
 
-    def test_a_gap_in_the_numbers(self):
+    def test_a_gap_in_the_numbers(self) -> None:
         rows = [(1, "a", GAS), (3, "c", POTENTIAL)]
         make(self.store, TABLE, rows=rows)
         self.assertEqual(self.run_with(GAS_THEN_CELLS), (6, b""))
         self.assertEqual(rows_of(self.store), rows)
 
-    def test_another_table_of_that_name(self):
+    def test_another_table_of_that_name(self) -> None:
         seq, id_, body = "seq INTEGER PRIMARY KEY", "id TEXT UNIQUE NOT NULL", "body BLOB NOT NULL"
+        empty: list[tuple[object, ...]] = []
+        kept: list[tuple[object, ...]] = [(1, "a", GAS)]
         for columns in ("(a, b, c)", "(seq, id, body)",
                         f"(seq INTEGER, {id_}, {body})", f"(seq INTEGER UNIQUE, {id_}, {body})",
                         f"(seq INT PRIMARY KEY, {id_}, {body})",
@@ -281,19 +287,19 @@ class Refused(Stores):
                         f"({seq}, {id_}, body BLOB)", f"({seq}, {id_}, body BLOB UNIQUE NOT NULL)",
                         f"({seq}, {id_}, body TEXT NOT NULL)", f"({seq}, {id_}, words BLOB NOT NULL)",
                         f"({seq}, {id_}, {body}) STRICT", f"({seq}, {id_}, {body}) WITHOUT ROWID"):
-            for rows in ([], [(1, "a", GAS)]):
+            for rows in (empty, kept):
                 self.is_refused_as_it_is(f"CREATE TABLE accepted{columns}", rows)
         self.is_refused_as_it_is(f"CREATE TABLE accepted({seq}, {body}, {id_})", [(1, GAS, "a")])
         for columns in (f"{seq}, {id_}", f"{seq}, {id_}, {body}, note TEXT"):
             self.is_refused_as_it_is(f"CREATE TABLE accepted({columns})", [])
 
-    def test_a_table_with_more_than_columns(self):
+    def test_a_table_with_more_than_columns(self) -> None:
         for more in ("CREATE TRIGGER t AFTER INSERT ON accepted BEGIN DELETE FROM accepted; END",
                      "CREATE INDEX i ON accepted(length(body))"):
             self.is_refused_as_it_is(TABLE, [], more)
             self.is_refused_as_it_is(TABLE, [(1, "a", GAS)], more)
 
-    def is_refused_as_it_is(self, table, rows, *more):
+    def is_refused_as_it_is(self, table: str, rows: Sequence[tuple[object, ...]], *more: str) -> None:
         """Makes a store of this table and these rows, and looks that a run fails and changes neither."""
         self.store.unlink(missing_ok=True)
         make(self.store, table, rows=rows)
@@ -304,7 +310,7 @@ class Refused(Stores):
             self.assertEqual(tables.fetchall(), [(table,)])
             self.assertEqual(connection.execute("SELECT * FROM accepted").fetchall(), rows)
 
-    def test_what_else_a_table_says_is_not_compared(self):
+    def test_what_else_a_table_says_is_not_compared(self) -> None:
         seq, id_, body = "seq INTEGER PRIMARY KEY", "id TEXT UNIQUE NOT NULL", "body BLOB NOT NULL"
         for columns in (f"SEQ INTEGER PRIMARY KEY AUTOINCREMENT, {id_}, {body}",
                         f"{seq}, id VARCHAR(40) COLLATE NOCASE UNIQUE NOT NULL, {body}",
@@ -316,7 +322,7 @@ class Refused(Stores):
             self.assertEqual(self.run_with(GAS_THEN_CELLS), (0, b"accepted 1\n" + CELLS), columns)
             self.assertEqual(rows_of(self.store), [(1, "a", GAS)])
 
-    def test_a_rule_of_the_table_that_a_submission_breaks(self):
+    def test_a_rule_of_the_table_that_a_submission_breaks(self) -> None:
         for rule in ("COLLATE NOCASE", "CHECK (id <> 'A')"):
             self.store.unlink(missing_ok=True)
             make(self.store, TABLE.replace("NOT NULL,", f"NOT NULL {rule},", 1))
@@ -324,7 +330,7 @@ class Refused(Stores):
             self.assertEqual(self.run_with(given), (6, b"accepted 1\n"), rule)
             self.assertEqual(rows_of(self.store), [(1, "a", GAS)])
 
-    def test_a_view_of_that_name(self):
+    def test_a_view_of_that_name(self) -> None:
         make(self.store, "CREATE VIEW accepted AS SELECT 1 AS seq, 'a' AS id, x'00' AS body")
         self.assertEqual(self.run_with(GAS_THEN_CELLS), (6, b""))
         with contextlib.closing(sqlite3.connect(self.store)) as connection:

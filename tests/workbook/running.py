@@ -9,13 +9,13 @@ PROGRAM = os.environ.get("GHG_PROGRAM") or str(TOP / "crates/ghg/out/ghg")
 HEADER = "act,kind,subject,name,year,value,low,high,unit,note\n"
 
 
-def workbook(*words, cwd=TOP):
+def workbook(*words: str | pathlib.Path, cwd: pathlib.Path | str = TOP) -> subprocess.CompletedProcess[str]:
     """What a command of `./workbook` prints, and its status."""
     environment = {**os.environ, "GHG_PROGRAM": PROGRAM, "PYTHONUTF8": "1"}
     return subprocess.run([TOP / "workbook", *words], cwd=cwd, env=environment, capture_output=True,
                           text=True, encoding="utf-8")
 
 
-def session(script):
+def session(script: bytes) -> bytes:
     """What the program itself prints for a script."""
     return subprocess.run([PROGRAM, "compile"], input=script, capture_output=True, check=True).stdout

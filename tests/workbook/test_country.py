@@ -2,6 +2,7 @@
 import pathlib
 import tempfile
 import unittest
+from collections.abc import Iterable
 
 from tests.workbook.running import TOP, session, workbook
 from tools import vocabulary
@@ -10,12 +11,12 @@ from tools import vocabulary
 COUNTRY = ["examples/fuel-combustion", "examples/small-country", "examples/waste", "examples/uncertainties"]
 
 
-def files():
+def files() -> list[pathlib.Path]:
     """The country's files in their order."""
     return [path for folder in COUNTRY for path in sorted((TOP / folder).glob("*.csv"))]
 
 
-def script(*tables):
+def script(*tables: Iterable[str]) -> bytes:
     """A session script of the country's files and of tables."""
     parts = []
     for path in files():
@@ -27,13 +28,13 @@ def script(*tables):
 class Country(unittest.TestCase):
     maxDiff = None
 
-    def test_check_finds_no_fault(self):
+    def test_check_finds_no_fault(self) -> None:
         ran = workbook("check", *COUNTRY)
         self.assertEqual(ran.returncode, 0)
         self.assertRegex(ran.stdout.splitlines()[-1], rf"^{len(files())} files: 0 faults, 0 warnings$")
         self.assertNotIn("no line takes", ran.stdout)
 
-    def test_tables_are_those_of_the_program(self):
+    def test_tables_are_those_of_the_program(self) -> None:
         names = vocabulary.words()["tables"]
         printed = session(script(*(f"{name} 2020" for name in names))).decode()
         due = printed.split(f"accepted {len(files())}\n")[1]
@@ -49,18 +50,18 @@ class Country(unittest.TestCase):
         self.assertEqual(len(replies), len(files()))
         self.assertIn("examples/fuel-combustion/3-fuel-consumption.csv: accepted, 403 rows", replies)
 
-    def test_tables_are_those_that_are_stored(self):
+    def test_tables_are_those_that_are_stored(self) -> None:
         stored = {path.name: path.read_text() for path in sorted((TOP / "tests/country").glob("*.csv"))}
         self.assertEqual(sorted(stored), sorted(f"{name}-2020.csv" for name in vocabulary.words()["tables"]))
         for name, due in stored.items():
             ran = workbook("tables", *COUNTRY, "2020", "--table", name.removesuffix("-2020.csv"))
             self.assertEqual(ran.stdout, due, name)
 
-    def test_one_table_is_printed(self):
+    def test_one_table_is_printed(self) -> None:
         ran = workbook("tables", *COUNTRY, "2020", "--table", "summary")
         self.assertEqual(ran.stdout.encode(), session(script("summary 2020")).split(b"rows 78\n")[1])
 
-    def test_complete_has_no_gap(self):
+    def test_complete_has_no_gap(self) -> None:
         ran = workbook("complete", *COUNTRY)
         self.assertEqual(ran.returncode, 0)
         rows = {line[:10]: line[11:].split() for line in ran.stdout.splitlines() if line[:2] in ("1A", "2C")}

@@ -1,7 +1,9 @@
 """Each folder of `faults` holds one kind of fault, and in due.txt the lines that `./workbook check` has to
 print of it.
 """
+import pathlib
 import unittest
+from collections.abc import Callable
 
 from tests.workbook.running import HERE, workbook
 
@@ -11,9 +13,9 @@ class Faults(unittest.TestCase):
     maxDiff = None
 
 
-def of_folder(folder):
+def of_folder(folder: pathlib.Path) -> Callable[[Faults], None]:
     """The test of a folder."""
-    def test(self):
+    def test(self: Faults) -> None:
         ran = workbook("check", folder)
         due = (folder / "due.txt").read_text(encoding="utf-8")
         self.assertEqual(ran.stdout, due)

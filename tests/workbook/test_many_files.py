@@ -9,7 +9,7 @@ FILES, ROWS = 200, 100
 PARAMETERS = ("PR", "IM", "EX", "IB", "SC")
 
 
-def body(number):
+def body(number: int) -> str:
     """A file of 100 rows: the energy balance of a fuel with its five bindings, and their activities."""
     if number == 0:
         return HEADER + "enter,span,,,1990,2008,1990,,,\n"
@@ -22,7 +22,7 @@ def body(number):
 
 
 class ManyFiles(unittest.TestCase):
-    def test_no_fault_where_all_are_accepted(self):
+    def test_no_fault_where_all_are_accepted(self) -> None:
         bodies = [body(number).encode() for number in range(FILES + 1)]
         self.assertEqual(sum(one.count(b"\n") - 1 for one in bodies[1:]), FILES * ROWS)
         parts = [b"SUBMIT s%d %d\n%b" % (at, len(one), one) for at, one in enumerate(bodies)]

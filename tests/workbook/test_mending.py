@@ -9,6 +9,7 @@ from tests.workbook.test_recognised import checked
 from tools.gathered import cause_of
 from tools.recognisers import SMALL, files_of
 from tools.faults import warn_of
+from tools.sheets import Sheet
 
 MISTAKES = HERE / "twenty/farms/mistakes"
 # Rows with what `--mend` writes of them, or None if it leaves them as they are.
@@ -63,7 +64,7 @@ class Mending(unittest.TestCase):
             folder = pathlib.Path(room) / "folder"
             folder.mkdir()
             (folder / "1.csv").write_text(HEADER)
-            for out in (room, folder / "out", f"{room}/none/out"):
+            for out in (room, str(folder / "out"), f"{room}/none/out"):
                 self.assertEqual(workbook("check", folder, "--mend", out).returncode, 2)
             self.assertEqual([path.name for path in folder.iterdir()], ["1.csv"])
 
@@ -96,11 +97,12 @@ class Gathered(unittest.TestCase):
         self.assertEqual(printed[head + 1:-1], ["  2,489.494 at 1.csv:14", "  864.360 at 1.csv:20"])
 
     def test_causes(self) -> None:
-        one = cause_of(warn_of(None, "activity COAL has no record of 2019; line COAL.CO2 is blank there"))
+        sheet = Sheet("1.csv", b"")
+        one = cause_of(warn_of(sheet, "activity COAL has no record of 2019; line COAL.CO2 is blank there"))
         cause = "activity GAS has no record of 2018 to 2020; lines A and B are blank there"
-        more = cause_of(warn_of(None, cause))
+        more = cause_of(warn_of(sheet, cause))
         self.assertEqual(one, more)
-        self.assertNotEqual(one, cause_of(warn_of(None, "activity COAL is negative: -3 kt in 2019")))
+        self.assertNotEqual(one, cause_of(warn_of(sheet, "activity COAL is negative: -3 kt in 2019")))
 
 
 if __name__ == "__main__":

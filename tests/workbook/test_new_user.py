@@ -13,7 +13,7 @@ INVENTORIES = sorted((HERE / "twenty").iterdir())
 class TwentyMistakes(unittest.TestCase):
     maxDiff = None
 
-    def test_one_check_tells_all(self):
+    def test_one_check_tells_all(self) -> None:
         for inventory in INVENTORIES:
             ran = workbook("check", inventory / "mistakes")
             due = inventory / "mistakes/due.txt"
@@ -21,7 +21,7 @@ class TwentyMistakes(unittest.TestCase):
                 self.assertEqual(ran.stdout, due.read_text(encoding="utf-8"))
             self.assertEqual(ran.returncode, 1, inventory.name)
 
-    def test_mended_as_told_there_is_no_fault(self):
+    def test_mended_as_told_there_is_no_fault(self) -> None:
         for inventory in INVENTORIES:
             ran = workbook("check", inventory / "mended", "--no-warnings")
             files = len(list((inventory / "mended").glob("*.csv")))

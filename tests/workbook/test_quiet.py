@@ -3,6 +3,7 @@ from __future__ import annotations
 
 import json
 import os
+import pathlib
 import pty
 import subprocess
 import tempfile
@@ -75,8 +76,10 @@ class Json(unittest.TestCase):
 
 class Quiet(unittest.TestCase):
     def test_files_that_are_accepted_are_not_said(self) -> None:
-        for words in (["tables", HOW_TO, "2020"], ["complete", HOW_TO], ["trace", HOW_TO, "2020", "gross"],
-                      ["compare", HOW_TO, "--", HOW_TO]):
+        commands: list[list[str | pathlib.Path]] = [
+            ["tables", HOW_TO, "2020"], ["complete", HOW_TO], ["trace", HOW_TO, "2020", "gross"],
+            ["compare", HOW_TO, "--", HOW_TO]]
+        for words in commands:
             loud, quiet = workbook(*words), workbook(*words, "--quiet")
             self.assertIn("accepted", loud.stderr)
             self.assertEqual((quiet.stdout, quiet.stderr), (loud.stdout, ""))

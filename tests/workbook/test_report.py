@@ -241,7 +241,7 @@ class Refusals(unittest.TestCase):
     def test_a_library_that_is_missing(self) -> None:
         with tempfile.TemporaryDirectory() as room:
             (pathlib.Path(room) / "jinja2.py").write_text("raise ImportError('none')\n")
-            words = [TOP / "workbook", "report", "examples/how-to", "-o", f"{room}/report.html"]
+            words = [str(TOP / "workbook"), "report", "examples/how-to", "-o", f"{room}/report.html"]
             environment = {**os.environ, "PYTHONPATH": room, "GHG_PROGRAM": PROGRAM}
             ran = subprocess.run(words, cwd=TOP, env=environment, capture_output=True, text=True)
             self.assertEqual((ran.returncode, os.listdir(room)), (2, ["jinja2.py"]))

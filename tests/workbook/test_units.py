@@ -68,37 +68,41 @@ UPSIDE_DOWN = [
 
 
 class Units(unittest.TestCase):
-    def test_meant(self):
+    def test_meant(self) -> None:
         for text, word, said in MEANT:
             found = units.meant(text)
             self.assertEqual((found and found.word, found and found.said), (word, said), text)
 
-    def test_meant_by_what_is_measured(self):
+    def test_meant_by_what_is_measured(self) -> None:
         for text, measures, word, said in MEASURED:
             found = units.meant(text, measures)
             self.assertEqual((found and found.word, found and found.said), (word, said), text)
 
-    def test_upside_down(self):
+    def test_upside_down(self) -> None:
         for text, measures, word in UPSIDE_DOWN:
             self.assertEqual(units.upside_down(text, measures), word, text)
 
-    def test_none(self):
+    def test_none(self) -> None:
         for text in NONE:
             self.assertIsNone(units.meant(text), text)
 
-    def test_shares_of_a_year(self):
+    def test_shares_of_a_year(self) -> None:
         percent = fractions.Fraction(1, 100)
         for text, size in (("1/yr", 1), ("per year", 1), ("yr-1", 1), ("a\u207b\u00b9", 1),
                            ("%/yr", percent), ("percent per annum", percent)):
             reading = units.read(text)
+            assert reading is not None, text
             self.assertTrue(reading.is_yearly_share, text)
             self.assertEqual(reading.size, size, text)
         for text in ("yr", "kg/yr", "1", "%"):
-            self.assertFalse(units.read(text).is_yearly_share, text)
+            reading = units.read(text)
+            assert reading is not None, text
+            self.assertFalse(reading.is_yearly_share, text)
 
-    def test_units_of_the_table_mean_themselves_in_their_sizes(self):
+    def test_units_of_the_table_mean_themselves_in_their_sizes(self) -> None:
         for word, unit in vocabulary.units().items():
             found = units.meant(word, unit["measures"])
+            assert found is not None, word
             self.assertEqual((found.word, found.times), (word, 1), word)
             base = vocabulary.units_that_measure(unit["measures"])[0]
             ratio = units.table()[word].size / units.table()[base].size

@@ -8,13 +8,13 @@ from tools import vocabulary
 SPAN = HEADER + "enter,span,,,2019,2020,2019,,,\n"
 
 
-def replies(*bodies):
+def replies(*bodies: str) -> list[str]:
     """The replies to bodies, each submitted in turn."""
     parts = [f"SUBMIT s{at} {len(body.encode())}\n{body}" for at, body in enumerate(bodies)]
     return session(("".join(parts) + "END\n").encode()).decode().splitlines()
 
 
-def bindable():
+def bindable() -> list[str]:
     """The codes whose parameters all have a unit or a form that binds them."""
     codes = vocabulary.equations()
     if "decay" in vocabulary.words()["forms"]:
@@ -22,7 +22,7 @@ def bindable():
     return [code for code in codes if all(parameter["unit"] for parameter in codes[code]["parameters"])]
 
 
-def line_of(code, category="RA"):
+def line_of(code: str, category: str = "RA") -> str:
     """A body with a line of an equation, whose parameters are bound to factors in their base units."""
     rows = [f"enter,line,{category},L.{code},,{code},,,,"]
     for parameter in vocabulary.equations()[code]["parameters"]:
@@ -37,35 +37,35 @@ def line_of(code, category="RA"):
 
 
 class Words(unittest.TestCase):
-    def accepted(self, *bodies):
+    def accepted(self, *bodies: str) -> None:
         self.assertEqual(replies(SPAN, *bodies), [f"accepted {at}" for at in range(1, len(bodies) + 2)])
 
-    def test_units_are_taken_and_measure_what_they_say(self):
-        rows = []
+    def test_units_are_taken_and_measure_what_they_say(self) -> None:
+        rows: list[str] = []
         for word, unit in vocabulary.units().items():
             base = vocabulary.units_that_measure(unit["measures"])[0]
             name = f"U{len(rows)}"
             rows += [f"enter,factor,,{name},2019,1,,,{base},", f"enter,factor,,{name},2020,1,,,{word},"]
         self.accepted(HEADER + "\n".join(rows) + "\n")
 
-    def test_units_of_two_dimensions_are_refused(self):
+    def test_units_of_two_dimensions_are_refused(self) -> None:
         measured = dict.fromkeys(unit["measures"] for unit in vocabulary.units().values())
         bases = [vocabulary.units_that_measure(measures)[0] for measures in measured]
         bodies = [HEADER + f"enter,factor,,U,2019,1,,,{one},\nenter,factor,,U,2020,1,,,{other},\n"
                   for one, other in zip(bases, bases[1:])]
         self.assertEqual(set(replies(SPAN, *bodies)[1:]), {"refused 8 WrongUnit row 2"})
 
-    def test_leaves_alone_are_taken(self):
+    def test_leaves_alone_are_taken(self) -> None:
         bodies = [HEADER + f"enter,line,{code},L,,Q10,,,,\n" for code in vocabulary.categories()]
         for code, reply in zip(vocabulary.categories(), replies(SPAN, *bodies)[1:]):
             leaf = code in vocabulary.leaves()
             due = "10 BadBinding L EF" if leaf else "5 UnknownWord row 1 column subject"
             self.assertEqual(reply, f"refused {due}", code)
 
-    def test_equations_have_their_parameters(self):
+    def test_equations_have_their_parameters(self) -> None:
         self.accepted(*(line_of(code) for code in bindable()))
 
-    def test_outputs_are_as_said(self):
+    def test_outputs_are_as_said(self) -> None:
         bodies = enumerate([SPAN, *map(line_of, bindable())])
         submitted = "".join(f"SUBMIT s{at} {len(body)}\n{body}" for at, body in bodies)
         shown = session(f"{submitted}SHOW cells 2020\nEND\n".encode()).decode().splitlines()
@@ -75,7 +75,7 @@ class Words(unittest.TestCase):
             due = [output["gas"], "Gg"] if "gas" in output else ["-", output["unit"]]
             self.assertEqual(rows[code], due, code)
 
-    def test_tables_acts_forms_and_keys(self):
+    def test_tables_acts_forms_and_keys(self) -> None:
         words, unknown_kind = vocabulary.words(), "refused 5 UnknownWord row 1 column kind"
         self.assertEqual(len(words["acts"]), 3)
         for act in words["acts"]:
@@ -88,10 +88,10 @@ class Words(unittest.TestCase):
         self.accepted(HEADER + "".join(keys))
         self.accepted(HEADER + "".join(f"enter,factor,,{name},2020,1,,,1,\n" for name in words["potentials"]))
 
-    def test_limits_are_those_of_the_program(self):
+    def test_limits_are_those_of_the_program(self) -> None:
         limits = {name: int(text) for name, text in vocabulary.words()["limits"].items() if text.isdigit()}
 
-        def activity(name, year, value):
+        def activity(name: str, year: int | str, value: int | str) -> str:
             return HEADER + f"enter,activity,,{name},{year},{value},,,t,\n"
 
         for more, due in ((0, "accepted"), (1, "refused")):
@@ -104,7 +104,7 @@ class Words(unittest.TestCase):
                 HEADER + f"enter,span,,,1950,{1950 + limits['span'] + more},1950,,,\n"]
             self.assertEqual([reply.split()[0] for reply in replies(*bodies)], [due] * len(bodies))
 
-    def test_file_is_what_the_code_says(self):
+    def test_file_is_what_the_code_says(self) -> None:
         made = subprocess.run([TOP / "tools/facts"], capture_output=True, check=True).stdout
         self.assertEqual(made, vocabulary.PATH.read_bytes())
 
@@ -113,7 +113,7 @@ SPAN_SCRIPT = f"SUBMIT s {len(SPAN)}\n{SPAN}"
 
 
 class Search(unittest.TestCase):
-    def test_by_a_word_of_the_name(self):
+    def test_by_a_word_of_the_name(self) -> None:
         self.assertIn("1A1a  Main activity electricity and heat production "
                       "(also public electricity and heat; power plants)\n",
                       workbook("words", "categories", "public", "heat").stdout)
@@ -123,12 +123,12 @@ class Search(unittest.TestCase):
                       workbook("words", "units", "fuel", "emission").stdout)
         self.assertIn("FC     energy (TJ): Q10, Q11, Q12\n", workbook("words", "parameters", "FC").stdout)
 
-    def test_by_what_people_write(self):
+    def test_by_what_people_write(self) -> None:
         for written, word in (("tonne", "t"), ("MWh", "GWh"), ("%", "pct"), ("hectare", "ha")):
             found = workbook("words", "units", written).stdout.splitlines()
             self.assertIn(word, [line.split()[0] for line in found], written)
 
-    def test_by_other_forms_of_a_word(self):
+    def test_by_other_forms_of_a_word(self) -> None:
         for written, due in (
                 ("tonnes", "  t       mass\n"), ("1.A.1.a", "  1A1a  Main activity electricity"),
                 ("1A1ai", "  1A1a  Main activity electricity"), ("2.C.1.f", "  2C1  Iron and steel"),
@@ -137,17 +137,17 @@ class Search(unittest.TestCase):
                 ("kilotonnes of oil equivalent", "  ktoe  energy; for kilotonnes of oil equivalent")):
             self.assertIn(due, workbook("words", *written.split()).stdout, written)
 
-    def test_templates_bind_what_a_line_gave_last_year(self):
+    def test_templates_bind_what_a_line_gave_last_year(self) -> None:
         for code, line in (("Q91", "NAME"), ("Q92", "STOCK")):
             rows = workbook("words", code).stdout.splitlines()
             self.assertIn(f"enter,bind,NAME,PREV,,prev,{line},,,", rows)
             self.assertFalse([row for row in rows if "NAME.PREV" in row])
 
-    def test_nothing(self):
+    def test_nothing(self) -> None:
         ran = workbook("words", "unobtainium")
         self.assertEqual((ran.returncode, ran.stdout), (1, "nothing has unobtainium in it\n"))
 
-    def test_templates_are_rows_that_the_program_takes(self):
+    def test_templates_are_rows_that_the_program_takes(self) -> None:
         filled = {"CATEGORY": "RA", "YEAR,VALUE,LOW,HIGH": "2020,1,0.5,2", "YEAR,VALUE,,": "2020,1,,"}
         for code in [code for code in ("Q10", "Q39", "Q63", "Q91") if code in bindable()]:
             body = HEADER + workbook("words", code).stdout.split(HEADER)[1]
