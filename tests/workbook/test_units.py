@@ -52,7 +52,8 @@ MEASURED = [
     ("kg/m3", "mass per volume of wood", "t/m3", "divide by 1000"),
     ("m3/t", "methane yield", "m3/kg", "divide by 1000"),
     ("thousand", "animals", "head", "multiply by 1000"), ("number", "animals", "head", SAME),
-    ("no.", "animals", "head", SAME), ("#", "people", "person", SAME), ("t C/TJ", "emission factor of fuel", "tC/TJ", SAME),
+    ("no.", "animals", "head", SAME), ("#", "people", "person", SAME),
+    ("t C/TJ", "emission factor of fuel", "tC/TJ", SAME),
 ]
 # Texts that are no unit of the table, or that give another figure, as a gross calorific value.
 NONE = ["", "n/a", "TJ GCV", "TJ g.c.v.", "thousand", "C", "CO2", "/", "US$", "TJ/", "furlongs",
