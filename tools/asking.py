@@ -29,7 +29,7 @@ Candidate = tuple[str, str, bool]
 
 
 class Asking:
-    """Explanations.
+    """What those who explain a row ask and try.
 
     `takes` asks the program whether it takes a row at a column; `book` is what is in force, `refused` has the
     rows that were taken out, and `ahead` all rows as they are meant.

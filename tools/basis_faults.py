@@ -349,38 +349,38 @@ def told(asked: Asked) -> Told | None:
     return next(filter(None, (each.function(asked) for each in RECOGNISERS)), None)
 
 
-class BasisFaults(Asking):
-    """Explanations of units that say what their figure is of."""
+def of_basis(asking: Asking, row: Row, text: str, measures: str | None) -> Explained | None:
+    """The fault of a unit that says what its figure is of, and the row to go on with; or None if it says
+    nothing of that, or if that is right and the figure has another size.
+    """
+    asked = asked_of_basis(asking, row, text, measures)
+    said = told(asked) if row.field("name") not in vocabulary.words()["potentials"] else None
+    if said is None or said.is_same and asked.meant and asked.meant.times != 1:
+        return None
+    word = asked.meant.word if asked.meant else None
+    if said.is_same:
+        return asking.first_taken(row, "unit", [(said.cause, word, True)] if word else [], said.cause)
+    return at_row(row, said.cause, "unit"), asking.in_unit(row, word) if word else None
 
-    def of_basis(self, row: Row, text: str, measures: str | None) -> Explained | None:
-        """The fault of a unit that says what its figure is of, and the row to go on with; or None if it says
-        nothing of that, or if that is right and the figure has another size.
-        """
-        asked = self.asked_of_basis(row, text, measures)
-        said = told(asked) if row.field("name") not in vocabulary.words()["potentials"] else None
-        if said is None or said.is_same and asked.meant and asked.meant.times != 1:
-            return None
-        word = asked.meant.word if asked.meant else None
-        if said.is_same:
-            return self.first_taken(row, "unit", [(said.cause, word, True)] if word else [], said.cause)
-        return at_row(row, said.cause, "unit"), self.in_unit(row, word) if word else None
 
-    def other_basis(self, row: Row, text: str) -> str | None:
-        """Why a figure with a unit after it is not of what its record is of, or None."""
-        said = told(self.asked_of_basis(row, text, self.measured(row)))
-        return said.cause if said and not said.is_same else None
+def other_basis(asking: Asking, row: Row, text: str) -> str | None:
+    """Why a figure with a unit after it is not of what its record is of, or None."""
+    said = told(asked_of_basis(asking, row, text, asking.measured(row)))
+    return said.cause if said and not said.is_same else None
 
-    def asked_of_basis(self, row: Row, text: str, measures: str | None) -> Asked:
-        """What a unit says that its figure is of, with what takes its record."""
-        kind, name = row.field("kind"), causes.name(row.field("name")).text
-        words = unit_bases.words_of(text)
-        meant = units.meant(words.bare, measures)
-        is_read = meant is not None and measures in (None, vocabulary.measured_by(meant.word))
-        if measures and not is_read:
-            meant = units.Meant(base_unit(measures), fractions.Fraction(1))
-        return Asked(words, name, measures, self.ahead.takers(kind, name), meant, is_read, self.potential_of)
 
-    def potential_of(self, gas: str) -> str | None:
-        """The warming potential of a gas that is entered first, or None."""
-        record = self.book.some_record("factor", f"GWP.{gas}") or self.ahead.row_of("factor", f"GWP.{gas}")
-        return record.field("value") if record else None
+def asked_of_basis(asking: Asking, row: Row, text: str, measures: str | None) -> Asked:
+    """What a unit says that its figure is of, with what takes its record."""
+    kind, name = row.field("kind"), causes.name(row.field("name")).text
+    words = unit_bases.words_of(text)
+    meant = units.meant(words.bare, measures)
+    is_read = meant is not None and measures in (None, vocabulary.measured_by(meant.word))
+    if measures and not is_read:
+        meant = units.Meant(base_unit(measures), fractions.Fraction(1))
+    return Asked(words, name, measures, asking.ahead.takers(kind, name), meant, is_read, potential_of)
+
+
+def potential_of(asking: Asking, gas: str) -> str | None:
+    """The warming potential of a gas that is entered first, or None."""
+    record = asking.book.some_record("factor", f"GWP.{gas}") or asking.ahead.row_of("factor", f"GWP.{gas}")
+    return record.field("value") if record else None

@@ -8,11 +8,11 @@ import collections
 import itertools
 from collections.abc import Callable
 
-from tools import bindings, headers, limit_faults
+from tools import bindings, explain, headers, limit_faults
 from tools.after import After
 from tools.ahead import Ahead
+from tools.asking import Asking
 from tools.book import Book
-from tools.explain import Explainer
 from tools.faults import Fault, Rewritten, counted
 from tools.mending import Cures
 from tools.program import Program, Reply
@@ -145,7 +145,7 @@ class Check:
         first, later = sorted((lost, other), key=lambda row: (self.sheets.index(row.sheet), row.line))
         book = Book()
         book.apply(first)
-        fault, _ = self.explainer(book).exists(later)
+        fault, _ = explain.exists(self.asking(book), later)
         self.faults += [fault] if fault else []
         return True
 
@@ -183,16 +183,16 @@ class Check:
         that follow.
         """
         at = reply.row
-        explainer = self.explainer(self.book_behind(rows[1:at]))
-        front, rows = rows[:at], self.alone(rows[at:], reply, explainer)
+        asking = self.asking(self.book_behind(rows[1:at]))
+        front, rows = rows[:at], self.alone(rows[at:], reply, asking)
         if reply.rule in OF_THE_ROW_ALONE:
             return front + rows
-        explainer.book = self.book_behind(front[1:])
-        return front + self.beside(front, rows, explainer)
+        asking.book = self.book_behind(front[1:])
+        return front + self.beside(front, rows, asking)
 
-    def explainer(self, book: Book) -> Explainer:
-        """Explains the refusals of rows beside what is in force."""
-        return Explainer(self.takes, book, self.refused, self.ahead)
+    def asking(self, book: Book) -> Asking:
+        """What explains the refusals of rows beside what is in force."""
+        return Asking(self.takes, book, self.refused, self.ahead)
 
     def book_behind(self, rows: list[Row]) -> Book:
         """The book with rows of the file at hand."""
@@ -201,7 +201,7 @@ class Check:
             book.apply(row)
         return book
 
-    def alone(self, rows: list[Row], reply: Reply, explainer: Explainer) -> list[Row]:
+    def alone(self, rows: list[Row], reply: Reply, asking: Asking) -> list[Row]:
         """The rows without what they break of rules 4 to 7.
 
         Each but the first, whose reply is known, is asked for by itself.
@@ -213,14 +213,14 @@ class Check:
         for row in rows:
             answer = replies.get(id(row))
             is_refused = answer is not None and answer.rule in OF_THE_ROW_ALONE
-            left = self.settled(row, answer, explainer) if answer and is_refused else row
+            left = self.settled(row, answer, asking) if answer and is_refused else row
             if left is not None:
                 kept.append(left)
-                explainer.book.apply(left)
+                asking.book.apply(left)
         self.clean.update((id(row), row) for row in kept)
         return kept
 
-    def beside(self, front: list[Row], rows: list[Row], explainer: Explainer) -> list[Row]:
+    def beside(self, front: list[Row], rows: list[Row], asking: Asking) -> list[Row]:
         """The rows behind others without what they break of rules 8 and 9, for which rows of one record alone
         count.
 
@@ -239,51 +239,51 @@ class Check:
             in_front = [before.get(record, []) for record, _, _ in asked]
             replies = self.probe([row for _, _, row in asked], in_front)
             for (record, place, row), reply in zip(asked, replies):
-                left = self.settled(row, reply, explainer) if reply.rule in (8, 9) else row
+                left = self.settled(row, reply, asking) if reply.rule in (8, 9) else row
                 if left is not None:
                     kept[place] = left
-                    explainer.book.apply(left)
+                    asking.book.apply(left)
                     before.setdefault(record, []).append(left)
             waiting = {record: rest for record, rest in waiting.items() if rest}
         return [kept[place] for place in sorted(kept)]
 
-    def settled(self, row: Row, reply: Reply, explainer: Explainer, lost: bool = False) -> Row | None:
+    def settled(self, row: Row, reply: Reply, asking: Asking, lost: bool = False) -> Row | None:
         """A row without its faults, which are recorded, or None where it is taken out.
 
         One that is lost is looked at for its further faults alone, with another word in place of one of its
         own.
         """
         if reply.rule == 7 and row.has_other_figure:
-            return explainer.blank_figure(row)
-        fault, changed = explainer.explain(row, reply)
+            return asking.blank_figure(row)
+        fault, changed = explain.explain(asking, row, reply)
         self.faults += [fault] if fault else []
         if not lost:
             self.cures.add(fault, row, changed)
         if changed is None:
-            stand_in = explainer.stand_in(row, reply.column)
+            stand_in = asking.stand_in(row, reply.column)
             self.refused.add([] if lost else [row])
             if stand_in is not None and reply.column == "kind":
                 meant = stand_in.field("kind")
                 kinds = ("activity", "factor") if meant == "factor" else (meant,)
                 self.refused.add(row.with_fields(kind=kind) for kind in kinds)
-            self.look_at_rest(stand_in, reply.column, explainer)
+            self.look_at_rest(stand_in, reply.column, asking)
             return None
-        return self.without_faults(changed, explainer, lost)
+        return self.without_faults(changed, asking, lost)
 
-    def look_at_rest(self, stand_in: Row | None, column: str | None, explainer: Explainer) -> None:
+    def look_at_rest(self, stand_in: Row | None, column: str | None, asking: Asking) -> None:
         """Looks for further faults of a row with a word in place of one in a column. What it enters is kept,
         where that word does not name it.
         """
         if stand_in is None:
             return
-        row = self.without_faults(stand_in, explainer, True)
+        row = self.without_faults(stand_in, asking, True)
         if row is not None and column not in ["act", "kind", *COLUMNS_OF_KEY.get(row.field("kind"), [])]:
             self.lost.append(row)
 
-    def without_faults(self, row: Row, explainer: Explainer, lost: bool) -> Row | None:
+    def without_faults(self, row: Row, asking: Asking, lost: bool) -> Row | None:
         """A changed row without what it still breaks by itself, or None where it is taken out."""
         reply = self.probe([row])[0]
-        return self.settled(row, reply, explainer, lost) if reply.rule in OF_THE_ROW_ALONE else row
+        return self.settled(row, reply, asking, lost) if reply.rule in OF_THE_ROW_ALONE else row
 
     def takes(self, row: Row, column: str | None) -> bool:
         """Asks the program whether it takes what stands in a column of a row, or where none is named, in

@@ -1,5 +1,5 @@
 """The tables of what the records, the figures and the lines of a workbook are warned of."""
-from tools import figure_notices, line_notices, notices
+from tools import figure_notices, line_notices, notices, unchecked
 from tools.recognisers import SMALL, Recogniser
 
 # A right inventory of a landfill.
@@ -106,6 +106,12 @@ RECORDS = (
         notices.without_uncertainty, "no uncertainty where others have one",
         "enter,uncert,,COAL.CO2,,2,5,,,", "2 lines have no uncertainty, and others have one",
         UNCERTAIN + "enter,uncert,,COAL.CO2,,2,5,,,"),
+    Recogniser(
+        unchecked.unchecked_defaults, "rows of `defaults/`, which were written down from memory",
+        'enter,factor,,GWP.CH4,2019,28,,,1,"Fifth Assessment Report, 2013, without climate-carbon feedbacks: '
+        'over 100 years, from memory"',
+        "1 factor of defaults/ is unchecked: GWP.CH4; compare it with the source in the note",
+        "enter,factor,,GWP.CH4,2019,28,,,1,compared with Table 8.A.1"),
 )
 FIGURES = (
     Recogniser(

@@ -7,6 +7,7 @@ from tools.figure_notices import all_of_figures
 from tools.line_notices import all_of_lines
 from tools.refused import Refused
 from tools.sheets import Row, Sheet
+from tools.unchecked import unchecked_defaults
 from tools.vocabulary import MEMOS, listed, nearest
 
 # A file of nothing but factors, as one of defaults, may have more than these that no line takes: they are one
@@ -19,7 +20,7 @@ def all_warnings(book: Book, refused: Refused, sheets: list[Sheet], left: list[S
     """Every warning about a workbook, but for those that only follow from a refused row."""
     found = headers_alone([sheet for sheet in sheets if sheet not in left])
     found += rows_in_quotes(sheets) + orphans(book, refused, sheets)
-    found += all_of_lines(book) + all_of_figures(book, refused.mismeasured)
+    found += all_of_lines(book) + all_of_figures(book, refused.mismeasured) + unchecked_defaults(book)
     span = book.rows.get(("span",))
     if not span and refused.that_sets(("span",)):
         return found

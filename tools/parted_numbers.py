@@ -137,57 +137,56 @@ def marks_in(row: Row) -> set[str]:
     return {mark for mark, form in kinds.items() for text in texts if re.fullmatch(form, text.strip())}
 
 
-class PartedNumbers(Asking):
-    """Explanations of numbers with commas."""
+def comma_in_quotes(asking: Asking, row: Row, column: str) -> tuple[Fault, Row] | None:
+    """The fault of a number with a comma in quotes that may stand between thousands, and the row without
+    it; or None if nothing tells what it is.
+    """
+    text = row.field(column).strip()
+    if not re.fullmatch(r"-?[1-9]\d{0,2},\d{3}", text):
+        return None
+    both = [Reading(row.with_fields(**{column: text.replace(",", sign)}), frozenset({mark}))
+            for sign, mark in (("", THOUSANDS), (".", DECIMAL))]
+    held = [read for read in both if asking.takes(read.row, None)]
+    why = ", by low and high"
+    if len(held) != 1 and column == "value":
+        bare = [Reading(read.row.with_fields(low="", high=""), read.marks) for read in both]
+        held, why = narrowed(asking, bare)
+    elif len(held) != 1:
+        held, why = near_value(both, column), ", by the value"
+    if len(held) != 1:
+        return None
+    cause = "a decimal comma" if DECIMAL in held[0].marks else "a comma between thousands"
+    meant = held[0].row.field(column)
+    return at_row(row, f"{cause}{why}", column, meant), row.with_fields(**{column: meant})
 
-    def comma_in_quotes(self, row: Row, column: str) -> tuple[Fault, Row] | None:
-        """The fault of a number with a comma in quotes that may stand between thousands, and the row without
-        it; or None if nothing tells what it is.
-        """
-        text = row.field(column).strip()
-        if not re.fullmatch(r"-?[1-9]\d{0,2},\d{3}", text):
-            return None
-        both = [Reading(row.with_fields(**{column: text.replace(",", sign)}), frozenset({mark}))
-                for sign, mark in (("", THOUSANDS), (".", DECIMAL))]
-        held = [read for read in both if self.takes(read.row, None)]
-        why = ", by low and high"
-        if len(held) != 1 and column == "value":
-            bare = [Reading(read.row.with_fields(low="", high=""), read.marks) for read in both]
-            held, why = self.narrowed(bare)
-        elif len(held) != 1:
-            held, why = near_value(both, column), ", by the value"
-        if len(held) != 1:
-            return None
-        cause = "a decimal comma" if DECIMAL in held[0].marks else "a comma between thousands"
-        meant = held[0].row.field(column)
-        return at_row(row, f"{cause}{why}", column, meant), row.with_fields(**{column: meant})
 
-    def numbers_in_two(self, row: Row, cause: str) -> tuple[Fault, Row | None] | None:
-        """The fault of numbers that commas have parted, in a row whose unit stands further right; or
-        None. The row goes on with NE if it is not known what is meant.
-        """
-        readings, why = self.narrowed(readings_of(row))
-        readings = [read for read in readings if self.takes(in_table(read.row), None)]
-        if not readings:
-            return None
-        changed = readings[0].row
-        parted = [column for column in FIGURES if "." in changed.field(column) or len(readings) > 1
-                  or changed.field(column) not in row.fields[FRONT:]]
-        parted = [column for column in parted if changed.field(column) not in row.fields]
-        number = ",".join(first_parted(row, changed))
-        cause += f": a comma in the number {number}{why}"
+def numbers_in_two(asking: Asking, row: Row, cause: str) -> tuple[Fault, Row | None] | None:
+    """The fault of numbers that commas have parted, in a row whose unit stands further right; or
+    None. The row goes on with NE if it is not known what is meant.
+    """
+    readings, why = narrowed(asking, readings_of(row))
+    readings = [read for read in readings if asking.takes(in_table(read.row), None)]
+    if not readings:
+        return None
+    changed = readings[0].row
+    parted = [column for column in FIGURES if "." in changed.field(column) or len(readings) > 1
+              or changed.field(column) not in row.fields[FRONT:]]
+    parted = [column for column in parted if changed.field(column) not in row.fields]
+    number = ",".join(first_parted(row, changed))
+    cause += f": a comma in the number {number}{why}"
+    if len(readings) == 1:
+        return at_row(row, cause, "", said_of(changed, parted)), changed
+    choices = [f"{said_of(read.row, parted)} {listed(sorted(read.marks), 'and')}" for read in readings]
+    return at_row(row, cause, "", listed(choices)), asking.blank_figure(changed)
+
+
+def narrowed(asking: Asking, readings: Readings) -> tuple[Readings, str]:
+    """The readings that are left by all that tells them apart, and what left the one."""
+    for each in RECOGNISERS if len(readings) > 1 else ():
+        readings = each.function(asking, readings) or readings
         if len(readings) == 1:
-            return at_row(row, cause, "", said_of(changed, parted)), changed
-        choices = [f"{said_of(read.row, parted)} {listed(sorted(read.marks), 'and')}" for read in readings]
-        return at_row(row, cause, "", listed(choices)), self.blank_figure(changed)
-
-    def narrowed(self, readings: Readings) -> tuple[Readings, str]:
-        """The readings that are left by all that tells them apart, and what left the one."""
-        for each in RECOGNISERS if len(readings) > 1 else ():
-            readings = each.function(self, readings) or readings
-            if len(readings) == 1:
-                return readings, WHY[each.function]
-        return readings, ""
+            return readings, WHY[each.function]
+    return readings, ""
 
 
 def near_others(asking: Asking, readings: Readings) -> Readings:

@@ -1,11 +1,20 @@
 """The one table of what `check` recognises: the page and the tests are made from it."""
-from tools import basis_faults, counting_notices, cycle_notices, factor_notices, noticed, parted_numbers
-from tools import potential_notices, result_notices
+from tools import basis_faults, counting_notices, cycle_notices, factor_notices, noticed, number_faults
+from tools import parted_numbers, potential_notices, record_faults, result_notices, shape_faults, shifts
+from tools import word_faults
 from tools.recognisers import Recogniser
 
 Tables = dict[str, tuple[Recogniser, ...]]
 # The tables of faults and of warnings, by the words of docs/WORKBOOK.md for what their recognisers are of.
 TOLD: Tables = {
+    "fields": shape_faults.SHAPES,
+    "rows": word_faults.ROWS,
+    "columns": shifts.OF_WORDS,
+    "words": word_faults.WORDS,
+    "numbers": number_faults.NUMBERS,
+    "years": number_faults.YEARS_TOLD,
+    "units": word_faults.UNITS,
+    "entries": record_faults.RECORDS,
     "commas in numbers": parted_numbers.RECOGNISERS,
     "units and their basis": basis_faults.RECOGNISERS,
 }

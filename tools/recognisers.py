@@ -8,6 +8,8 @@ import collections.abc
 import dataclasses
 import typing
 
+from tools.faults import Explained
+
 HEADER = "act,kind,subject,name,year,value,low,high,unit,note"
 # How a row of an example begins that takes a row of the inventory out.
 OUT = "-"
@@ -74,6 +76,12 @@ class Recogniser:
     def name(self) -> str:
         """The name of the function as words."""
         return self.function.__name__.replace("_", " ")
+
+
+def first_explained(recognisers: tuple[Recogniser, ...], *given: typing.Any) -> Explained | None:
+    """What the first of some explainers says that knows the cause, or None."""
+    found: collections.abc.Iterator[Explained | None] = (each.function(*given) for each in recognisers)
+    return next(filter(None, found), None)
 
 
 def files_of(base: str, example: str) -> list[str]:

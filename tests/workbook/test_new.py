@@ -43,10 +43,10 @@ class New(unittest.TestCase):
         made = workbook("new", self.folder, *SPAN, "--categories", "1.A.1.a:GAS,COAL", "3A1")
         self.assertEqual((made.returncode, made.stderr), (0, ""))
         checked = workbook("check", self.folder).stdout.splitlines()
-        self.assertEqual(len(checked), 11)
+        self.assertEqual(len(checked), 12)
         self.assertIn('3-activities.csv:2-3 value "": activity GAS.1A1A has no figure yet (fuel burnt); '
                       "write a number in TJ, or a notation key (NO, NA, IE or NE)", checked)
-        self.assertEqual(checked[-1], "4 files: 13 faults, 0 warnings; 5 of 18 figures are filled in, 27 %")
+        self.assertEqual(checked[-1], "4 files: 13 faults, 1 warning; 5 of 18 figures are filled in, 27 %")
 
     def test_lines_of_all_categories_are_sound(self) -> None:
         codes = ("0", *vocabulary.MEMOS)

@@ -15,7 +15,7 @@ def checked(base: str, example: str) -> list[str]:
     """The lines that check prints of an example."""
     with tempfile.TemporaryDirectory() as room:
         for at, body in enumerate(files_of(base, example), 1):
-            (pathlib.Path(room) / f"{at}.csv").write_text(body, encoding="utf-8")
+            (pathlib.Path(room) / f"{at}.csv").write_text(body, encoding="utf-8", errors="surrogateescape")
         arguments = command.parser().parse_args(["check", room, "--program", PROGRAM])
         with contextlib.redirect_stdout(io.StringIO()) as printed:
             arguments.function(arguments)
