@@ -3,6 +3,7 @@ that take the record are of that, and how to come to what they are of. No such w
 """
 import collections.abc
 import fractions
+import functools
 import typing
 
 from tools import causes, unit_bases, units, vocabulary
@@ -377,7 +378,8 @@ def asked_of_basis(asking: Asking, row: Row, text: str, measures: str | None) ->
     is_read = meant is not None and measures in (None, vocabulary.measured_by(meant.word))
     if measures and not is_read:
         meant = units.Meant(base_unit(measures), fractions.Fraction(1))
-    return Asked(words, name, measures, asking.ahead.takers(kind, name), meant, is_read, potential_of)
+    return Asked(words, name, measures, asking.ahead.takers(kind, name), meant, is_read,
+                 functools.partial(potential_of, asking))
 
 
 def potential_of(asking: Asking, gas: str) -> str | None:

@@ -16,6 +16,7 @@ from tools.book import Book
 from tools.faults import Fault, Rewritten, counted
 from tools.mending import Cures
 from tools.program import Program, Reply
+from tools.record_faults import exists
 from tools.refused import Refused
 from tools.sheets import COLUMNS, COLUMNS_OF_KEY, Key, Row, Sheet, joined
 from tools.vocabulary import limit
@@ -145,7 +146,7 @@ class Check:
         first, later = sorted((lost, other), key=lambda row: (self.sheets.index(row.sheet), row.line))
         book = Book()
         book.apply(first)
-        fault, _ = explain.exists(self.asking(book), later)
+        fault, _ = exists(self.asking(book), later)
         self.faults += [fault] if fault else []
         return True
 
