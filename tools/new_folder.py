@@ -19,10 +19,10 @@ import tempfile
 
 from tools import vocabulary
 from tools.faults import counted
+from tools.fuels import DEFAULTS
 from tools.sheets import COLUMNS, FolderFault, joined
 
 TIER_1 = vocabulary.PATH.parent / "tier-1.csv"
-DEFAULTS = vocabulary.PATH.parent.parent / "defaults"
 POTENTIALS = "potentials-fifth-assessment-report.csv"
 NAME = re.compile(r"[A-Z][A-Z0-9._-]*")
 LINE_END = b"\n"

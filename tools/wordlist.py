@@ -1,18 +1,17 @@
 """Searches the vocabulary and the default factors, and shows templates of rows."""
 import csv
-import pathlib
 import re
 from collections.abc import Iterable, Iterator
 
 from tools import people_words
 from tools import units as readings
 from tools import vocabulary
+from tools.fuels import DEFAULTS
 from tools.row_templates import TEMPLATES
 from tools.sheets import COLUMNS
 from tools.vocabulary import Parameter
 
 PARTS = ["units", "categories", "equations", "parameters", "templates", "defaults"]
-DEFAULTS = pathlib.Path(__file__).resolve().parent.parent / "defaults"
 # So many default factors are listed where no part is named.
 MOST_DEFAULTS = 8
 # What a row of each year has; what measures anything else is a factor.
