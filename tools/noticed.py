@@ -1,39 +1,7 @@
 """The tables of what the records, the figures and the lines of a workbook are warned of."""
 from tools import figure_notices, line_notices, notices, unchecked
-from tools.recognisers import SMALL, Recogniser
+from tools.recognisers import LANDFILL, SMALL, Recogniser
 
-# A right inventory of a landfill.
-LANDFILL = """\
-enter,span,,,2019,2021,2019,,,
-enter,factor,,GWP.CO2,2019,1,,,1,
-enter,factor,,GWP.CH4,2019,28,,,1,
-enter,line,4A,WASTE.C,,Q90,,,,
-enter,bind,WASTE.C,W,,activity,WASTE,,,
-enter,bind,WASTE.C,DOC,,factor,WASTE.DOC,,,
-enter,bind,WASTE.C,DOCF,,factor,HALF,,,
-enter,bind,WASTE.C,MCF,,factor,ONE,,,
-enter,line,4A,STOCK,,Q91,,,,
-enter,bind,STOCK,DEP,,line,WASTE.C,,,
-enter,bind,STOCK,PREV,,prev,STOCK,,,
-enter,bind,STOCK,D,,decay,WASTE.LIFE,,,
-enter,line,4A,DECAYED,,Q92,,,,
-enter,bind,DECAYED,PREV,,prev,STOCK,,,
-enter,bind,DECAYED,D,,decay,WASTE.LIFE,,,
-enter,line,4A,MADE.CH4,,Q93,,,,
-enter,bind,MADE.CH4,DEC,,line,DECAYED,,,
-enter,bind,MADE.CH4,F,,factor,HALF,,,
-enter,line,4A,LANDFILL.CH4,,Q94,,,,
-enter,bind,LANDFILL.CH4,GEN,,line,MADE.CH4,,,
-enter,bind,LANDFILL.CH4,R,,key,NO,,,
-enter,bind,LANDFILL.CH4,OX,,key,NO,,,
-enter,factor,,WASTE.DOC,2019,15,8,20,pct,
-enter,factor,,WASTE.LIFE,2019,12,,,yr,
-enter,factor,,HALF,2019,0.5,,,1,
-enter,factor,,ONE,2019,1,,,1,
-enter,activity,,WASTE,2019,500,,,kt,
-enter,activity,,WASTE,2020,505,,,kt,
-enter,activity,,WASTE,2021,510,,,kt,
-"""
 # The rows of the percentages of two lines, of coal in the reference approach, of stack gas that was measured,
 # of a second line of cows, and of N2O by the equation of CH4.
 UNCERTAIN = "enter,uncert,,COWS.CH4,,3,20,,,\nenter,uncert,,SOILS.N2O,,15,100,,,\n"

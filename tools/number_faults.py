@@ -7,10 +7,9 @@ from tools.asking import Asking, cause_of
 from tools.basis_faults import other_basis
 from tools.causes import Mended
 from tools.faults import Explained, at_row, years_said
-from tools.noticed import LANDFILL
 from tools.parted_numbers import comma_in_quotes
 from tools.percent_faults import BOTH_SIDES, EXACT, both_sides, figure_of, percent_sign, written
-from tools.recognisers import Recogniser, first_explained
+from tools.recognisers import LANDFILL, Recogniser, first_explained
 from tools.sheets import Row
 from tools.vocabulary import HALF_LIFE_UNIT, limit, listed
 
