@@ -1,10 +1,11 @@
 //! The ten columns of a record.
 
 ghost use Rattle.std.specs.Prelude.{◌≡◌, []};
+ghost use Rattle.std.specs.List.{list_all};
 ghost use Rattle.std.specs.Str.{bytes_eq, is_utf8};
 ghost use Rattle.csv.specs.Records.{field_at, fields_of};
 ghost use Rattle.ghg_units.specs.Refusals.{column_word};
-ghost use Rattle.ghg_import.specs.Shape.{field, has_columns, is_header, is_text, text_of};
+ghost use Rattle.ghg_import.specs.Shape.{all_columns, field, has_columns, is_header, is_text, text_of};
 
 use csv::ByteRecord;
 use ghg_units::Column;
@@ -45,7 +46,15 @@ pub(crate) fn has_columns(row: &ByteRecord) -> bool
 pub(crate) fn is_header(row: &ByteRecord) -> bool
     ensures { result ≡ is_header (fields_of row.now) }
 {
-    row.len() == COLUMNS.len() && COLUMNS.iter().all(|column| is_named(row, *column))
+    row.len() == COLUMNS.len() && has_names(row)
+}
+
+// Whether the field of each column is its name.
+fn has_names(row: &ByteRecord) -> bool
+    ensures { result ≡ list_all (λ column. bytes_eq (text_of (fields_of row.now) column) (column_word column))
+        all_columns }
+{
+    COLUMNS.iter().all(|column| is_named(row, *column))
 }
 
 // Whether the field of a column is its name.
