@@ -20,6 +20,7 @@ use Rattle.ghg_units.specs.declared.row.Binding.TheVariants as bound
 use Rattle.ghg_units.specs.declared.row.Row.{Row}
 use Rattle.ghg_units.specs.declared.row.RowForm.{RowForm}
 use Rattle.ghg_units.specs.declared.row.RowForm.TheVariants as forms
+use Rattle.ghg_units.specs.declared.rule.Column.TheVariants as columns
 use Rattle.ghg_units.specs.declared.rule.Rule.{Rule}
 use Rattle.ghg_units.specs.declared.unit.Unit.{Unit as UnitWord}
 use Rattle.ghg_units.specs.Decimal.{decimal_in, number_in, number_of}
@@ -47,8 +48,8 @@ use Rattle.ghg_import.specs.Content.{amount_in, bound_in, content_of, figure_in,
 use Rattle.ghg_import.specs.Fault.{◌>>=◌}
 use Rattle.ghg_import.specs.Forms.{binding_in, is_sum, leaf_in, names_in, parts_of, quantity_in, target_in}
 use Rattle.ghg_import.specs.Kinds.{binding_form_in, kind_in}
-use Rattle.ghg_import.specs.Reading.{Reading, content_in, is_header, no_header, numbered, reading_of, row_content, row_in, rows_from, then_rows, under_header}
-use Rattle.ghg_import.specs.Shape.{Texts, columns_in}
+use Rattle.ghg_import.specs.Reading.{Reading, content_in, no_header, numbered, reading_of, row_content, row_in, rows_from, then_rows, under_header}
+use Rattle.ghg_import.specs.Shape.{Texts, has_columns, is_header, text_of}
 use Rattle.ghg_import.specs.Table.{chosen_in, is_in_years, manner_of, wrong_column}
 use Rattle.ghg_import.specs.Told.{Tells}
 use Rattle.ghg_import.proofs.Sums.{sum_formed}
@@ -158,14 +159,14 @@ in_order x y e = grind (arith, e)
 known_formed : (u : UnitWord) (row : Texts) → IfSome (known_in u row) (IsAmountOf u)
 unfolding known_in
 known_formed u row =
-    reads (quantity_in u row.value) _ (IsAmountOf u) (λ value v.
-    reads (bound_in u value row.low) _ (IsAmountOf u) (λ low l.
-    reads (bound_in u value row.high) _ (IsAmountOf u) (λ high h.
+    reads (quantity_in u (text_of row columns.Value)) _ (IsAmountOf u) (λ value v.
+    reads (bound_in u value (text_of row columns.Low)) _ (IsAmountOf u) (λ low l.
+    reads (bound_in u value (text_of row columns.High)) _ (IsAmountOf u) (λ high h.
     passes (int_le low.scaled value.scaled && int_le value.scaled high.scaled) _ (IsAmountOf u) (λ ordered.
-    let is = bounded u row.value value v in (
+    let is = bounded u (text_of row columns.Value) value v in (
       in_order _ _ (and_parts (int_le low.scaled value.scaled) _ ordered).0,
       in_order _ _ (and_parts (int_le low.scaled value.scaled) _ ordered).1,
-      record { lo = (bound_bounded u value low row.low is l).lo; hi = (bound_bounded u value high row.high is h).hi },
+      record { lo = (bound_bounded u value low (text_of row columns.Low) is l).lo; hi = (bound_bounded u value high (text_of row columns.High) is h).hi },
     )))))
 
 half_life_formed : (text : List ℕ) (years : ℕ) → half_life_in text ≡ Some years → IsHalfLife years
@@ -200,15 +201,15 @@ known_amount u row = by (known_in u row) (known_formed u row) (known_stays)
     known_stays : IfSome (known_in u row) (λ a. decays a ≡ false)
     known_stays =
         let P : Amount → Type 0 = λ a. decays a ≡ false in
-        reads (quantity_in u row.value) _ P (λ value v.
-        reads (bound_in u value row.low) _ P (λ low l.
-        reads (bound_in u value row.high) _ P (λ high h.
+        reads (quantity_in u (text_of row columns.Value)) _ P (λ value v.
+        reads (bound_in u value (text_of row columns.Low)) _ P (λ low l.
+        reads (bound_in u value (text_of row columns.High)) _ P (λ high h.
         passes (int_le low.scaled value.scaled && int_le value.scaled high.scaled) _ P (λ ordered. refl))))
 
 amount_formed : (m : Manner) (u : UnitWord) (row : Texts) → IfSome (amount_in m u row) (IsAmountIn m u)
 amount_formed Withdraws u row = known_amount u row
-amount_formed InYears u row = mapped amounts.HalfLife (half_life_in row.value) (IsAmountIn InYears u) (λ years e. (half_life_formed row.value years e, refl))
-amount_formed Keyed u row = mapped amounts.Key (key_in row.value) (IsAmountIn Keyed u) (λ key e. (tt, refl))
+amount_formed InYears u row = mapped amounts.HalfLife (half_life_in (text_of row columns.Value)) (IsAmountIn InYears u) (λ years e. (half_life_formed (text_of row columns.Value) years e, refl))
+amount_formed Keyed u row = mapped amounts.Key (key_in (text_of row columns.Value)) (IsAmountIn Keyed u) (λ key e. (tt, refl))
 amount_formed Valued u row = known_amount u row
 
 -- a figure in the row's unit
@@ -222,10 +223,10 @@ figure_formed c row = reads c.unit _ (IsFigureIn c) (λ u e. keeps (amount_in c.
 span_formed : (row : Texts) → IfSome (span_in row) IsSpan
 unfolding span_in
 span_formed row =
-    reads (year_in row.year) _ IsSpan (λ first f. reads (year_in row.value) _ IsSpan (λ last l. reads (year_in row.low) _ IsSpan (λ base b.
+    reads (year_in (text_of row columns.Year)) _ IsSpan (λ first f. reads (year_in (text_of row columns.Value)) _ IsSpan (λ last l. reads (year_in (text_of row columns.Low)) _ IsSpan (λ base b.
     passes (nat_le first base && nat_le base last) _ IsSpan (λ ordered. (
-      year row.year first f,
-      year row.value last l,
+      year (text_of row columns.Year) first f,
+      year (text_of row columns.Value) last l,
       leb-true _ _ (and_parts (nat_le first base) _ ordered).0,
       leb-true _ _ (and_parts (nat_le first base) _ ordered).1,
     )))))
@@ -234,7 +235,7 @@ line_formed : (row : Texts) → IfSome (line_in row) (λ l. IsLeaf l.0)
 unfolding line_in
 line_formed row =
     let P : Category × EqId → Type 0 = λ l. IsLeaf l.0 in
-    reads (leaf_in row.subject) _ P (λ c l. reads (named row.value) _ P (λ e _. leaf row.subject c l))
+    reads (leaf_in (text_of row columns.Subject)) _ P (λ c l. reads (named (text_of row columns.Value)) _ P (λ e _. leaf (text_of row columns.Subject) c l))
 
 sum_named : (text : List ℕ) (names : List (List ℕ)) → names_in text ≡ Some names → IsSum names
 unfolding names_in
@@ -252,7 +253,7 @@ target_formed targets.Key text = mapped bound.Key (key_in text) IsBinding (λ ke
 
 binding_formed : (row : Texts) → IfSome (binding_in row) IsBinding
 unfolding binding_in
-binding_formed row = reads (binding_form_in row.value) _ IsBinding (λ form e. target_formed form row.low)
+binding_formed row = reads (binding_form_in (text_of row columns.Value)) _ IsBinding (λ form e. target_formed form (text_of row columns.Low))
 
 -- ---- uncertainties
 
@@ -262,8 +263,8 @@ AreUncertainties u = IsUncertainty u.0 × IsUncertainty u.1
 uncertainties_formed : (row : Texts) → IfSome (uncertainties_in row) AreUncertainties
 unfolding uncertainties_in
 uncertainties_formed row =
-    reads (uncertainty_in row.value) _ AreUncertainties (λ activity a. reads (uncertainty_in row.low) _ AreUncertainties (λ factor f.
-    (within_greatest row.value activity a, within_greatest row.low factor f)))
+    reads (uncertainty_in (text_of row columns.Value)) _ AreUncertainties (λ activity a. reads (uncertainty_in (text_of row columns.Low)) _ AreUncertainties (λ factor f.
+    (within_greatest (text_of row columns.Value) activity a, within_greatest (text_of row columns.Low) factor f)))
 
 -- ---- forms
 
@@ -289,15 +290,15 @@ stays_in_years false false = refl
 
 pub away : (kind : Kind) (act : Act) (row : Texts) → is_away (manner_of kind act row) ≡ withdraws act
 away k Withdraw row = refl
-away k Enter row = stays_here (is_in_years k (unit_in row.unit)) (is_some (key_in row.value))
-away k Correct row = stays_here (is_in_years k (unit_in row.unit)) (is_some (key_in row.value))
+away k Enter row = stays_here (is_in_years k (unit_in (text_of row columns.Unit))) (is_some (key_in (text_of row columns.Value)))
+away k Correct row = stays_here (is_in_years k (unit_in (text_of row columns.Unit))) (is_some (key_in (text_of row columns.Value)))
 
 -- a row holds a half-life exactly where its kind and unit do, unless it withdraws
 pub in_years : (kind : Kind) (act : Act) (row : Texts) → is_away (manner_of kind act row) ≡ false
-    → says_years (manner_of kind act row) ≡ is_in_years kind (unit_in row.unit)
+    → says_years (manner_of kind act row) ≡ is_in_years kind (unit_in (text_of row columns.Unit))
 in_years k Withdraw row here = absurd (cc)
-in_years k Enter row here = stays_in_years (is_in_years k (unit_in row.unit)) (is_some (key_in row.value))
-in_years k Correct row here = stays_in_years (is_in_years k (unit_in row.unit)) (is_some (key_in row.value))
+in_years k Enter row here = stays_in_years (is_in_years k (unit_in (text_of row columns.Unit))) (is_some (key_in (text_of row columns.Value)))
+in_years k Correct row here = stays_in_years (is_in_years k (unit_in (text_of row columns.Unit))) (is_some (key_in (text_of row columns.Value)))
 
 -- what is said behind a key
 behind : {A : Type 0} (m : Manner) (said : Option A) (Q : A → Type 0) → IfSome said Q → (f : Option A → RowForm) → IsForm true (f None) → ((a : A) → is_away m ≡ false → Q a → IsForm false (f (Some a)))
@@ -316,35 +317,35 @@ said_formed kinds.Span act row = behind (manner_of kinds.Span act row) (span_in 
 said_formed kinds.Activity act row =
     let c : Chosen = chosen_in kinds.Activity act row in
     let P : RowForm → Type 0 = IsForm (is_away c.manner) in
-    reads (plain_name_in row.name) _ P (λ name n. reads (year_in row.year) _ P (λ y e.
-    let plain = plain_name row.name name n in
-    let is = year row.year y e in
+    reads (plain_name_in (text_of row columns.Name)) _ P (λ name n. reads (year_in (text_of row columns.Year)) _ P (λ y e.
+    let plain = plain_name (text_of row columns.Name) name n in
+    let is = year (text_of row columns.Year) y e in
     behind c.manner (figure_in c row) (IsFigureIn c) (figure_formed c row) (forms.Activity name y) (refl, plain, is) (λ f here ok.
     (refl, plain, is, (ok.0, ok.1 ∙ in_years kinds.Activity act row here)))))
 said_formed kinds.Factor act row =
     let c : Chosen = chosen_in kinds.Factor act row in
     let P : RowForm → Type 0 = IsForm (is_away c.manner) in
-    reads (factor_name_in row.name) _ P (λ name n. reads (year_in row.year) _ P (λ y e.
-    let own = factor_name row.name name n in
-    let is = year row.year y e in
+    reads (factor_name_in (text_of row columns.Name)) _ P (λ name n. reads (year_in (text_of row columns.Year)) _ P (λ y e.
+    let own = factor_name (text_of row columns.Name) name n in
+    let is = year (text_of row columns.Year) y e in
     behind c.manner (figure_in c row) (IsFigureIn c) (figure_formed c row) (forms.Factor name y) (refl, own, is) (λ f here ok.
     (refl, own, is, (ok.0, ok.1 ∙ in_years kinds.Factor act row here ∙ ap (is_in_years kinds.Factor) ok.2)))))
 said_formed kinds.Line act row =
     let m : Manner = manner_of kinds.Line act row in
-    reads (plain_name_in row.name) _ (IsForm (is_away m)) (λ name n.
-    let plain = plain_name row.name name n in
+    reads (plain_name_in (text_of row columns.Name)) _ (IsForm (is_away m)) (λ name n.
+    let plain = plain_name (text_of row columns.Name) name n in
     behind m (line_in row) (λ l. IsLeaf l.0) (line_formed row) (forms.Line name) (refl, plain) (λ l here ok. (refl, plain, ok)))
 said_formed kinds.Bind act row =
     let m : Manner = manner_of kinds.Bind act row in
     let P : RowForm → Type 0 = IsForm (is_away m) in
-    reads (plain_name_in row.subject) _ P (λ line l. reads (parameter_in row.name) _ P (λ name n.
-    let plain = plain_name row.subject line l in
-    let own = parameter row.name name n in
+    reads (plain_name_in (text_of row columns.Subject)) _ P (λ line l. reads (parameter_in (text_of row columns.Name)) _ P (λ name n.
+    let plain = plain_name (text_of row columns.Subject) line l in
+    let own = parameter (text_of row columns.Name) name n in
     behind m (binding_in row) IsBinding (binding_formed row) (forms.Bind line name) (refl, plain, own) (λ b here ok. (refl, plain, own, ok))))
 said_formed kinds.Uncert act row =
     let m : Manner = manner_of kinds.Uncert act row in
-    reads (plain_name_in row.name) _ (IsForm (is_away m)) (λ line l.
-    let plain = plain_name row.name line l in
+    reads (plain_name_in (text_of row columns.Name)) _ (IsForm (is_away m)) (λ line l.
+    let plain = plain_name (text_of row columns.Name) line l in
     behind m (uncertainties_in row) AreUncertainties (uncertainties_formed row) (forms.Uncert line) (refl, plain) (λ u here ok. (refl, plain, ok.0, ok.1)))
 
 form_formed : (kind : Kind) (act : Act) (row : Texts) → IfOk (form_in kind act row) (IsForm (withdraws act))
@@ -362,7 +363,7 @@ content_formed : (row : Texts) → IfOk (content_in row) (λ (c : Act × RowForm
 unfolding content_in
 content_formed row =
     let P : Act × RowForm → Type 0 = λ c. IsForm (withdraws c.0) c.1 in
-    named (act_in row.act) _ _ P (λ act. named (kind_in row.kind) _ _ P (λ kind. pair act (form_in kind act row) (form_formed kind act row)))
+    named (act_in (text_of row columns.Act)) _ _ P (λ act. named (kind_in (text_of row columns.Kind)) _ _ P (λ kind. pair act (form_in kind act row) (form_formed kind act row)))
   where
     named : {A B : Type 0} (o : Option A) (e : Fault) (f : A → Result B Fault) (P : B → Type 0) → ((a : A) → IfOk (f a) P) → IfOk (ok_or o e >>= f) P
     named (Some a) e f P k = k a
@@ -374,15 +375,15 @@ content_formed row =
 
 row_formed : (number : ℕ) (fields : List (List ℕ)) → IfOk (row_in number fields) IsWellFormed
 unfolding row_in row_content
-row_formed number fields = by (columns_in fields)
+row_formed number fields = by (has_columns fields)
   where
     counted : (r : Result (Act × RowForm) Fault) → IfOk r (λ (c : Act × RowForm). IsForm (withdraws c.0) c.1) → IfOk (numbered number r) IsWellFormed
     counted (Ok c) good = good
     counted (Err e) good = tt
 
-    by : (o : Option Texts) → IfOk (numbered number (ok_or o Shape >>= content_in)) IsWellFormed
-    by None = tt
-    by (Some row) = counted (content_in row) (content_formed row)
+    by : (b : Bool) → IfOk (numbered number (if b then content_in fields else Err Shape)) IsWellFormed
+    by false = tt
+    by true = counted (content_in fields) (content_formed fields)
 
 rows_formed : (number : ℕ) (records : List (List (List ℕ))) → AllByRecursion IsWellFormed (rows_from number records).rows
 unfolding rows_from

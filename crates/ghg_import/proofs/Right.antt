@@ -148,15 +148,15 @@ IsRightThere kind c row content =
 
 abbrev AreYears : Texts → Type 0
 AreYears row =
-    (is_some (year_in row.year) ≡ true) × (is_some (year_in row.value) ≡ true)
-    × (is_some (year_in row.low) ≡ true)
+    (is_some (year_in (text_of row columns.Year)) ≡ true) × (is_some (year_in (text_of row columns.Value)) ≡ true)
+    × (is_some (year_in (text_of row columns.Low)) ≡ true)
 
 span_read : (row : Texts) → IfSome (span_in row) (λ _. AreYears row)
 unfolding span_in
 span_read row =
     let P : Type 0 = AreYears row in
-    reads_both (year_in row.year) (year_in row.value) _ P (λ first last f l.
-    reads_one (year_in row.low) _ P (λ base b. passes _ _ (λ _. P) (λ ordered. (first, last, base))))
+    reads_both (year_in (text_of row columns.Year)) (year_in (text_of row columns.Value)) _ P (λ first last f l.
+    reads_one (year_in (text_of row columns.Low)) _ P (λ base b. passes _ _ (λ _. P) (λ ordered. (first, last, base))))
 
 span_right : (m : Manner) (u : Option UnitWord) (row : Texts) → IsRight kinds.Span (chosen_by m u row) row
 unfolding content_of
@@ -193,22 +193,22 @@ abbrev IsFigureHeld : Manner → Option UnitWord → Texts → Type 0
 IsFigureHeld m u row =
     let h : Holdings = holdings_of kinds.Factor m in
     let c : Chosen = chosen_by m u row in
-    (is_held h.value c row row.value ≡ true) × (is_held h.low c row row.low ≡ true)
-    × (is_held h.high c row row.high ≡ true) × (is_held h.unit c row row.unit ≡ true)
+    (is_held h.value c row (text_of row columns.Value) ≡ true) × (is_held h.low c row (text_of row columns.Low) ≡ true)
+    × (is_held h.high c row (text_of row columns.High) ≡ true) × (is_held h.unit c row (text_of row columns.Unit) ≡ true)
 
 known_held : (u : UnitWord) (row : Texts) → AreBare (holdings_of kinds.Factor Valued) row
     → IfSome (known_in u row) (λ _. IsFigureHeld Valued (Some u) row)
 unfolding known_in bound_in
 known_held u row b =
     let P : Type 0 = IsFigureHeld Valued (Some u) row in
-    let low : Bool = length row.low == 0 in
-    let high : Bool = length row.high == 0 in
-    reads_one (quantity_in u row.value) _ P (λ is_value value.
-    reads_both (bound_in u value row.low) (bound_in u value row.high) _ P (λ is_low is_high l h.
+    let low : Bool = length (text_of row columns.Low) == 0 in
+    let high : Bool = length (text_of row columns.High) == 0 in
+    reads_one (quantity_in u (text_of row columns.Value)) _ P (λ is_value value.
+    reads_both (bound_in u value (text_of row columns.Low)) (bound_in u value (text_of row columns.High)) _ P (λ is_low is_high l h.
     passes _ _ (λ _. P) (λ ordered. (
       is_value,
-      low_held low high value (quantity_in u row.low) b.4 is_low,
-      high_held low high value (quantity_in u row.high) b.5 is_high,
+      low_held low high value (quantity_in u (text_of row columns.Low)) b.4 is_low,
+      high_held low high value (quantity_in u (text_of row columns.High)) b.5 is_high,
       refl,
     ))))
 
@@ -216,9 +216,9 @@ amount_held : (m : Manner) (u : UnitWord) (row : Texts) → is_away m ≡ false
     → AreBare (holdings_of kinds.Factor m) row → IfSome (amount_in m u row) (λ _. IsFigureHeld m (Some u) row)
 amount_held Withdraws u row here b = absurd (cc)
 amount_held InYears u row here b =
-    made amounts.HalfLife (half_life_in row.value) _ (λ years. (years, b.4, b.5, refl))
+    made amounts.HalfLife (half_life_in (text_of row columns.Value)) _ (λ years. (years, b.4, b.5, refl))
 amount_held Keyed u row here b =
-    made amounts.Key (key_in row.value) _ (λ key. (key, b.4, b.5, refl))
+    made amounts.Key (key_in (text_of row columns.Value)) _ (λ key. (key, b.4, b.5, refl))
 amount_held Valued u row here b = known_held u row b
 
 figure_held : (m : Manner) (u : Option UnitWord) (row : Texts) → is_away m ≡ false
@@ -241,38 +241,38 @@ activity_right : (m : Manner) (u : Option UnitWord) (row : Texts) → says_years
     → IsRight kinds.Activity (chosen_by m u row) row
 unfolding content_of
 activity_right Withdraws u row never b =
-    reads_both (plain_name_in row.name) (year_in row.year) _ _ (λ name year n y.
+    reads_both (plain_name_in (text_of row columns.Name)) (year_in (text_of row columns.Year)) _ _ (λ name year n y.
     (b.0, name, year, b.3, b.4, b.5, b.6))
 activity_right InYears u row never b = absurd (cc)
 activity_right Keyed u row never b =
-    reads_both (plain_name_in row.name) (year_in row.year) _ _ (λ name year n y.
+    reads_both (plain_name_in (text_of row columns.Name)) (year_in (text_of row columns.Year)) _ _ (λ name year n y.
     figure_stays Keyed u row refl b (forms.Activity n y) _ (λ f. (b.0, name, year, f.0, f.1, f.2, f.3)))
 activity_right Valued u row never b =
-    reads_both (plain_name_in row.name) (year_in row.year) _ _ (λ name year n y.
+    reads_both (plain_name_in (text_of row columns.Name)) (year_in (text_of row columns.Year)) _ _ (λ name year n y.
     figure_stays Valued u row refl b (forms.Activity n y) _ (λ f. (b.0, name, year, f.0, f.1, f.2, f.3)))
 
 factor_right : (m : Manner) (u : Option UnitWord) (row : Texts) → IsRight kinds.Factor (chosen_by m u row) row
 unfolding content_of
 factor_right Withdraws u row b =
-    reads_both (factor_name_in row.name) (year_in row.year) _ _ (λ name year n y.
+    reads_both (factor_name_in (text_of row columns.Name)) (year_in (text_of row columns.Year)) _ _ (λ name year n y.
     (b.0, name, year, b.3, b.4, b.5, b.6))
 factor_right InYears u row b =
-    reads_both (factor_name_in row.name) (year_in row.year) _ _ (λ name year n y.
+    reads_both (factor_name_in (text_of row columns.Name)) (year_in (text_of row columns.Year)) _ _ (λ name year n y.
     figure_stays InYears u row refl b (forms.Factor n y) _ (λ f. (b.0, name, year, f.0, f.1, f.2, f.3)))
 factor_right Keyed u row b =
-    reads_both (factor_name_in row.name) (year_in row.year) _ _ (λ name year n y.
+    reads_both (factor_name_in (text_of row columns.Name)) (year_in (text_of row columns.Year)) _ _ (λ name year n y.
     figure_stays Keyed u row refl b (forms.Factor n y) _ (λ f. (b.0, name, year, f.0, f.1, f.2, f.3)))
 factor_right Valued u row b =
-    reads_both (factor_name_in row.name) (year_in row.year) _ _ (λ name year n y.
+    reads_both (factor_name_in (text_of row columns.Name)) (year_in (text_of row columns.Year)) _ _ (λ name year n y.
     figure_stays Valued u row refl b (forms.Factor n y) _ (λ f. (b.0, name, year, f.0, f.1, f.2, f.3)))
 
 -- ---- lines
 
 line_read : (row : Texts) → IfSome (line_in row)
-    (λ _. (is_some (leaf_in row.subject) ≡ true) × (is_some (named row.value) ≡ true))
+    (λ _. (is_some (leaf_in (text_of row columns.Subject)) ≡ true) × (is_some (named (text_of row columns.Value)) ≡ true))
 unfolding line_in
 line_read row =
-    reads_both (leaf_in row.subject) (named row.value) _ _ (λ category equation c e. (category, equation))
+    reads_both (leaf_in (text_of row columns.Subject)) (named (text_of row columns.Value)) _ _ (λ category equation c e. (category, equation))
 
 line_right : (m : Manner) (u : Option UnitWord) (row : Texts) → IsRight kinds.Line (chosen_by m u row) row
 unfolding content_of
@@ -280,13 +280,13 @@ line_right m u row = by m
   where
     stayed : (c : Chosen) → IsRightThere kinds.Line c row
         (option_and_then (λ name. option_map (forms.Line name) (option_map Some (line_in row)))
-        (plain_name_in row.name))
+        (plain_name_in (text_of row columns.Name)))
     stayed c b =
-        reads_one (plain_name_in row.name) _ _ (λ name n.
+        reads_one (plain_name_in (text_of row columns.Name)) _ _ (λ name n.
         stays (forms.Line n) (line_in row) _ _ (line_read row) (λ l. (l.0, name, b.2, l.1, b.4, b.5, b.6)))
 
     by : (m : Manner) → IsRight kinds.Line (chosen_by m u row) row
-    by Withdraws b = reads_one (plain_name_in row.name) _ _ (λ name n. (b.0, name, b.2, b.3, b.4, b.5, b.6))
+    by Withdraws b = reads_one (plain_name_in (text_of row columns.Name)) _ _ (λ name n. (b.0, name, b.2, b.3, b.4, b.5, b.6))
     by InYears b = stayed (chosen_by InYears u row) b
     by Keyed b = stayed (chosen_by Keyed u row) b
     by Valued b = stayed (chosen_by Valued u row) b
@@ -295,9 +295,9 @@ line_right m u row = by m
 
 -- a row that binds names a form, and a target of that form
 binding_read : (row : Texts) → IfSome (binding_in row)
-    (λ _. (is_some (binding_form_in row.value) ≡ true) × (is_some (binding_in row) ≡ true))
+    (λ _. (is_some (binding_form_in (text_of row columns.Value)) ≡ true) × (is_some (binding_in row) ≡ true))
 unfolding binding_in
-binding_read row = by (binding_form_in row.value) (λ form. target_in form row.low)
+binding_read row = by (binding_form_in (text_of row columns.Value)) (λ form. target_in form (text_of row columns.Low))
   where
     target : {B : Type 0} (o : Option B) → IfSome o (λ _. (true ≡ true) × (is_some o ≡ true))
     target None = tt
@@ -314,15 +314,15 @@ bind_right m u row = by m
   where
     stayed : (m : Manner) → IsRightThere kinds.Bind (chosen_by m u row) row
         (option_and_then (λ line. option_and_then (λ name. option_map (forms.Bind line name)
-        (option_map Some (binding_in row))) (parameter_in row.name)) (plain_name_in row.subject))
+        (option_map Some (binding_in row))) (parameter_in (text_of row columns.Name))) (plain_name_in (text_of row columns.Subject)))
     stayed m b =
-        reads_both (plain_name_in row.subject) (parameter_in row.name) _ _ (λ line name l n.
+        reads_both (plain_name_in (text_of row columns.Subject)) (parameter_in (text_of row columns.Name)) _ _ (λ line name l n.
         stays (forms.Bind l n) (binding_in row) _ _ (binding_read row) (λ t.
         (line, name, b.2, t.0, t.1, b.5, b.6)))
 
     by : (m : Manner) → IsRight kinds.Bind (chosen_by m u row) row
     by Withdraws b =
-        reads_both (plain_name_in row.subject) (parameter_in row.name) _ _ (λ line name l n.
+        reads_both (plain_name_in (text_of row columns.Subject)) (parameter_in (text_of row columns.Name)) _ _ (λ line name l n.
         (line, name, b.2, b.3, b.4, b.5, b.6))
     by InYears b = stayed InYears b
     by Keyed b = stayed Keyed b
@@ -331,10 +331,10 @@ bind_right m u row = by m
 -- ---- uncertainties
 
 uncertainties_read : (row : Texts) → IfSome (uncertainties_in row)
-    (λ _. (is_some (uncertainty_in row.value) ≡ true) × (is_some (uncertainty_in row.low) ≡ true))
+    (λ _. (is_some (uncertainty_in (text_of row columns.Value)) ≡ true) × (is_some (uncertainty_in (text_of row columns.Low)) ≡ true))
 unfolding uncertainties_in
 uncertainties_read row =
-    reads_both (uncertainty_in row.value) (uncertainty_in row.low) _ _ (λ activity factor a f.
+    reads_both (uncertainty_in (text_of row columns.Value)) (uncertainty_in (text_of row columns.Low)) _ _ (λ activity factor a f.
     (activity, factor))
 
 uncert_right : (m : Manner) (u : Option UnitWord) (row : Texts) → IsRight kinds.Uncert (chosen_by m u row) row
@@ -343,14 +343,14 @@ uncert_right m u row = by m
   where
     stayed : (c : Chosen) → IsRightThere kinds.Uncert c row
         (option_and_then (λ line. option_map (forms.Uncert line) (option_map Some (uncertainties_in row)))
-        (plain_name_in row.name))
+        (plain_name_in (text_of row columns.Name)))
     stayed c b =
-        reads_one (plain_name_in row.name) _ _ (λ line l.
+        reads_one (plain_name_in (text_of row columns.Name)) _ _ (λ line l.
         stays (forms.Uncert l) (uncertainties_in row) _ _ (uncertainties_read row) (λ p.
         (b.0, line, b.2, p.0, p.1, b.5, b.6)))
 
     by : (m : Manner) → IsRight kinds.Uncert (chosen_by m u row) row
-    by Withdraws b = reads_one (plain_name_in row.name) _ _ (λ line l. (b.0, line, b.2, b.3, b.4, b.5, b.6))
+    by Withdraws b = reads_one (plain_name_in (text_of row columns.Name)) _ _ (λ line l. (b.0, line, b.2, b.3, b.4, b.5, b.6))
     by InYears b = stayed (chosen_by InYears u row) b
     by Keyed b = stayed (chosen_by Keyed u row) b
     by Valued b = stayed (chosen_by Valued u row) b
@@ -364,13 +364,13 @@ never_in_years Enter row = in_years kinds.Activity Enter row (away kinds.Activit
 never_in_years Correct row = in_years kinds.Activity Correct row (away kinds.Activity Correct row)
 
 all_right : (kind : Kind) (act : Act) (row : Texts) → IsRight kind (chosen_in kind act row) row
-all_right kinds.Span act row = span_right (manner_of kinds.Span act row) (unit_in row.unit) row
+all_right kinds.Span act row = span_right (manner_of kinds.Span act row) (unit_in (text_of row columns.Unit)) row
 all_right kinds.Activity act row =
-    activity_right (manner_of kinds.Activity act row) (unit_in row.unit) row (never_in_years act row)
-all_right kinds.Factor act row = factor_right (manner_of kinds.Factor act row) (unit_in row.unit) row
-all_right kinds.Line act row = line_right (manner_of kinds.Line act row) (unit_in row.unit) row
-all_right kinds.Bind act row = bind_right (manner_of kinds.Bind act row) (unit_in row.unit) row
-all_right kinds.Uncert act row = uncert_right (manner_of kinds.Uncert act row) (unit_in row.unit) row
+    activity_right (manner_of kinds.Activity act row) (unit_in (text_of row columns.Unit)) row (never_in_years act row)
+all_right kinds.Factor act row = factor_right (manner_of kinds.Factor act row) (unit_in (text_of row columns.Unit)) row
+all_right kinds.Line act row = line_right (manner_of kinds.Line act row) (unit_in (text_of row columns.Unit)) row
+all_right kinds.Bind act row = bind_right (manner_of kinds.Bind act row) (unit_in (text_of row columns.Unit)) row
+all_right kinds.Uncert act row = uncert_right (manner_of kinds.Uncert act row) (unit_in (text_of row columns.Unit)) row
 
 nothing_wrong : (kind : Kind) (act : Act) (row : Texts)
     → is_some (content_of kind (chosen_in kind act row) row) ≡ true

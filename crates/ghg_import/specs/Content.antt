@@ -12,6 +12,7 @@ use Rattle.ghg_units.specs.declared.row.Figure.{Figure}
 use Rattle.ghg_units.specs.declared.row.RowForm.{RowForm}
 use Rattle.ghg_units.specs.declared.row.RowForm.TheVariants as forms
 use Rattle.ghg_units.specs.declared.row.Span.{Span}
+use Rattle.ghg_units.specs.declared.rule.Column.TheVariants as columns
 use Rattle.ghg_units.specs.declared.unit.Unit.{Unit as UnitWord}
 use Rattle.ghg_units.specs.HalfLife.{half_life_in}
 use Rattle.ghg_units.specs.Name.{factor_name_in, plain_name_in}
@@ -28,7 +29,7 @@ use Rattle.ghg_import.specs.declared.kind.Kind.TheVariants as kinds
 use Rattle.ghg_import.specs.declared.kind.Manner.{Manner}
 use Rattle.ghg_import.specs.declared.kind.Manner.TheVariants.{Withdraws, InYears, Keyed}
 use Rattle.ghg_import.specs.Forms.{binding_in, leaf_in, quantity_in}
-use Rattle.ghg_import.specs.Shape.{Texts}
+use Rattle.ghg_import.specs.Shape.{Texts, text_of}
 use Rattle.ghg_import.specs.Table.{chosen_in, wrong_column}
 
 -- ---- what the columns behind the key say
@@ -36,9 +37,9 @@ use Rattle.ghg_import.specs.Table.{chosen_in, wrong_column}
 -- the years of a span, in their order
 unfoldable pub span_in : Texts → Option Span
 span_in row = do
-  first ← year_in row.year
-  last ← year_in row.value
-  base ← year_in row.low
+  first ← year_in (text_of row columns.Year)
+  last ← year_in (text_of row columns.Value)
+  base ← year_in (text_of row columns.Low)
   if nat_le first base && nat_le base last then Some (record { first = first; base = base; last = last })
       else None
 
@@ -49,17 +50,17 @@ bound_in u value text = if length text == 0 then Some value else quantity_in u t
 -- a value between its bounds
 unfoldable pub known_in : UnitWord → Texts → Option Amount
 known_in u row = do
-  value ← quantity_in u row.value
-  low ← bound_in u value row.low
-  high ← bound_in u value row.high
+  value ← quantity_in u (text_of row columns.Value)
+  low ← bound_in u value (text_of row columns.Low)
+  high ← bound_in u value (text_of row columns.High)
   if int_le low.scaled value.scaled && int_le value.scaled high.scaled then Some
       (amounts.Known value low high)
       else None
 
 -- a half-life, a notation key, or a value
 abbrev pub amount_in : Manner → UnitWord → Texts → Option Amount
-amount_in InYears u row = option_map amounts.HalfLife (half_life_in row.value)
-amount_in Keyed u row = option_map amounts.Key (key_in row.value)
+amount_in InYears u row = option_map amounts.HalfLife (half_life_in (text_of row columns.Value))
+amount_in Keyed u row = option_map amounts.Key (key_in (text_of row columns.Value))
 amount_in _ u row = known_in u row
 
 unfoldable pub figure_in : Chosen → Texts → Option Figure
@@ -70,15 +71,15 @@ figure_in c row = do
 
 unfoldable pub line_in : Texts → Option (Category × EqId)
 line_in row = do
-  category ← leaf_in row.subject
-  equation ← named row.value
+  category ← leaf_in (text_of row columns.Subject)
+  equation ← named (text_of row columns.Value)
   Some (category, equation)
 
 -- the uncertainties of activity data and of an emission factor
 unfoldable pub uncertainties_in : Texts → Option (ℕ × ℕ)
 uncertainties_in row = do
-  activity ← uncertainty_in row.value
-  factor ← uncertainty_in row.low
+  activity ← uncertainty_in (text_of row columns.Value)
+  factor ← uncertainty_in (text_of row columns.Low)
   Some (activity, factor)
 
 -- ---- what the row says
@@ -92,22 +93,22 @@ unless_withdrawn _ said = option_map Some said
 unfoldable pub content_of : Kind → Chosen → Texts → Option RowForm
 content_of kinds.Span c row = option_map forms.Span (unless_withdrawn c.manner (span_in row))
 content_of kinds.Activity c row = do
-  name ← plain_name_in row.name
-  year ← year_in row.year
+  name ← plain_name_in (text_of row columns.Name)
+  year ← year_in (text_of row columns.Year)
   option_map (forms.Activity name year) (unless_withdrawn c.manner (figure_in c row))
 content_of kinds.Factor c row = do
-  name ← factor_name_in row.name
-  year ← year_in row.year
+  name ← factor_name_in (text_of row columns.Name)
+  year ← year_in (text_of row columns.Year)
   option_map (forms.Factor name year) (unless_withdrawn c.manner (figure_in c row))
 content_of kinds.Line c row = do
-  name ← plain_name_in row.name
+  name ← plain_name_in (text_of row columns.Name)
   option_map (forms.Line name) (unless_withdrawn c.manner (line_in row))
 content_of kinds.Bind c row = do
-  line ← plain_name_in row.subject
-  parameter ← parameter_in row.name
+  line ← plain_name_in (text_of row columns.Subject)
+  parameter ← parameter_in (text_of row columns.Name)
   option_map (forms.Bind line parameter) (unless_withdrawn c.manner (binding_in row))
 content_of kinds.Uncert c row = do
-  line ← plain_name_in row.name
+  line ← plain_name_in (text_of row columns.Name)
   option_map (forms.Uncert line) (unless_withdrawn c.manner (uncertainties_in row))
 
 -- the wrong column, else disorder, else the content

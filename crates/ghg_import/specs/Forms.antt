@@ -7,16 +7,18 @@ use Rattle.ghg_categories.specs.Tree.{is_leaf_of, named_in}
 use Rattle.ghg_units.specs.declared.decimal.Decimal.{Decimal}
 use Rattle.ghg_units.specs.declared.row.Binding.{Binding}
 use Rattle.ghg_units.specs.declared.row.Binding.TheVariants as bound
+use Rattle.ghg_units.specs.declared.rule.Column.TheVariants as columns
 use Rattle.ghg_units.specs.declared.unit.Unit.{Unit as UnitWord}
 use Rattle.ghg_units.specs.Decimal.{decimal_in}
 use Rattle.ghg_units.specs.Name.{plain_name_in}
 use Rattle.ghg_units.specs.Units.{interval_in}
+use Rattle.ghg_units.specs.Steps.{◌>>=◌}
 use Rattle.ghg_units.specs.WellFormed.{are_different, most_parts}
 use Rattle.ghg_units.specs.Words.{key_in}
 use Rattle.ghg_import.specs.declared.kind.BindingForm.{BindingForm}
 use Rattle.ghg_import.specs.declared.kind.BindingForm.TheVariants as targets
 use Rattle.ghg_import.specs.Kinds.{binding_form_in}
-use Rattle.ghg_import.specs.Shape.{Texts}
+use Rattle.ghg_import.specs.Shape.{Texts, text_of}
 
 -- the category that a text is the code of, where it has no children
 unfoldable pub leaf_in : List ℕ → Option Category
@@ -53,4 +55,6 @@ target_in targets.Key text = option_map bound.Key (key_in text)
 
 -- what low names as the target of the form that the value names
 unfoldable pub binding_in : Texts → Option Binding
-binding_in row = option_and_then (λ form. target_in form row.low) (binding_form_in row.value)
+binding_in row = do
+  form ← binding_form_in (text_of row columns.Value)
+  target_in form (text_of row columns.Low)

@@ -1,14 +1,12 @@
 -- What a body says.
-use Rattle.std.specs.Prelude.{ℕ, ◌+◌, Bool, List, [], ◌∷◌, length, ◌==◌, ◌&&◌, Option, Some, None, Result, Ok, Err, if◌then◌else◌}
+use Rattle.std.specs.Prelude.{ℕ, ◌+◌, List, [], ◌∷◌, Option, Some, None, Result, Ok, Err, if◌then◌else◌}
 use Rattle.std.specs.Option.{ok_or}
-use Rattle.std.specs.Str.{bytes_eq}
 use Rattle.ghg_units.specs.declared.row.Act.{Act}
 use Rattle.ghg_units.specs.declared.row.Row.{Row}
 use Rattle.ghg_units.specs.declared.row.RowForm.{RowForm}
 use Rattle.ghg_units.specs.declared.rule.Column.TheVariants as columns
 use Rattle.ghg_units.specs.declared.rule.Rule.{Rule}
 use Rattle.ghg_units.specs.declared.rule.Rule.TheVariants.{BadShape}
-use Rattle.ghg_units.specs.Refusals.{column_word}
 use Rattle.ghg_units.specs.Words.{act_in}
 use Rattle.ghg_import.specs.declared.fault.Fault.{Fault}
 use Rattle.ghg_import.specs.declared.fault.Fault.TheVariants.{Shape, Word}
@@ -16,7 +14,7 @@ use Rattle.ghg_import.specs.Body.{records_of}
 use Rattle.ghg_import.specs.Fault.{◌>>=◌, rule_at}
 use Rattle.ghg_import.specs.Content.{form_in}
 use Rattle.ghg_import.specs.Kinds.{kind_in}
-use Rattle.ghg_import.specs.Shape.{Texts, columns_in, field}
+use Rattle.ghg_import.specs.Shape.{Texts, has_columns, is_header, text_of}
 
 -- the rows before the first that breaks a rule, and that rule
 pub record Reading : Type 0 where
@@ -26,22 +24,20 @@ pub record Reading : Type 0 where
 -- what a row says: its act, its kind, and what the kind makes of its other columns
 unfoldable pub content_in : Texts → Result (Act × RowForm) Fault
 content_in row = do
-  act ← ok_or (act_in row.act) (Word columns.Act)
-  kind ← ok_or (kind_in row.kind) (Word columns.Kind)
+  act ← ok_or (act_in (text_of row columns.Act)) (Word columns.Act)
+  kind ← ok_or (kind_in (text_of row columns.Kind)) (Word columns.Kind)
   form ← form_in kind act row
   Ok (act, form)
 
 -- the row of a record's fields, or the first rule that they break
-unfoldable pub row_content : List (List ℕ) → Result (Act × RowForm) Fault
-row_content fields = do
-  columns ← ok_or (columns_in fields) Shape
-  content_in columns
+unfoldable pub row_content : Texts → Result (Act × RowForm) Fault
+row_content fields = if has_columns fields then content_in fields else Err Shape
 
 abbrev pub numbered : ℕ → Result (Act × RowForm) Fault → Result Row Rule
 numbered number (Ok content) = Ok (record { number = number; act = content.0; form = content.1 })
 numbered number (Err fault) = Err (rule_at number fault)
 
-unfoldable pub row_in : ℕ → List (List ℕ) → Result Row Rule
+unfoldable pub row_in : ℕ → Texts → Result Row Rule
 row_in number fields = numbered number (row_content fields)
 
 -- a row and what comes after it
@@ -50,38 +46,16 @@ then_rows (Ok row) later = record { rows = row ∷ later.rows; rest = later.rest
 then_rows (Err rule) later = record { rows = []; rest = Some rule }
 
 -- what records say, the first with this number
-unfoldable pub rows_from : ℕ → List (List (List ℕ)) → Reading
+unfoldable pub rows_from : ℕ → List Texts → Reading
 rows_from number [] = record { rows = []; rest = None }
 rows_from number (fields ∷ records) = then_rows (row_in number fields) (rows_from (number + 1) records)
-
--- the first five names of the header
-unfoldable pub names_the_record : List (List ℕ) → Bool
-names_the_record fields =
-    bytes_eq (field fields 0) (column_word columns.Act)
-    && bytes_eq (field fields 1) (column_word columns.Kind)
-    && bytes_eq (field fields 2) (column_word columns.Subject)
-    && bytes_eq (field fields 3) (column_word columns.Name)
-    && bytes_eq (field fields 4) (column_word columns.Year)
-
--- and the last five
-unfoldable pub names_the_figure : List (List ℕ) → Bool
-names_the_figure fields =
-    bytes_eq (field fields 5) (column_word columns.Value)
-    && bytes_eq (field fields 6) (column_word columns.Low)
-    && bytes_eq (field fields 7) (column_word columns.High)
-    && bytes_eq (field fields 8) (column_word columns.Unit)
-    && bytes_eq (field fields 9) (column_word columns.Note)
-
--- the header is the ten names
-unfoldable pub is_header : List (List ℕ) → Bool
-is_header fields = (length fields == 10) && names_the_record fields && names_the_figure fields
 
 -- a body with no header
 abbrev pub no_header : Reading
 no_header = record { rows = []; rest = Some (BadShape 0) }
 
 -- the header has the number 0, and the rows count from 1
-abbrev pub under_header : List (List (List ℕ)) → Reading
+abbrev pub under_header : List Texts → Reading
 under_header [] = no_header
 under_header (header ∷ records) = if is_header header then rows_from 1 records else no_header
 

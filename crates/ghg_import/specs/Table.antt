@@ -74,13 +74,17 @@ is_in_years _ _ = false
 abbrev pub manner_of : Kind → Act → Texts → Manner
 manner_of kind act row =
     if withdraws act then Withdraws
-    else if is_in_years kind (unit_in row.unit) then InYears
-    else if is_some (key_in row.value) then Keyed
+    else if is_in_years kind (unit_in (text_of row columns.Unit)) then InYears
+    else if is_some (key_in (text_of row columns.Value)) then Keyed
     else Valued
 
 abbrev pub chosen_in : Kind → Act → Texts → Chosen
 chosen_in kind act row =
-    record { manner = manner_of kind act row; unit = unit_in row.unit; binds = is_some (binding_in row) }
+    record {
+      manner = manner_of kind act row;
+      unit = unit_in (text_of row columns.Unit);
+      binds = is_some (binding_in row);
+    }
 
 -- ---- what a column may hold
 
@@ -98,6 +102,9 @@ abbrev pub is_quantity : Option measures.Unit → List ℕ → Bool
 is_quantity None text = false
 is_quantity (Some u) text = is_some (quantity_in u text)
 
+abbrev pub is_unfilled : Texts → Column → Bool
+is_unfilled row column = length (text_of row column) == 0
+
 -- whether a text is what a column may hold in its row
 abbrev pub is_held : Holding → Chosen → Texts → List ℕ → Bool
 is_held Empty c row text = length text == 0
@@ -112,7 +119,8 @@ is_held NotationKey c row text = is_some (key_in text)
 is_held UnitWord c row text = is_some c.unit
 is_held Year c row text = is_some (year_in text)
 is_held Figure c row text = is_quantity c.unit text
-is_held Bound c row text = ((length row.low == 0) && (length row.high == 0)) || is_quantity c.unit text
+is_held Bound c row text =
+    (is_unfilled row columns.Low && is_unfilled row columns.High) || is_quantity c.unit text
 is_held HalfLife c row text = is_some (half_life_in text)
 is_held NoBound c row text = length text == 0
 is_held Percentage c row text = is_some (uncertainty_in text)
@@ -151,16 +159,19 @@ abbrev pub says_no_more_in : Holding → Texts → List ℕ → Bool
 says_no_more_in Empty row text = length text == 0
 says_no_more_in NoBound row text = length text == 0
 says_no_more_in Bound row text =
-    if length row.low == 0 then length row.high == 0 else not (length row.high == 0)
+    if is_unfilled row columns.Low then is_unfilled row columns.High else not (is_unfilled row columns.High)
 says_no_more_in _ row text = true
 
 -- the same of each column that the kind decides
 abbrev pub say_no_more : Holdings → Texts → Bool
 say_no_more h row =
-    says_no_more_in h.subject row row.subject && says_no_more_in h.name row row.name
-    && says_no_more_in h.year row row.year && says_no_more_in h.value row row.value
-    && says_no_more_in h.low row row.low && says_no_more_in h.high row row.high
-    && says_no_more_in h.unit row row.unit
+    says_no_more_in h.subject row (text_of row columns.Subject)
+    && says_no_more_in h.name row (text_of row columns.Name)
+    && says_no_more_in h.year row (text_of row columns.Year)
+    && says_no_more_in h.value row (text_of row columns.Value)
+    && says_no_more_in h.low row (text_of row columns.Low)
+    && says_no_more_in h.high row (text_of row columns.High)
+    && says_no_more_in h.unit row (text_of row columns.Unit)
 
 -- the same of a row of a kind
 abbrev pub says_no_more : Kind → Manner → Texts → Bool

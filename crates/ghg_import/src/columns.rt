@@ -1,100 +1,67 @@
 //! The ten columns of a record.
 
-ghost use Rattle.std.specs.Prelude.{◌≡◌, option_map, unwrap_or, []};
-ghost use Rattle.std.specs.Str.{is_utf8};
+ghost use Rattle.std.specs.Prelude.{◌≡◌, []};
+ghost use Rattle.std.specs.List.{list_all};
+ghost use Rattle.std.specs.Str.{bytes_eq, is_utf8};
 ghost use Rattle.csv.specs.Records.{field_at, fields_of};
-ghost use Rattle.ghg_import.specs.Reading.{is_header, names_the_figure, names_the_record};
-ghost use Rattle.ghg_import.specs.Shape.{columns_in, field, is_text, text_of, texts};
+ghost use Rattle.ghg_units.specs.Refusals.{column_word};
+ghost use Rattle.ghg_import.specs.Shape.{all_columns, field, has_columns, is_header, is_text, text_of};
 
 use csv::ByteRecord;
 use ghg_units::Column;
 use std::str;
 
-/// The texts of a row's columns.
-#[derive(Clone, Copy)]
-pub(crate) struct Columns<'a> {
-    pub(crate) act: &'a [u8],
-    pub(crate) kind: &'a [u8],
-    pub(crate) subject: &'a [u8],
-    pub(crate) name: &'a [u8],
-    pub(crate) year: &'a [u8],
-    pub(crate) value: &'a [u8],
-    pub(crate) low: &'a [u8],
-    pub(crate) high: &'a [u8],
-    pub(crate) unit: &'a [u8],
-}
+// The columns, from left to right.
+const COLUMNS: [Column; 10] = [
+    Column::Act,
+    Column::Kind,
+    Column::Subject,
+    Column::Name,
+    Column::Year,
+    Column::Value,
+    Column::Low,
+    Column::High,
+    Column::Unit,
+    Column::Note,
+];
 
-impl<'a> Columns<'a> {
-    /// The text of a column; that of the note is not read.
-    pub(crate) fn text(self, column: Column) -> &'a [u8]
-        ensures { result.now ≡ text_of (texts self.entry) column }
-    {
-        match column {
-            Column::Act => self.act,
-            Column::Kind => self.kind,
-            Column::Subject => self.subject,
-            Column::Name => self.name,
-            Column::Year => self.year,
-            Column::Value => self.value,
-            Column::Low => self.low,
-            Column::High => self.high,
-            Column::Unit => self.unit,
-            Column::Note => &[],
-        }
-    }
-}
-
-/// The columns of a record, if it has ten fields, each of them UTF-8.
-#[tactic(auto, unfolding(crate::specs::Shape::columns_in))]
-pub(crate) fn columns_of(row: &ByteRecord) -> Option<Columns<'_>>
-    ensures { option_map texts result ≡ columns_in (fields_of row.now) }
+/// The text of a column of a row, or nothing where the row has fewer fields.
+#[tactic(auto, unfolding(crate::specs::Shape::text_of))]
+pub(crate) fn text(row: &ByteRecord, column: Column) -> &[u8]
+    ensures { result.now ≡ text_of (fields_of row.now) column }
 {
-    if row.len() != 10 || !is_text(row) {
-        return None;
-    }
-    Some(Columns {
-        act: field(row, 0),
-        kind: field(row, 1),
-        subject: field(row, 2),
-        name: field(row, 3),
-        year: field(row, 4),
-        value: field(row, 5),
-        low: field(row, 6),
-        high: field(row, 7),
-        unit: field(row, 8),
-    })
+    field(row, column as usize)
+}
+
+/// Whether a record has ten fields, each of them UTF-8.
+#[tactic(auto, unfolding(crate::specs::Shape::has_columns))]
+pub(crate) fn has_columns(row: &ByteRecord) -> bool
+    ensures { result ≡ has_columns (fields_of row.now) }
+{
+    row.len() == COLUMNS.len() && is_text(row)
 }
 
 /// Whether a record is the header.
-#[tactic(auto, unfolding(crate::specs::Reading::is_header))]
+#[tactic(auto, unfolding(crate::specs::Shape::is_header))]
 pub(crate) fn is_header(row: &ByteRecord) -> bool
     ensures { result ≡ is_header (fields_of row.now) }
 {
-    row.len() == 10 && names_the_record(row) && names_the_figure(row)
+    row.len() == COLUMNS.len() && has_names(row)
 }
 
-// Whether the first five columns have their names.
-#[tactic(auto, unfolding(crate::specs::Reading::names_the_record))]
-fn names_the_record(row: &ByteRecord) -> bool
-    ensures { result ≡ names_the_record (fields_of row.now) }
+// Whether the field of each column is its name.
+fn has_names(row: &ByteRecord) -> bool
+    ensures { result ≡ list_all (λ column. bytes_eq (text_of (fields_of row.now) column) (column_word column))
+        all_columns }
 {
-    field(row, 0) == Column::Act.word().as_bytes()
-        && field(row, 1) == Column::Kind.word().as_bytes()
-        && field(row, 2) == Column::Subject.word().as_bytes()
-        && field(row, 3) == Column::Name.word().as_bytes()
-        && field(row, 4) == Column::Year.word().as_bytes()
+    COLUMNS.iter().all(|column| is_named(row, *column))
 }
 
-// Whether the last five columns have their names.
-#[tactic(auto, unfolding(crate::specs::Reading::names_the_figure))]
-fn names_the_figure(row: &ByteRecord) -> bool
-    ensures { result ≡ names_the_figure (fields_of row.now) }
+// Whether the field of a column is its name.
+fn is_named(row: &ByteRecord, column: Column) -> bool
+    ensures { result ≡ bytes_eq (text_of (fields_of row.now) column) (column_word column) }
 {
-    field(row, 5) == Column::Value.word().as_bytes()
-        && field(row, 6) == Column::Low.word().as_bytes()
-        && field(row, 7) == Column::High.word().as_bytes()
-        && field(row, 8) == Column::Unit.word().as_bytes()
-        && field(row, 9) == Column::Note.word().as_bytes()
+    text(row, column) == column.word().as_bytes()
 }
 
 // The field at a place, or nothing.

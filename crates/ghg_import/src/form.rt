@@ -1,20 +1,23 @@
 //! What a row says, where none of its columns is wrong.
 
 ghost use Rattle.std.specs.Prelude.{◌≡◌, IfOk};
+ghost use Rattle.csv.specs.Records.{fields_of};
+ghost use Rattle.ghg_units.specs.declared.rule.Column.TheVariants as columns;
 ghost use Rattle.ghg_units.specs.Units.{unit_in};
 ghost use Rattle.ghg_import.specs.declared.kind.Kind.TheVariants as kinds;
 ghost use Rattle.ghg_import.specs.Content.{amount_in, bound_in, content_of, figure_in, form_in, known_in, line_in, span_in, uncertainties_in, unless_withdrawn};
 ghost use Rattle.ghg_import.specs.Fault.{Gives};
 ghost use Rattle.ghg_import.specs.Forms.{binding_in, target_in};
 ghost use Rattle.ghg_import.specs.Reading.{content_in};
-ghost use Rattle.ghg_import.specs.Shape.{texts};
+ghost use Rattle.ghg_import.specs.Shape.{text_of};
 ghost use Rattle.ghg_import.specs.Table.{chosen_in, is_in_years, manner_of};
 
-use crate::columns::Columns;
+use crate::columns::text;
 use crate::fault::{Fault, ReadError};
 use crate::kind::{BindingForm, Chosen, Kind, Manner, binding_form_named, kind_named};
 use crate::sum::names_named;
 use crate::table::{leaf_named, quantity, says_no_more, wrong_column};
+use csv::ByteRecord;
 use ghg_categories::Category;
 use ghg_equations::{Dim, EqId, eq_named};
 use ghg_units::{
@@ -25,11 +28,11 @@ use std::alloc::{AllocError, Global};
 
 /// What a row says, or the first rule that it breaks.
 #[tactic(auto, unfolding(crate::specs::Reading::content_in))]
-pub(crate) fn content(alloc: Global, row: Columns<'_>) -> Result<(Act, RowForm), ReadError>
-    ensures { Gives result (content_in (texts row.entry)) }
+pub(crate) fn content(alloc: Global, row: &ByteRecord) -> Result<(Act, RowForm), ReadError>
+    ensures { Gives result (content_in (fields_of row.now)) }
 {
-    let act = act_named(row.act).ok_or(Fault::Word(Column::Act))?;
-    let kind = kind_named(row.kind).ok_or(Fault::Word(Column::Kind))?;
+    let act = act_named(text(row, Column::Act)).ok_or(Fault::Word(Column::Act))?;
+    let kind = kind_named(text(row, Column::Kind)).ok_or(Fault::Word(Column::Kind))?;
     let form = form(alloc, kind, act, row)?;
     Ok((act, form))
 }
@@ -37,11 +40,11 @@ pub(crate) fn content(alloc: Global, row: Columns<'_>) -> Result<(Act, RowForm),
 // A wrong column, else disorder, else the content. Where the row has a content, no text in a column that
 // should be empty, and no bound alone, no column is wrong, and they are not gone through one by one.
 #[tactic(auto, unfolding(crate::specs::Content::form_of))]
-fn form(alloc: Global, kind: Kind, act: Act, row: Columns<'_>) -> Result<RowForm, ReadError>
-    ensures { Gives result (form_in kind act (texts row.entry)) }
+fn form(alloc: Global, kind: Kind, act: Act, row: &ByteRecord) -> Result<RowForm, ReadError>
+    ensures { Gives result (form_in kind act (fields_of row.now)) }
 {
     let binding = binding_named(alloc, row)?;
-    let unit = unit_named(row.unit);
+    let unit = unit_of(row);
     let chosen = Chosen {
         manner: manner_of(kind, act, unit, row),
         unit,
@@ -56,16 +59,23 @@ fn form(alloc: Global, kind: Kind, act: Act, row: Columns<'_>) -> Result<RowForm
     }
 }
 
+// The unit that a row names.
+fn unit_of(row: &ByteRecord) -> Option<Unit>
+    ensures { result ≡ unit_in (text_of (fields_of row.now) columns.Unit) }
+{
+    unit_named(text(row, Column::Unit))
+}
+
 // How a row is filled.
-fn manner_of(kind: Kind, act: Act, unit: Option<Unit>, row: Columns<'_>) -> Manner
-    requires { unit ≡ unit_in (texts row).unit }
-    ensures { result ≡ manner_of kind act (texts row.entry) }
+fn manner_of(kind: Kind, act: Act, unit: Option<Unit>, row: &ByteRecord) -> Manner
+    requires { unit ≡ unit_in (text_of (fields_of row.now) columns.Unit) }
+    ensures { result ≡ manner_of kind act (fields_of row.now) }
 {
     if act == Act::Withdraw {
         Manner::Withdraws
     } else if is_in_years(kind, unit) {
         Manner::InYears
-    } else if key_named(row.value).is_some() {
+    } else if key_named(text(row, Column::Value)).is_some() {
         Manner::Keyed
     } else {
         Manner::Valued
@@ -86,11 +96,11 @@ fn is_in_years(kind: Kind, unit: Option<Unit>) -> bool
 fn content_of(
     kind: Kind,
     chosen: Chosen,
-    row: Columns<'_>,
+    row: &ByteRecord,
     binding: Option<Binding>,
 ) -> Option<RowForm>
-    requires { binding ≡ binding_in (texts row) }
-    ensures { result ≡ content_of kind chosen (texts row.entry) }
+    requires { binding ≡ binding_in (fields_of row.now) }
+    ensures { result ≡ content_of kind chosen (fields_of row.now) }
 {
     match kind {
         Kind::Span => span(chosen, row),
@@ -103,15 +113,15 @@ fn content_of(
 }
 
 #[tactic(auto, unfolding(crate::specs::Content::content_of, crate::specs::Content::span_in))]
-fn span(chosen: Chosen, row: Columns<'_>) -> Option<RowForm>
-    ensures { result ≡ content_of kinds.Span chosen (texts row.entry) }
+fn span(chosen: Chosen, row: &ByteRecord) -> Option<RowForm>
+    ensures { result ≡ content_of kinds.Span chosen (fields_of row.now) }
 {
     if chosen.manner == Manner::Withdraws {
         return Some(RowForm::Span(None));
     }
-    let first = read_year(row.year)?;
-    let last = read_year(row.value)?;
-    let base = read_year(row.low)?;
+    let first = read_year(text(row, Column::Year))?;
+    let last = read_year(text(row, Column::Value))?;
+    let base = read_year(text(row, Column::Low))?;
     if first > base || base > last {
         return None;
     }
@@ -119,27 +129,27 @@ fn span(chosen: Chosen, row: Columns<'_>) -> Option<RowForm>
 }
 
 #[tactic(auto, unfolding(crate::specs::Content::content_of))]
-fn activity(chosen: Chosen, row: Columns<'_>) -> Option<RowForm>
-    ensures { result ≡ content_of kinds.Activity chosen (texts row.entry) }
+fn activity(chosen: Chosen, row: &ByteRecord) -> Option<RowForm>
+    ensures { result ≡ content_of kinds.Activity chosen (fields_of row.now) }
 {
-    let name = Name::plain(row.name)?;
-    let year = read_year(row.year)?;
+    let name = Name::plain(text(row, Column::Name))?;
+    let year = read_year(text(row, Column::Year))?;
     let figure = figure_unless_withdrawn(chosen, row)?;
     Some(RowForm::Activity(name, year, figure))
 }
 
 #[tactic(auto, unfolding(crate::specs::Content::content_of))]
-fn factor(chosen: Chosen, row: Columns<'_>) -> Option<RowForm>
-    ensures { result ≡ content_of kinds.Factor chosen (texts row.entry) }
+fn factor(chosen: Chosen, row: &ByteRecord) -> Option<RowForm>
+    ensures { result ≡ content_of kinds.Factor chosen (fields_of row.now) }
 {
-    let name = Name::of_factor(row.name)?;
-    let year = read_year(row.year)?;
+    let name = Name::of_factor(text(row, Column::Name))?;
+    let year = read_year(text(row, Column::Year))?;
     let figure = figure_unless_withdrawn(chosen, row)?;
     Some(RowForm::Factor(name, year, figure))
 }
 
-fn figure_unless_withdrawn(chosen: Chosen, row: Columns<'_>) -> Option<Option<Figure>>
-    ensures { result ≡ unless_withdrawn chosen.manner (figure_in chosen (texts row.entry)) }
+fn figure_unless_withdrawn(chosen: Chosen, row: &ByteRecord) -> Option<Option<Figure>>
+    ensures { result ≡ unless_withdrawn chosen.manner (figure_in chosen (fields_of row.now)) }
 {
     match chosen.manner {
         Manner::Withdraws => Some(None),
@@ -148,8 +158,8 @@ fn figure_unless_withdrawn(chosen: Chosen, row: Columns<'_>) -> Option<Option<Fi
 }
 
 #[tactic(auto, unfolding(crate::specs::Content::figure_in))]
-fn figure(chosen: Chosen, row: Columns<'_>) -> Option<Figure>
-    ensures { result ≡ figure_in chosen (texts row.entry) }
+fn figure(chosen: Chosen, row: &ByteRecord) -> Option<Figure>
+    ensures { result ≡ figure_in chosen (fields_of row.now) }
 {
     let unit = chosen.unit?;
     let amount = amount(chosen.manner, unit, row)?;
@@ -157,24 +167,24 @@ fn figure(chosen: Chosen, row: Columns<'_>) -> Option<Figure>
 }
 
 // A half-life, a notation key, or a value.
-fn amount(manner: Manner, unit: Unit, row: Columns<'_>) -> Option<Amount>
-    ensures { result ≡ amount_in manner unit (texts row.entry) }
+fn amount(manner: Manner, unit: Unit, row: &ByteRecord) -> Option<Amount>
+    ensures { result ≡ amount_in manner unit (fields_of row.now) }
 {
     match manner {
-        Manner::InYears => Some(Amount::HalfLife(read_half_life(row.value)?)),
-        Manner::Keyed => Some(Amount::Key(key_named(row.value)?)),
+        Manner::InYears => Some(Amount::HalfLife(read_half_life(text(row, Column::Value))?)),
+        Manner::Keyed => Some(Amount::Key(key_named(text(row, Column::Value))?)),
         _ => known(unit, row),
     }
 }
 
 // A value between its bounds.
 #[tactic(auto, unfolding(crate::specs::Content::known_in))]
-fn known(unit: Unit, row: Columns<'_>) -> Option<Amount>
-    ensures { result ≡ known_in unit (texts row.entry) }
+fn known(unit: Unit, row: &ByteRecord) -> Option<Amount>
+    ensures { result ≡ known_in unit (fields_of row.now) }
 {
-    let value = quantity(row.value, unit)?;
-    let low = bound(unit, value, row.low)?;
-    let high = bound(unit, value, row.high)?;
+    let value = quantity(text(row, Column::Value), unit)?;
+    let low = bound(unit, value, text(row, Column::Low))?;
+    let high = bound(unit, value, text(row, Column::High))?;
     if low > value || value > high {
         return None;
     }
@@ -194,10 +204,10 @@ fn bound(unit: Unit, value: Decimal, text: &[u8]) -> Option<Decimal>
 }
 
 #[tactic(auto, unfolding(crate::specs::Content::content_of))]
-fn line(chosen: Chosen, row: Columns<'_>) -> Option<RowForm>
-    ensures { result ≡ content_of kinds.Line chosen (texts row.entry) }
+fn line(chosen: Chosen, row: &ByteRecord) -> Option<RowForm>
+    ensures { result ≡ content_of kinds.Line chosen (fields_of row.now) }
 {
-    let name = Name::plain(row.name)?;
+    let name = Name::plain(text(row, Column::Name))?;
     match chosen.manner {
         Manner::Withdraws => Some(RowForm::Line(name, None)),
         _ => Some(RowForm::Line(name, Some(place_of(row)?))),
@@ -206,21 +216,21 @@ fn line(chosen: Chosen, row: Columns<'_>) -> Option<RowForm>
 
 // The category and the equation of a line.
 #[tactic(auto, unfolding(crate::specs::Content::line_in))]
-fn place_of(row: Columns<'_>) -> Option<(Category, EqId)>
-    ensures { result ≡ line_in (texts row.entry) }
+fn place_of(row: &ByteRecord) -> Option<(Category, EqId)>
+    ensures { result ≡ line_in (fields_of row.now) }
 {
-    let category = leaf_named(row.subject)?;
-    let equation = eq_named(row.value)?;
+    let category = leaf_named(text(row, Column::Subject))?;
+    let equation = eq_named(text(row, Column::Value))?;
     Some((category, equation))
 }
 
 #[tactic(auto, unfolding(crate::specs::Content::content_of))]
-fn bind(chosen: Chosen, row: Columns<'_>, binding: Option<Binding>) -> Option<RowForm>
-    requires { binding ≡ binding_in (texts row) }
-    ensures { result ≡ content_of kinds.Bind chosen (texts row.entry) }
+fn bind(chosen: Chosen, row: &ByteRecord, binding: Option<Binding>) -> Option<RowForm>
+    requires { binding ≡ binding_in (fields_of row.now) }
+    ensures { result ≡ content_of kinds.Bind chosen (fields_of row.now) }
 {
-    let line = Name::plain(row.subject)?;
-    let parameter = ParamName::new(row.name)?;
+    let line = Name::plain(text(row, Column::Subject))?;
+    let parameter = ParamName::new(text(row, Column::Name))?;
     match chosen.manner {
         Manner::Withdraws => Some(RowForm::Bind(line, parameter, None)),
         _ => Some(RowForm::Bind(line, parameter, Some(binding?))),
@@ -228,10 +238,10 @@ fn bind(chosen: Chosen, row: Columns<'_>, binding: Option<Binding>) -> Option<Ro
 }
 
 #[tactic(auto, unfolding(crate::specs::Content::content_of))]
-fn uncert(chosen: Chosen, row: Columns<'_>) -> Option<RowForm>
-    ensures { result ≡ content_of kinds.Uncert chosen (texts row.entry) }
+fn uncert(chosen: Chosen, row: &ByteRecord) -> Option<RowForm>
+    ensures { result ≡ content_of kinds.Uncert chosen (fields_of row.now) }
 {
-    let line = Name::plain(row.name)?;
+    let line = Name::plain(text(row, Column::Name))?;
     match chosen.manner {
         Manner::Withdraws => Some(RowForm::Uncert(line, None)),
         _ => Some(RowForm::Uncert(line, Some(uncertainties(row)?))),
@@ -240,21 +250,21 @@ fn uncert(chosen: Chosen, row: Columns<'_>) -> Option<RowForm>
 
 // The uncertainties of activity data and of an emission factor.
 #[tactic(auto, unfolding(crate::specs::Content::uncertainties_in))]
-fn uncertainties(row: Columns<'_>) -> Option<(u32, u32)>
-    ensures { result ≡ uncertainties_in (texts row.entry) }
+fn uncertainties(row: &ByteRecord) -> Option<(u32, u32)>
+    ensures { result ≡ uncertainties_in (fields_of row.now) }
 {
-    let activity = read_uncertainty(row.value)?;
-    let factor = read_uncertainty(row.low)?;
+    let activity = read_uncertainty(text(row, Column::Value))?;
+    let factor = read_uncertainty(text(row, Column::Low))?;
     Some((activity, factor))
 }
 
 // What a row names as the target of the form that it names.
 #[tactic(auto, unfolding(crate::specs::Forms::binding_in))]
-fn binding_named(alloc: Global, row: Columns<'_>) -> Result<Option<Binding>, AllocError>
-    ensures { IfOk result (λ binding. binding ≡ binding_in (texts row.entry)) }
+fn binding_named(alloc: Global, row: &ByteRecord) -> Result<Option<Binding>, AllocError>
+    ensures { IfOk result (λ binding. binding ≡ binding_in (fields_of row.now)) }
 {
-    match binding_form_named(row.value) {
-        Some(form) => target(alloc, form, row.low),
+    match binding_form_named(text(row, Column::Value)) {
+        Some(form) => target(alloc, form, text(row, Column::Low)),
         None => Ok(None),
     }
 }

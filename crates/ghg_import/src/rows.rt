@@ -9,7 +9,7 @@ ghost use Rattle.ghg_import.specs.Fault.{Gives};
 ghost use Rattle.ghg_import.specs.Reading.{no_header, reading_of, row_content, rows_from, under_header};
 ghost use Rattle.ghg_import.specs.Told.{Tells};
 
-use crate::columns::{columns_of, is_header};
+use crate::columns::{has_columns, is_header};
 use crate::fault::{Fault, ReadError};
 use crate::form::content;
 use crate::reader::RecordReader;
@@ -102,6 +102,8 @@ fn rows_under_header(
 fn row_content(alloc: Global, fields: &ByteRecord) -> Result<(Act, RowForm), ReadError>
     ensures { Gives result (row_content (fields_of fields.now)) }
 {
-    let columns = columns_of(fields).ok_or(Fault::Shape)?;
-    content(alloc, columns)
+    if !has_columns(fields) {
+        return Err(ReadError::Fault(Fault::Shape));
+    }
+    content(alloc, fields)
 }

@@ -1,13 +1,14 @@
 //! The forms of rows as a table: what each column may hold, kind by kind.
 
 ghost use Rattle.std.specs.Prelude.{◌≡◌, find};
+ghost use Rattle.csv.specs.Records.{fields_of};
 ghost use Rattle.ghg_import.specs.Forms.{leaf_in, quantity_in};
-ghost use Rattle.ghg_import.specs.Shape.{texts};
-ghost use Rattle.ghg_import.specs.Table.{columns_of, decided, holding_at, holdings_of, is_held, is_number, is_quantity, is_wrong_number, is_wrong_word, says_no_more, says_no_more_in, wrong_among, wrong_column};
+ghost use Rattle.ghg_import.specs.Table.{columns_of, decided, holding_at, holdings_of, is_held, is_number, is_quantity, is_unfilled, is_wrong_number, is_wrong_word, says_no_more, says_no_more_in, wrong_among, wrong_column};
 
-use crate::columns::Columns;
+use crate::columns::text;
 use crate::fault::Fault;
 use crate::kind::{Chosen, Kind, Manner, binding_form_named};
+use csv::ByteRecord;
 use ghg_categories::{Category, is_leaf};
 use ghg_equations::eq_named;
 use ghg_units::{
@@ -213,9 +214,15 @@ fn is_quantity(unit: Option<Unit>, text: &[u8]) -> bool
     }
 }
 
+fn is_unfilled(row: &ByteRecord, column: Column) -> bool
+    ensures { result ≡ is_unfilled (fields_of row.now) column }
+{
+    text(row, column).is_empty()
+}
+
 // Whether a text is what a column may hold in its row.
-fn is_held(holding: Holding, chosen: Chosen, row: Columns<'_>, text: &[u8]) -> bool
-    ensures { result ≡ is_held holding chosen (texts row.entry) text.now }
+fn is_held(holding: Holding, chosen: Chosen, row: &ByteRecord, text: &[u8]) -> bool
+    ensures { result ≡ is_held holding chosen (fields_of row.now) text.now }
 {
     match holding {
         Holding::Empty => text.is_empty(),
@@ -231,7 +238,8 @@ fn is_held(holding: Holding, chosen: Chosen, row: Columns<'_>, text: &[u8]) -> b
         Holding::Year => read_year(text).is_some(),
         Holding::Figure => is_quantity(chosen.unit, text),
         Holding::Bound => {
-            row.low.is_empty() && row.high.is_empty() || is_quantity(chosen.unit, text)
+            is_unfilled(row, Column::Low) && is_unfilled(row, Column::High)
+                || is_quantity(chosen.unit, text)
         }
         Holding::HalfLife => read_half_life(text).is_some(),
         Holding::NoBound => text.is_empty(),
@@ -251,24 +259,24 @@ const DECIDED: [Column; 7] = [
 ];
 
 // Whether the column should be empty or hold a word, and does not.
-fn is_wrong_word(holdings: Holdings, chosen: Chosen, row: Columns<'_>, column: Column) -> bool
-    ensures { result ≡ is_wrong_word holdings chosen (texts row.entry) column }
+fn is_wrong_word(holdings: Holdings, chosen: Chosen, row: &ByteRecord, column: Column) -> bool
+    ensures { result ≡ is_wrong_word holdings chosen (fields_of row.now) column }
 {
     let holding = holding_at(holdings, column);
-    !is_number(holding) && !is_held(holding, chosen, row, row.text(column))
+    !is_number(holding) && !is_held(holding, chosen, row, text(row, column))
 }
 
 // Whether the column should hold a number, and does not.
-fn is_wrong_number(holdings: Holdings, chosen: Chosen, row: Columns<'_>, column: Column) -> bool
-    ensures { result ≡ is_wrong_number holdings chosen (texts row.entry) column }
+fn is_wrong_number(holdings: Holdings, chosen: Chosen, row: &ByteRecord, column: Column) -> bool
+    ensures { result ≡ is_wrong_number holdings chosen (fields_of row.now) column }
 {
     let holding = holding_at(holdings, column);
-    is_number(holding) && !is_held(holding, chosen, row, row.text(column))
+    is_number(holding) && !is_held(holding, chosen, row, text(row, column))
 }
 
 // The leftmost wrong word.
-fn wrong_word(holdings: Holdings, chosen: Chosen, row: Columns<'_>) -> Option<Column>
-    ensures { result ≡ find (is_wrong_word holdings chosen (texts row.entry)) decided }
+fn wrong_word(holdings: Holdings, chosen: Chosen, row: &ByteRecord) -> Option<Column>
+    ensures { result ≡ find (is_wrong_word holdings chosen (fields_of row.now)) decided }
 {
     DECIDED
         .iter()
@@ -277,8 +285,8 @@ fn wrong_word(holdings: Holdings, chosen: Chosen, row: Columns<'_>) -> Option<Co
 }
 
 // The leftmost wrong number.
-fn wrong_number(holdings: Holdings, chosen: Chosen, row: Columns<'_>) -> Option<Column>
-    ensures { result ≡ find (is_wrong_number holdings chosen (texts row.entry)) decided }
+fn wrong_number(holdings: Holdings, chosen: Chosen, row: &ByteRecord) -> Option<Column>
+    ensures { result ≡ find (is_wrong_number holdings chosen (fields_of row.now)) decided }
 {
     DECIDED
         .iter()
@@ -288,8 +296,8 @@ fn wrong_number(holdings: Holdings, chosen: Chosen, row: Columns<'_>) -> Option<
 
 /// What is wrong with a column: the leftmost wrong word, and else the leftmost wrong number.
 #[tactic(auto, unfolding(crate::specs::Table::wrong_column))]
-pub(crate) fn wrong_column(kind: Kind, chosen: Chosen, row: Columns<'_>) -> Option<Fault>
-    ensures { result ≡ wrong_column kind chosen (texts row.entry) }
+pub(crate) fn wrong_column(kind: Kind, chosen: Chosen, row: &ByteRecord) -> Option<Fault>
+    ensures { result ≡ wrong_column kind chosen (fields_of row.now) }
 {
     let holdings = holdings_of(kind, chosen.manner);
     match wrong_word(holdings, chosen, row) {
@@ -303,26 +311,26 @@ pub(crate) fn wrong_column(kind: Kind, chosen: Chosen, row: Columns<'_>) -> Opti
 
 // Whether a column is empty if it should be, and a bound does not stand alone. What another column holds, the
 // row's content tells.
-fn says_no_more_in(holding: Holding, row: Columns<'_>, text: &[u8]) -> bool
-    ensures { result ≡ says_no_more_in holding (texts row.entry) text.now }
+fn says_no_more_in(holding: Holding, row: &ByteRecord, text: &[u8]) -> bool
+    ensures { result ≡ says_no_more_in holding (fields_of row.now) text.now }
 {
     match holding {
         Holding::Empty | Holding::NoBound => text.is_empty(),
-        Holding::Bound => row.low.is_empty() == row.high.is_empty(),
+        Holding::Bound => is_unfilled(row, Column::Low) == is_unfilled(row, Column::High),
         _ => true,
     }
 }
 
 /// Whether no column that should be empty has a text, and no bound stands alone.
-pub(crate) fn says_no_more(kind: Kind, manner: Manner, row: Columns<'_>) -> bool
-    ensures { result ≡ says_no_more kind manner (texts row.entry) }
+pub(crate) fn says_no_more(kind: Kind, manner: Manner, row: &ByteRecord) -> bool
+    ensures { result ≡ says_no_more kind manner (fields_of row.now) }
 {
     let holdings = holdings_of(kind, manner);
-    says_no_more_in(holdings.subject, row, row.subject)
-        && says_no_more_in(holdings.name, row, row.name)
-        && says_no_more_in(holdings.year, row, row.year)
-        && says_no_more_in(holdings.value, row, row.value)
-        && says_no_more_in(holdings.low, row, row.low)
-        && says_no_more_in(holdings.high, row, row.high)
-        && says_no_more_in(holdings.unit, row, row.unit)
+    says_no_more_in(holdings.subject, row, text(row, Column::Subject))
+        && says_no_more_in(holdings.name, row, text(row, Column::Name))
+        && says_no_more_in(holdings.year, row, text(row, Column::Year))
+        && says_no_more_in(holdings.value, row, text(row, Column::Value))
+        && says_no_more_in(holdings.low, row, text(row, Column::Low))
+        && says_no_more_in(holdings.high, row, text(row, Column::High))
+        && says_no_more_in(holdings.unit, row, text(row, Column::Unit))
 }

@@ -10,7 +10,7 @@ use Rattle.ghg_keycat.specs.declared.Pair.{Pair}
 use Rattle.ghg_keycat.specs.declared.ranking.Ranked.{Ranked}
 use Rattle.ghg_keycat.specs.declared.KeyRow.{KeyRow}
 use Rattle.ghg_keycat.specs.Entries.{by_entry, size_in, AreDescending, IsRanked, IsKeyed, row_at}
-use Rattle.ghg_keycat.specs.Ranking.{AreDistinct, is_before, IsRanking}
+use Rattle.ghg_keycat.specs.Ranking.{AreDistinct, IsRanking, ranks_before}
 use Rattle.ghg_keycat.proofs.Sums.{sum_same, sum_map, sum_before}
 use Rattle.ghg_keycat.proofs.Order.{AreApart, descending_far, strictly, apart_moved, apart_entries}
 
@@ -18,42 +18,42 @@ abbrev IsSized : (Pair → ℕ) → Ranked → Type 0
 IsSized size r = size_in r ≡ size r.pair
 
 -- both orders agree where the sizes are the pairs'
-same_order : (size : Pair → ℕ) (x y : Ranked) → IsSized size x → IsSized size y → is_lt (by_entry x y) ≡ is_before size x.pair y.pair
+same_order : (size : Pair → ℕ) (x y : Ranked) → IsSized size x → IsSized size y → is_lt (by_entry x y) ≡ ranks_before size x.pair y.pair
 same_order size x y a b = rw (a, b) refl
 
 module _ (size : Pair → ℕ) (rows : List Pair) (xs : List Ranked) (sized : All (IsSized size) xs) (down : AreDescending xs) (apart : AreApart xs) where
   at : (k : ℕ) (d : Ranked) → k < length xs → IsSized size (get_or xs k d)
   at k d h = All-get_or (IsSized size) xs k d h sized
 
-  pub earlier : (i j : ℕ) (d : Ranked) → i < j → j < length xs → is_before size (get_or xs i d).pair (get_or xs j d).pair ≡ true
+  pub earlier : (i j : ℕ) (d : Ranked) → i < j → j < length xs → ranks_before size (get_or xs i d).pair (get_or xs j d).pair ≡ true
   earlier i j d h k =
       let il : i < length xs = omega arith in
       let n = apart j i d k il (λ e. omega (arith, e)) in
       let entry = strictly (get_or xs i d) (get_or xs j d) (descending_far xs down i j d (omega arith) k) n in
       sym (same_order size (get_or xs i d) (get_or xs j d) (at i d il) (at j d k)) ∙ entry
 
-  later : (i j : ℕ) (d : Ranked) → i ≤ j → j < length xs → is_before size (get_or xs j d).pair (get_or xs i d).pair ≡ false
+  later : (i j : ℕ) (d : Ranked) → i ≤ j → j < length xs → ranks_before size (get_or xs j d).pair (get_or xs i d).pair ≡ false
   later i j d h k =
       let il : i < length xs = omega arith in
       sym (same_order size (get_or xs j d) (get_or xs i d) (at j d k) (at i d il)) ∙ descending_far xs down i j d h k
 
   -- the sum of the sizes in front of the entry at k
-  pub sum_in_front : (k : ℕ) (d : Ranked) → k < length xs → sum_by (λ (r : Ranked). cond (is_before size r.pair (get_or xs k d).pair) (size r.pair) 0) xs ≡ sum_by size_in (take k xs)
+  pub sum_in_front : (k : ℕ) (d : Ranked) → k < length xs → sum_by (λ (r : Ranked). cond (ranks_before size r.pair (get_or xs k d).pair) (size r.pair) 0) xs ≡ sum_by size_in (take k xs)
   sum_in_front k d h =
       let p : Pair = (get_or xs k d).pair in
-      let front : All (λ (r : Ranked). cond (is_before size r.pair p) (size r.pair) 0 ≡ size_in r) (take k xs) =
+      let front : All (λ (r : Ranked). cond (ranks_before size r.pair p) (size r.pair) 0 ≡ size_in r) (take k xs) =
       λ i e l.
       let below : i < k = omega (arith, l, length-take k xs) in
       let same : get_or (take k xs) i e ≡ get_or xs i d = get_or-take k xs i e below ∙ get_or_default xs i e d (omega arith) in
-      let first : is_before size (get_or xs i d).pair p ≡ true = earlier i k d below h in
+      let first : ranks_before size (get_or xs i d).pair p ≡ true = earlier i k d below h in
       rw (same, first) (sym (at i d (omega arith))) in
-      let back : All (λ (r : Ranked). cond (is_before size r.pair p) (size r.pair) 0 ≡ 0) (drop k xs) =
+      let back : All (λ (r : Ranked). cond (ranks_before size r.pair p) (size r.pair) 0 ≡ 0) (drop k xs) =
       λ i e l.
       let within : k + i < length xs = omega (arith, l, length-drop k xs) in
       let same : get_or (drop k xs) i e ≡ get_or xs (k + i) d = get_or-drop k xs i e ∙ get_or_default xs (k + i) e d within in
-      let not_first : is_before size (get_or xs (k + i) d).pair p ≡ false = later k (k + i) d (omega arith) within in
+      let not_first : ranks_before size (get_or xs (k + i) d).pair p ≡ false = later k (k + i) d (omega arith) within in
       rw (same, not_first) refl in
-      sum_before (λ (r : Ranked). cond (is_before size r.pair p) (size r.pair) 0) size_in xs k front back
+      sum_before (λ (r : Ranked). cond (ranks_before size r.pair p) (size r.pair) 0) size_in xs k front back
 
 same_pairs : (keys : List KeyRow) (xs : List Ranked) → length keys ≡ length xs → ((k : ℕ) (d : Ranked) (e : KeyRow) → k < length xs → (get_or keys k e).pair ≡ (get_or xs k d).pair) → map (λ (r : KeyRow). r.pair) keys ≡ map (λ (r : Ranked). r.pair) xs
 same_pairs [] [] h e = refl
@@ -87,7 +87,7 @@ ranking size rows ranked keys distinct is keyed =
           let here : k < length xs = omega (arith, l, count) in
           rw (row k d e here) (record {
             size_is = All-get_or (IsSized size) xs k d here sized;
-            before_is = sym (sum_in_front size rows xs sized keyed.descending apart k d here) ∙ sym (over (λ p. cond (is_before size p (get_or xs k d).pair) (size p) 0));
+            before_is = sym (sum_in_front size rows xs sized keyed.descending apart k d here) ∙ sym (over (λ p. cond (ranks_before size p (get_or xs k d).pair) (size p) 0));
             total_is = total;
             key_is = refl;
           });

@@ -4,13 +4,13 @@ use Rattle.std.specs.List.{sum_by}
 use Rattle.std.specs.List.Sorted.{IsStrictlySortedBy}
 use Rattle.ghg_keycat.specs.declared.Pair.{Pair}
 use Rattle.ghg_keycat.specs.declared.KeyRow.{KeyRow}
-use Rattle.ghg_keycat.specs.Ranking.{AreDistinct, IsRanking, in_order, key_of, key_order}
+use Rattle.ghg_keycat.specs.Ranking.{AreDistinct, IsRanking, category_and_gas, in_order, key_order}
 use Rattle.ghg_keycat.specs.Sizes.{base_size, base_sum, gross, gross_limit, level_size, now_sum, trend_size}
 
 -- pairs whose categories and gases ascend, as the keys of an ordered map do, are distinct
 abbrev pub AscendingPairsAreDistinct : Type 0
 AscendingPairsAreDistinct =
-    (rows : List Pair) → IsStrictlySortedBy key_order (map key_of rows) → AreDistinct rows
+    (rows : List Pair) → IsStrictlySortedBy key_order (map category_and_gas rows) → AreDistinct rows
 
 -- A ranking of distinct pairs is the list of them in order.
 abbrev pub RankingsAreInOrder : Type 0

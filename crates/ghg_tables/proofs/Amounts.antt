@@ -1,5 +1,5 @@
 -- Sums of points, and how large they are.
-use Rattle.std.proofs.Common.{◌≡◌, ℕ, zero, suc, ◌+◌, ◌*◌, ◌≤◌, Bool, true, false, nat_le, cond, List, [], ◌∷◌, length, map, Option, Some, None, Result, Ok, Err, refl, sym, ap, subst, ◌∙◌, arith, ℤ, pos, negsuc, ◌+ℤ◌, unsigned_abs}
+use Rattle.std.proofs.Common.{unwrap_or, ◌≡◌, ℕ, zero, suc, ◌+◌, ◌*◌, ◌≤◌, Bool, true, false, nat_le, cond, List, [], ◌∷◌, length, map, Option, Some, None, Result, Ok, Err, refl, sym, ap, subst, ◌∙◌, arith, ℤ, pos, negsuc, ◌+ℤ◌, unsigned_abs}
 use Rattle.std.proofs.lemmas.Bool.{leb-true}
 use Rattle.std.proofs.lemmas.Int.{ints}
 use Rattle.std.specs.List.{fold}
@@ -20,13 +20,13 @@ use Rattle.ghg_definitions.specs.Compilation.{compilation, is_node, line_gas, po
 use Rattle.ghg_definitions.specs.Data.{Data, Name}
 use Rattle.ghg_definitions.specs.Formulas.{Outcome}
 use Rattle.ghg_definitions.specs.Lookups.{given}
-use Rattle.ghg_definitions.specs.Trials.{IsCompilation, Outcomes, or_blank as outcome_or_blank, value_of}
+use Rattle.ghg_definitions.specs.Trials.{IsCompilation, Outcomes, or_blank, value_of}
 use Rattle.ghg_definitions.proofs.Alike.{first_so, second_so}
 use Rattle.ghg_uncertainty.specs.Totals.{amount_limit}
 use Rattle.ghg_tables.specs.declared.precision.Precision.TheVariants.{Thousandths}
 use Rattle.ghg_tables.specs.Gathering.{doubled, doubled_sum}
 use Rattle.ghg_tables.specs.Rounding.{nearest, nearest_magnitude, reported, with_sign}
-use Rattle.ghg_tables.specs.Sums.{or_blank, point_of, shown, tonnes_of}
+use Rattle.ghg_tables.specs.Sums.{point_of, shown, tonnes_of}
 
 -- ---- the middle of a sum is the sum of the middles
 
@@ -98,12 +98,12 @@ small_equivalent (Ok x) weight i e = small_weighted (known x) (known weight) i e
 small_equivalent (Err over) weight i e = absurd (cc)
 
 module _ (m : Data) (compiled : IsCompilation (sheet_of m) (compilation m)) where
-  small_node : (name : Name) (year : ℕ) (b : Bool) (o : Option Outcome) → is_node m (node.Equiv name year) ≡ b → compilation m (node.Equiv name year) ≡ o → IsSmall (or_blank (value_of o))
+  small_node : (name : Name) (year : ℕ) (b : Bool) (o : Option Outcome) → is_node m (node.Equiv name year) ≡ b → compilation m (node.Equiv name year) ≡ o → IsSmall (unwrap_or (value_of o) Blank)
   small_node name year b None is e = omega arith
   small_node name year b (Some (Err over)) is e = omega arith
   small_node name year true (Some (Ok i)) is e =
       let n : Node = node.Equiv name year in
-      let line : Outcome = outcome_or_blank (compilation m (node.Line name year)) in
+      let line : Outcome = or_blank (compilation m (node.Line name year)) in
       let weight : Input = given m (potential m year (line_gas m name)) in
       let formula : compilation m n ≡ Some ((then) line (λ x. equivalent x weight)) = compiled.trial.by_formula n is in
       small_equivalent line weight i (same_Some ((then) line (λ x. equivalent x weight)) (Ok i) (sym formula ∙ e))

@@ -15,7 +15,7 @@ use Rattle.ghg_definitions.specs.Listed.{IsListed}
 use Rattle.ghg_definitions.proofs.Listed.{listed}
 use Rattle.ghg_keycat.specs.declared.KeyRow.{KeyRow}
 use Rattle.ghg_keycat.specs.declared.Pair.{Pair}
-use Rattle.ghg_keycat.specs.Ranking.{AreDistinct, IsKeyRow, IsRanking, before, in_order, is_before}
+use Rattle.ghg_keycat.specs.Ranking.{AreDistinct, IsKeyRow, IsRanking, before, in_order, ranks_before}
 use Rattle.ghg_keycat.specs.Sizes.{base_size, base_sum, gross, gross_limit, level_size}
 use Rattle.ghg_keycat.proofs.InOrder.{by_rank_total, ranked_in_order}
 use Rattle.ghg_keycat.proofs.Small.{small}
@@ -26,27 +26,27 @@ use Rattle.ghg_tables.specs.Assessed.{IsBounded, level_key_row, trend_key_row}
 
 before_within : (size : Pair → ℕ) (rows : List Pair) (p : Pair) → before size rows p ≤ sum_by size rows
 before_within size [] p = omega arith
-before_within size (x ∷ rows) p = omega (arith, sum_by-cons (λ y. cond (is_before size y p) (size y) 0) x rows, sum_by-cons size x rows, before_within size rows p, by (is_before size x p))
+before_within size (x ∷ rows) p = omega (arith, sum_by-cons (λ y. cond (ranks_before size y p) (size y) 0) x rows, sum_by-cons size x rows, before_within size rows p, by (ranks_before size x p))
   where
     by : (b : Bool) → cond b (size x) 0 ≤ size x
     by true = omega arith
     by false = omega arith
 
-not_before_itself : (size : Pair → ℕ) (p x : Pair) → p ≡ x → is_before size x p ≡ false
-not_before_itself size p x e = subst (λ y. is_before size y p ≡ false) e (ap is_lt (tied_itself (by_rank_total size) p))
+not_before_itself : (size : Pair → ℕ) (p x : Pair) → p ≡ x → ranks_before size x p ≡ false
+not_before_itself size p x e = subst (λ y. ranks_before size y p ≡ false) e (ap is_lt (tied_itself (by_rank_total size) p))
 
 own_too : (size : Pair → ℕ) (rows : List Pair) (p : Pair) → IsListed p rows → before size rows p + size p ≤ sum_by size rows
 own_too size [] p h = absurd h
 own_too size (x ∷ rows) p (inl e) =
     omega (
       arith,
-      sum_by-cons (λ y. cond (is_before size y p) (size y) 0) x rows,
+      sum_by-cons (λ y. cond (ranks_before size y p) (size y) 0) x rows,
       sum_by-cons size x rows,
       before_within size rows p,
       ap (λ b. cond b (size x) 0) (not_before_itself size p x e),
       ap size e,
     )
-own_too size (x ∷ rows) p (inr h) = omega (arith, sum_by-cons (λ y. cond (is_before size y p) (size y) 0) x rows, sum_by-cons size x rows, own_too size rows p h, by (is_before size x p))
+own_too size (x ∷ rows) p (inr h) = omega (arith, sum_by-cons (λ y. cond (ranks_before size y p) (size y) 0) x rows, sum_by-cons size x rows, own_too size rows p h, by (ranks_before size x p))
   where
     by : (b : Bool) → cond b (size x) 0 ≤ size x
     by true = omega arith

@@ -30,7 +30,7 @@ use Rattle.ghg_definitions.specs.Data.{Data, Name, line_names}
 use Rattle.ghg_definitions.specs.Rules.{most_lines}
 use Rattle.ghg_definitions.specs.Trials.{IsCompilation, Outcomes}
 use Rattle.ghg_keycat.specs.declared.Pair.{Pair}
-use Rattle.ghg_keycat.specs.Ranking.{AreDistinct, key_of, key_order}
+use Rattle.ghg_keycat.specs.Ranking.{AreDistinct, category_and_gas, key_order}
 use Rattle.ghg_keycat.specs.Sizes.{gross, gross_limit}
 use Rattle.ghg_keycat.proofs.Keys.{distinct_from_ascending}
 use Rattle.ghg_uncertainty.specs.Totals.{amount_limit}
@@ -184,14 +184,14 @@ module _ (m : Data) (outcomes : Outcomes) (years : Years) where
   abbrev is_present : Key → Bool
   is_present k = not (is_empty (pair_lines m k))
 
-  keys_are : (ks : List Key) → map key_of (rows_of ks) ≡ filter is_present ks
+  keys_are : (ks : List Key) → map category_and_gas (rows_of ks) ≡ filter is_present ks
   unfolding pair_at
   keys_are [] = refl
   keys_are (k ∷ ks) = by (is_empty (pair_lines m k)) refl (keys_are ks)
     where
-      by : (b : Bool) → is_empty (pair_lines m k) ≡ b → map key_of (rows_of ks) ≡ filter is_present ks → map key_of (rows_of (k ∷ ks)) ≡ filter is_present (k ∷ ks)
-      by true e rest = ap (λ b. map key_of ((if b then [] else (pair_of m outcomes years k ∷ [])) ++ rows_of ks)) e ∙ rest ∙ sym (ap (λ b. cond (not b) (k ∷ filter is_present ks) (filter is_present ks)) e)
-      by false e rest = ap (λ b. map key_of ((if b then [] else (pair_of m outcomes years k ∷ [])) ++ rows_of ks)) e ∙ ap (λ xs. k ∷ xs) rest ∙ sym (ap (λ b. cond (not b) (k ∷ filter is_present ks) (filter is_present ks)) e)
+      by : (b : Bool) → is_empty (pair_lines m k) ≡ b → map category_and_gas (rows_of ks) ≡ filter is_present ks → map category_and_gas (rows_of (k ∷ ks)) ≡ filter is_present (k ∷ ks)
+      by true e rest = ap (λ b. map category_and_gas ((if b then [] else (pair_of m outcomes years k ∷ [])) ++ rows_of ks)) e ∙ rest ∙ sym (ap (λ b. cond (not b) (k ∷ filter is_present ks) (filter is_present ks)) e)
+      by false e rest = ap (λ b. map category_and_gas ((if b then [] else (pair_of m outcomes years k ∷ [])) ++ rows_of ks)) e ∙ ap (λ xs. k ∷ xs) rest ∙ sym (ap (λ b. cond (not b) (k ∷ filter is_present ks) (filter is_present ks)) e)
 
   pub pairs_distinct : AreDistinct (pairs m outcomes years)
   pairs_distinct = rw pairs_are (distinct_from_ascending (rows_of (products tree)) (rw (keys_are (products tree)) (IsStrictlySortedBy-filter key_order is_present (products tree) all_sorted)))

@@ -1,5 +1,5 @@
 -- The texts of the tables of a workbook without a ring are sound.
-use Rattle.std.proofs.Common.{◌≡◌, ℕ, ◌+◌, ◌-◌, List, [], ◌∷◌, ◌++◌, map, flat_map, Option, Some, None, Result, Ok, Err, IfOk, refl, sym, ap, ◌∙◌, subst, append_assoc}
+use Rattle.std.proofs.Common.{unwrap_or, ◌≡◌, ℕ, ◌+◌, ◌-◌, List, [], ◌∷◌, ◌++◌, map, flat_map, Option, Some, None, Result, Ok, Err, IfOk, refl, sym, ap, ◌∙◌, subst, append_assoc}
 use Rattle.std.proofs.lemmas.List.{append-nil}
 use Rattle.ghg_categories.specs.declared.category.Category.{Category}
 use Rattle.ghg_categories.specs.declared.category.Category.TheVariants.{National}
@@ -20,7 +20,7 @@ use Rattle.ghg_tables.specs.declared.table.Table.TheVariants.{Cells, Summary, Se
 use Rattle.ghg_tables.specs.Laws.{line_precision, node_precision}
 use Rattle.ghg_tables.specs.Rounding.{high_of, low_of, reported}
 use Rattle.ghg_tables.specs.SoundTexts.{AreFigures, AreFiguresOf, AreRowsOf, IsRowOf, IsSoundText, Subject, gross_subject, line_subject, total_subject, year_subject}
-use Rattle.ghg_tables.specs.Sums.{or_blank, shown}
+use Rattle.ghg_tables.specs.Sums.{shown}
 use Rattle.ghg_tables.specs.Tables.{category_row, cells_text, gross_row, header, line_row, present_text, series_text, summary_text, table_text, year_row}
 use Rattle.ghg_tables.specs.Texts.{cell_text, cell_words, field, figures_text, known_text, total_text, year_text}
 use Rattle.ghg_tables.proofs.Bounds.{held}
@@ -32,7 +32,7 @@ module _ (m : Data) (workbook : IsWorkbook m) (acyclic : IsAcyclic m) where
   unfolding figures_text known_text
   figures_sound n = by (compilation m n) refl
     where
-      by : (o : Option Outcome) → compilation m n ≡ o → AreFiguresOf m n (value_of o) (figures_text (node_precision m n) (or_blank (value_of o)))
+      by : (o : Option Outcome) → compilation m n ≡ o → AreFiguresOf m n (value_of o) (figures_text (node_precision m n) (unwrap_or (value_of o) Blank))
       by None e = refl
       by (Some (Err over)) e = refl
       by (Some (Ok Blank)) e = refl

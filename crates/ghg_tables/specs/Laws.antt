@@ -49,9 +49,7 @@ line_precision (Some e) = precision_of (output e)
 -- how finely a node is printed
 abbrev pub node_precision : Data → Node → Precision
 node_precision m (node.Line name year) = line_precision (line m name)
-node_precision m (node.Equiv name year) = Thousandths
-node_precision m (node.Total c year) = Thousandths
-node_precision m (node.Gross year) = Thousandths
+node_precision m _ = Thousandths
 
 -- n is off z / d by no more than half, and where it is off by half it is the one farther from zero
 pub record IsNearest (d : ℕ) (z n : ℤ) : Type 0 where

@@ -4,19 +4,19 @@ use Rattle.std.specs.Str.{bytes_eq}
 use Rattle.ghg_tables.specs.declared.table.Table.{Table}
 use Rattle.ghg_tables.specs.declared.table.Table.TheVariants.{Cells, Summary, Series, Reference, Uncertainty, Level, Trend, Checks}
 
-abbrev pub name_of : Table → List ℕ
-name_of Cells = codes "cells"
-name_of Summary = codes "summary"
-name_of Series = codes "series"
-name_of Reference = codes "reference"
-name_of Uncertainty = codes "uncertainty"
-name_of Level = codes "level"
-name_of Trend = codes "trend"
-name_of Checks = codes "checks"
+abbrev pub table_name : Table → List ℕ
+table_name Cells = codes "cells"
+table_name Summary = codes "summary"
+table_name Series = codes "series"
+table_name Reference = codes "reference"
+table_name Uncertainty = codes "uncertainty"
+table_name Level = codes "level"
+table_name Trend = codes "trend"
+table_name Checks = codes "checks"
 
 abbrev pub tables : List Table
 tables = Cells ∷ Summary ∷ Series ∷ Reference ∷ Uncertainty ∷ Level ∷ Trend ∷ Checks ∷ []
 
 -- the table that a text names
 abbrev pub table_in : List ℕ → Option Table
-table_in text = find (λ table. bytes_eq (name_of table) text) tables
+table_in text = find (λ table. bytes_eq (table_name table) text) tables

@@ -1,5 +1,5 @@
 -- Sums of what lines emit, and the pairs of a category and a gas.
-use Rattle.std.specs.Prelude.{ℕ, Bool, true, false, if◌then◌else◌, List, [], ◌∷◌, map, filter, Option, Some, None, option_and_then, ℤ, pos}
+use Rattle.std.specs.Prelude.{ℕ, Bool, true, false, if◌then◌else◌, unwrap_or, List, [], ◌∷◌, map, filter, Option, Some, None, option_and_then, ℤ, pos}
 use Rattle.std.specs.List.{flat_map, fold}
 use Rattle.std.specs.Option.{option_map, option_map_or}
 use Rattle.std.specs.Ordering.{eq_by_cmp}
@@ -25,12 +25,8 @@ use Rattle.ghg_tables.specs.Rounding.{reported}
 -- ---- what is shown of a node
 
 -- what is printed of a node: what it is known to be, and else a blank
-abbrev pub or_blank : Option Input → Input
-or_blank None = Blank
-or_blank (Some value) = value
-
 abbrev pub shown : Outcomes → Node → Input
-shown outcomes n = or_blank (value_of (outcomes n))
+shown outcomes n = unwrap_or (value_of (outcomes n)) Blank
 
 -- ---- sums of points
 

@@ -2,7 +2,7 @@
 
 ghost use Rattle.std.specs.Prelude.{◌≡◌};
 ghost use Rattle.std.specs.Str.{bytes_eq};
-ghost use Rattle.ghg_tables.specs.Names.{name_of, table_in, tables};
+ghost use Rattle.ghg_tables.specs.Names.{table_in, table_name, tables};
 
 /// A table of a year.
 #[derive(Clone, Copy, Debug, PartialEq, Eq, Drop)]
@@ -40,7 +40,7 @@ impl Table {
 
     /// The word that names the table.
     pub fn name(self) -> &'static str
-        ensures { result.now ≡ name_of self }
+        ensures { result.now ≡ table_name self }
     {
         match self {
             Table::Cells => "cells",
@@ -66,7 +66,7 @@ pub fn table_named(text: &[u8]) -> Option<Table>
 }
 
 fn has_name(table: Table, text: &[u8]) -> bool
-    ensures { result ≡ bytes_eq (name_of table) text.now }
+    ensures { result ≡ bytes_eq (table_name table) text.now }
 {
     table.name().as_bytes() == text
 }
