@@ -72,8 +72,9 @@ without_series outcomes s n = if is_at (series_order s) (series_of n) then None 
 
 -- ---- cells
 
-abbrev pub column_of : Cells → Series → Option Column
-column_of cells s = get series_order cells.columns s
+-- the columns that series have
+abbrev pub Columns : Type 0
+Columns = Series → Option Column
 
 -- the value of a year in a column, if there is one
 abbrev pub value_at : Option Column → ℕ → Option Input
@@ -81,18 +82,30 @@ value_at None year = None
 value_at (Some column) year = value_in column year
 
 -- the value of a series in a year, if it has one
-abbrev pub value_of_series : Cells → Series → ℕ → Option Input
-value_of_series cells s year = value_at (column_of cells s) year
+abbrev pub value_of_series : Columns → Series → ℕ → Option Input
+value_of_series columns s year = value_at (columns s) year
+
+-- the value of a node that has a cell in the columns
+abbrev pub cells_in : Columns → Outcomes
+cells_in columns n = option_map Ok (value_of_series columns (series_of n) (year_in n))
+
+abbrev pub column_of : Cells → Columns
+column_of cells s = get series_order cells.columns s
 
 -- the value of a node that has a cell
 abbrev pub cell_at : Cells → Outcomes
-cell_at cells n = option_map Ok (value_of_series cells (series_of n) (year_in n))
+cell_at cells = cells_in (column_of cells)
 
 -- ---- room for fresh values
 
 -- the series has a column, which can take the fresh one
 abbrev pub HasRoomIn : Cells → Series → Column → Type 0
 HasRoomIn cells s fresh = IsSomeAnd (column_of cells s) (λ kept. CanTake kept fresh)
+
+-- there is room for the values of all of these columns
+abbrev pub HasRoomForAll : Cells → Columns → Type 0
+HasRoomForAll cells columns =
+    (s : Series) (column : Column) → columns s ≡ Some column → HasRoomIn cells s column
 
 -- the columns of other series stay
 abbrev pub SameElsewhere : Series → Cells → Cells → Type 0

@@ -6,10 +6,9 @@ use Rattle.ghg_units.specs.declared.node.Node.{Node}
 use Rattle.ghg_units.specs.contracts.node.NodeOrd.TheImpl as derived_of_nodes
 use Rattle.ghg_definitions.specs.Trials.{Outcomes, is_over}
 use Rattle.ghg_columns.specs.declared.cells.Cells.{Cells}
-use Rattle.ghg_columns.specs.declared.column.Column.{Column}
 use Rattle.ghg_columns.specs.declared.fresh.FreshCells.{FreshCells}
-use Rattle.ghg_columns.specs.declared.series.Series.{Series}
-use Rattle.ghg_columns.specs.Cells.{HasRoomIn, cell_at, column_of, found_in}
+use Rattle.ghg_columns.specs.Cells.{HasRoomForAll, cells_in, found_in}
+use Rattle.ghg_columns.specs.Written.{column_in}
 
 -- the order that the code has
 abbrev pub node_order : Node → Node → Ordering
@@ -21,7 +20,7 @@ over_at over n = if contains node_order over n then Some (Err (record {})) else 
 
 -- the outcome of a node that has a fresh cell: its value, or that it is over
 abbrev pub fresh_at : FreshCells → Outcomes
-fresh_at fresh = found_in (cell_at fresh.values) (over_at fresh.over)
+fresh_at fresh = found_in (cells_in (column_in fresh.values)) (over_at fresh.over)
 
 -- no outcome is over
 abbrev pub NoneOver : Outcomes → Type 0
@@ -29,5 +28,4 @@ NoneOver outcomes = (n : Node) → is_over (outcomes n) ≡ false
 
 -- the values of the fresh cells can be taken over without memory
 abbrev pub HasRoomFor : Cells → FreshCells → Type 0
-HasRoomFor cells fresh =
-    (s : Series) (column : Column) → column_of fresh.values s ≡ Some column → HasRoomIn cells s column
+HasRoomFor cells fresh = HasRoomForAll cells (column_in fresh.values)

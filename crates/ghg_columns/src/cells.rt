@@ -1,15 +1,17 @@
 //! Cells that are kept: the value of each node.
 
 ghost use Rattle.std.specs.Prelude.{◌≡◌, ℕ, if◌then◌else◌, Ok, OnOk, option_copied};
-ghost use Rattle.std.specs.BTreeMap.{is_at};
+ghost use Rattle.std.specs.BTreeMap.{get, is_at};
 ghost use Rattle.std.specs.Option.{option_map, option_or};
-ghost use Rattle.ghg_columns.specs.Cells.{HasRoomIn, SameElsewhere, cell_at, found_in, no_outcomes, series_order, value_of_series, with_outcome, without_series};
+ghost use Rattle.ghg_columns.specs.Cells.{HasRoomForAll, HasRoomIn, SameElsewhere, cell_at, column_of, found_in, no_outcomes, series_order, value_of_series, without_series};
 ghost use Rattle.ghg_columns.specs.Columns.{value_in};
 ghost use Rattle.ghg_columns.specs.Fresh.{HasRoomFor, NoneOver, fresh_at};
+ghost use Rattle.ghg_columns.specs.Written.{column_in};
 
-use crate::column::{Column, Years};
+use crate::column::Column;
 use crate::fresh::FreshCells;
 use crate::series::{Series, year_of};
+use crate::written::Written;
 use ghg_cell::Value;
 use ghg_units::Node;
 use std::alloc::{AllocError, Global};
@@ -41,28 +43,25 @@ impl Cells {
         column.get(year_of(node))
     }
 
-    /// Gives a node its value. The column of its series is made, or made to reach over its year. The `years`
-    /// are those of the fresh nodes.
-    pub(crate) fn put(&mut self, node: &Node, value: Value, years: &Years) -> Result<(), AllocError>
-        ensures { OnOk result (cell_at self.new ≡ with_outcome (cell_at self.old) node.now (Ok value)) }
-    {
-        let series = Series::of(node);
-        let year = year_of(node);
-        if let Some(column) = self.columns.get_mut(&series) {
-            return column.put(year, value, years);
-        }
-        let column = Column::of(self.alloc, year, value)?;
-        self.columns.insert(series, column)?;
-        Ok(())
-    }
-
     /// Makes room for the values of fresh cells, by empty slots in the columns of their series. The cells
     /// stay as they are, also where the memory does not suffice.
     pub fn make_room(&mut self, fresh: &FreshCells) -> Result<(), AllocError>
         ensures same { cell_at self.new ≡ cell_at self.old }
         ensures room { OnOk result (HasRoomFor self.new fresh.now) }
     {
-        for (series, column) in &fresh.values.columns {
+        self.make_room_for(&fresh.values.columns)?;
+        match &fresh.values.series {
+            Some(series) => self.make_room_in(series, &fresh.values.last),
+            None => Ok(()),
+        }
+    }
+
+    // Makes room for the values of fresh columns.
+    fn make_room_for(&mut self, columns: &BTreeMap<Series, Column>) -> Result<(), AllocError>
+        ensures same { cell_at self.new ≡ cell_at self.old }
+        ensures room { OnOk result (HasRoomForAll self.new (get series_order columns.now)) }
+    {
+        for (series, column) in columns {
             self.make_room_in(series, column)?;
         }
         Ok(())
@@ -88,8 +87,43 @@ impl Cells {
         requires none_over { NoneOver (fresh_at fresh) }
         ensures { cell_at self.new ≡ found_in (fresh_at fresh) (cell_at self.old) }
     {
-        let mut values = fresh.values;
-        while let Some((series, column)) = values.columns.pop_first() {
+        let columns = self.take_last(fresh.values);
+        self.take_columns(columns);
+    }
+
+    // Takes over the values of the column that was written last, and returns the other columns.
+    fn take_last(&mut self, fresh: Written) -> BTreeMap<Series, Column>
+        requires { HasRoomForAll self.old (column_in fresh) }
+        ensures room { HasRoomForAll self.new (get series_order result) }
+        ensures values { (s : Series) (year : ℕ) →
+            option_or (value_of_series (get series_order result) s year)
+            (value_of_series (column_of self.new) s year) ≡
+            option_or (value_of_series (column_in fresh) s year)
+            (value_of_series (column_of self.old) s year) }
+    {
+        let Written {
+            series,
+            last,
+            mut columns,
+            ..
+        } = fresh;
+        let Some(series) = series else {
+            return columns;
+        };
+        columns.remove(&series);
+        self.take_column(&series, last);
+        columns
+    }
+
+    // Takes over the values of fresh columns.
+    fn take_columns(&mut self, fresh: BTreeMap<Series, Column>)
+        requires { HasRoomForAll self.old (get series_order fresh) }
+        ensures { (s : Series) (year : ℕ) → value_of_series (column_of self.new) s year ≡
+            option_or (value_of_series (get series_order fresh) s year)
+            (value_of_series (column_of self.old) s year) }
+    {
+        let mut columns = fresh;
+        while let Some((series, column)) = columns.pop_first() {
             self.take_column(&series, column);
         }
     }
@@ -97,10 +131,10 @@ impl Cells {
     // Takes over the values of a fresh column.
     fn take_column(&mut self, series: &Series, fresh: Column)
         requires { HasRoomIn self.old series.now fresh }
-        ensures values { (s : Series) (year : ℕ) → value_of_series self.new s year ≡
+        ensures values { (s : Series) (year : ℕ) → value_of_series (column_of self.new) s year ≡
             (if is_at (series_order series.now) s
-            then option_or (value_in fresh year) (value_of_series self.old s year)
-            else value_of_series self.old s year) }
+            then option_or (value_in fresh year) (value_of_series (column_of self.old) s year)
+            else value_of_series (column_of self.old) s year) }
         ensures others { SameElsewhere series.now self.old self.new }
     {
         let column = self.columns.get_mut(series).unwrap();

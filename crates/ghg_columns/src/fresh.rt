@@ -1,12 +1,14 @@
 //! Cells of nodes that are evaluated anew.
 
-ghost use Rattle.std.specs.Prelude.{◌≡◌, None, OnOk};
+ghost use Rattle.std.specs.Prelude.{◌≡◌, None, Ok, OnOk, option_copied};
 ghost use Rattle.std.specs.Option.{option_map};
-ghost use Rattle.ghg_columns.specs.Cells.{no_outcomes, outcome_behind, with_outcome};
+ghost use Rattle.ghg_columns.specs.Cells.{cells_in, no_outcomes, outcome_behind, with_outcome};
 ghost use Rattle.ghg_columns.specs.Fresh.{fresh_at};
+ghost use Rattle.ghg_columns.specs.Written.{column_in};
 
-use crate::cells::Cells;
 use crate::column::Years;
+use crate::series::{Series, year_of};
+use crate::written::Written;
 use ghg_cell::Value;
 use ghg_interval::Over;
 use ghg_units::Node;
@@ -16,7 +18,7 @@ use std::collections::BTreeSet;
 /// The outcomes of nodes that are evaluated anew, each once.
 #[derive(Drop)]
 pub struct FreshCells {
-    pub(crate) values: Cells,
+    pub(crate) values: Written,
     // The nodes that are over.
     over: BTreeSet<Node>,
     years: Years,
@@ -29,7 +31,7 @@ impl FreshCells {
         ensures { fresh_at result ≡ no_outcomes }
     {
         FreshCells {
-            values: Cells::new(alloc),
+            values: Written::new(alloc),
             over: BTreeSet::new(alloc),
             years: Years { first, last },
         }
@@ -39,11 +41,19 @@ impl FreshCells {
     pub fn get(&self, node: &Node) -> Option<Result<&Value, Over>>
         ensures { option_map outcome_behind result ≡ fresh_at self.now node.now }
     {
-        match self.values.get(node) {
+        match self.value(node) {
             Some(value) => Some(Ok(value)),
             None if self.over.contains(node) => Some(Err(Over)),
             None => None,
         }
+    }
+
+    // The value of a node, if it has one.
+    fn value(&self, node: &Node) -> Option<&Value>
+        ensures { option_map Ok (option_copied result) ≡ cells_in (column_in self.now.values) node.now }
+    {
+        let column = self.values.column(&Series::of(node))?;
+        column.get(year_of(node))
     }
 
     /// Gives a node without a cell its outcome.

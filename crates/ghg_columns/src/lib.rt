@@ -6,6 +6,7 @@ mod column;
 mod fresh;
 mod overlay;
 mod series;
+mod written;
 
 pub use cells::Cells;
 pub use fresh::FreshCells;

@@ -141,7 +141,8 @@ impl Engine {
     /// The compilation of the book with edits that were planned on it as it stands; or the least node that is
     /// beyond the limits, while none of its inputs is. It spends at most one step for each node that the
     /// edits affect. The book and the outcomes of its nodes stay with every answer; only room is made, and
-    /// lines may be named that the edits lead to. So a proposal may be dropped, and nothing is to be undone.
+    /// the index may name lines for these edits. So nothing has to be undone after a refusal, or where a
+    /// proposal is dropped.
     pub fn propose<L: Ledger>(
         &mut self,
         alloc: Global,

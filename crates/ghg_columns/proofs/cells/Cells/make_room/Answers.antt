@@ -1,24 +1,16 @@
-use Rattle.std.proofs.Common.{rules, List, subst, ◌∙◌}
-use Rattle.std.specs.Borrow.{Bor}
-use Rattle.std.specs.Map.Iter.{deref_pair}
-use Rattle.std.proofs.lemmas.Map.Iter.{btree_map_turn, rest_more}
-use Rattle.ghg_columns.specs.declared.column.Column.{Column}
-use Rattle.ghg_columns.specs.declared.series.Series.{Series}
-use Rattle.ghg_columns.proofs.Places.{series_total}
-use Rattle.ghg_columns.proofs.Rooms.{HasRoomBut, one_more}
+use Rattle.std.proofs.Common.{sym, ◌∙◌}
+use Rattle.std.specs.BTreeMap.{get}
+use Rattle.ghg_columns.specs.Cells.{series_order}
+use Rattle.ghg_columns.specs.Written.{column_in}
+use Rattle.ghg_columns.proofs.Rooms.{both_ok, room_in_front}
+use Rattle.ghg_columns.proofs.Writing.{in_front, none_in_front}
 use Rattle.ghg_columns.proofs.cells.Cells.make_room.Goals as goal
 
-pub loop-series-preserved : goal.loop-series-preserved
-loop-series-preserved c =
-    let fresh = c.args.fresh.now.values in
-    let old = c.loop-series.self in
-    let new = c.make_room_in.new.self in
-    let rest = c.next.new.self in
-    let item : Bor Series × Bor Column = (c.in-Some.series, c.in-Some.column) in
-    let s = c.in-Some.series.now in
-    let column = c.in-Some.column.now in
-    let more = rest_more deref_pair c.loop-series.series-iterator rest c.next.result item c.in-Some.is c.next.ensures.steps in
-    let turn = btree_map_turn deref_pair c.loop-series.yielded c.into_iter-series-iterator.result c.loop-series.series-iterator rest c.next.result item c.loop-series.yielded_by c.in-Some.is c.next.ensures.steps series_total fresh.columns (search rules) (search rules) in (
-      c.in_ok-make_room_in.ensures.same ∙ c.loop-series.invariant.0,
-      one_more fresh old new s column rest turn.1 c.in_ok-make_room_in.ensures.room c.in_ok-make_room_in.ensures.others (subst (λ (es : List (Series × Column)). HasRoomBut old fresh es) more c.loop-series.invariant.1),
-    )
+pub returns-in-Some-clause-room : goal.returns-in-Some-clause-room
+returns-in-Some-clause-room c =
+    let w = c.args.fresh.now.values in
+    let s = c.in-Some.series in
+    both_ok c.make_room_in.result (room_in_front (column_in w) (get series_order w.columns) c.make_room_for.new.self c.make_room_in.new.self s w.last (in_front w s c.in-Some.is) c.in_ok-make_room_for.ensures.room) c.make_room_in.ensures.room c.make_room_in.ensures.others
+
+pub returns-in-None-clause-room : goal.returns-in-None-clause-room
+returns-in-None-clause-room c q other there = c.in_ok-make_room_for.ensures.room q other (sym (none_in_front c.args.fresh.now.values c.in-None.is q) ∙ there)

@@ -1,6 +1,6 @@
 use Rattle.std.proofs.Common.{Some, sym, ap, ◌∙◌}
 use Rattle.std.specs.Option.{option_copied_mut, option_or}
-use Rattle.ghg_columns.specs.Cells.{value_at}
+use Rattle.ghg_columns.specs.Cells.{column_of, value_at}
 use Rattle.ghg_columns.specs.Columns.{value_in}
 use Rattle.ghg_columns.proofs.Cellwise.{values}
 use Rattle.ghg_columns.proofs.Rooms.{some_is}
@@ -14,5 +14,5 @@ returns-clause-values c =
     let after = c.take.new.self in
     let found = sym c.get_mut.ensures.value ∙ ap option_copied_mut c.unwrap-column.ensures in
     let updates = ((c.get_mut.follows.holds after).3 (some_is _ before found)).0 in
-    values old (record old { columns = c.get_mut.follows.lender after }) c.args.series.now (Some after) updates (λ y o. option_or (value_in fresh y) o)
+    values (column_of old) (column_of (record old { columns = c.get_mut.follows.lender after })) c.args.series.now (Some after) updates (λ y o. option_or (value_in fresh y) o)
     (λ y. c.take.ensures y ∙ ap (λ o. option_or (value_in fresh y) (value_at o y)) (sym found))

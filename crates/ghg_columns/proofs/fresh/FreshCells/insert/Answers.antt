@@ -1,6 +1,7 @@
 use Rattle.std.proofs.Common.{Err, Ok, sym, ap, ◌∙◌}
 use Rattle.ghg_definitions.specs.Formulas.{Outcome}
-use Rattle.ghg_columns.specs.Cells.{cell_at, found_in, with_outcome}
+use Rattle.ghg_columns.specs.Cells.{cells_in, found_in, with_outcome}
+use Rattle.ghg_columns.specs.Written.{column_in}
 use Rattle.ghg_columns.specs.Fresh.{over_at}
 use Rattle.ghg_columns.proofs.Overs.{one_over, put_in_front, put_through}
 use Rattle.ghg_columns.proofs.Rooms.{on_ok}
@@ -8,7 +9,7 @@ use Rattle.ghg_columns.proofs.fresh.FreshCells.insert.Goals as goal
 
 pub returns-in-Ok : goal.returns-in-Ok
 returns-in-Ok c =
-    let values = cell_at c.args.self.now.values in
+    let values = cells_in (column_in c.args.self.now.values) in
     let over = over_at c.args.self.now.over in
     let n = c.args.node.now in
     let x : Outcome = Ok c.in-Ok.value in
@@ -16,7 +17,7 @@ returns-in-Ok c =
 
 pub returns-in_ok-insert-in-Err : goal.returns-in_ok-insert-in-Err
 returns-in_ok-insert-in-Err c =
-    let values = cell_at c.args.self.now.values in
+    let values = cells_in (column_in c.args.self.now.values) in
     let over = over_at c.args.self.now.over in
     let n = c.args.node.now in
     let x : Outcome = Err (record {}) in
