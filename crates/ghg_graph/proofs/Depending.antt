@@ -1,7 +1,6 @@
 -- Lines that are gathered one after the other, and where a ring of them can be.
 use Rattle.std.proofs.Common.{◌≡◌, ◌⊎◌, inl, inr, ℕ, ◌+◌, ◌<◌, ◌≤◌, Bool, true, false, cond, if◌then◌else◌, is_eq, is_some, List, [], ◌∷◌, ◌++◌, length, get_or, flat_map, map, take, Some, None, refl, sym, ap, ◌∙◌, subst, arith, length-append}
 use Rattle.std.proofs.lemmas.List.{append-nil, append_assoc, get_or_default, take-append-le, take_all}
-use Rattle.std.proofs.lemmas.List.Concat.{flat_map-append}
 use Rattle.std.proofs.lemmas.Map.Keys.{IsDistinct-from_sorted}
 use Rattle.std.proofs.lemmas.Map.Lookups.{exact_bytes}
 use Rattle.std.proofs.lemmas.Map.Made.{length-le_from_is_member}
@@ -31,7 +30,7 @@ use Rattle.ghg_graph.specs.declared.rings.CycleRefusal.{CycleRefusal}
 use Rattle.ghg_graph.proofs.EquationParameters.{at_place}
 use Rattle.ghg_graph.proofs.Membership.{key_listed, listed_key}
 use Rattle.ghg_graph.proofs.Named.{if_ring, no_ring, ring_of}
-use Rattle.ghg_graph.proofs.LineNumbers.{take_next}
+use Rattle.ghg_graph.proofs.LineNumbers.{flat_more, take_next}
 
 -- ---- names in a set
 
@@ -143,16 +142,9 @@ pub taken_next : {A : Type 0} (names : A → List Name) (xs : List A) (i : ℕ) 
     (first old new : Gathered) → i < length xs → given ≡ names (get_or xs i d)
     → IsGathered (flat_map names (take i xs)) first old → IsGathered given old new
     → IsGathered (flat_map names (take (i + 1) xs)) first new
-taken_next {A = A} names xs i d given first old new h is before more =
-    subst (λ ns. IsGathered ns first new) (sym one)
-    (gathered_more (flat_map names (take i xs)) (names x) first old new before (subst (λ ns. IsGathered ns old new) is more))
-  where
-    x : A
-    x = get_or xs i d
-
-    one : flat_map names (take (i + 1) xs) ≡ flat_map names (take i xs) ++ names x
-    one = ap (flat_map names) (take_next xs i x h (get_or_default xs i d x h)) ∙ flat_map-append names (take i xs) (x ∷ [])
-        ∙ ap (λ ns. flat_map names (take i xs) ++ ns) (append-nil (names x))
+taken_next names xs i d given first old new h is before more =
+    subst (λ ns. IsGathered ns first new) (sym (flat_more names xs i d h))
+    (gathered_more (flat_map names (take i xs)) (names (get_or xs i d)) first old new before (subst (λ ns. IsGathered ns old new) is more))
 
 -- ---- from line to line
 
@@ -327,7 +319,7 @@ module _ (m : Data) (cs : List Change) (acyclic : IsAcyclic m) (names : List Nam
       let from = turned (Takes new) ring k is i in
       elim (leads_to k from.0 k from.1) [ inl on ↦ on | inr before ↦ absurd (acyclic (k ∷ from.0) before) ]
 
-  module _ (is : IsWorkbook new) (links : Links) (n : IsNumbering new names links) where
+  module _ (is : IsWorkbook new) (links : Links) (n : IsNumbering false new names links) where
     pub no_ring_reached : (order : List Name) → AreNamesOf names (IsOrder links) order → IsAcyclic new
     no_ring_reached order of = no_ring new is names are.order links n rings_reached of.numbers of.holds
 

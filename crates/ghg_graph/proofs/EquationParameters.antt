@@ -11,10 +11,10 @@ use Rattle.ghg_definitions.specs.Compilation.{bound_to, line_formula}
 use Rattle.ghg_definitions.specs.Data.{Data, Name, binding, line}
 use Rattle.ghg_definitions.specs.Formulas.{Operand, map_formula, map_operand}
 use Rattle.ghg_definitions.specs.Lookups.{Source, given}
-use Rattle.ghg_definitions.specs.Rings.{taken, taken_by}
 use Rattle.ghg_definitions.specs.Listed.{IsListed}
 use Rattle.ghg_definitions.proofs.Listed.{listed_any}
 use Rattle.ghg_data.specs.Parameters.{quantity}
+use Rattle.ghg_graph.specs.Numbers.{lines_taken, taken_in}
 use Rattle.ghg_graph.specs.Slots.{slot_of, slots_of}
 
 pub flat_named : (f : Name → List Name) (ps : List Param) → flat_map (λ (q : Quantity). f q.name) (map quantity ps) ≡ flat_map (λ (p : Param). f p.name.now) ps
@@ -22,11 +22,11 @@ flat_named f [] = refl
 flat_named f (p ∷ ps) = ap (λ xs. f p.name.now ++ xs) (flat_named f ps)
 
 -- the lines that a line takes, by the parameters in the code
-pub taken_at : (m : Data) (l : Name) (ps : List Param) (id : EqId) → Some id ≡ line m l → map quantity ps ≡ parameters id → flat_map (λ (p : Param). taken_by (binding m l p.name.now)) ps ≡ taken m l
-taken_at m l ps id at all =
-    sym (flat_named (λ n. taken_by (binding m l n)) ps)
-    ∙ ap (flat_map (λ (q : Quantity). taken_by (binding m l q.name))) all
-    ∙ ap (λ o. option_map_or (λ e. flat_map (λ q. taken_by (binding m l q.name)) (parameters e)) o []) at
+pub taken_at : (before : Bool) (m : Data) (l : Name) (ps : List Param) (id : EqId) → Some id ≡ line m l → map quantity ps ≡ parameters id → flat_map (λ (p : Param). taken_in before (binding m l p.name.now)) ps ≡ lines_taken before m l
+taken_at before m l ps id at all =
+    sym (flat_named (λ n. taken_in before (binding m l n)) ps)
+    ∙ ap (flat_map (λ (q : Quantity). taken_in before (binding m l q.name))) all
+    ∙ ap (λ o. option_map_or (λ e. flat_map (λ q. taken_in before (binding m l q.name)) (parameters e)) o []) at
 
 slots_named : (g : Source → Input) (f : Name → Operand Source) (ps : List Param) → map slot_of (map (map_operand g) (map (λ (q : Quantity). f q.name) (map quantity ps))) ≡ map (λ (p : Param). slot_of (map_operand g (f p.name.now))) ps
 slots_named g f [] = refl

@@ -1,5 +1,5 @@
 -- Where numbers do not rise along the links, a line from which they all fall is on no ring.
-use Rattle.std.proofs.Common.{◌≡◌, ℕ, ◌+◌, ◌≤◌, ◌<◌, Bool, true, false, List, [], ◌∷◌, get_or, nat_le, nat_lt, set, length-set, get_or-set_other, inl, inr, sym, ◌∙◌, subst, arith}
+use Rattle.std.proofs.Common.{◌≡◌, ℕ, ◌+◌, ◌≤◌, ◌<◌, Bool, true, false, List, [], ◌∷◌, get_or, nat_lt, set, length-set, get_or-set_other, inl, inr, sym, ◌∙◌, subst, arith}
 use Rattle.std.specs.List.{list_all}
 use native.Mathlib.Decide.{ℕ_discrete}
 use Prim.{yes, no}
@@ -17,9 +17,6 @@ each_so p [] e x i = absurd i
 each_so p (y ∷ xs) e x (inl is) = subst (λ z. p z ≡ true) (sym is) (first_so (p y) _ e)
 each_so p (y ∷ xs) e x (inr i) = each_so p xs (second_so (p y) _ e) x i
 
-at_most : (a b : ℕ) → nat_le a b ≡ true → a ≤ b
-at_most a b e = grind (arith, e)
-
 less : (a b : ℕ) → nat_lt a b ≡ true → a < b
 less a b e = grind (arith, e)
 
@@ -27,8 +24,8 @@ module _ (links : Links) (numbers : List ℕ) where
   abbrev number : ℕ → ℕ
   number line = get_or numbers line 0
 
-  pub never_rises : (line : ℕ) → list_all (λ t. nat_le (number t) (number line)) (targets_of links line) ≡ true → (t : ℕ) → IsLink links line t → number t ≤ number line
-  never_rises line e t i = at_most _ _ (each_so (λ t. nat_le (number t) (number line)) (targets_of links line) e t i)
+  never_rises : (line bound : ℕ) → bound ≤ number line + 1 → list_all (λ t. nat_lt (number t) bound) (targets_of links line) ≡ true → (t : ℕ) → IsLink links line t → number t ≤ number line
+  never_rises line bound h e t i = let below = less _ _ (each_so (λ t. nat_lt (number t) bound) (targets_of links line) e t i) in omega (arith, h, below)
 
   -- along a chain
   falls_along : IsFalling links numbers → (x : ℕ) (xs : List ℕ) (end : ℕ) → Leads (IsLink links) (x ∷ xs) end → number end ≤ number x
@@ -51,9 +48,9 @@ module _ (links : Links) (numbers : List ℕ) where
   abbrev pub FallsTo : ℕ → Type 0
   FallsTo n = (line target : ℕ) → line < n → IsLink links line target → number target ≤ number line
 
-  pub falls_more : (n : ℕ) → FallsTo n → list_all (λ t. nat_le (number t) (number n)) (targets_of links n) ≡ true → FallsTo (n + 1)
-  falls_more n before e line target l i = elim (ℕ_discrete line n) [
-    | yes is ↦ subst (λ k. number target ≤ number k) (sym is) (never_rises n e target (subst (λ k. IsLink links k target) is i))
+  pub falls_more : (n bound : ℕ) → FallsTo n → bound ≤ number n + 1 → list_all (λ t. nat_lt (number t) bound) (targets_of links n) ≡ true → FallsTo (n + 1)
+  falls_more n bound before h e line target l i = elim (ℕ_discrete line n) [
+    | yes is ↦ subst (λ k. number target ≤ number k) (sym is) (never_rises n bound h e target (subst (λ k. IsLink links k target) is i))
     | no other ↦ before line target (omega arith) i
   ]
 

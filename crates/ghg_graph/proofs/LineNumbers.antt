@@ -1,9 +1,10 @@
 -- Numbers of lines, found among the names in order.
-use Rattle.std.proofs.Common.{◌≡◌, ℕ, ◌+◌, ◌<◌, ◌≤◌, Bool, true, false, not, List, [], ◌∷◌, ◌++◌, length, get_or, map, take, Option, Result, Ok, Err, is_eq, sym, ap, ◌∙◌, subst, inl, inr, arith}
+use Rattle.std.proofs.Common.{◌≡◌, ℕ, ◌+◌, ◌<◌, ◌≤◌, Bool, true, false, not, List, [], ◌∷◌, ◌++◌, flat_map, length, get_or, map, take, Option, Result, Ok, Err, is_eq, sym, ap, ◌∙◌, subst, inl, inr, arith}
 use Rattle.std.specs.Prelude.{MatchOption}
 use native.Mathlib.Decide.{ℕ_discrete}
 use Prim.{yes, no}
-use Rattle.std.proofs.lemmas.List.{append_assoc, get_or_append_left, get_or_push, map-append, take_more}
+use Rattle.std.proofs.lemmas.List.{append-nil, append_assoc, get_or_append_left, get_or_default, get_or_push, map-append, take_more}
+use Rattle.std.proofs.lemmas.List.Concat.{flat_map-append}
 use Rattle.std.specs.Cmp.{tied_itself}
 use Rattle.std.specs.Cmp.Lexicographic.{nat_list_cmp_total}
 use Rattle.std.specs.List.Sorted.{IsBinarySearchResult, IsSearchInRange, IsStrictlySortedBy}
@@ -39,6 +40,12 @@ found_number names name sorted r range search o is = subst (λ p. MatchOption p 
 
 pub take_next : {A : Type 0} (xs : List A) (k : ℕ) (x : A) → k < length xs → x ≡ get_or xs k x → take (k + 1) xs ≡ take k xs ++ x ∷ []
 take_next xs k x h e = take_more xs k x h ∙ ap (λ y. take k xs ++ y ∷ []) (sym e)
+
+-- what a function lists of one element more
+pub flat_more : {A B : Type 0} (f : A → List B) (xs : List A) (i : ℕ) (d : A) → i < length xs
+    → flat_map f (take (i + 1) xs) ≡ flat_map f (take i xs) ++ f (get_or xs i d)
+flat_more f xs i d h = ap (flat_map f) (take_next xs i (get_or xs i d) h (get_or_default xs i d (get_or xs i d) h))
+    ∙ flat_map-append f (take i xs) (get_or xs i d ∷ []) ∙ ap (λ ns. flat_map f (take i xs) ++ ns) (append-nil (f (get_or xs i d)))
 
 -- ---- numbers of names
 

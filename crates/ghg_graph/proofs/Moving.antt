@@ -1,5 +1,5 @@
 -- Where the lines of edited records come and go, other lines emit a gas, and nowhere else.
-use Rattle.std.proofs.Common.{◌≡◌, inl, inr, Bool, true, false, not, if◌then◌else◌, is_eq, List, filter, is_some, option_and_then, Some, None, refl, sym, ap, ap₂, ◌∙◌, subst}
+use Rattle.std.proofs.Common.{◌≡◌, inl, inr, Bool, true, false, not, if◌then◌else◌, is_eq, List, [], ◌∷◌, filter, is_some, option_and_then, Some, None, refl, sym, ap, ap₂, ◌∙◌, subst}
 use Rattle.std.proofs.lemmas.Cmp.{tied_itself}
 use Rattle.std.proofs.lemmas.List.Kept.{IsStrictlySortedBy-filter}
 use Rattle.std.proofs.lemmas.Slice.Eq.{slice_eq-Decides}
@@ -45,6 +45,35 @@ unlike true b e = ap (λ c. not (beq true c)) (sym e)
 unlike false b e = ap (λ c. not (beq false c)) (sym e)
 
 -- ---- the lines that emit a gas at categories that pass
+
+module _ (test : Category → Bool) (m : Data) where
+  abbrev both : List Name → List Name
+  both ks = filter (λ k. option_map_or test (emits_at m k) false) ks
+
+  abbrev in_turn : List Name → List Name
+  in_turn ks = filter (λ k. option_map_or test (category m k) false) ks
+
+  emitting : (names : List Name) → both names ≡ in_turn (filter (emits m) names)
+  emitting [] = refl
+  emitting (name ∷ names) = by (emits m name) refl (emitting names)
+    where
+      at_once : (b : Bool) → emits m name ≡ b → both (name ∷ names)
+          ≡ (if option_map_or test (if b then category m name else None) false then name ∷ both names else both names)
+      at_once b e = ap (λ a. if option_map_or test (if a then category m name else None) false then name ∷ both names else both names) e
+
+      after : (b : Bool) → emits m name ≡ b
+          → in_turn (if b then name ∷ filter (emits m) names else filter (emits m) names) ≡ in_turn (filter (emits m) (name ∷ names))
+      after b e = sym (ap (λ a. in_turn (if a then name ∷ filter (emits m) names else filter (emits m) names)) e)
+
+      by : (b : Bool) → emits m name ≡ b → both names ≡ in_turn (filter (emits m) names)
+          → both (name ∷ names) ≡ in_turn (filter (emits m) (name ∷ names))
+      by true e rest = at_once true e
+          ∙ ap (λ ks. if option_map_or test (category m name) false then name ∷ ks else ks) rest ∙ after true e
+      by false e rest = at_once false e ∙ rest ∙ after false e
+
+  -- those at whose category they emit one
+  pub emitting_lines : (names : List Name) → names ≡ line_names m → both names ≡ gas_lines_at test m
+  emitting_lines names e = ap both e ∙ emitting (line_names m)
 
 module _ (test : Category → Bool) where
   abbrev at : Data → Name → Bool

@@ -122,7 +122,7 @@ pub record IsRest (m : Data) (front lines : List Name) : Type 0 where
   pub present : (k : Name) → IsListed k lines → is_some (line m k) ≡ true
   pub complete : (k : Name) → is_some (line m k) ≡ true → IsListed k front ⊎ IsListed k lines
 
-module _ (m : Data) (is : IsWorkbook m) (lines : List Name) (sorted : IsStrictlySortedBy name_cmp lines) (links : Links) (n : IsNumbering m lines links) where
+module _ (m : Data) (is : IsWorkbook m) (lines : List Name) (sorted : IsStrictlySortedBy name_cmp lines) (links : Links) (n : IsNumbering false m lines links) where
   link_within : (i j : ℕ) → IsLink links i j → i < length lines
   link_within i j link = subst (λ c. i < c) n.count (link_inside links i j link)
 

@@ -1,6 +1,6 @@
 //! Lines that are on no ring, told by the numbers of their components.
 
-ghost use Rattle.std.specs.Prelude.{◌≡◌, ◌<◌, IsTrue, length, nat_le, nat_lt, slice_index_or};
+ghost use Rattle.std.specs.Prelude.{◌≡◌, ◌<◌, IsTrue, length, nat_lt, slice_index_or};
 ghost use Rattle.std.specs.List.{list_all};
 ghost use Rattle.ghg_graph.specs.Falling.{IsFalling};
 ghost use Rattle.ghg_graph.specs.Links.{targets_of};
@@ -30,7 +30,7 @@ fn mark_line(links: &Links, numbers: &[usize], marks: &mut Vec<bool>, line: usiz
     requires clear { AreClear links.now marks.old.items }
     ensures { AreClear links.now marks.new.items }
 {
-    if falls_from(links, numbers, line) {
+    if are_below(links, line, numbers, at(numbers, line)) {
         marks[line] = true;
     }
 }
@@ -40,35 +40,21 @@ fn falls(links: &Links, numbers: &[usize]) -> bool
     ensures { IsTrue result → IsFalling links.now numbers.now }
 {
     for line in 0..links.len() {
-        if !never_rises_from(links, numbers, line) {
+        if !are_below(links, line, numbers, at(numbers, line).saturating_add(1)) {
             return false;
         }
     }
     true
 }
 
-// Whether the line depends on no line of a greater number.
-fn never_rises_from(links: &Links, numbers: &[usize], line: usize) -> bool
+// Whether the numbers of the lines that a line depends on are below a bound.
+fn are_below(links: &Links, line: usize, numbers: &[usize], bound: usize) -> bool
     requires { line < length links.now }
-    ensures { result ≡ list_all (λ t. nat_le (slice_index_or numbers.now t 0)
-        (slice_index_or numbers.now line 0)) (targets_of links.now line) }
+    ensures { result ≡ list_all (λ t. nat_lt (slice_index_or numbers.now t 0) bound)
+        (targets_of links.now line) }
 {
-    let own = at(numbers, line);
     links
         .targets(line)
         .iter()
-        .all(|target| at(numbers, *target) <= own)
-}
-
-// Whether the line depends only on lines of lesser numbers.
-fn falls_from(links: &Links, numbers: &[usize], line: usize) -> bool
-    requires { line < length links.now }
-    ensures { result ≡ list_all (λ t. nat_lt (slice_index_or numbers.now t 0)
-        (slice_index_or numbers.now line 0)) (targets_of links.now line) }
-{
-    let own = at(numbers, line);
-    links
-        .targets(line)
-        .iter()
-        .all(|target| at(numbers, *target) < own)
+        .all(|target| at(numbers, *target) < bound)
 }

@@ -30,18 +30,8 @@ struct Survey {
 ///
 /// No contract says so: who uses the numbers tests them. The time is proportional to the links.
 pub(crate) fn component_numbers(alloc: Global, links: &Links) -> Result<Vec<usize>, AllocError> {
-    let mut survey = started(alloc, links.len())?;
-    for line in 0..links.len() {
-        if at(&survey.places, line) == 0 {
-            explore(links, &mut survey, line)?;
-        }
-    }
-    let Survey { numbers, .. } = survey;
-    Ok(numbers)
-}
-
-fn started(alloc: Global, count: usize) -> Result<Survey, AllocError> {
-    Ok(Survey {
+    let count = links.len();
+    let mut survey = Survey {
         path: Vec::new(alloc),
         tried: vec![in alloc; 0; count]?,
         places: vec![in alloc; 0; count]?,
@@ -50,7 +40,13 @@ fn started(alloc: Global, count: usize) -> Result<Survey, AllocError> {
         numbers: vec![in alloc; 0; count]?,
         met: 0,
         known: 0,
-    })
+    };
+    for line in 0..count {
+        if at(&survey.places, line) == 0 {
+            explore(links, &mut survey, line)?;
+        }
+    }
+    Ok(survey.numbers)
 }
 
 // Goes through the lines that the start leads to, as far as they are not met yet.
@@ -58,27 +54,18 @@ fn explore(links: &Links, survey: &mut Survey, start: usize) -> Result<(), Alloc
     enter(survey, start)?;
     // Each step meets a line or leaves one.
     for _ in 0..links.len().saturating_mul(2) {
-        match survey.path.pop() {
-            Some(line) => go_on(links, survey, line)?,
-            None => return Ok(()),
+        let Some(line) = survey.path.pop() else {
+            return Ok(());
+        };
+        match next_unmet(links, survey, line) {
+            Some(target) => {
+                survey.path.push(line)?;
+                enter(survey, target)?;
+            }
+            None => leave(survey, line),
         }
     }
     Ok(())
-}
-
-// Goes on from the line, which was the last of the path, to a target that is not met. Leaves the line where
-// all are.
-fn go_on(links: &Links, survey: &mut Survey, line: usize) -> Result<(), AllocError> {
-    match next_unmet(links, survey, line) {
-        Some(target) => {
-            survey.path.push(line)?;
-            enter(survey, target)
-        }
-        None => {
-            leave(survey, line);
-            Ok(())
-        }
-    }
 }
 
 // Puts a line on the path. It begins a component, as far as is known.

@@ -1,23 +1,20 @@
 //! Whether edits leave a ring, found from the lines alone that they lead to.
 
-ghost use Rattle.std.specs.Prelude.{◌≡◌, ◌∷◌, [], true, flat_map, is_some, IfOk, MatchResult, OnOk};
-ghost use Rattle.std.specs.List.{AllByRecursion};
-ghost use Rattle.ghg_units.specs.Parameter.{is_parameter};
+ghost use Rattle.std.specs.Prelude.{◌≡◌, ◌∷◌, [], true, is_some, IfOk, MatchResult, OnOk};
 ghost use Rattle.ghg_data.specs.Changes.{applied};
 ghost use Rattle.ghg_data.specs.Shelf.{IsPlanned};
-ghost use Rattle.ghg_definitions.specs.Data.{Name, binding, line};
+ghost use Rattle.ghg_definitions.specs.Data.{Name, line};
 ghost use Rattle.ghg_definitions.specs.Listed.{IsListed};
-ghost use Rattle.ghg_definitions.specs.Rings.{IsAcyclic, taken, taken_by};
+ghost use Rattle.ghg_definitions.specs.Rings.{IsAcyclic, taken};
 ghost use Rattle.ghg_definitions.specs.Sound.{IsWorkbook};
-ghost use Rattle.ghg_graph.specs.Dependencies.{AreLedTo, AreLedToBy, IsGathered, IsQueued, present_line, present_lines};
+ghost use Rattle.ghg_graph.specs.Dependencies.{AreLedTo, IsGathered, IsQueued, present_line, present_lines};
 ghost use Rattle.ghg_graph.specs.Refusal.{IfRing, IsLeastRingOf};
 
-use crate::numbers::{equation_of, numbered, taken_at};
+use crate::numbers::{equation_of, links_of, taken_by};
 use crate::ordering::named_order;
 use crate::rings::CycleRefusal;
 use ghg_data::{Book, Edits, Records, after, params_of};
 use ghg_definitions::RecordKey;
-use ghg_equations::Param;
 use ghg_units::Name;
 use std::alloc::{AllocError, Global};
 use std::collections::BTreeSet;
@@ -39,18 +36,11 @@ pub fn check_changed(alloc: Global, book: &Book, edits: &Edits) -> Result<(), Cy
     ensures { MatchResult result (λ _. IsAcyclic (applied book.now.content edits.now))
         (IfRing (IsLeastRingOf (applied book.now.content edits.now))) }
 {
-    let lines = lines_led_to(alloc, book, edits)?;
-    let numbering = numbered(alloc, &after(book, edits), lines)?;
-    named_order(alloc, &numbering)?;
+    let new = after(book, edits);
+    let lines = led_to(alloc, &new, edits.keys())?;
+    let links = links_of(alloc, &new, false, &lines)?;
+    named_order(alloc, &lines, &links)?;
     Ok(())
-}
-
-// The lines to which edits lead.
-fn lines_led_to(alloc: Global, book: &Book, edits: &Edits) -> Result<Vec<Name>, AllocError>
-    requires planned { IsPlanned book.now edits.now }
-    ensures { IfOk result (λ names. AreLedToBy book.now.content edits.now names.items) }
-{
-    led_to(alloc, &after(book, edits), edits.keys())
 }
 
 // The lines that keys are about, the lines that these depend on, and so on, in byte order.
@@ -125,27 +115,11 @@ impl Gathered {
         requires { IsQueued self.old }
         ensures { OnOk result (IsGathered (taken (R.content records.now) line.now) self.old self.new) }
     {
-        match equation_of(records, line) {
-            Some(id) => self.add_taken_at(records, line, params_of(id)),
-            None => Ok(()),
-        }
-    }
-
-    // Adds the lines that a line depends on by these parameters.
-    fn add_taken_at<R: Records>(
-        &mut self,
-        records: &R,
-        line: &Name,
-        params: &[Param],
-    ) -> Result<(), AllocError>
-        requires queued { IsQueued self.old }
-        requires names { AllByRecursion (λ q. is_parameter q.name.now ≡ true) params.now }
-        ensures { OnOk result (IsGathered
-            (flat_map (λ q. taken_by (binding (R.content records.now) line.now q.name.now)) params.now)
-            self.old self.new) }
-    {
-        for param in params {
-            self.add(taken_at(records, line, param))?;
+        let Some(id) = equation_of(records, line) else {
+            return Ok(());
+        };
+        for param in params_of(id) {
+            self.add(taken_by(false, records.bound(line, param)))?;
         }
         Ok(())
     }

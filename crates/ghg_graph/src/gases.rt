@@ -1,31 +1,24 @@
 //! Gases of lines, and their global warming potentials.
 
-ghost use Rattle.std.specs.Prelude.{◌≡◌, IfOk};
-ghost use Rattle.ghg_definitions.specs.Compilation.{gas_lines, line_gas, potential};
-ghost use Rattle.ghg_definitions.specs.Data.{line_names};
+ghost use Rattle.std.specs.Prelude.{◌≡◌};
+ghost use Rattle.ghg_definitions.specs.Compilation.{line_gas, potential};
 ghost use Rattle.ghg_definitions.specs.Lookups.{given};
+ghost use Rattle.ghg_graph.specs.Moves.{emits_at};
 
 use crate::numbers::equation_of;
+use ghg_categories::Category;
 use ghg_cell::Input;
 use ghg_data::Records;
 use ghg_equations::{Gas, equation};
 use ghg_units::Name;
-use std::alloc::{AllocError, Global};
 
-/// The lines that emit a gas, in the order of all lines.
-pub(crate) fn emitters<R: Records>(
-    alloc: Global,
-    records: &R,
-    lines: &[Name],
-) -> Result<Vec<Name>, AllocError>
-    requires { lines.now ≡ line_names (R.content records.now) }
-    ensures { IfOk result (λ names. names.items ≡ gas_lines (R.content records.now)) }
+/// The category at which a line emits a gas; `None` where it emits none.
+pub(crate) fn emits_at<R: Records>(records: &R, name: &Name) -> Option<Category>
+    ensures { result ≡ emits_at (R.content records.now) name.now }
 {
-    lines
-        .iter()
-        .filter(|name| line_gas(records, name).is_some())
-        .copied()
-        .collect(alloc)
+    line_gas(records, name)?;
+    let (category, _) = records.line(name)?;
+    Some(category)
 }
 
 /// The global warming potential of a line's gas in a year. It is blank where the line emits no gas or no

@@ -5,10 +5,10 @@ ghost use Rattle.std.specs.FinMap.{get};
 ghost use Rattle.std.specs.List.{Contains, filter_map, list_any};
 ghost use Rattle.ghg_categories.specs.Tree.{stands_under, tree};
 ghost use Rattle.ghg_definitions.specs.declared.record.RecordKey.{RecordKey};
-ghost use Rattle.ghg_graph.specs.Moves.{AreMoved, crosses, emits_at, move_of};
+ghost use Rattle.ghg_graph.specs.Moves.{AreMoved, crosses, move_of};
 ghost use Rattle.ghg_graph.specs.Slots.{is_within};
 
-use crate::gases::line_gas;
+use crate::gases::emits_at;
 use crate::slots::{Scope, is_some_within};
 use ghg_categories::Category;
 use ghg_data::Records;
@@ -75,30 +75,15 @@ fn move_of<R: Records, S: Records>(old: &R, new: &S, key: &RecordKey) -> Option<
     }
 }
 
-// The category at which a line emits a gas; `None` where it emits none.
-fn emits_at<R: Records>(records: &R, name: &Name) -> Option<Category>
-    ensures { result ≡ emits_at (R.content records.now) name.now }
-{
-    line_gas(records, name)?;
-    let (category, _) = records.line(name)?;
-    Some(category)
-}
-
 fn moved_tops(alloc: Global, moves: &[Move]) -> Result<Vec<Category>, AllocError>
     ensures { IfOk result (λ tops. tops.items ≡
         filter (λ top. list_any (crosses (λ c. stands_under c top)) moves.now) tree) }
 {
     ghg_categories::all()
         .iter()
-        .filter(|top| is_moved_under(moves, **top))
+        .filter(|top| is_moved(&Scope::Under(**top), moves))
         .copied()
         .collect(alloc)
-}
-
-fn is_moved_under(moves: &[Move], top: Category) -> bool
-    ensures { result ≡ list_any (crosses (λ c. stands_under c top)) moves.now }
-{
-    is_moved(&Scope::Under(top), moves)
 }
 
 // Whether one of the lines comes into the scope or leaves it.

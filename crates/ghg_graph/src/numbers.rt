@@ -1,49 +1,32 @@
 //! Lines by numbers, which are their places in byte order.
 
-ghost use Rattle.std.specs.Prelude.{◌≡◌, ◌<◌, ◌++◌, ◌∷◌, [], ℕ, true, List, flat_map, length, map, option_copied, slice_index, IfOk, MatchOption};
-ghost use Rattle.std.specs.List.{AllByRecursion};
+ghost use Rattle.std.specs.Prelude.{◌≡◌, ◌<◌, ◌++◌, ◌∷◌, [], ℕ, List, length, map, option_copied, slice_index, IfOk, MatchOption};
 ghost use Rattle.std.specs.List.Sorted.{IsStrictlySortedBy};
 ghost use Rattle.ghg_definitions.specs.Listed.{IsListed};
-ghost use Rattle.ghg_definitions.specs.Data.{Name, binding, line, name_cmp};
-ghost use Rattle.ghg_definitions.specs.Rings.{taken, taken_by};
-ghost use Rattle.ghg_units.specs.Parameter.{is_parameter};
-ghost use Rattle.ghg_graph.specs.Numbers.{AreNumbers, IsNumbering, name_at};
+ghost use Rattle.ghg_definitions.specs.Data.{Name, line, name_cmp};
+ghost use Rattle.ghg_graph.specs.Numbers.{AreNumbers, IsNumbering, lines_taken, name_at, taken_in};
 
 use crate::links::Links;
 use ghg_data::{Records, params_of};
-use ghg_equations::{EqId, Param};
+use ghg_equations::EqId;
 use ghg_units::{Binding, Name};
 use std::alloc::{AllocError, Global};
 use std::slice;
 
-/// Lines in byte order, and for each the numbers of those among them that it depends on.
-#[derive(Drop)]
-pub struct Numbering {
-    pub lines: Vec<Name>,
-    pub links: Links,
-}
-
-/// Numbers the lines, and links each to those among them that it depends on.
-pub fn numbered<R: Records>(
+/// The links of each of the lines to those among them that it takes: in the same year, or in the year before.
+/// The lines stand in byte order.
+pub fn links_of<R: Records>(
     alloc: Global,
     records: &R,
-    lines: Vec<Name>,
-) -> Result<Numbering, AllocError>
-    requires { IsStrictlySortedBy name_cmp lines.items }
-    ensures lines { IfOk result (λ n. n.lines.items ≡ lines.items) }
-    ensures links { IfOk result (λ n. IsNumbering (R.content records.now) lines.items n.links) }
-{
-    let links = links_of(alloc, records, &lines)?;
-    Ok(Numbering { lines, links })
-}
-
-fn links_of<R: Records>(alloc: Global, records: &R, lines: &[Name]) -> Result<Links, AllocError>
+    before: bool,
+    lines: &[Name],
+) -> Result<Links, AllocError>
     requires { IsStrictlySortedBy name_cmp lines.now }
-    ensures { IfOk result (λ links. IsNumbering (R.content records.now) lines.now links) }
+    ensures { IfOk result (λ links. IsNumbering before (R.content records.now) lines.now links) }
 {
     let mut targets = Vec::new(alloc);
     for line in lines {
-        targets.push(targets_of(alloc, records, lines, line)?)?;
+        targets.push(targets_of(alloc, records, before, lines, line)?)?;
     }
     Ok(Links::new(targets))
 }
@@ -56,68 +39,46 @@ pub fn equation_of<R: Records>(records: &R, name: &Name) -> Option<EqId>
     Some(id)
 }
 
-// The numbers of the lines that a line depends on.
+// The numbers of the lines that a line takes.
 fn targets_of<R: Records>(
     alloc: Global,
     records: &R,
+    before: bool,
     lines: &[Name],
     line: &Name,
 ) -> Result<Vec<usize>, AllocError>
     requires { IsStrictlySortedBy name_cmp lines.now }
     ensures { IfOk result (λ targets. AreNumbers lines.now targets.items
-        (taken (R.content records.now) line.now)) }
-{
-    match equation_of(records, line) {
-        Some(id) => targets_at(alloc, records, lines, line, params_of(id)),
-        None => Ok(Vec::new(alloc)),
-    }
-}
-
-// The numbers of the lines that a line depends on by these parameters.
-fn targets_at<R: Records>(
-    alloc: Global,
-    records: &R,
-    lines: &[Name],
-    line: &Name,
-    params: &[Param],
-) -> Result<Vec<usize>, AllocError>
-    requires order { IsStrictlySortedBy name_cmp lines.now }
-    requires names { AllByRecursion (λ q. is_parameter q.name.now ≡ true) params.now }
-    ensures { IfOk result (λ targets. AreNumbers lines.now targets.items
-        (flat_map (λ q. taken_by (binding (R.content records.now) line.now q.name.now)) params.now)) }
+        (lines_taken before (R.content records.now) line.now)) }
 {
     let mut targets = Vec::new(alloc);
-    for param in params {
-        add_numbers(lines, taken_at(records, line, param), &mut targets)?;
+    let Some(id) = equation_of(records, line) else {
+        return Ok(targets);
+    };
+    for param in params_of(id) {
+        add_numbers(
+            lines,
+            taken_by(before, records.bound(line, param)),
+            &mut targets,
+        )?;
     }
     Ok(targets)
 }
 
-/// The lines that a line depends on by a parameter, in the same year.
-pub(crate) fn taken_at<'a, R: Records>(records: &'a R, line: &Name, param: &Param) -> &'a [Name]
-    requires { is_parameter param.now.name.now ≡ true }
-    ensures { result.now ≡ taken_by (binding (R.content records.now) line.now param.now.name.now) }
+/// The lines whose values a binding takes: those of the same year, or those of the year before.
+pub(crate) fn taken_by(before: bool, binding: Option<&Binding>) -> &[Name]
+    ensures { result.now ≡ taken_in before (option_copied binding.entry) }
 {
-    taken_by(records.bound(line, param))
-}
-
-/// The lines that a binding names, in the same year.
-pub(crate) fn taken_by(binding: Option<&Binding>) -> &[Name]
-    ensures { result.now ≡ taken_by (option_copied binding.entry) }
-{
-    match binding {
-        Some(Binding::Line(name)) => slice::from_ref(name),
-        Some(Binding::Sum(names)) => names.as_slice(),
+    match (before, binding) {
+        (false, Some(Binding::Line(name))) => slice::from_ref(name),
+        (false, Some(Binding::Sum(names))) => names.as_slice(),
+        (true, Some(Binding::Prev(name))) => slice::from_ref(name),
         _ => &[],
     }
 }
 
-/// Adds the numbers of the names that are among the lines, which stand in byte order.
-pub fn add_numbers(
-    lines: &[Name],
-    names: &[Name],
-    numbers: &mut Vec<usize>,
-) -> Result<(), AllocError>
+// Adds the numbers of the names that are among the lines, which stand in byte order.
+fn add_numbers(lines: &[Name], names: &[Name], numbers: &mut Vec<usize>) -> Result<(), AllocError>
     requires { IsStrictlySortedBy name_cmp lines.now }
     ensures { IfOk result (λ _. (before : List Name) → AreNumbers lines.now numbers.old.items before
         → AreNumbers lines.now numbers.new.items (before ++ names.now)) }

@@ -8,7 +8,8 @@ ghost use Rattle.ghg_graph.specs.Ordering.{IsLineOrder};
 ghost use Rattle.ghg_graph.specs.Refusal.{IfRing, IsLeastRingOf};
 
 use crate::least::least_ring;
-use crate::numbers::{Numbering, names_of, numbered};
+use crate::links::Links;
+use crate::numbers::{links_of, names_of};
 use crate::rings::{CycleRefusal, Ring};
 use crate::walk::{Stop, order};
 use ghg_data::Records;
@@ -22,23 +23,27 @@ pub fn line_order<R: Records>(alloc: Global, records: &R) -> Result<Vec<Name>, C
         (IfRing (IsLeastRingOf (R.content records.now))) }
 {
     let lines = records.lines(alloc)?;
-    let numbering = numbered(alloc, records, lines)?;
-    named_order(alloc, &numbering)
+    let links = links_of(alloc, records, false, &lines)?;
+    named_order(alloc, &lines, &links)
 }
 
-/// Returns the numbered lines, each after those among them that it depends on. Where there is no such order,
+/// Returns the lines, each after those among them that it depends on. Where there is no such order,
 /// returns a ring that begins with the least line on any.
-pub(crate) fn named_order(alloc: Global, numbering: &Numbering) -> Result<Vec<Name>, CycleRefusal>
-    requires { length numbering.now.links ≡ length numbering.now.lines.items }
+pub(crate) fn named_order(
+    alloc: Global,
+    lines: &[Name],
+    links: &Links,
+) -> Result<Vec<Name>, CycleRefusal>
+    requires { length links.now ≡ length lines.now }
     ensures { MatchResult result
-        (λ names. AreNamesOf numbering.now.lines.items (IsOrder numbering.now.links) names.items)
-        (IfRing (AreNamesOf numbering.now.lines.items (IsLeast numbering.now.links))) }
+        (λ names. AreNamesOf lines.now (IsOrder links.now) names.items)
+        (IfRing (AreNamesOf lines.now (IsLeast links.now))) }
 {
-    match order(alloc, &numbering.links) {
-        Ok(order) => Ok(names_of(alloc, &numbering.lines, &order)?),
+    match order(alloc, links) {
+        Ok(order) => Ok(names_of(alloc, lines, &order)?),
         Err(Stop::Ring(met)) => {
-            let ring = least_ring(alloc, &numbering.links, met)?;
-            Err(CycleRefusal::Ring(Ring::new(names_of(alloc, &numbering.lines, &ring)?)))
+            let ring = least_ring(alloc, links, met)?;
+            Err(CycleRefusal::Ring(Ring::new(names_of(alloc, lines, &ring)?)))
         }
         Err(Stop::Memory) => Err(CycleRefusal::Memory),
     }

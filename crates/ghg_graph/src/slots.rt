@@ -1,24 +1,22 @@
 //! The inputs of a node.
 
-ghost use Rattle.std.specs.Prelude.{◌≡◌, true, false, filter, map, option_copied, IfOk};
+ghost use Rattle.std.specs.Prelude.{◌≡◌, false, filter, map, option_copied, IfOk};
 ghost use Rattle.std.specs.Option.{option_map_or};
-ghost use Rattle.std.specs.List.{AllByRecursion};
 ghost use Rattle.ghg_units.specs.declared.node.Node.TheVariants as node;
-ghost use Rattle.ghg_units.specs.Parameter.{is_parameter};
-ghost use Rattle.ghg_definitions.specs.Compilation.{bound_to, counts_in_gross, first_year, formula, gas_lines_at, line_formula, sheet_of};
-ghost use Rattle.ghg_definitions.specs.Data.{binding, category, line, span};
+ghost use Rattle.ghg_definitions.specs.Compilation.{bound_to, counts_in_gross, first_year, gas_lines_at, is_in_tree, line_formula, sheet_of};
+ghost use Rattle.ghg_definitions.specs.Data.{line, span};
 ghost use Rattle.ghg_definitions.specs.Formulas.{Summed, map_formula, map_operand};
 ghost use Rattle.ghg_definitions.specs.Lookups.{given};
+ghost use Rattle.ghg_graph.specs.Moves.{emits_at};
 ghost use Rattle.ghg_graph.specs.Slots.{is_within, slot_of, slots_of};
 
-use crate::gases::{emitters, potential};
+use crate::gases::{emits_at, potential};
 use crate::nodes::Nodes;
 use crate::numbers::equation_of;
 use crate::operands::{Operand, bound_operand};
 use ghg_categories::{Category, is_under};
 use ghg_cell::Input;
 use ghg_data::{Records, params_of};
-use ghg_equations::Param;
 use ghg_units::{Binding, Name, Node};
 use std::alloc::{AllocError, Global};
 
@@ -46,7 +44,11 @@ pub fn inputs_of<R: Records>(
 {
     match node {
         Node::Line(name, year) => line_slots(alloc, records, name, *year),
-        Node::Equiv(name, year) => equivalent_slots(alloc, records, name, *year),
+        Node::Equiv(name, year) => {
+            let line = Slot::Node(Node::Line(*name, *year));
+            let weight = Slot::Input(potential(records, name, *year));
+            Ok(vec![in alloc; line, weight]?)
+        }
         Node::Total(top, year) => total_slots(alloc, records, &Scope::Under(*top), *year),
         Node::Gross(year) => total_slots(alloc, records, &Scope::Gross, *year),
     }
@@ -65,10 +67,16 @@ fn line_slots<R: Records>(
         (line_formula (R.content records.now) (first_year (span (R.content records.now))) name.now year
         (line (R.content records.now) name.now)))) }
 {
-    match equation_of(records, name) {
-        Some(id) => parameter_slots(alloc, records, name, params_of(id), year),
-        None => one_sum(alloc, Vec::new(alloc)),
+    let Some(id) = equation_of(records, name) else {
+        return one_sum(alloc, Vec::new(alloc));
+    };
+    let first = first_year(records);
+    let mut slots = Vec::new(alloc);
+    for param in params_of(id) {
+        let binding = records.bound(name, param);
+        slots.push(bound_slot(alloc, records, first, binding, year)?)?;
     }
+    Ok(slots)
 }
 
 fn one_sum(alloc: Global, nodes: Vec<Node>) -> Result<Vec<Slot>, AllocError>
@@ -76,28 +84,6 @@ fn one_sum(alloc: Global, nodes: Vec<Node>) -> Result<Vec<Slot>, AllocError>
 {
     let slot = Slot::Sum(Nodes::new(nodes));
     Ok(vec![in alloc; slot]?)
-}
-
-fn parameter_slots<R: Records>(
-    alloc: Global,
-    records: &R,
-    line: &Name,
-    params: &[Param],
-    year: u32,
-) -> Result<Vec<Slot>, AllocError>
-    requires { AllByRecursion (λ q. is_parameter q.name.now ≡ true) params.now }
-    ensures { IfOk result (λ slots. slots.items ≡ map
-        (λ q. slot_of (map_operand (given (R.content records.now))
-        (bound_to (R.content records.now) (first_year (span (R.content records.now))) year
-        (binding (R.content records.now) line.now q.name.now)))) params.now) }
-{
-    let first = first_year(records);
-    let mut slots = Vec::new(alloc);
-    for param in params {
-        let binding = records.bound(line, param);
-        slots.push(bound_slot(alloc, records, first, binding, year)?)?;
-    }
-    Ok(slots)
 }
 
 /// The first year of the inventory; 0 where the workbook has no years.
@@ -142,32 +128,14 @@ fn lines_in(alloc: Global, names: &[Name], year: u32) -> Result<Vec<Node>, Alloc
         .collect(alloc)
 }
 
-// ---- equivalents
-
-fn equivalent_slots<R: Records>(
-    alloc: Global,
-    records: &R,
-    name: &Name,
-    year: u32,
-) -> Result<Vec<Slot>, AllocError>
-    ensures { IfOk result (λ slots. slots.items ≡ slots_of
-        (map_formula (given (R.content records.now))
-        (formula (R.content records.now) (first_year (span (R.content records.now)))
-        (node.Equiv name.now year)))) }
-{
-    let line = Slot::Node(Node::Line(*name, year));
-    let weight = Slot::Input(potential(records, name, year));
-    Ok(vec![in alloc; line, weight]?)
-}
-
 // ---- totals
 
-// The categories whose lines a total adds.
+/// The categories whose lines a total adds.
 #[derive(Clone, Copy, Drop)]
-pub(crate) enum Scope {
-    // Those at a category and under it.
+pub enum Scope {
+    /// Those at a category and under it.
     Under(Category),
-    // Those of the national total but land.
+    /// Those of the national total but land.
     Gross,
 }
 
@@ -182,14 +150,11 @@ fn total_slots<R: Records>(
         (gas_lines_at (is_within scope.now) (R.content records.now))))) }
 {
     let lines = records.lines(alloc)?;
-    let emitters = emitters(alloc, records, &lines)?;
-    one_sum(
-        alloc,
-        equivalents_at(alloc, records, scope, &emitters, year)?,
-    )
+    let nodes = equivalents_at(alloc, records, scope, &lines, year)?;
+    one_sum(alloc, nodes)
 }
 
-// The equivalents of lines that stand within the scope.
+// The equivalents of those of lines that emit a gas within the scope.
 fn equivalents_at<R: Records>(
     alloc: Global,
     records: &R,
@@ -199,22 +164,13 @@ fn equivalents_at<R: Records>(
 ) -> Result<Vec<Node>, AllocError>
     ensures { IfOk result (λ nodes. nodes.items ≡ map (λ name. node.Equiv name year)
         (filter (λ name. option_map_or (is_within scope.now)
-        (category (R.content records.now) name) false) lines.now)) }
+        (emits_at (R.content records.now) name) false) lines.now)) }
 {
     lines
         .iter()
-        .filter(|name| stands_within(records, scope, name))
+        .filter(|name| is_some_within(scope, emits_at(records, name)))
         .map(|name| Node::Equiv(*name, year))
         .collect(alloc)
-}
-
-fn stands_within<R: Records>(records: &R, scope: &Scope, name: &Name) -> bool
-    ensures { result ≡ option_map_or (is_within scope.now) (category (R.content records.now) name.now) false }
-{
-    match records.line(name) {
-        Some((category, _)) => is_within(scope, category),
-        None => false,
-    }
 }
 
 /// Whether there is a category and the scope has it.
@@ -227,7 +183,8 @@ pub(crate) fn is_some_within(scope: &Scope, category: Option<Category>) -> bool
     }
 }
 
-fn is_within(scope: &Scope, category: Category) -> bool
+/// Whether the scope has a category.
+pub fn is_within(scope: &Scope, category: Category) -> bool
     ensures { result ≡ is_within scope.now category }
 {
     match scope {
@@ -241,4 +198,11 @@ pub fn counts_in_gross(category: Category) -> bool
     ensures { result ≡ counts_in_gross category }
 {
     is_under(category, Category::National) && !is_under(category, Category::C3B)
+}
+
+/// Whether a category is one of the tree, and so has a total: the memo codes are not.
+pub fn is_in_tree(category: Category) -> bool
+    ensures { result ≡ is_in_tree category }
+{
+    !matches!(category, Category::MB | Category::MC | Category::RA)
 }

@@ -1,9 +1,8 @@
 -- The inputs of a line: the lines that it takes in the same year, and those that it takes in the year before.
-use Rattle.std.proofs.Common.{◌≡◌, ℕ, ◌-◌, ◌<◌, Bool, true, false, nat_le, leb-false, List, [], ◌∷◌, map, Option, Some, None, refl, sym, ap, ◌∙◌, subst, inl, inr, arith}
+use Rattle.std.proofs.Common.{◌≡◌, ℕ, ◌-◌, ◌<◌, Bool, true, false, nat_le, leb-false, List, [], ◌∷◌, map, Option, Some, None, refl, sym, ap, subst, inl, inr, arith}
 use Rattle.std.specs.List.{flat_map}
 use Rattle.std.specs.Option.{option_map_or}
 use Rattle.ghg_equations.specs.declared.eq_id.EqId.{EqId}
-use Rattle.ghg_equations.specs.declared.row.Param.{Param}
 use Rattle.ghg_equations.specs.Table.{Quantity, parameters}
 use Rattle.ghg_units.specs.declared.node.Node.{Node}
 use Rattle.ghg_units.specs.declared.node.Node.TheVariants as node
@@ -16,9 +15,7 @@ use Rattle.ghg_definitions.specs.Lookups.{Source}
 use Rattle.ghg_definitions.specs.Listed.{IsListed}
 use Rattle.ghg_definitions.specs.Rings.{taken_by}
 use Rattle.ghg_definitions.proofs.Listed.{from_flat, from_map, listed_flat, listed_map}
-use Rattle.ghg_data.specs.Parameters.{quantity}
-use Rattle.ghg_graph.proofs.EquationParameters.{flat_named}
-use Rattle.ghg_layers.specs.Lines.{previous_by, previous_lines}
+use Rattle.ghg_graph.specs.Numbers.{taken_in}
 
 -- the node is the value of one of the lines in the same year, or of one of the others in the year before
 pub data IsFrom (now before : List Name) (first year : ℕ) (n : Node) : Type 0 where
@@ -37,7 +34,7 @@ module _ (m : Data) (first year : ℕ) where
   by_previous k false e n (inl is) = earlier k (inl refl) (later e) is
   by_previous k false e n (inr i) = absurd i
 
-  by_bound : (b : Option Binding) (n : Node) → IsListed n (nodes_of b) → IsFrom (taken_by b) (previous_by b) first year n
+  by_bound : (b : Option Binding) (n : Node) → IsListed n (nodes_of b) → IsFrom (taken_by b) (taken_in true b) first year n
   by_bound None n i = absurd i
   by_bound (Some (bound.Activity other)) n i = absurd i
   by_bound (Some (bound.Factor other)) n i = absurd i
@@ -62,7 +59,7 @@ module _ (m : Data) (first year : ℕ) where
   not_first : first < year → nat_le year first ≡ false
   not_first h = grind (arith, h)
 
-  bound_before : first < year → (b : Option Binding) (k : Name) → IsListed k (previous_by b) → IsListed (node.Line k (year - 1)) (nodes_of b)
+  bound_before : first < year → (b : Option Binding) (k : Name) → IsListed k (taken_in true b) → IsListed (node.Line k (year - 1)) (nodes_of b)
   bound_before h None k i = absurd i
   bound_before h (Some (bound.Activity other)) k i = absurd i
   bound_before h (Some (bound.Factor other)) k i = absurd i
@@ -84,7 +81,7 @@ module _ (m : Data) (first year : ℕ) where
     now_by e = option_map_or (λ e. flat_map (λ q. taken_by (at q)) (parameters e)) e []
 
     abbrev before_by : Option EqId → List Name
-    before_by e = option_map_or (λ e. flat_map (λ q. previous_by (at q)) (parameters e)) e []
+    before_by e = option_map_or (λ e. flat_map (λ q. taken_in true (at q)) (parameters e)) e []
 
     pub line_inputs : (e : Option EqId) (n : Node) → IsListed n (inputs_by e) → IsFrom (now_by e) (before_by e) first year n
     line_inputs None n i = absurd i
@@ -93,7 +90,7 @@ module _ (m : Data) (first year : ℕ) where
         let from = from_map (λ q. bound_to m first year (at q)) operand.0 (parameters e) operand.1 in
         elim (by_bound (at from.0) n (subst (λ (o : Operand Source). IsListed n (nodes_in o)) from.2 operand.2)) [
           | same k l is ↦ same k (listed_flat (λ q. taken_by (at q)) from.0 k (parameters e) from.1 l) is
-          | earlier k l h is ↦ earlier k (listed_flat (λ q. previous_by (at q)) from.0 k (parameters e) from.1 l) h is
+          | earlier k l h is ↦ earlier k (listed_flat (λ q. taken_in true (at q)) from.0 k (parameters e) from.1 l) h is
         ]
 
     input_by : (e : EqId) (q : Quantity) (n : Node) → IsListed q (parameters e) → IsListed n (nodes_of (at q)) → IsListed n (inputs_by (Some e))
@@ -105,11 +102,4 @@ module _ (m : Data) (first year : ℕ) where
 
     pub before_input : first < year → (e : Option EqId) (k : Name) → IsListed k (before_by e) → IsListed (node.Line k (year - 1)) (inputs_by e)
     before_input h None k i = absurd i
-    before_input h (Some e) k i = let from = from_flat (λ q. previous_by (at q)) k (parameters e) i in input_by e from.0 _ from.1 (bound_before h (at from.0) k from.2)
-
--- the lines that a line takes in the year before, by the parameters in the code
-pub previous_at : (m : Data) (l : Name) (ps : List Param) (id : EqId) → Some id ≡ line m l → map quantity ps ≡ parameters id → flat_map (λ (p : Param). previous_by (binding m l p.name.now)) ps ≡ previous_lines m l
-previous_at m l ps id at all =
-    sym (flat_named (λ n. previous_by (binding m l n)) ps)
-    ∙ ap (flat_map (λ (q : Quantity). previous_by (binding m l q.name))) all
-    ∙ ap (λ o. option_map_or (λ e. flat_map (λ q. previous_by (binding m l q.name)) (parameters e)) o []) at
+    before_input h (Some e) k i = let from = from_flat (λ q. taken_in true (at q)) k (parameters e) i in input_by e from.0 _ from.1 (bound_before h (at from.0) k from.2)

@@ -12,7 +12,7 @@ use Rattle.ghg_layers.specs.declared.grid.Grid.{Grid}
 use Rattle.ghg_layers.specs.declared.lines.Lines.{Lines}
 use Rattle.ghg_layers.specs.declared.turns.Turn.{Turn}
 use Rattle.ghg_layers.specs.Grids.{IsSet, cell, height}
-use Rattle.ghg_layers.specs.Lines.{AreLines, rows}
+use Rattle.ghg_layers.specs.Lines.{AreLines}
 use Rattle.ghg_layers.specs.Ranks.{AreLineRanks, greatest, last, last_before, last_of}
 use Rattle.ghg_layers.specs.Turns.{IsTurnOf, turn_order}
 use Rattle.ghg_layers.proofs.Greatest.{last_within}
@@ -41,7 +41,7 @@ pub last_small : (l : Lines) (g : Grid) (k : ℕ) → ((i y : ℕ) → cell g i 
 last_small l g k small number zero = let a = of_small g (targets_of l.links number) 0 k small in omega (arith, a)
 last_small l g k small number (suc y) =
     let a = of_small g (targets_of l.links number) (suc y) k small in
-    let b = of_small g (targets_of (rows l.previous.items) number) y k small in omega (arith, a, b)
+    let b = of_small g (targets_of l.previous number) y k small in omega (arith, a, b)
 
 module _ (m : Data) (l : Lines) (lines : AreLines m l) (ts : List Turn) (each : (t : Turn) → IsListed t ts → IsTurnOf l t) (sorted : IsSorted turn_order ts) (k : ℕ) (t : Turn) (h : k < length ts) (e : t ≡ get_or ts k t) where
   taken : take (k + 1) ts ≡ take k ts ++ t ∷ []
@@ -98,7 +98,7 @@ module _ (m : Data) (l : Lines) (lines : AreLines m l) (ts : List Turn) (each : 
 
     before_same : (s : Turn) → Come s → (year : ℕ) → s.year ≡ year → last_before l new s.number year ≡ last_before l g s.number year
     before_same s come zero e = refl
-    before_same s come (suc y) e = of_same (targets_of (rows l.previous.items) s.number) y (λ same _. not_previous s come (e ∙ ap (λ x. suc x) same))
+    before_same s come (suc y) e = of_same (targets_of l.previous s.number) y (λ same _. not_previous s come (e ∙ ap (λ x. suc x) same))
 
     last_same : (s : Turn) → Come s → last l new s.number s.year ≡ last l g s.number s.year
     last_same s come = ap₂ max (of_same (targets_of l.links s.number) s.year (λ same link. not_target s come same link)) (before_same s come s.year refl)
@@ -163,9 +163,9 @@ pub last_first : (l : Lines) (g : Grid) (number year rank : ℕ) → year ≡ 0 
 last_first l g number zero rank e is = omega (arith, is)
 last_first l g number (suc y) rank e is = absurd (omega (arith, e))
 
-pub last_later : (l : Lines) (g : Grid) (number year a b rank : ℕ) → (year ≡ 0 → ⊥) → a ≡ last_of g (targets_of l.links number) year → b ≡ last_of g (targets_of (rows l.previous.items) number) (year - 1)
+pub last_later : (l : Lines) (g : Grid) (number year a b rank : ℕ) → (year ≡ 0 → ⊥) → a ≡ last_of g (targets_of l.links number) year → b ≡ last_of g (targets_of l.previous number) (year - 1)
     → rank ≡ max a b → rank ≡ last l g number year
 last_later l g number zero a b rank off is_a is_b both = absurd (off refl)
 last_later l g number (suc y) a b rank off is_a is_b both =
     let e : suc y - 1 ≡ y = omega arith in
-    both ∙ ap₂ max is_a (is_b ∙ ap (last_of g (targets_of (rows l.previous.items) number)) e)
+    both ∙ ap₂ max is_a (is_b ∙ ap (last_of g (targets_of l.previous number)) e)

@@ -46,7 +46,7 @@ module _ {A B : Type 0} (R : A → A → Type 0) (Q : B → B → Type 0) (f : A
   ring_map [] r = r
   ring_map (x ∷ xs) r = leads_map (x ∷ xs) x r
 
-module _ (m : Data) (lines : List Name) (links : Links) (n : IsNumbering m lines links) where
+module _ (m : Data) (lines : List Name) (links : Links) (n : IsNumbering false m lines links) where
   to_names : (i j : ℕ) → IsLink links i j → Takes m (name_at lines i) (name_at lines j)
   to_names i j link = takes m (name_at lines i) (name_at lines j) ((n.targets i (subst (λ c. i < c) n.count (link_inside links i j link))).named j link)
 

@@ -19,15 +19,16 @@ use Rattle.ghg_definitions.proofs.Alike.{first_so, second_so}
 use Rattle.ghg_definitions.proofs.Listed.{contained, from_filter, from_map, listed, listed_filter, listed_map}
 use Rattle.ghg_definitions.proofs.NodeLists.{gas_lines_are, tree_is}
 use Rattle.ghg_graph.specs.Links.{targets_of}
-use Rattle.ghg_graph.specs.Numbers.{name_at}
+use Rattle.ghg_graph.specs.Numbers.{lines_taken, name_at}
+use Rattle.ghg_graph.specs.Slots.{is_within}
 use Rattle.ghg_layers.specs.declared.lines.Lines.{Lines}
 use Rattle.ghg_layers.specs.declared.ranks.Ranks.{Ranks}
-use Rattle.ghg_layers.specs.declared.ranks.Scope.{Scope}
-use Rattle.ghg_layers.specs.declared.ranks.Scope.TheVariants as scope
+use Rattle.ghg_graph.specs.declared.slots.Scope.{Scope}
+use Rattle.ghg_graph.specs.declared.slots.Scope.TheVariants as scope
 use Rattle.ghg_layers.specs.declared.turns.Turn.{Turn}
 use Rattle.ghg_layers.specs.Grids.{cell}
-use Rattle.ghg_layers.specs.Lines.{AreLines, previous_lines, rows}
-use Rattle.ghg_layers.specs.Ranks.{AreLineRanks, AreOwn, AreRanks, adds, last, last_before, last_of, line_rank, number_in, own_rank, rank_in, sum_rank}
+use Rattle.ghg_layers.specs.Lines.{AreLines}
+use Rattle.ghg_layers.specs.Ranks.{AreLineRanks, AreOwn, AreRanks, last, last_before, last_of, line_rank, number_in, own_rank, rank_in, sum_rank}
 use Rattle.ghg_layers.specs.Turns.{AreTurns}
 use Rattle.ghg_layers.proofs.Greatest.{last_least, last_met}
 use Rattle.ghg_layers.proofs.Inputs.{same, earlier, before_input, line_inputs, now_input}
@@ -136,14 +137,14 @@ module _ (m : Data) (ns : List Node) (nodes : (n : Node) → IsListed n ns → i
           let rank_b = ap (rank_in r) is ∙ rank_here b year given_b ∙ ap (cell r.lines s.0.number) (let e = s.3 in let f = (t name year given).3 in let g : s.0.year ≡ y = omega (arith, e, f) in g) in
           let rank_n = last_here name year given in omega (arith, low, rank_b, rank_n)
 
-      before : (b : Name) → IsListed b (previous_lines m name) → first_year (span m) < year → k ≡ node.Line b (year - 1) → rank_in r k < line_rank r name year
+      before : (b : Name) → IsListed b (lines_taken true m name) → first_year (span m) < year → k ≡ node.Line b (year - 1) → rank_in r k < line_rank r name year
       before b mine h is =
           let given_b = subst (λ x. IsListed x ns) is k_given in
           let s = t b (year - 1) given_b in
-          let target = number_listed l.names.items lines.order (targets_of (rows l.previous.items) i) _ (lines.previous.targets i within) s.0.number (are_turns.each s.0 s.1).number
-          (subst (λ x. IsListed (at s.0.number) (previous_lines m x)) (sym named) (subst (λ x. IsListed x (previous_lines m name)) (sym s.2) mine)) in
+          let target = number_listed l.names.items lines.order (targets_of l.previous i) _ (lines.previous.targets i within) s.0.number (are_turns.each s.0 s.1).number
+          (subst (λ x. IsListed (at s.0.number) (lines_taken true m x)) (sym named) (subst (λ x. IsListed x (lines_taken true m name)) (sym s.2) mine)) in
           let e : y ≡ suc s.0.year = (let e = s.3 in let f = (t name year given).3 in let h = h in omega (arith, e, f, h, first)) in
-          let low = last_least (λ j. cell r.lines j s.0.year) (targets_of (rows l.previous.items) i) s.0.number target in
+          let low = last_least (λ j. cell r.lines j s.0.year) (targets_of l.previous i) s.0.number target in
           let rank_b = ap (rank_in r) is ∙ rank_here b (year - 1) given_b in
           let rank_n = last_here name year given ∙ ap (λ z. last l r.lines i z + 1) e in omega (arith, low, rank_b, rank_n)
 
@@ -181,12 +182,12 @@ module _ (m : Data) (ns : List Node) (nodes : (n : Node) → IsListed n ns → i
       before : (v w z : ℕ) → z ≡ y → last_of r.lines (targets_of l.links i) y ≡ w → last_before l r.lines i z ≡ suc v → w ≤ suc v → Next (node.Line name year)
       before v w zero at_z e f h = absurd (omega (arith, f))
       before v w (suc z) at_z e f h =
-          let met = last_met (λ j. cell r.lines j z) (targets_of (rows l.previous.items) i) v f in
+          let met = last_met (λ j. cell r.lines j z) (targets_of l.previous i) v f in
           let j = met.0 in
           let there = given_by j z (let p = met.2 in omega (arith, p)) in
           let earlier_year : r.first + z ≡ year - 1 = omega (arith, year_is, at_z) in
           let k_given : IsListed (node.Line (at j) (year - 1)) ns = subst (λ x. IsListed (node.Line (at j) x) ns) earlier_year there.0 in
-          let mine = subst (λ x. IsListed (at j) (previous_lines m x)) named ((lines.previous.targets i within).named j met.1) in
+          let mine = subst (λ x. IsListed (at j) (lines_taken true m x)) named ((lines.previous.targets i within).named j met.1) in
           let rank_k = ap (line_rank r (at j)) (sym earlier_year) ∙ there.1 ∙ met.2 in
           let both : last l r.lines i y ≡ suc v = (let g = ap (last_before l r.lines i) (sym at_z) ∙ f in omega (arith, e, g, h)) in
           let later : first_year (span m) < year = omega (arith, year_is, at_z, first) in
@@ -230,7 +231,7 @@ module _ (m : Data) (ns : List Node) (nodes : (n : Node) → IsListed n ns → i
 
   -- ---- totals
 
-  module _ (test : Category → Bool) (s : Scope) (is : (c : Category) → adds s c ≡ test c) (passes : (c : Category) → test c ≡ true → IsListed c tree) (year : ℕ) (low : r.first ≤ year) where
+  module _ (test : Category → Bool) (s : Scope) (is : (c : Category) → is_within s c ≡ test c) (passes : (c : Category) → test c ≡ true → IsListed c tree) (year : ℕ) (low : r.first ≤ year) where
     abbrev tests : Name → Bool
     tests name = option_map_or test (category m name) false
 
@@ -251,15 +252,15 @@ module _ (m : Data) (ns : List Node) (nodes : (n : Node) → IsListed n ns → i
         let at_one = found (category m from.0) (from_filter tests from.0 (gas_lines m) from.1).1 in
         let c = at_one.0 in
         let mine = own.least from.0 year c (subst (λ x. IsListed x ns) from.2 given) at_one.1 in
-        let least = last_least own_at (filter (adds s) tree) c (listed_filter (adds s) c tree (passes c at_one.2) (is c ∙ at_one.2)) in
+        let least = last_least own_at (filter (is_within s) tree) c (listed_filter (is_within s) c tree (passes c at_one.2) (is c ∙ at_one.2)) in
         let e = ap (rank_in r) from.2 in omega (arith, mine, least, e)
 
     sum_next : (v : ℕ) → sum_rank r s year ≡ suc v → (k : Node) × IsListed k ns × IsListed k (map equiv (gas_lines_at test m)) × (rank_in r k ≡ suc v)
     unfolding sum_rank
     sum_next v e =
-        let met = last_met own_at (filter (adds s) tree) v e in
+        let met = last_met own_at (filter (is_within s) tree) v e in
         let c = met.0 in
-        let passed = from_filter (adds s) c tree met.1 in
+        let passed = from_filter (is_within s) c tree met.1 in
         let one = own.met c year v low met.2 in
         let name = one.0 in
         let emitter = first_so _ _ (nodes (equiv name) one.1) in

@@ -1,25 +1,25 @@
 -- Ranks of nodes: that of a given node is by one above the greatest rank of its given inputs.
-use Rattle.std.specs.Prelude.{◌≡◌, ◌<◌, ◌≤◌, ◌+◌, ◌-◌, ◌^◌, ◌⊎◌, ℕ, zero, suc, Bool, List, [], ◌∷◌, filter, if◌then◌else◌, length, map, max, Option, Some}
+use Rattle.std.specs.Prelude.{◌≡◌, ◌<◌, ◌≤◌, ◌+◌, ◌-◌, ◌^◌, ◌⊎◌, ℕ, zero, suc, List, [], ◌∷◌, filter, if◌then◌else◌, length, map, max, Option, Some}
 use Rattle.std.specs.List.Sorted.{IsStrictlySortedBy}
 use Rattle.std.specs.Str.{bytes_eq}
 use Rattle.ghg_categories.specs.declared.category.Category.{Category}
 use Rattle.ghg_categories.specs.Places.{place_of}
-use Rattle.ghg_categories.specs.Tree.{stands_under, tree}
+use Rattle.ghg_categories.specs.Tree.{tree}
 use Rattle.ghg_units.specs.declared.node.Node.{Node}
 use Rattle.ghg_units.specs.declared.node.Node.TheVariants as node
-use Rattle.ghg_definitions.specs.Compilation.{counts_in_gross, sheet_of}
+use Rattle.ghg_definitions.specs.Compilation.{sheet_of}
 use Rattle.ghg_definitions.specs.Data.{Data, Name, category, name_cmp}
 use Rattle.ghg_definitions.specs.Listed.{IsListed}
 use Rattle.ghg_definitions.specs.Trials.{IsInput}
 use Rattle.ghg_graph.specs.Links.{targets_of}
+use Rattle.ghg_graph.specs.Slots.{is_within}
+use Rattle.ghg_graph.specs.declared.slots.Scope.{Scope}
+use Rattle.ghg_graph.specs.declared.slots.Scope.TheVariants as scope
 use Rattle.ghg_layers.specs.declared.grid.Grid.{Grid}
 use Rattle.ghg_layers.specs.declared.lines.Lines.{Lines}
 use Rattle.ghg_layers.specs.declared.ranks.Ranks.{Ranks}
-use Rattle.ghg_layers.specs.declared.ranks.Scope.{Scope}
-use Rattle.ghg_layers.specs.declared.ranks.Scope.TheVariants as scope
 use Rattle.ghg_layers.specs.declared.turns.Turn.{Turn}
 use Rattle.ghg_layers.specs.Grids.{cell, height}
-use Rattle.ghg_layers.specs.Lines.{rows}
 
 -- each given node has a rank above those of its given inputs: the first, or just above one of these
 pub record AreRanks (m : Data) (given : List Node) (rank : Node → ℕ) : Type 0 where
@@ -40,7 +40,7 @@ last_of g numbers year = greatest (map (λ number. cell g number year) numbers)
 -- the greatest rank of those that a line takes in the year before
 abbrev pub last_before : Lines → Grid → ℕ → ℕ → ℕ
 last_before l g number zero = 0
-last_before l g number (suc year) = last_of g (targets_of (rows l.previous.items) number) year
+last_before l g number (suc year) = last_of g (targets_of l.previous number) year
 
 -- the greatest rank of those that a line takes in a year
 abbrev pub last : Lines → Grid → ℕ → ℕ → ℕ
@@ -70,14 +70,9 @@ line_rank r name year = cell r.lines (number_in r.names.items name) (year - r.fi
 abbrev pub own_rank : Ranks → Category → ℕ → ℕ
 own_rank r c year = cell r.own (place_of c) (year - r.first)
 
--- the total adds lines at the category
-abbrev pub adds : Scope → Category → Bool
-adds (scope.Under top) c = stands_under c top
-adds scope.Gross c = counts_in_gross c
-
 -- the greatest rank of a given equivalent that the total adds
 unfoldable pub sum_rank : Ranks → Scope → ℕ → ℕ
-sum_rank r scope year = greatest (map (λ c. own_rank r c year) (filter (adds scope) tree))
+sum_rank r scope year = greatest (map (λ c. own_rank r c year) (filter (is_within scope) tree))
 
 abbrev pub rank_in : Ranks → Node → ℕ
 rank_in r (node.Line name year) = line_rank r name year

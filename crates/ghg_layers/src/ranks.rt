@@ -1,6 +1,6 @@
 //! Ranks of nodes: by one above the greatest rank of a node's given inputs.
 
-ghost use Rattle.std.specs.Prelude.{◌≡◌, ◌<◌, ◌≤◌, ◌+◌, ◌-◌, ◌^◌, ℕ, length, filter, map, IfOk, OnOk};
+ghost use Rattle.std.specs.Prelude.{◌≡◌, ◌<◌, ◌≤◌, ◌+◌, ◌-◌, ◌^◌, ℕ, length, IfOk, OnOk};
 ghost use Rattle.std.specs.List.Sorted.{IsSorted, IsStrictlySortedBy};
 ghost use Rattle.ghg_categories.specs.Places.{place_of};
 ghost use Rattle.ghg_units.specs.declared.node.Node.{Node};
@@ -12,15 +12,15 @@ ghost use Rattle.ghg_definitions.specs.Rings.{IsAcyclic};
 ghost use Rattle.ghg_layers.specs.Grids.{cell, height};
 ghost use Rattle.ghg_layers.specs.Layers.{AreDistinctNodes};
 ghost use Rattle.ghg_layers.specs.Lines.{AreLines};
-ghost use Rattle.ghg_layers.specs.Ranks.{AreLineRanks, AreOwn, AreRanks, IsRaised, IsRanking, KeepsLines, adds, greatest, last, last_of, line_rank, own_rank, rank_in, sum_rank};
+ghost use Rattle.ghg_layers.specs.Ranks.{AreLineRanks, AreOwn, AreRanks, IsRaised, IsRanking, KeepsLines, last, last_of, line_rank, rank_in, sum_rank};
 ghost use Rattle.ghg_layers.specs.Turns.{IsTurnOf, turn_order};
 
 use crate::grid::Grid;
 use crate::lines::{Lines, lines_of};
 use crate::turns::{Turn, turns_of};
-use ghg_categories::{Category, all, is_under};
+use ghg_categories::{Category, all};
 use ghg_data::Records;
-use ghg_graph::{counts_in_gross, first_year, number_of};
+use ghg_graph::{Scope, first_year, is_within, number_of};
 use ghg_units::{Name, Node};
 use std::alloc::{AllocError, Global};
 
@@ -34,15 +34,6 @@ pub(crate) struct Ranks {
     lines: Grid,
     // For each category the greatest ranks of given equivalents of lines at the category itself.
     own: Grid,
-}
-
-// The categories whose lines a total adds.
-#[derive(Clone, Copy, Drop)]
-enum Scope {
-    // Those at a category and under it.
-    Under(Category),
-    // Those of the national total but land.
-    Gross,
 }
 
 // How many categories there are, with those outside the tree.
@@ -103,7 +94,7 @@ fn last(lines: &Lines, ranks: &Grid, turn: &Turn) -> usize
     if turn.year == 0 {
         return last;
     }
-    last.max(last_of(ranks, &lines.previous[turn.number], turn.year - 1))
+    last.max(last_of(ranks, lines.previous.targets(turn.number), turn.year - 1))
 }
 
 fn last_of(ranks: &Grid, numbers: &[usize], year: usize) -> usize
@@ -149,27 +140,18 @@ impl Ranks {
 
     // ---- totals
 
+    // The greatest rank of given equivalents of lines at the categories whose lines the total adds. The rank is
+    // compared first, since most are 0 and the test of a category takes longer.
     fn sum_rank(&self, scope: &Scope, year: u32) -> usize
         requires ranks { IsRanking self.now }
         requires year { self.now.first ≤ year }
         ensures { result ≡ sum_rank self.now scope.now year }
     {
-        self.last_own(scope, all(), year)
-    }
-
-    // The greatest rank of given equivalents of lines at those of the categories whose lines the total adds.
-    // The rank is compared first, since most are 0 and the test of a category takes longer.
-    fn last_own(&self, scope: &Scope, categories: &[Category], year: u32) -> usize
-        requires ranks { IsRanking self.now }
-        requires year { self.now.first ≤ year }
-        ensures { result ≡ greatest (map (λ c. own_rank self.now c year)
-            (filter (adds scope.now) categories.now)) }
-    {
         let offset = (year - self.first) as usize;
         let mut last = 0_usize;
-        for category in categories {
+        for category in all() {
             let rank = self.own.get(place(*category), offset);
-            if rank > last && adds(scope, *category) {
+            if rank > last && is_within(scope, *category) {
                 last = rank;
             }
         }
@@ -218,15 +200,6 @@ impl Ranks {
             self.own.set(place(category), offset, rank)?;
         }
         Ok(())
-    }
-}
-
-fn adds(scope: &Scope, category: Category) -> bool
-    ensures { result ≡ adds scope.now category }
-{
-    match scope {
-        Scope::Under(top) => is_under(category, *top),
-        Scope::Gross => counts_in_gross(category),
     }
 }
 

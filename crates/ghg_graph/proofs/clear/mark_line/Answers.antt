@@ -1,7 +1,14 @@
-use Rattle.std.proofs.Common.{◌∙◌, sym}
+use Rattle.std.proofs.Common.{◌≡◌, ◌∙◌, nat_lt, subst, sym, true}
+use Rattle.std.specs.Prelude.{slice_index_or}
+use Rattle.std.specs.List.{list_all}
+use Rattle.ghg_graph.specs.Links.{targets_of}
 use Rattle.ghg_graph.proofs.Falling.{clear_more, falls_clear}
 use Rattle.ghg_graph.proofs.clear.mark_line.Goals as goal
 
-pub returns-then-falls_from : goal.returns-then-falls_from
-returns-then-falls_from c = clear_more c.args.links.now c.args.marks.now.items c.args.line c.requires.clear
-    (falls_clear c.args.links.now c.args.numbers.now c.requires.falling c.args.line (sym c.falls_from.ensures ∙ c.if-falls_from.true))
+pub returns-then-are_below : goal.returns-then-are_below
+returns-then-are_below c =
+    let links = c.args.links.now in
+    let numbers = c.args.numbers.now in
+    clear_more links c.args.marks.now.items c.args.line c.requires.clear (falls_clear links numbers c.requires.falling c.args.line
+    (subst (λ b. list_all (λ t. nat_lt (slice_index_or numbers t 0) b) (targets_of links c.args.line) ≡ true) c.at.ensures
+    (sym c.are_below.ensures ∙ c.if-are_below.true)))

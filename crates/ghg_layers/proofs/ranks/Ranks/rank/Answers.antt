@@ -1,5 +1,5 @@
 use Rattle.std.proofs.Common.{arith}
-use Rattle.ghg_layers.specs.declared.ranks.Scope.TheVariants as scope
+use Rattle.ghg_graph.specs.declared.slots.Scope.TheVariants as scope
 use Rattle.ghg_layers.proofs.Looking.{sum_small}
 use Rattle.ghg_layers.proofs.ranks.Ranks.rank.Goals as goal
 
