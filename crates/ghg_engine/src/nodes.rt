@@ -1,13 +1,13 @@
 //! The nodes of a workbook.
 
 ghost use Rattle.std.specs.Prelude.{◌≡◌, is_some};
-ghost use Rattle.ghg_definitions.specs.Compilation.{emits, is_in_tree, is_node, is_year_of};
+ghost use Rattle.ghg_definitions.specs.Compilation.{emits, is_node, is_year_of};
 ghost use Rattle.ghg_definitions.specs.Data.{line, span};
 
-use ghg_categories::Category;
 use ghg_columns::year_of;
 use ghg_data::Records;
 use ghg_equations::equation;
+use ghg_graph::is_in_tree;
 use ghg_units::{Name, Node};
 
 /// Whether it is a node of a workbook.
@@ -48,11 +48,4 @@ pub(crate) fn emits<R: Records>(records: &R, name: &Name) -> bool
         Some((_, id)) => equation(id).output.gas().is_some(),
         None => false,
     }
-}
-
-// Whether a category has a total.
-fn is_in_tree(category: Category) -> bool
-    ensures { result ≡ is_in_tree category }
-{
-    !matches!(category, Category::MB | Category::MC | Category::RA)
 }
