@@ -217,6 +217,7 @@ def add_from_sheets(commands: Commands) -> None:
     made.add_argument("sheets", metavar="FILE", help="a file .xlsx or .ods")
     where = "the folder to write the files to"
     made.add_argument("-o", "--output", metavar="FOLDER", required=True, help=where)
+    made.add_argument("--replace", action="store_true", help="write over files there that have other rows")
 
 
 def add_import(commands: Commands) -> None:
@@ -226,6 +227,7 @@ def add_import(commands: Commands) -> None:
     made.add_argument("sheet", metavar="SHEET", help="a file .xlsx, .ods or .csv")
     where = "the file of rows to write; without it they are printed"
     made.add_argument("-o", "--output", metavar="FILE", help=where)
+    made.add_argument("--replace", action="store_true", help="write over a file that has other rows")
     made.add_argument("--program", metavar="PATH", help=PROGRAM)
 
 

@@ -92,6 +92,25 @@ class Files(unittest.TestCase):
         equations = [row[0].value for row in book["equations"]["A2:A100"]]
         self.assertLessEqual(set(vocabulary.equations()) | set(vocabulary.words()["forms"]), set(equations))
 
+    def test_a_file_that_is_there_is_left_alone(self) -> None:
+        path = self.room / "inventory.xlsx"
+        path.write_text("filled in", encoding="utf-8")
+        for words in (["words", "--template", path], ["tables", *FOLDERS, "2020", "-o", path]):
+            made = workbook(*words)
+            self.assertEqual((made.returncode, made.stdout), (2, ""))
+            self.assertIn(f"{path} is ", made.stderr)
+            self.assertEqual(path.read_text(encoding="utf-8"), "filled in")
+
+    def test_tables_take_the_place_of_tables_alone(self) -> None:
+        path = self.room / "tables.xlsx"
+        words = ("tables", TOP / "examples/how-to", "2020", "-o", path)
+        self.assertEqual([workbook(*words).returncode for _ in range(2)], [0, 0])
+        path.unlink()
+        workbook("words", "--template", path)
+        made = workbook(*words)
+        self.assertEqual(made.returncode, 2)
+        self.assertIn("has the sheet years, and is no file of tables; name another file", made.stderr)
+
     @unittest.skipUnless(OFFICE, "libreoffice-calc is not installed")
     def test_an_office_opens_them(self) -> None:
         template = self.room / "template.xlsx"
