@@ -1,4 +1,6 @@
-"""The figures that are still missing: rows of activities and factors whose value is empty."""
+"""The figures that are still missing: rows of activities and factors whose value is empty, and rows of
+uncertainties without their two percentages.
+"""
 from __future__ import annotations
 
 import dataclasses
@@ -8,23 +10,37 @@ from tools import vocabulary
 from tools.faults import Fault
 from tools.sheets import Row, Sheet
 
-KINDS = ("activity", "factor")
+# The columns of the figures that a row has to have, by its kind.
+FIGURES = {"activity": ("value",), "factor": ("value",), "uncert": ("value", "low")}
+WITHOUT = "the uncertainty has no percentages yet"
+PERCENTAGES = "percent of the activity data into value, and of the emission factor into low"
 
 
-def is_missing(row: Row | None) -> bool:
-    """Tells whether a row of an activity or a factor has no figure yet."""
-    return row is not None and row.field("kind") in KINDS and row.field("act") != "withdraw" \
-        and not row.field("value").strip()
+def figures_of(row: Row | None) -> tuple[str, ...]:
+    """The columns of the figures that a row has to have."""
+    return FIGURES.get(row.field("kind"), ()) if row is not None and row.field("act") != "withdraw" else ()
+
+
+def lacking(row: Row | None) -> list[str]:
+    """Those columns of them that are empty."""
+    return [column for column in figures_of(row) if row is not None and not row.field(column).strip()]
 
 
 def is_of_missing(fault: Fault) -> bool:
     """Tells whether a fault is that of a missing figure."""
-    return fault.column == "value" and is_missing(fault.row)
+    return fault.column in lacking(fault.row)
 
 
 def named(faults: Iterable[Fault]) -> list[Fault]:
-    """Faults, of which those of missing figures say which it is, so that each record has its own line."""
-    return [said(fault) if is_of_missing(fault) else fault for fault in faults]
+    """Faults, of which those of missing figures say which it is, so that each record has its own line; the two
+    of an uncertainty are one.
+    """
+    return [said(fault) if is_of_missing(fault) else fault for fault in faults if not is_second(fault)]
+
+
+def is_second(fault: Fault) -> bool:
+    """Tells whether a fault is of the second percentage of an uncertainty that has none."""
+    return fault.column == "low" and len(lacking(fault.row)) > 1
 
 
 def said(fault: Fault) -> Fault:
@@ -32,6 +48,8 @@ def said(fault: Fault) -> Fault:
     row = fault.row
     if row is None:
         return fault
+    if row.field("kind") == "uncert":
+        return dataclasses.replace(fault, cause=WITHOUT, write=PERCENTAGES) if len(lacking(row)) > 1 else fault
     note = f" ({row.field('note')})" if row.field("note") else ""
     cause = f"{row.field('kind')} {row.field('name')} has no figure yet{note}"
     return dataclasses.replace(fault, cause=cause, write=what_to_write(row.field("unit")))
@@ -50,6 +68,6 @@ def progress(faults: Iterable[Fault], sheets: Iterable[Sheet]) -> str:
     if not any(map(is_of_missing, faults)):
         return ""
     rows = [row for sheet in sheets for row in sheet.meant[1:]]
-    figures = [row for row in rows if row.field("kind") in KINDS and row.field("act") != "withdraw"]
-    there = sum(not is_missing(row) for row in figures)
-    return f"; {there} of {len(figures)} figures are filled in, {100 * there // len(figures)} %"
+    due = sum(len(figures_of(row)) for row in rows)
+    there = due - sum(len(lacking(row)) for row in rows)
+    return f"; {there} of {due} figures are filled in, {100 * there // due} %"

@@ -7,6 +7,7 @@ from collections.abc import Iterable, Iterator
 from tools import people_words
 from tools import units as readings
 from tools import vocabulary
+from tools.new_folder import tier_1
 from tools.row_templates import TEMPLATES
 from tools.sheets import COLUMNS
 from tools.vocabulary import Parameter
@@ -114,6 +115,13 @@ def near(parts: list[str], words: list[str]) -> dict[str, list[Item]]:
     return found
 
 
+def is_of_line(code: str, parameter: str) -> bool:
+    """Tells whether a parameter takes what lines give wherever the lines of tier 1 have it."""
+    forms = {row["form"] for rows in tier_1().values() for row in rows
+             if (row["equation"], row["parameter"]) == (code, parameter)}
+    return bool(forms) and forms <= {"line", "sum"}
+
+
 def sample(code: str, parameter: Parameter) -> tuple[str, str | None]:
     """The rows of a template that give a parameter its figure."""
     name = f"NAME.{parameter['name']}"
@@ -122,6 +130,8 @@ def sample(code: str, parameter: Parameter) -> tuple[str, str | None]:
     if vocabulary.is_decay(parameter):
         half_life = f"enter,factor,,{name},YEAR,VALUE,,,{vocabulary.HALF_LIFE_UNIT},"
         return f"enter,bind,NAME,{parameter['name']},,decay,{name},,,", half_life
+    if is_of_line(code, parameter["name"]):
+        return f"enter,bind,NAME,{parameter['name']},,line,LINE,,,", None
     kind = "activity" if parameter["measures"] in MEASURED_YEARLY else "factor"
     bound = f"enter,bind,NAME,{parameter['name']},,{kind},{name},,,"
     return bound, f"enter,{kind},,{name},YEAR,VALUE,LOW,HIGH,{parameter['unit']},"
@@ -157,8 +167,10 @@ def print_template(name: str) -> None:
 def run(words: list[str]) -> int:
     """Prints what has all words in it, and answers the status."""
     parts = PARTS
-    if words and (words[0] in PARTS or words[0] == "template"):
-        parts, words = [words[0].removesuffix("s") + "s"], words[1:]
+    part = next((word for word in [*words[:1], *words[-1:]] if word in (*PARTS, "template")), "")
+    if part:
+        words.remove(part)
+        parts = [part.removesuffix("s") + "s"]
     code = words[0].upper() if len(words) == 1 else ""
     if code in vocabulary.equations() and "equations" in parts:
         print_equation(code)
