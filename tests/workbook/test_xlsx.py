@@ -89,6 +89,10 @@ class Files(unittest.TestCase):
         for title, (column, due) in words.items():
             listed, _, cells = lists[title, f"{column}2:{column}5000"].partition("!")
             self.assertEqual([row[0].value for row in book[listed][cells.replace("$", "")]], due)
+        headings = {sheet.title: [cell.comment and cell.comment.text for cell in sheet[1]] for sheet in book}
+        self.assertEqual(headings["uncertainties"][3:7], [
+            "a line", None, "percent of its activity data", "percent of its emission factor"])
+        self.assertEqual(headings["years"][4:7], ["the first year", "the last year", "the base year"])
         equations = [row[0].value for row in book["equations"]["A2:A100"]]
         self.assertLessEqual(set(vocabulary.equations()) | set(vocabulary.words()["forms"]), set(equations))
 
