@@ -198,11 +198,11 @@ def tell_without_default(word: str) -> None:
     text, _, terms = word.partition("=")[0].partition(":")
     leaf = vocabulary.same_code(text)
     targets = [row["target"] for row in tier_1().get(leaf or "", []) if row["form"] in ("factor", "decay")]
-    begins = tuple(placed(target, leaf or "", "") for target in targets if target.endswith(".TERM"))
+    begins = [placed(target, leaf or "", "") for target in targets if target.endswith(".TERM")]
     known = list(dict.fromkeys(name.removeprefix(begin) for name in default_files()
                                for begin in begins if name.startswith(begin)))
     for term in filter(None, terms.upper().split(",")):
-        if known and not any(f"{name}.".startswith(f"{term}.") for name in known):
+        if known and not any(said_of_default(begin + term) for begin in begins):
             near = [fuel for part in fuels.words_of(term) for fuel in fuels.WORDS[part] if fuel in known]
             near = near or vocabulary.nearest(term, known, 3) or ["./workbook words defaults lists all"]
             print(f"{leaf}: defaults/ has nothing of {term}; near it: {', '.join(near)}", file=sys.stderr)
