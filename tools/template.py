@@ -16,16 +16,20 @@ SHEETS = {
 }
 # What stands in the columns of a sheet, as a comment at their headings.
 NUMBER = "a number, or a notation key (NO, NA, IE or NE)"
-BOUNDS = {"low": "the low bound of the 95 percent confidence interval, or nothing", "high": "the high bound, or nothing"}
+BOUNDS = {"low": "the low bound of the 95 percent confidence interval, or nothing",
+          "high": "the high bound, or nothing"}
 ABOUT = {
     "years": {"year": "the first year", "value": "the last year", "low": "the base year"},
-    "factors": {"name": "a name of your own", "year": "the first year in which the factor holds", "value": NUMBER, **BOUNDS},
-    "activities": {"name": "a name of your own", "year": "the year of the figure", "value": NUMBER, **BOUNDS},
+    "factors": {"name": "a name of your own", "year": "the first year in which the factor holds",
+                "value": NUMBER, **BOUNDS},
+    "activities": {"name": "a name of your own", "year": "the year of the figure",
+                   "value": NUMBER, **BOUNDS},
     "lines": {"subject": "of a line: its category; of a binding: its line",
               "name": "of a line: a name of your own; of a binding: a parameter of the equation",
               "value": "of a line: its equation; of a binding: its form",
               "low": "of a binding: the activity, factor, line or lines, or key that the parameter takes"},
-    "uncertainties": {"name": "a line", "value": "percent of its activity data", "low": "percent of its emission factor"},
+    "uncertainties": {"name": "a line", "value": "percent of its activity data",
+                      "low": "percent of its emission factor"},
 }
 # The lists of words that columns of a sheet have, and whether these alone may stand there: a binding has a
 # line in `subject`.
