@@ -99,8 +99,9 @@ class Files(unittest.TestCase):
     def test_a_file_that_is_there_is_left_alone(self) -> None:
         path = self.room / "inventory.xlsx"
         path.write_text("filled in", encoding="utf-8")
-        for words in (["words", "--template", path], ["tables", *FOLDERS, "2020", "-o", path]):
-            made = workbook(*words)
+        commands: list[list[str | pathlib.Path]] = [["words", "--template"], ["tables", *FOLDERS, "2020", "-o"]]
+        for words in commands:
+            made = workbook(*words, path)
             self.assertEqual((made.returncode, made.stdout), (2, ""))
             self.assertIn(f"{path} is ", made.stderr)
             self.assertEqual(path.read_text(encoding="utf-8"), "filled in")
