@@ -35,12 +35,10 @@ def named(faults: Iterable[Fault]) -> list[Fault]:
     """Faults, of which those of missing figures say which it is, so that each record has its own line; the two
     of an uncertainty are one.
     """
-    return [said(fault) if is_of_missing(fault) else fault for fault in faults if not is_second(fault)]
-
-
-def is_second(fault: Fault) -> bool:
-    """Tells whether a fault is of the second percentage of an uncertainty that has none."""
-    return fault.column == "low" and len(lacking(fault.row)) > 1
+    faults = list(faults)
+    without = {(id(fault.sheet), fault.line) for fault in faults if len(lacking(fault.row)) > 1}
+    return [said(fault) if is_of_missing(fault) else fault for fault in faults
+            if fault.column != "low" or not is_of_missing(fault) or (id(fault.sheet), fault.line) not in without]
 
 
 def said(fault: Fault) -> Fault:

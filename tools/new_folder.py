@@ -32,7 +32,7 @@ FILES = ["1-years-and-potentials.csv", "2-factors.csv", "3-activities.csv", "4-l
 WHOLE = (FILES[0], FILES[3])
 # The volumes whose factors have a region or a climate at the end of their names.
 WITH_REGIONS = ("volume-4", "volume-5")
-NO_TIER_1 = "no equation of tier 1 is known, and no line is made; ./workbook words templates has rows to write"
+NO_TIER_1 = "no equation of tier 1 is known, and no line is made"
 UNCERTAINTY = "value: percent of the activity data; low: percent of the emission factor"
 
 
@@ -74,19 +74,23 @@ def default_files() -> dict[str, str]:
 def chosen(words: list[str]) -> dict[str, Choice]:
     """The leaf categories of words as 1A1a:LIGNITE,PEAT, 2B3=NO or 3. All that is wrong with them is told."""
     found: dict[str, Choice] = {}
-    faults = []
+    faults, without = [], []
     for word in words:
         try:
-            choose(word, found)
+            without += choose(word, found)
         except FolderFault as fault:
             faults.append(str(fault))
+    for leaf in dict.fromkeys(without):
+        print(f"{leaf} {vocabulary.categories()[leaf]['name']}: {NO_TIER_1}", file=sys.stderr)
+    if without:
+        print("./workbook words templates shows rows to write of such categories", file=sys.stderr)
     if faults:
         raise FolderFault("\n./workbook: ".join(faults))
     return found
 
 
-def choose(word: str, found: dict[str, Choice]) -> None:
-    """Adds what a word chooses. Leaf categories without a line of tier 1 are told."""
+def choose(word: str, found: dict[str, Choice]) -> list[str]:
+    """Adds what a word chooses, and answers its leaf categories without a line of tier 1."""
     text, equals, key = word.partition("=")
     text, _, terms = text.partition(":")
     code = vocabulary.same_code(text)
@@ -94,13 +98,12 @@ def choose(word: str, found: dict[str, Choice]) -> None:
         raise FolderFault(said_of_no_category(text))
     if equals and key not in vocabulary.words()["keys"]:
         raise FolderFault(f'"{key}" is no notation key: {vocabulary.listed(vocabulary.words()["keys"])}')
-    for leaf in vocabulary.leaves_under(code):
-        if leaf in tier_1():
-            choice = found.setdefault(leaf, Choice([], key))
-            choice.key = key
-            choice.terms = list(dict.fromkeys(choice.terms + terms_of(leaf, terms, code == leaf)))
-        else:
-            print(f"{leaf} {vocabulary.categories()[leaf]['name']}: {NO_TIER_1}", file=sys.stderr)
+    leaves = vocabulary.leaves_under(code)
+    for leaf in filter(tier_1().__contains__, leaves):
+        choice = found.setdefault(leaf, Choice([], key))
+        choice.key = key
+        choice.terms = list(dict.fromkeys(choice.terms + terms_of(leaf, terms, code == leaf)))
+    return [leaf for leaf in leaves if leaf not in tier_1()]
 
 
 def said_of_no_category(text: str) -> str:
@@ -285,6 +288,6 @@ def run(arguments: argparse.Namespace) -> int:
     for name, data in files.items():
         print(f"{folder / name}: {counted(data.count(LINE_END) - 1, 'row')}")
     to_fill_in = vocabulary.listed([name for name in FILES if name in files and name not in WHOLE], "and")
-    what = f"Fill in {to_fill_in}" if to_fill_in else "There is nothing to fill in"
-    print(f"{what}; ./workbook check {shlex.quote(str(folder))} tells what is missing")
+    if to_fill_in:
+        print(f"Fill in {to_fill_in}; ./workbook check {shlex.quote(str(folder))} tells what is missing")
     return 0

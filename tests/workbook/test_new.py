@@ -63,7 +63,9 @@ class New(unittest.TestCase):
     def test_lines_of_all_categories_are_sound(self) -> None:
         codes = ("0", *vocabulary.MEMOS)
         made = workbook("new", self.folder, *SPAN, "--categories", *codes)
-        without = {line.split()[0] for line in made.stderr.splitlines()}
+        *told, last = made.stderr.splitlines()
+        without = {line.split()[0] for line in told}
+        self.assertIn("./workbook words templates", last)
         leaves = [leaf for code in codes for leaf in vocabulary.leaves_under(code)]
         self.assertEqual(without, set(leaves) - set(new_folder.tier_1()))
         fill_in(self.folder)
