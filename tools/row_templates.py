@@ -48,9 +48,10 @@ TEMPLATES = {
         ("correct,activity,,ACTIVITY,YEAR,VALUE,LOW,HIGH,UNIT,",)),
     "withdraw": Template(
         "a record that is to be no more",
-        "The name and the year of an activity or a factor, or the name of a line, with which its bindings and its "
-        "uncertainty go. No other line may take it.",
-        ("withdraw,activity,,ACTIVITY,YEAR,,,,,", "withdraw,line,,LINE,,,,,,")),
+        "With a line go each of its bindings and its uncertainty, by rows of the same file. No line may take what is "
+        "withdrawn.",
+        ("withdraw,activity,,ACTIVITY,YEAR,,,,,", "withdraw,line,,LINE,,,,,,",
+         "withdraw,bind,LINE,PARAMETER,,,,,,")),
     "not-occurring": Template(
         "a category that does not occur: a line all of whose parameters are the key NO",
         "It is zero, and complete shows NO. The key is IE where it is included elsewhere, NE where it is not "

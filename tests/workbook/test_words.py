@@ -49,6 +49,7 @@ FOUND = {
 }
 # What the capitals of templates are filled with.
 FILLED = {
+    "withdraw,bind,LINE,PARAMETER,": "withdraw,bind,GAS.CO2,FC,,,,,,\nwithdraw,bind,GAS.CO2,EF,",
     "FIRST,LAST,BASE": "2019,2020,2019", "YEAR,VALUE,LOW,HIGH": "2019,2,1,3", ",VALUE,": ",2,",
     "CATEGORY": "1A1a", "LINE,,ACTIVITY,FACTOR": "GAS.CO2,,5,7.5", "LINE": "GAS.CO2", "NAME": "GAS",
     "ACTIVITY,YEAR,,": "GAS.TJ,2019,,", "ACTIVITY,2019,2,1,3,UNIT": "GAS.TJ,2019,2.5,1,3,TJ",
