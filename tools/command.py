@@ -300,8 +300,7 @@ def run_check(arguments: argparse.Namespace) -> int:
     print_all(largest)
     if arguments.mend:
         print_all(mending.write(arguments.mend, arguments.folders, sheets, checked.faults, checked.cures))
-    wrong = [fault for fault in checked.faults if not missing.is_of_missing(fault)]
-    summary = check.summary(wrong, len(warnings) + len(others), sheets)
+    summary = check.summary(missing.others(checked.faults), len(warnings) + len(others), sheets)
     print(summary + missing.progress(faults, sheets))
     return 1 if faults else 0
 

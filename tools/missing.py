@@ -21,24 +21,33 @@ def figures_of(row: Row | None) -> tuple[str, ...]:
     return FIGURES.get(row.field("kind"), ()) if row is not None and row.field("act") != "withdraw" else ()
 
 
-def lacking(row: Row | None) -> list[str]:
-    """Those columns of them that are empty."""
-    return [column for column in figures_of(row) if row is not None and not row.field(column).strip()]
+def lacking(row: Row | None) -> tuple[str, ...]:
+    """Those columns, if none of them is filled in."""
+    is_empty = row is not None and not any(row.field(column).strip() for column in figures_of(row))
+    return figures_of(row) if is_empty else ()
 
 
 def is_of_missing(fault: Fault) -> bool:
-    """Tells whether a fault is that of a missing figure."""
-    return fault.column in lacking(fault.row)
+    """Tells whether a fault is that of a missing figure: of an uncertainty, of its first one."""
+    return fault.column == "value" and bool(lacking(fault.row))
+
+
+def first_ones(faults: Iterable[Fault]) -> list[Fault]:
+    """Faults, of which the two of an uncertainty without percentages are one."""
+    faults = list(faults)
+    without = {(id(fault.sheet), fault.line) for fault in faults
+               if is_of_missing(fault) and len(lacking(fault.row)) > 1}
+    return [fault for fault in faults if fault.column != "low" or (id(fault.sheet), fault.line) not in without]
 
 
 def named(faults: Iterable[Fault]) -> list[Fault]:
-    """Faults, of which those of missing figures say which it is, so that each record has its own line; the two
-    of an uncertainty are one.
-    """
-    faults = list(faults)
-    without = {(id(fault.sheet), fault.line) for fault in faults if len(lacking(fault.row)) > 1}
-    return [said(fault) if is_of_missing(fault) else fault for fault in faults
-            if fault.column != "low" or not is_of_missing(fault) or (id(fault.sheet), fault.line) not in without]
+    """Faults, of which those of missing figures say which it is, so that each record has its own line."""
+    return [said(fault) if is_of_missing(fault) else fault for fault in first_ones(faults)]
+
+
+def others(faults: Iterable[Fault]) -> list[Fault]:
+    """Faults without those of missing figures."""
+    return [fault for fault in first_ones(faults) if not is_of_missing(fault)]
 
 
 def said(fault: Fault) -> Fault:
@@ -47,7 +56,7 @@ def said(fault: Fault) -> Fault:
     if row is None:
         return fault
     if row.field("kind") == "uncert":
-        return dataclasses.replace(fault, cause=WITHOUT, write=PERCENTAGES) if len(lacking(row)) > 1 else fault
+        return dataclasses.replace(fault, cause=WITHOUT, write=PERCENTAGES)
     note = f" ({row.field('note')})" if row.field("note") else ""
     cause = f"{row.field('kind')} {row.field('name')} has no figure yet{note}"
     return dataclasses.replace(fault, cause=cause, write=what_to_write(row.field("unit")))
