@@ -161,7 +161,7 @@ def add_trace(commands: Commands) -> None:
     example = "examples/fuel-combustion 2020 POWER.COAL"
     made = over_folders(commands, "trace", what, example, compiled(trace.run))
     made.add_argument("year", type=read_year, metavar="YEAR", help="the year of the figure")
-    code = "a line, as POWER.COAL, or a total, as total:1A1a or gross"
+    code = "a line, as POWER.COAL, or a total, as total:1A1a or gross; the table cells has the lines"
     made.add_argument("code", metavar="CODE", help=code)
     made.add_argument("--json", action="store_true", help="print JSON")
 
@@ -169,15 +169,10 @@ def add_trace(commands: Commands) -> None:
 def add_compare(commands: Commands) -> None:
     """Adds the command `compare`."""
     what = "show what differs between two states of an inventory, and the rows that made it so"
-    made = command(commands, "compare", what, "submitted-2023 -- submitted-2024 2020", run_compare)
+    made = command(commands, "compare", what, "submitted-2023 -- submitted-2024 2020", compare.run)
     compare.add_words(made)
     made.add_argument("--program", metavar="PATH", help=PROGRAM)
     made.add_argument("--quiet", action="store_true", help=QUIET)
-
-
-def run_compare(arguments: argparse.Namespace) -> int:
-    """Compares two states, and answers the status."""
-    return compare.run(found_program(arguments.program), arguments)
 
 
 def add_report(commands: Commands) -> None:
@@ -217,6 +212,7 @@ def add_from_sheets(commands: Commands) -> None:
     made.add_argument("sheets", metavar="FILE", help="a file .xlsx or .ods")
     where = "the folder to write the files to"
     made.add_argument("-o", "--output", metavar="FOLDER", required=True, help=where)
+    made.add_argument("--replace", action="store_true", help="write over files there that have other rows")
 
 
 def add_import(commands: Commands) -> None:
@@ -226,6 +222,7 @@ def add_import(commands: Commands) -> None:
     made.add_argument("sheet", metavar="SHEET", help="a file .xlsx, .ods or .csv")
     where = "the file of rows to write; without it they are printed"
     made.add_argument("-o", "--output", metavar="FILE", help=where)
+    made.add_argument("--replace", action="store_true", help="write over a file that has other rows")
     made.add_argument("--program", metavar="PATH", help=PROGRAM)
 
 
@@ -251,7 +248,8 @@ def add_new(commands: Commands) -> None:
     made.add_argument("folder", metavar="FOLDER", help="the folder to make")
     made.add_argument("--first", type=year_of_span, required=True, metavar="YEAR", help="the first year")
     made.add_argument("--last", type=year_of_span, required=True, metavar="YEAR", help="the last year")
-    codes = "codes of categories, each with the fuels, species or kinds that it is a sum over after a colon"
+    codes = ("codes of categories, each with the fuels, species or kinds that it is a sum over after a colon, "
+             "or with the notation key of all its lines, as 2B3=NO")
     chosen = made.add_argument("--categories", nargs="+", required=True, metavar="CODE[:NAME,..]", help=codes)
     completion.complete(chosen, list(vocabulary.categories()))
 
@@ -302,7 +300,7 @@ def run_check(arguments: argparse.Namespace) -> int:
     print_all(largest)
     if arguments.mend:
         print_all(mending.write(arguments.mend, arguments.folders, sheets, checked.faults, checked.cures))
-    summary = check.summary(checked.faults, len(warnings) + len(others), sheets)
+    summary = check.summary(missing.others(checked.faults), len(warnings) + len(others), sheets)
     print(summary + missing.progress(faults, sheets))
     return 1 if faults else 0
 

@@ -17,7 +17,7 @@ from tools.book import KIND_TAKEN, Book, book_of
 from tools.complete import Taking
 from tools.faults import years_said
 from tools.printed import Printed, by_size, difference, figure, percent
-from tools.program import Program
+from tools.program import Program, found_program
 from tools.sheets import FolderFault, Key, Row, Sheet, read_folders
 from tools.store import submissions
 from tools.tables import say_lacking, submit_all
@@ -251,10 +251,11 @@ def years_of(states: tuple[State, State], asked: list[int]) -> list[int]:
     return asked or list(both)
 
 
-def run(path: str, arguments: argparse.Namespace) -> int:
+def run(arguments: argparse.Namespace) -> int:
     """Prints what differs, and answers the status: 1 where a file is refused."""
     words, store = arguments.words, arguments.store
     before, after, asked = of_store(store, words) if store else divided(words)
+    path = found_program(arguments.program)
     with Program(path) as one, Program(path) as other:
         states = (state_of(one, before, arguments.quiet), state_of(other, after, arguments.quiet))
         lacking = [say_lacking(state.sheets, state.accepted, state.folders, "the figures are without {}")

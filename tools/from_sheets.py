@@ -11,11 +11,11 @@ import pathlib
 import re
 import sys
 
-from tools import spreadsheet, vocabulary
+from tools import spreadsheet, template, vocabulary
 from tools.faults import counted, shown
 from tools.sheets import COLUMNS, FolderFault, joined
 from tools.spreadsheet import DATE, ERROR, NUMBER, TRUTH, UNSAVED, Cell, Grid, letters_of
-from tools.whole_files import write_whole
+from tools.whole_files import differs, write_whole
 
 NO_TEXTS = {
     DATE: "a date, which the spreadsheet made of what was typed; write a year as 2020, and a number as one",
@@ -24,6 +24,8 @@ NO_TEXTS = {
     UNSAVED: "a formula whose value the file does not have; open the file in a spreadsheet, and save it",
 }
 PERCENTAGE = "shown as a percentage, so that the cell has {}, and the row needs percent; write {}"
+NO_PERCENTAGE = "shown as a percentage, and its unit is no ratio; write the figure as a number"
+FIGURES = ("value", "low", "high")
 # So many headings of a row make it a header.
 HEADINGS = 4
 
@@ -111,17 +113,21 @@ class Rows:
         cell = cells.get(column, spreadsheet.EMPTY)
         if cell.kind in NO_TEXTS and name != "note":
             self.fault(row, column, NO_TEXTS[cell.kind])
-        if cell.is_percentage and self.is_in_percent(cells):
-            percent = f"{decimal.Decimal(cell.text) * 100:f}"
-            self.fault(row, column, PERCENTAGE.format(cell.text, percent.rstrip("0").rstrip(".")))
-        if cell.is_formula:
+        if cell.is_percentage and name in FIGURES:
+            self.look_at_percentage(row, column, cells)
+        if cell.is_formula and cell.kind != UNSAVED:
             self.formulas.append(self.grid.place(row, column))
         return self.in_decimals(row, column, cell) if cell.kind == NUMBER else cell.text
 
-    def is_in_percent(self, cells: dict[int, Cell]) -> bool:
-        """Tells whether the figures of a row are percentages as the program takes them."""
+    def look_at_percentage(self, row: int, column: int, cells: dict[int, Cell]) -> None:
+        """Tells a figure that is shown as a percentage, but that of a ratio, which is the ratio."""
         unit, kind = (cells.get(self.column_of.get(name, 0), spreadsheet.EMPTY) for name in ("unit", "kind"))
-        return unit.text == "pct" or kind.text == "uncert"
+        if unit.text == "pct" or kind.text == "uncert":
+            text = cells[column].text
+            percent = f"{decimal.Decimal(text) * 100:f}"
+            self.fault(row, column, PERCENTAGE.format(text, percent.rstrip("0").rstrip(".")))
+        elif vocabulary.measured_by(unit.text) != "ratio":
+            self.fault(row, column, NO_PERCENTAGE)
 
     def in_decimals(self, row: int, column: int, cell: Cell) -> str:
         """A number in as many decimals as the program takes."""
@@ -159,7 +165,7 @@ def read_all(grids: list[Grid]) -> tuple[list[Rows], list[str]]:
         elif header is not None:
             found.append(Rows(grid, header))
             found[-1].read()
-        elif grid.cells:
+        elif grid.cells and not template.is_list(grid):
             notes.append(f"{grid.shown_name}: no header with act and kind; this sheet is left out")
     return found, notes
 
@@ -174,14 +180,18 @@ def named(sheets: list[Rows]) -> dict[str, Rows]:
     return found
 
 
-def check_folder(folder: pathlib.Path, names: set[str]) -> None:
-    """Refuses a folder that has other files than those that are written."""
+def check_folder(folder: pathlib.Path, files: dict[str, Rows], may_replace: bool) -> None:
+    """Refuses a folder that has other files than those that are written, or one of them with other rows."""
     if folder.exists() and not folder.is_dir():
         raise FolderFault(f"{folder} is no folder")
     there = sorted(path.name for path in folder.iterdir()) if folder.exists() else []
-    other = next((name for name in there if name not in names), None)
+    other = next((name for name in there if name not in files), None)
     if other is not None:
         raise FolderFault(f"{folder} has another file, {other}; name a folder that is new or empty")
+    changed = [name for name, sheet in files.items() if differs(folder / name, sheet.body)]
+    if changed and not may_replace:
+        raise FolderFault(f"{folder} has other rows in {vocabulary.listed(changed, 'and')}; --replace writes the "
+                          "file's rows over them")
 
 
 def run(arguments: argparse.Namespace) -> int:
@@ -189,7 +199,8 @@ def run(arguments: argparse.Namespace) -> int:
     path, folder = pathlib.Path(arguments.sheets), pathlib.Path(arguments.output)
     sheets, notes = read_all(spreadsheet.read(path))
     if not sheets:
-        raise FolderFault(f"{path} has no sheet with a header of rows: {','.join(COLUMNS)}")
+        raise FolderFault(f"{path} has no sheet with a header of rows: {','.join(COLUMNS)}; of a table with "
+                          "a column for each year ./workbook import makes rows")
     for note in [*notes, *(note for sheet in sheets for note in sheet.notes)]:
         print(note, file=sys.stderr)
     faults = [fault for sheet in sheets for fault in sheet.faults]
@@ -198,9 +209,10 @@ def run(arguments: argparse.Namespace) -> int:
         print(f"{counted(len(sheets), 'sheet')}: {counted(len(faults), 'fault')}; nothing is written")
         return 1
     files = named(sheets)
-    check_folder(folder, set(files))
+    check_folder(folder, files, arguments.replace)
     folder.mkdir(parents=True, exist_ok=True)
     for name, sheet in files.items():
+        replaced = ", in place of other rows" if differs(folder / name, sheet.body) else ""
         write_whole(folder / name, sheet.body)
-        print(f"{folder / name}: {counted(len(sheet.fields) - 1, 'row')}")
+        print(f"{folder / name}: {counted(len(sheet.fields) - 1, 'row')}{replaced}")
     return 0

@@ -11,7 +11,7 @@ from tools.check import Check
 from tools.faults import Fault, counted, in_order
 from tools.program import Program
 from tools.sheets import FolderFault, Sheet
-from tools.whole_files import write_whole
+from tools.whole_files import differs, write_whole
 from tools.wide_rows import Made, rows_of
 
 
@@ -31,7 +31,7 @@ def run(program: Program, arguments: argparse.Namespace) -> int:
     if output is None:
         print(made.body.decode("utf-8"), end="")
     else:
-        write_whole(output, made.body)
+        write_rows(output, made.body, arguments.replace)
     print(said_of(made, output or path), file=sys.stderr)
     return 0
 
@@ -46,6 +46,15 @@ def look_at_output(output: pathlib.Path | None, path: pathlib.Path) -> None:
         raise FolderFault(f"{output.parent} is no folder")
     if output.exists() and path.exists() and output.samefile(path):
         raise FolderFault(f"{output} is the sheet itself; give the rows another name")
+
+
+def write_rows(output: pathlib.Path, body: bytes, may_replace: bool) -> None:
+    """Writes the rows, over a file that has others only if that may be, and says so."""
+    if differs(output, body):
+        if not may_replace:
+            raise FolderFault(f"{output} has other rows; --replace writes the sheet's rows over them")
+        print(f"{output}: in place of other rows", file=sys.stderr)
+    write_whole(output, body)
 
 
 def refused(program: Program, made: Made) -> list[str]:

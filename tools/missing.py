@@ -1,4 +1,6 @@
-"""The figures that are still missing: rows of activities and factors whose value is empty."""
+"""The figures that are still missing: rows of activities and factors whose value is empty, and rows of
+uncertainties without their two percentages.
+"""
 from __future__ import annotations
 
 import dataclasses
@@ -8,23 +10,44 @@ from tools import vocabulary
 from tools.faults import Fault
 from tools.sheets import Row, Sheet
 
-KINDS = ("activity", "factor")
+# The columns of the figures that a row has to have, by its kind.
+FIGURES = {"activity": ("value",), "factor": ("value",), "uncert": ("value", "low")}
+WITHOUT = "the uncertainty has no percentages yet"
+PERCENTAGES = "percent of the activity data into value, and of the emission factor into low"
 
 
-def is_missing(row: Row | None) -> bool:
-    """Tells whether a row of an activity or a factor has no figure yet."""
-    return row is not None and row.field("kind") in KINDS and row.field("act") != "withdraw" \
-        and not row.field("value").strip()
+def figures_of(row: Row | None) -> tuple[str, ...]:
+    """The columns of the figures that a row has to have."""
+    return FIGURES.get(row.field("kind"), ()) if row is not None and row.field("act") != "withdraw" else ()
+
+
+def lacking(row: Row | None) -> tuple[str, ...]:
+    """Those columns, if none of them is filled in."""
+    is_empty = row is not None and not any(row.field(column).strip() for column in figures_of(row))
+    return figures_of(row) if is_empty else ()
 
 
 def is_of_missing(fault: Fault) -> bool:
-    """Tells whether a fault is that of a missing figure."""
-    return fault.column == "value" and is_missing(fault.row)
+    """Tells whether a fault is that of a missing figure: of an uncertainty, of its first one."""
+    return fault.column == "value" and bool(lacking(fault.row))
+
+
+def first_ones(faults: Iterable[Fault]) -> list[Fault]:
+    """Faults, of which the two of an uncertainty without percentages are one."""
+    faults = list(faults)
+    without = {(id(fault.sheet), fault.line) for fault in faults
+               if is_of_missing(fault) and len(lacking(fault.row)) > 1}
+    return [fault for fault in faults if fault.column != "low" or (id(fault.sheet), fault.line) not in without]
 
 
 def named(faults: Iterable[Fault]) -> list[Fault]:
     """Faults, of which those of missing figures say which it is, so that each record has its own line."""
-    return [said(fault) if is_of_missing(fault) else fault for fault in faults]
+    return [said(fault) if is_of_missing(fault) else fault for fault in first_ones(faults)]
+
+
+def others(faults: Iterable[Fault]) -> list[Fault]:
+    """Faults without those of missing figures."""
+    return [fault for fault in first_ones(faults) if not is_of_missing(fault)]
 
 
 def said(fault: Fault) -> Fault:
@@ -32,6 +55,8 @@ def said(fault: Fault) -> Fault:
     row = fault.row
     if row is None:
         return fault
+    if row.field("kind") == "uncert":
+        return dataclasses.replace(fault, cause=WITHOUT, write=PERCENTAGES)
     note = f" ({row.field('note')})" if row.field("note") else ""
     cause = f"{row.field('kind')} {row.field('name')} has no figure yet{note}"
     return dataclasses.replace(fault, cause=cause, write=what_to_write(row.field("unit")))
@@ -50,6 +75,6 @@ def progress(faults: Iterable[Fault], sheets: Iterable[Sheet]) -> str:
     if not any(map(is_of_missing, faults)):
         return ""
     rows = [row for sheet in sheets for row in sheet.meant[1:]]
-    figures = [row for row in rows if row.field("kind") in KINDS and row.field("act") != "withdraw"]
-    there = sum(not is_missing(row) for row in figures)
-    return f"; {there} of {len(figures)} figures are filled in, {100 * there // len(figures)} %"
+    due = sum(len(figures_of(row)) for row in rows)
+    there = due - sum(len(lacking(row)) for row in rows)
+    return f"; {there} of {due} figures are filled in, {100 * there // due} %"

@@ -1,5 +1,5 @@
 """Begins a workbook: the years, the potentials, the lines of chosen categories at tier 1 with their bindings,
-and an empty row for each figure that they need.
+and an empty row for each figure and each uncertainty that they need.
 
 The lines stand in tier-1.csv. There TERM is what a category is a sum over, as a fuel or a species, and
 CATEGORY the code in capitals. A line without TERM in its name is one for all terms; a sum in it is over the
@@ -14,10 +14,11 @@ import functools
 import os
 import pathlib
 import re
+import shlex
 import sys
 import tempfile
 
-from tools import vocabulary
+from tools import fuels, people_words, vocabulary
 from tools.faults import counted
 from tools.fuels import DEFAULTS
 from tools.sheets import COLUMNS, FolderFault, joined
@@ -26,7 +27,20 @@ TIER_1 = vocabulary.PATH.parent / "tier-1.csv"
 POTENTIALS = "potentials-fifth-assessment-report.csv"
 NAME = re.compile(r"[A-Z][A-Z0-9._-]*")
 LINE_END = b"\n"
-FILES = ["1-years-and-potentials.csv", "2-factors.csv", "3-activities.csv", "4-lines.csv"]
+FILES = ["1-years-and-potentials.csv", "2-factors.csv", "3-activities.csv", "4-lines.csv", "5-uncertainties.csv"]
+# Those of them in which nothing is to be filled in.
+WHOLE = (FILES[0], FILES[3])
+# The volumes whose factors have a region or a climate at the end of their names.
+WITH_REGIONS = ("volume-4", "volume-5")
+NO_TIER_1 = "no equation of tier 1 is known, and no line is made"
+UNCERTAINTY = "value: percent of the activity data; low: percent of the emission factor"
+
+
+@dataclasses.dataclass
+class Choice:
+    """What is chosen of a leaf category: its terms, and the notation key of all its lines if it has one."""
+    terms: list[str]
+    key: str
 
 
 @dataclasses.dataclass(frozen=True)
@@ -57,23 +71,46 @@ def default_files() -> dict[str, str]:
             for row in csv.DictReader(path.read_text(encoding="utf-8").splitlines())}
 
 
-def chosen(words: list[str]) -> dict[str, list[str]]:
-    """The leaf categories of words as 1A1a:LIGNITE,PEAT or 3, each with its terms. Those without a line of
-    tier 1 are told.
-    """
-    found: dict[str, list[str]] = {}
+def chosen(words: list[str]) -> dict[str, Choice]:
+    """The leaf categories of words as 1A1a:LIGNITE,PEAT, 2B3=NO or 3. All that is wrong with them is told."""
+    found: dict[str, Choice] = {}
+    faults, without = [], []
     for word in words:
-        text, _, terms = word.partition(":")
-        code = vocabulary.same_code(text)
-        if code is None:
-            raise FolderFault(f"there is no category {text}; ./workbook words categories lists them")
-        for leaf in vocabulary.leaves_under(code):
-            if leaf in tier_1():
-                found.setdefault(leaf, []).extend(terms_of(leaf, terms, code == leaf))
-            else:
-                name = vocabulary.categories()[leaf]["name"]
-                print(f"{leaf} {name}: no equation of tier 1 is known, and no line is made", file=sys.stderr)
-    return {leaf: list(dict.fromkeys(terms)) for leaf, terms in found.items()}
+        try:
+            without += choose(word, found)
+        except FolderFault as fault:
+            faults.append(str(fault))
+    for leaf in dict.fromkeys(without):
+        print(f"{leaf} {vocabulary.categories()[leaf]['name']}: {NO_TIER_1}", file=sys.stderr)
+    if without:
+        print("./workbook words templates shows rows to write of such categories", file=sys.stderr)
+    if faults:
+        raise FolderFault("\n./workbook: ".join(faults))
+    return found
+
+
+def choose(word: str, found: dict[str, Choice]) -> list[str]:
+    """Adds what a word chooses, and answers its leaf categories without a line of tier 1."""
+    text, equals, key = word.partition("=")
+    text, _, terms = text.partition(":")
+    code = vocabulary.same_code(text)
+    if code is None:
+        raise FolderFault(said_of_no_category(text))
+    if equals and key not in vocabulary.words()["keys"]:
+        raise FolderFault(f'"{key}" is no notation key: {vocabulary.listed(vocabulary.words()["keys"])}')
+    leaves = vocabulary.leaves_under(code)
+    for leaf in filter(tier_1().__contains__, leaves):
+        choice = found.setdefault(leaf, Choice([], key))
+        choice.key = key
+        choice.terms = list(dict.fromkeys(choice.terms + terms_of(leaf, terms, code == leaf)))
+    return [leaf for leaf in leaves if leaf not in tier_1()]
+
+
+def said_of_no_category(text: str) -> str:
+    """That there is no category of a code, and of one of fluorinated gases what to enter."""
+    if "other-gases" in (people_words.of(vocabulary.plain(text)) or []):
+        return f"no equation emits the gases of {text}; ./workbook words templates other-gases shows what to do"
+    return f"there is no category {text}; ./workbook words categories lists them"
 
 
 def terms_of(leaf: str, words: str, is_alone: bool) -> list[str]:
@@ -82,18 +119,24 @@ def terms_of(leaf: str, words: str, is_alone: bool) -> list[str]:
     terms = words.upper().split(",") if words else []
     wrong = next((term for term in terms if not NAME.fullmatch(term)), None)
     if wrong is not None:
-        raise FolderFault(f'"{wrong}" is no name: a letter, then letters, digits, ".", "_" and "-"')
+        better = re.sub(r"[^A-Z0-9]+", ".", wrong).strip(".")
+        write = f"; write {better}" if NAME.fullmatch(better) else ""
+        raise FolderFault(f'"{wrong}" is no name: a letter, then letters, digits, ".", "_" and "-"{write}')
     if not known and terms and is_alone:
         raise FolderFault(f"{leaf} has one set of lines; write it without a colon")
     return (terms or [row["target"] for row in known]) if known else []
 
 
-def rows_of(leaf: str, terms: list[str]) -> list[dict[str, str]]:
-    """The bindings of the lines of a category: those of each term, then those that all terms share."""
+def rows_of(leaf: str, choice: Choice) -> list[dict[str, str]]:
+    """The bindings of the lines of a category: those of each term, then those that all terms share. With a
+    notation key there are those alone that emit a gas, all of whose parameters are the key.
+    """
     rows = [row for row in tier_1()[leaf] if row["form"] != "term"]
+    if choice.key:
+        rows = [{**row, "form": "key", "target": choice.key} for row in rows if vocabulary.gas_of(row["equation"])]
     of_terms = [row for row in rows if "TERM" in row["line"]]
-    found = [with_names(row, leaf, term, [term]) for term in terms for row in of_terms]
-    return found + [with_names(row, leaf, "", terms) for row in rows if row not in of_terms]
+    found = [with_names(row, leaf, term, [term]) for term in choice.terms for row in of_terms]
+    return found + [with_names(row, leaf, "", choice.terms) for row in rows if row not in of_terms]
 
 
 def with_names(row: dict[str, str], leaf: str, term: str, summed: list[str]) -> dict[str, str]:
@@ -139,9 +182,40 @@ def figures(rows: list[dict[str, str]]) -> list[Figure]:
 
 def empty_row(figure: Figure, year: int) -> list[str]:
     """The row of a figure, without the figure. Its note says what it is, and where a default stands."""
-    default = default_files().get(figure.name) if figure.kind == "factor" else None
-    note = f"{figure.what}; a default: defaults/{default}" if default else figure.what
-    return ["enter", figure.kind, "", figure.name, str(year), "", "", "", figure.unit, note]
+    default = said_of_default(figure.name) if figure.kind == "factor" else ""
+    return ["enter", figure.kind, "", figure.name, str(year), "", "", "", figure.unit, figure.what + default]
+
+
+def said_of_default(name: str) -> str:
+    """Where defaults/ has a factor of a name, or those of this name for each region or climate, if any."""
+    files = default_files()
+    if name in files:
+        return f"; a default: defaults/{files[name]}"
+    longer = [other for other in files
+              if other.startswith(f"{name}.") and files[other].startswith(WITH_REGIONS)]
+    return f"; defaults {name}.*: defaults/{files[longer[0]]}" if longer else ""
+
+
+def tell_without_default(word: str) -> None:
+    """Tells the terms of a word that defaults/ has nothing of, where it has others of the category."""
+    text, _, terms = word.partition("=")[0].partition(":")
+    leaf = vocabulary.same_code(text)
+    targets = [row["target"] for row in tier_1().get(leaf or "", []) if row["form"] in ("factor", "decay")]
+    begins = [placed(target, leaf or "", "") for target in targets if target.endswith(".TERM")]
+    known = list(dict.fromkeys(name.removeprefix(begin) for name in default_files()
+                               for begin in begins if name.startswith(begin)))
+    for term in filter(None, terms.upper().split(",")):
+        if known and not any(said_of_default(begin + term) for begin in begins):
+            near = [fuel for part in fuels.words_of(term) for fuel in fuels.WORDS[part] if fuel in known]
+            near = near or vocabulary.nearest(term, known, 3) or ["./workbook words defaults lists all"]
+            print(f"{leaf}: defaults/ has nothing of {term}; near it: {', '.join(near)}", file=sys.stderr)
+
+
+def empty_uncertainties(rows: list[dict[str, str]]) -> list[list[str]]:
+    """A row of uncertainties for each line in the tree that emits a gas, but those that are a notation key."""
+    lines = dict.fromkeys(row["line"] for row in rows if vocabulary.gas_of(row["equation"])
+                          and row["form"] != "key" and row["category"] not in vocabulary.MEMOS)
+    return [["enter", "uncert", "", line, "", "", "", "", "", UNCERTAINTY] for line in lines]
 
 
 def check_names(rows: list[dict[str, str]], needed: list[Figure]) -> None:
@@ -181,8 +255,8 @@ def made_files(years: range, rows: list[dict[str, str]]) -> dict[str, bytes]:
         potentials = list(csv.reader(file))[1:]
     factors = [empty_row(figure, first) for figure in needed if figure.kind == "factor"]
     activities = [empty_row(figure, year) for figure in needed if figure.kind == "activity" for year in years]
-    parts = [[span, *potentials], factors, activities, lines_with_bindings(rows)]
-    files = zip(FILES, parts)
+    parts = [[span, *potentials], factors, activities, lines_with_bindings(rows), empty_uncertainties(rows)]
+    files = ((name, part) for name, part in zip(FILES, parts) if part)
     return {name: b"".join(joined(row) + LINE_END for row in [COLUMNS, *part]) for name, part in files}
 
 
@@ -209,8 +283,11 @@ def run(arguments: argparse.Namespace) -> int:
     files = made_files(years, rows)
     folder = pathlib.Path(arguments.folder)
     write_folder(folder, files)
+    for word in arguments.categories:
+        tell_without_default(word)
     for name, data in files.items():
         print(f"{folder / name}: {counted(data.count(LINE_END) - 1, 'row')}")
-    what = f"Fill in the column value of {FILES[1]} and {FILES[2]}"
-    print(f"{what}; ./workbook check {folder} tells what is missing")
+    to_fill_in = vocabulary.listed([name for name in FILES if name in files and name not in WHOLE], "and")
+    if to_fill_in:
+        print(f"Fill in {to_fill_in}; ./workbook check {shlex.quote(str(folder))} tells what is missing")
     return 0

@@ -37,9 +37,10 @@ def phrases(words: list[str]) -> list[str]:
 
 
 def of(word: str) -> list[str] | None:
-    """What a word means, in the plural too, or None where the table has it not."""
+    """What a word means, in the plural and with dots too, or None where the table has it not."""
     plain = word.casefold()
-    return meanings().get(plain, meanings().get(plain.removesuffix("s")))
+    known = (meanings().get(form) for form in (plain, plain.removesuffix("s"), plain.replace(".", "")))
+    return next((meaning for meaning in known if meaning), None)
 
 
 def is_meant(word: str, key: str, text: str) -> bool:

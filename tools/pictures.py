@@ -6,6 +6,7 @@ import dataclasses
 import importlib
 import io
 import re
+import textwrap
 from collections.abc import Sequence
 from typing import Any
 
@@ -21,6 +22,8 @@ DARK = "#1b4965"
 STYLE = {"svg.fonttype": "none", "svg.hashsalt": "report", "font.size": 9, "font.family": "sans-serif",
          "axes.spines.top": False, "axes.spines.right": False, "hatch.linewidth": 0.5}
 KEY_SHARE = 95
+# So many letters of a label stand on one line.
+LETTERS_OF_A_LABEL = 40
 # So many bars have room at least, so that few are no broader.
 FEWEST_BARS = 8
 
@@ -145,7 +148,9 @@ def patch_of(name: str, colour: str, pattern: str) -> Any:
 
 
 def below(axes: Any, handles: Sequence[Any]) -> None:
-    """The legend below the axes, in two columns."""
+    """The legend below the axes, in two columns that are no broader than these."""
+    for handle in handles:
+        handle.set_label(textwrap.fill(handle.get_label(), LETTERS_OF_A_LABEL))
     axes.legend(handles=handles, loc="upper left", bbox_to_anchor=(0, -0.1), ncol=2, frameon=False)
 
 

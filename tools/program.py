@@ -60,7 +60,8 @@ def found_program(given: str | None = None) -> str:
     """
     path = os.path.abspath(given or os.environ.get("GHG_PROGRAM") or TOP / "ghg")
     if not os.access(path, os.X_OK) or os.path.isdir(path):
-        raise ProgramFailed(f"there is no program at {path}")
+        raise ProgramFailed(f"there is no program at {path}; name one by --program or GHG_PROGRAM, or unset "
+                            "GHG_PROGRAM, so that ./ghg builds it")
     return path
 
 

@@ -41,6 +41,17 @@ TEMPLATES = {
         "the uncertainties of a line's activity data and emission factor, in percent",
         "Each is half the 95 percent confidence interval over the value. The table uncertainty has them.",
         ("enter,uncert,,LINE,,ACTIVITY,FACTOR,,,",)),
+    "correct": Template(
+        "a figure that is better known now, or anything else of a record that is there",
+        "It names the record as the row that entered it did, and has all of its new figures. It stands in a new "
+        "file behind the others; the note says why.",
+        ("correct,activity,,ACTIVITY,YEAR,VALUE,LOW,HIGH,UNIT,",)),
+    "withdraw": Template(
+        "a record that is to be no more",
+        "With a line go each of its bindings and its uncertainty, by rows of the same file. No line may take what is "
+        "withdrawn.",
+        ("withdraw,activity,,ACTIVITY,YEAR,,,,,", "withdraw,line,,LINE,,,,,,",
+         "withdraw,bind,LINE,PARAMETER,,,,,,")),
     "not-occurring": Template(
         "a category that does not occur: a line all of whose parameters are the key NO",
         "It is zero, and complete shows NO. The key is IE where it is included elsewhere, NE where it is not "

@@ -5,9 +5,11 @@ import pathlib
 import re
 import sys
 import typing
+import zipfile
 
-from tools import vocabulary
+from tools import spreadsheet, vocabulary
 from tools.faults import counted
+from tools.sheets import FolderFault
 from tools.xlsx import Spreadsheet
 
 # The table that has a row for each year itself.
@@ -66,8 +68,22 @@ def is_meant(output: str | None) -> bool:
     return output is not None and output.lower().endswith(".xlsx")
 
 
+def check_place(path: pathlib.Path) -> None:
+    """Refuses to write over a file that is none of tables."""
+    if not path.exists():
+        return
+    try:
+        names = spreadsheet.library(".xlsx", f"to write {path}").load_workbook(path, read_only=True).sheetnames
+    except (zipfile.BadZipFile, KeyError, ValueError) as error:
+        raise FolderFault(f"{path} is there already, and is no file of tables; name another file") from error
+    other = next((name for name in names if name not in vocabulary.words()["tables"]), None)
+    if other is not None:
+        raise FolderFault(f"{path} has the sheet {other}, and is no file of tables; name another file")
+
+
 def write(path: pathlib.Path, shown: dict[tuple[str, int], list[str]]) -> None:
     """Writes the tables of years as a file, and says how many rows each has."""
+    check_place(path)
     book = Spreadsheet(path)
     by_table: dict[str, dict[int, list[str]]] = {}
     for (table, year), lines in shown.items():

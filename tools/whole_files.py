@@ -19,6 +19,11 @@ def write_whole(path: pathlib.Path, data: bytes) -> None:
         raise
 
 
+def differs(path: pathlib.Path, data: bytes) -> bool:
+    """Tells whether a file is there that holds something else."""
+    return path.exists() and path.read_bytes() != data
+
+
 def mode_of(path: pathlib.Path) -> int:
     """The permissions of a file; of one that is not there yet, those of a new one."""
     if path.exists():

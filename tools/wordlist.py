@@ -7,6 +7,7 @@ from tools import people_words
 from tools import units as readings
 from tools import vocabulary
 from tools.fuels import DEFAULTS
+from tools.new_folder import tier_1
 from tools.row_templates import TEMPLATES
 from tools.sheets import COLUMNS
 from tools.vocabulary import Parameter
@@ -21,12 +22,11 @@ MEASURED_YEARLY = {
 # The line of the year before that such a parameter takes: the line itself, or that of the stock.
 LINE_OF_LAST_YEAR = {"Q91": "NAME", "Q92": "STOCK"}
 
-# A word and what is said of it; and with it what else it is found by.
-Item = tuple[str, str]
-Searched = tuple[str, str, str]
+# A word, what is said of it, and what else it is found by: of a default factor its file.
+Item = tuple[str, str, str]
 
 
-def units() -> Iterator[Searched]:
+def units() -> Iterator[Item]:
     """Each unit with what it measures, and what people write for it."""
     for word, unit in vocabulary.units().items():
         base = vocabulary.units_that_measure(unit["measures"])[0]
@@ -35,7 +35,7 @@ def units() -> Iterator[Searched]:
         yield word, f"{unit['measures']}{of_base}", readings.spellings(word)
 
 
-def categories() -> Iterator[Searched]:
+def categories() -> Iterator[Item]:
     """Each category with its name and the codes under it."""
     for code, category in vocabulary.categories().items():
         children = category["children"]
@@ -44,13 +44,13 @@ def categories() -> Iterator[Searched]:
         yield code, f"{category['name']}{also}{leaf}", ""
 
 
-def equations() -> Iterator[Searched]:
+def equations() -> Iterator[Item]:
     """Each equation with what it computes and its source, and what its parameters are."""
     for code, equation in vocabulary.equations().items():
         yield code, f"{equation['computes']}, {equation['source']}", equation["about"]
 
 
-def parameters() -> Iterator[Searched]:
+def parameters() -> Iterator[Item]:
     """Each parameter with what it measures, and the equations that have it."""
     found: dict[tuple[str, str], list[str]] = {}
     for code, equation in vocabulary.equations().items():
@@ -61,26 +61,25 @@ def parameters() -> Iterator[Searched]:
         yield name, f"{said}: {', '.join(codes)}", ""
 
 
-def templates() -> Iterator[Searched]:
+def templates() -> Iterator[Item]:
     """Each template of rows with what it is of."""
     for name, template in TEMPLATES.items():
         yield name, template.title, "template"
 
 
-def defaults() -> Iterator[Searched]:
-    """Each default factor with its figure, its source and its file."""
+def defaults() -> Iterator[Item]:
+    """Each default factor with its figure and its source, and its file."""
     for path in sorted(DEFAULTS.glob("*.csv")):
         with open(path, encoding="utf-8", newline="") as file:
             for row in csv.DictReader(file):
                 unit = f" {row['unit']}" if row["unit"] != "1" else ""
                 bounds = f", {row['low']} to {row['high']}" if row["low"] else ""
-                said = f"{row['value']}{unit}{bounds}: {row['note']} ({DEFAULTS.name}/{path.name})"
-                yield row["name"], said, ""
+                yield row["name"], f"{row['value']}{unit}{bounds}: {row['note']}", f"{DEFAULTS.name}/{path.name}"
 
 
-def found_in(items: Iterable[Searched], words: list[str]) -> list[Item]:
+def found_in(items: Iterable[Item], words: list[str]) -> list[Item]:
     """The items that have all words in them, or are meant by them."""
-    return [(word, said) for word, said, also in items
+    return [(word, said, also) for word, said, also in items
             if all(is_found(part, word, f"{word} {said} {also}".casefold()) for part in words)]
 
 
@@ -102,15 +101,22 @@ def near(parts: list[str], words: list[str]) -> dict[str, list[Item]]:
     """What is meant by words that nothing has in it: a unit that people write so, and the category that a
     code divides; by parts.
     """
-    text, found = " ".join(words), {}
+    text, found = " ".join(words), dict[str, list[Item]]()
     meant = readings.meant(text) if "units" in parts else None
     if meant:
-        found["units"] = [(meant.word, f"{vocabulary.measured_by(meant.word)}; for {text} {meant.said}")]
+        found["units"] = [(meant.word, f"{vocabulary.measured_by(meant.word)}; for {text} {meant.said}", "")]
     leaves = [leaf for leaf in vocabulary.leaves() if "categories" in parts
               and vocabulary.plain(text).startswith(vocabulary.plain(leaf))]
     if leaves and text[0].isdecimal():
-        found["categories"] = [(code, said) for code, said, _ in categories() if code in leaves]
+        found["categories"] = [item for item in categories() if item[0] in leaves]
     return found
+
+
+def is_of_line(code: str, parameter: str) -> bool:
+    """Tells whether a parameter takes what lines give wherever the lines of tier 1 have it."""
+    forms = {row["form"] for rows in tier_1().values() for row in rows
+             if (row["equation"], row["parameter"]) == (code, parameter)}
+    return bool(forms) and forms <= {"line", "sum"}
 
 
 def sample(code: str, parameter: Parameter) -> tuple[str, str | None]:
@@ -121,6 +127,8 @@ def sample(code: str, parameter: Parameter) -> tuple[str, str | None]:
     if vocabulary.is_decay(parameter):
         half_life = f"enter,factor,,{name},YEAR,VALUE,,,{vocabulary.HALF_LIFE_UNIT},"
         return f"enter,bind,NAME,{parameter['name']},,decay,{name},,,", half_life
+    if is_of_line(code, parameter["name"]):
+        return f"enter,bind,NAME,{parameter['name']},,line,LINE,,,", None
     kind = "activity" if parameter["measures"] in MEASURED_YEARLY else "factor"
     bound = f"enter,bind,NAME,{parameter['name']},,{kind},{name},,,"
     return bound, f"enter,{kind},,{name},YEAR,VALUE,LOW,HIGH,{parameter['unit']},"
@@ -156,8 +164,10 @@ def print_template(name: str) -> None:
 def run(words: list[str]) -> int:
     """Prints what has all words in it, and answers the status."""
     parts = PARTS
-    if words and (words[0] in PARTS or words[0] == "template"):
-        parts, words = [words[0].removesuffix("s") + "s"], words[1:]
+    part = next((word for word in [*words[:1], *words[-1:]] if word in (*PARTS, "template")), "")
+    if part:
+        words.remove(part)
+        parts = [part.removesuffix("s") + "s"]
     code = words[0].upper() if len(words) == 1 else ""
     if code in vocabulary.equations() and "equations" in parts:
         print_equation(code)
@@ -194,13 +204,16 @@ def shortened(part: str, items: list[Item], words: list[str]) -> list[Item]:
     if part != "defaults" or len(items) <= MOST_DEFAULTS + 1:
         return items
     said = f"{len(items) - MOST_DEFAULTS} more: ./workbook words defaults {' '.join(words)}".rstrip()
-    return items[:MOST_DEFAULTS] + [("...", said)]
+    return items[:MOST_DEFAULTS] + [("...", said, items[MOST_DEFAULTS - 1][2])]
 
 
 def print_items(part: str, items: list[Item], with_heading: bool) -> None:
-    """Prints the words of a part with what is said of them."""
+    """Prints the words of a part with what is said of them, and above default factors their file."""
     if with_heading:
         print(f"{part}:")
-    width = max(len(word) for word, _ in items)
-    for word, said in items:
-        print(f"{'  ' if with_heading else ''}{word:{width}}  {said}")
+    width, margin, file = max(len(word) for word, _, _ in items), "  " if with_heading else "", ""
+    for word, said, also in items:
+        if part == "defaults" and also != file:
+            file = also
+            print(f"{margin}{file}:")
+        print(f"{margin}{word:{width}}  {said}")

@@ -19,8 +19,9 @@ class Spreadsheet:
         self.library = spreadsheet.library(".xlsx", f"to write {path}")
         self.book = self.library.Workbook(write_only=True)
 
-    def add(self, name: str, header: list[str], widths: dict[int, int]) -> typing.Any:
-        """Adds a sheet with a header and with columns of these widths."""
+    def add(self, name: str, header: list[str], widths: dict[int, int],
+            about: dict[str, str] | None = None) -> typing.Any:
+        """Adds a sheet with a header, with columns of these widths, and with comments at headings."""
         sheet = self.book.create_sheet(name)
         sheet.freeze_panes = "A2"
         for column, width in widths.items():
@@ -28,6 +29,8 @@ class Spreadsheet:
         headings = [self.cell(sheet, heading) for heading in header]
         for heading in headings:
             heading.font = self.library.styles.Font(bold=True)
+            if about and heading.value in about:
+                heading.comment = self.library.comments.Comment(about[heading.value], "workbook")
         sheet.append(headings)
         return sheet
 

@@ -178,6 +178,10 @@ national total in Gg of CO2 equivalent:
             self.assertEqual((ran.returncode, ran.stdout), (2, ""))
             self.assertTrue(ran.stderr.endswith(f"./workbook: {due}\n"), ran.stderr)
 
+    def test_its_own_words_are_told_before_a_program_that_is_missing(self) -> None:
+        ran = workbook("compare", "examples/how-to", "examples/how-to", "--program", "/no/such/program")
+        self.assertIn("-- has to stand once", ran.stderr)
+
 
 if __name__ == "__main__":
     unittest.main()

@@ -127,14 +127,26 @@ class FromSheets(unittest.TestCase):
         self.assertIn('Data!D2 "GAS.TJ": merged up to D3', made.stdout)
 
     def test_percentages(self) -> None:
-        rows = [changed(value=0.05, unit="pct"), changed(value=0.05, unit="1")]
+        rows = [changed(value=0.05, unit="pct"), changed(value=0.05, unit="1"), changed(value=0.05)]
         book = self.book({"Data": [COLUMNS, *rows]})
         for cell in book["Data"]["F"][1:]:
             cell.number_format = "0%"
         made = self.read(self.saved(book))
         due = "shown as a percentage, so that the cell has 0.05, and the row needs percent; write 5"
         self.assertIn(f'Data!F2 "0.05": {due}', made.stdout)
-        self.assertIn("1 fault;", made.stdout)
+        self.assertIn('Data!F4 "0.05": shown as a percentage, and its unit is no ratio; write', made.stdout)
+        self.assertIn("2 faults;", made.stdout)
+
+    def test_a_formula_without_a_value_is_told_once(self) -> None:
+        made = self.read(self.saved(self.book({"Data": [COLUMNS, changed(value="=1+1")]})))
+        self.assertEqual(made.stderr, "")
+
+    def test_the_lists_of_the_template_are_no_sheets_that_are_left_out(self) -> None:
+        path = self.room / "template.xlsx"
+        workbook("words", "--template", path)
+        made = self.read(path)
+        self.assertEqual((made.returncode, made.stderr), (0, ""))
+        self.assertEqual(len(list(self.folder.iterdir())), 5)
 
     def test_what_is_left_out_or_hidden(self) -> None:
         titled: Rows = [["Inventory"], [*COLUMNS, "asked"], [*ROW, "by mail"], changed(year=2021)]
@@ -178,10 +190,27 @@ class FromSheets(unittest.TestCase):
         self.assertIn("has another file, mine.csv", made.stderr)
         self.assertEqual([path.name for path in self.folder.iterdir()], ["mine.csv"])
 
+    def test_rows_that_were_changed_by_hand_are_left_alone(self) -> None:
+        path = self.saved(self.book({"Data": [COLUMNS, ROW], "More": [COLUMNS, changed(year=2021)]}))
+        self.read(path)
+        self.assertEqual(self.read(path).returncode, 0)
+        file = self.folder / "2-more.csv"
+        written, by_hand = file.read_text(encoding="utf-8"), "changed by hand"
+        file.write_text(by_hand, encoding="utf-8")
+        made = self.read(path)
+        self.assertEqual((made.returncode, made.stdout), (2, ""))
+        self.assertIn(f"{self.folder} has other rows in 2-more.csv; --replace", made.stderr)
+        self.assertEqual(file.read_text(encoding="utf-8"), by_hand)
+        made = workbook("from-sheets", path, "-o", self.folder, "--replace")
+        self.assertEqual(made.stdout.splitlines(), [
+            f"{self.folder / '1-data.csv'}: 1 row", f"{self.folder / '2-more.csv'}: 1 row, in place of other rows"])
+        self.assertEqual(file.read_text(encoding="utf-8"), written)
+
     def test_a_file_without_rows(self) -> None:
         made = self.read(self.saved(self.book({"Data": [["year", "TJ"]]})))
         self.assertEqual(made.returncode, 2)
         self.assertIn("has no sheet with a header of rows: act,kind,", made.stderr)
+        self.assertIn("of a table with a column for each year ./workbook import makes rows", made.stderr)
 
 
 def in_office(path: pathlib.Path, ending: str) -> pathlib.Path:

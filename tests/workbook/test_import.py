@@ -208,7 +208,8 @@ class Files(unittest.TestCase):
 
     def imported(self, name: str, output: str | None = None) -> tuple[int, str, list[str]]:
         """The status of `import` of a file, what it prints, and what it says, in this process."""
-        given = argparse.Namespace(sheet=str(self.room / name), output=output and str(self.room / output))
+        given = argparse.Namespace(sheet=str(self.room / name), output=output and str(self.room / output),
+                                   replace=False)
         out, err = io.StringIO(), io.StringIO()
         with contextlib.redirect_stdout(out), contextlib.redirect_stderr(err), Program(PROGRAM) as program:
             status = import_sheet.run(program, given)
@@ -268,6 +269,20 @@ class Output(Files):
             ran = workbook("import", "sheet.csv", "-o", output, cwd=self.room)
             self.assertEqual((ran.returncode, ran.stdout, ran.stderr), (2, "", f"./workbook: {due}\n"))
         self.assertEqual([path.name for path in self.room.iterdir()], ["sheet.csv"])
+
+    def test_rows_that_were_changed_by_hand_are_left_alone(self) -> None:
+        (self.room / "sheet.csv").write_text("name,unit,1990,1991\nGAS,TJ,1,2\n")
+        words = ("import", "sheet.csv", "-o", "rows.csv")
+        self.assertEqual([workbook(*words, cwd=self.room).returncode for _ in range(2)], [0, 0])
+        file = self.room / "rows.csv"
+        written = file.read_text()
+        file.write_text("changed by hand")
+        ran = workbook(*words, cwd=self.room)
+        due = "./workbook: rows.csv has other rows; --replace writes the sheet's rows over them\n"
+        self.assertEqual((ran.returncode, ran.stderr, file.read_text()), (2, due, "changed by hand"))
+        ran = workbook(*words, "--replace", cwd=self.room)
+        self.assertEqual((ran.returncode, file.read_text()), (0, written))
+        self.assertIn("rows.csv: in place of other rows\n", ran.stderr)
 
     def test_a_sheet_that_is_none(self) -> None:
         ran = workbook("import", "no-such.xlsx", cwd=self.room)

@@ -175,7 +175,7 @@ class Folders(unittest.TestCase):
     def test_no_program(self) -> None:
         ran = workbook("check", PLANTS, "--program", "/no/such/program")
         self.assertEqual((ran.returncode, ran.stdout), (2, ""))
-        self.assertIn("there is no program at /no/such/program", ran.stderr)
+        self.assertIn("there is no program at /no/such/program; name one by --program", ran.stderr)
 
 
 class Tools(unittest.TestCase):

@@ -153,6 +153,8 @@ class Search(unittest.TestCase):
             body = HEADER + workbook("words", code).stdout.split(HEADER)[1]
             for blank, text in filled.items():
                 body = body.replace(blank, text)
+            if ",line,LINE," in body:
+                body += line_of("Q90").replace("L.Q90", "LINE").removeprefix(HEADER)
             self.assertEqual(replies(SPAN, body), ["accepted 1", "accepted 2"], code)
 
 

@@ -22,10 +22,21 @@ FOUND = {
     "HFCs": ["other-gases: "],
     "SF6": ["other-gases: "],
     "air conditioning": ["other-gases: "],
+    "2F1": ["other-gases: "],
+    "2.F.1": ["other-gases: "],
+    "refrigeration": ["other-gases: "],
+    "hard coal": ["  Q10  ", "  CO2.BITUMINOUS "],
+    "withdraw": ["withdraw: ", "withdraw,line,,LINE,,,,,,"],
+    "templates correct": ["correct: ", "correct,activity,,ACTIVITY,YEAR,VALUE,LOW,HIGH,UNIT,"],
+    "lignite defaults": ["CO2.LIGNITE  ", "NCV.LIGNITE  "],
+    "Q93": ["enter,bind,NAME,DEC,,line,LINE,,,"],
+    "Q94": ["enter,bind,NAME,GEN,,line,LINE,,,"],
+    "Q84": ["enter,bind,NAME,C,,line,LINE,,,"],
     "span": ["span: ", "enter,span,,,FIRST,LAST,BASE,,,"],
     "base year": ["span: "],
     "uncert": ["uncertainties: ", "enter,uncert,,LINE,,ACTIVITY,FACTOR,,,"],
-    "template": ["span  ", "potentials  ", "fuel  ", "uncertainties  ", "not-occurring  ", "other-gases  "],
+    "template": ["span  ", "potentials  ", "fuel  ", "uncertainties  ", "correct  ", "withdraw  ",
+                 "not-occurring  ", "other-gases  "],
     "templates fuel": ["fuel: ", "enter,line,CATEGORY,NAME.CH4,,Q11,,,,"],
     "does not occur": ["not-occurring: ", "enter,bind,NAME,FC,,key,NO,,,"],
     "nitrous oxide": ["  Q12   ", "  3C4  "],
@@ -38,9 +49,13 @@ FOUND = {
 }
 # What the capitals of templates are filled with.
 FILLED = {
+    "withdraw,bind,LINE,PARAMETER,": "withdraw,bind,GAS.CO2,FC,,,,,,\nwithdraw,bind,GAS.CO2,EF,",
     "FIRST,LAST,BASE": "2019,2020,2019", "YEAR,VALUE,LOW,HIGH": "2019,2,1,3", ",VALUE,": ",2,",
-    "CATEGORY": "1A1a", "LINE,,ACTIVITY,FACTOR": "GAS.CO2,,5,7.5", "NAME": "GAS",
+    "CATEGORY": "1A1a", "LINE,,ACTIVITY,FACTOR": "GAS.CO2,,5,7.5", "LINE": "GAS.CO2", "NAME": "GAS",
+    "ACTIVITY,YEAR,,": "GAS.TJ,2019,,", "ACTIVITY,2019,2,1,3,UNIT": "GAS.TJ,2019,2.5,1,3,TJ",
 }
+# Templates of rows for records that are there.
+OF_RECORDS = ("uncertainties", "correct", "withdraw")
 
 
 def found_by(text: str) -> list[str]:
@@ -91,13 +106,13 @@ class Search(unittest.TestCase):
 class Templates(unittest.TestCase):
     def test_they_are_rows_that_the_program_takes(self) -> None:
         span = HEADER + "enter,span,,,2019,2020,2019,,,\n"
-        line = HEADER + "\n".join(TEMPLATES["fuel"].rows) + "\n"
+        line = HEADER + "\n".join(TEMPLATES["fuel"].rows) + "\nenter,activity,,NAME.TJ,2020,2,1,3,TJ,\n"
         for name in TEMPLATES:
             shown = workbook("words", "templates", name).stdout
             self.assertTrue(shown.startswith(f"{name}: {TEMPLATES[name].title}\n"), shown)
             bodies = [HEADER + shown.split(HEADER)[1]]
             bodies = [span, *bodies] if name != "span" else bodies
-            bodies = [line, *bodies] if name == "uncertainties" else bodies
+            bodies = [line, *bodies] if name in OF_RECORDS else bodies
             for blank, text in FILLED.items():
                 bodies = [body.replace(blank, text) for body in bodies]
             script = "".join(f"SUBMIT s{at} {len(body)}\n{body}" for at, body in enumerate(bodies))

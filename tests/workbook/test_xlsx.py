@@ -89,8 +89,32 @@ class Files(unittest.TestCase):
         for title, (column, due) in words.items():
             listed, _, cells = lists[title, f"{column}2:{column}5000"].partition("!")
             self.assertEqual([row[0].value for row in book[listed][cells.replace("$", "")]], due)
+        headings = {sheet.title: [cell.comment and cell.comment.text for cell in sheet[1]] for sheet in book}
+        self.assertEqual(headings["uncertainties"][3:7], [
+            "a line", None, "percent of its activity data", "percent of its emission factor"])
+        self.assertEqual(headings["years"][4:7], ["the first year", "the last year", "the base year"])
         equations = [row[0].value for row in book["equations"]["A2:A100"]]
         self.assertLessEqual(set(vocabulary.equations()) | set(vocabulary.words()["forms"]), set(equations))
+
+    def test_a_file_that_is_there_is_left_alone(self) -> None:
+        path = self.room / "inventory.xlsx"
+        path.write_text("filled in", encoding="utf-8")
+        commands: list[list[str | pathlib.Path]] = [["words", "--template"], ["tables", *FOLDERS, "2020", "-o"]]
+        for words in commands:
+            made = workbook(*words, path)
+            self.assertEqual((made.returncode, made.stdout), (2, ""))
+            self.assertIn(f"{path} is ", made.stderr)
+            self.assertEqual(path.read_text(encoding="utf-8"), "filled in")
+
+    def test_tables_take_the_place_of_tables_alone(self) -> None:
+        path = self.room / "tables.xlsx"
+        words = ("tables", TOP / "examples/how-to", "2020", "-o", path)
+        self.assertEqual([workbook(*words).returncode for _ in range(2)], [0, 0])
+        path.unlink()
+        workbook("words", "--template", path)
+        made = workbook(*words)
+        self.assertEqual(made.returncode, 2)
+        self.assertIn("has the sheet years, and is no file of tables; name another file", made.stderr)
 
     @unittest.skipUnless(OFFICE, "libreoffice-calc is not installed")
     def test_an_office_opens_them(self) -> None:
