@@ -248,6 +248,8 @@ def add_new(commands: Commands) -> None:
     made.add_argument("folder", metavar="FOLDER", help="the folder to make")
     made.add_argument("--first", type=year_of_span, required=True, metavar="YEAR", help="the first year")
     made.add_argument("--last", type=year_of_span, required=True, metavar="YEAR", help="the last year")
+    made.add_argument("--uncertainties", action="store_true",
+                      help="also make an empty row of uncertainties for each line that emits a gas")
     codes = ("codes of categories, each with the fuels, species or kinds that it is a sum over after a colon, "
              "or with the notation key of all its lines, as 2B3=NO")
     chosen = made.add_argument("--categories", nargs="+", required=True, metavar="CODE[:NAME,..]", help=codes)

@@ -1,5 +1,5 @@
 """Begins a workbook: the years, the potentials, the lines of chosen categories at tier 1 with their bindings,
-and an empty row for each figure and each uncertainty that they need.
+and an empty row for each figure that they need, and if asked for each uncertainty.
 
 The lines stand in tier-1.csv. There TERM is what a category is a sum over, as a fuel or a species, and
 CATEGORY the code in capitals. A line without TERM in its name is one for all terms; a sum in it is over the
@@ -245,8 +245,8 @@ def years_of(first: int, last: int) -> range:
     return range(first, last + 1)
 
 
-def made_files(years: range, rows: list[dict[str, str]]) -> dict[str, bytes]:
-    """The files of the folder by their names."""
+def made_files(years: range, rows: list[dict[str, str]], has_uncertainties: bool) -> dict[str, bytes]:
+    """The files of the folder by their names, with rows for uncertainties or without."""
     needed = figures(rows)
     check_names(rows, needed)
     first = years[0]
@@ -255,7 +255,8 @@ def made_files(years: range, rows: list[dict[str, str]]) -> dict[str, bytes]:
         potentials = list(csv.reader(file))[1:]
     factors = [empty_row(figure, first) for figure in needed if figure.kind == "factor"]
     activities = [empty_row(figure, year) for figure in needed if figure.kind == "activity" for year in years]
-    parts = [[span, *potentials], factors, activities, lines_with_bindings(rows), empty_uncertainties(rows)]
+    uncertainties = empty_uncertainties(rows) if has_uncertainties else []
+    parts = [[span, *potentials], factors, activities, lines_with_bindings(rows), uncertainties]
     files = ((name, part) for name, part in zip(FILES, parts) if part)
     return {name: b"".join(joined(row) + LINE_END for row in [COLUMNS, *part]) for name, part in files}
 
@@ -280,7 +281,7 @@ def run(arguments: argparse.Namespace) -> int:
     rows = [row for leaf in vocabulary.leaves() if leaf in leaves for row in rows_of(leaf, leaves[leaf])]
     if not rows:
         raise FolderFault("no line is made, and no folder")
-    files = made_files(years, rows)
+    files = made_files(years, rows, arguments.uncertainties)
     folder = pathlib.Path(arguments.folder)
     write_folder(folder, files)
     for word in arguments.categories:

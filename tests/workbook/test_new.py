@@ -45,7 +45,7 @@ class New(unittest.TestCase):
         self.folder = pathlib.Path(room.name) / "made/inventory"
 
     def test_figures_alone_are_missing(self) -> None:
-        made = workbook("new", self.folder, *SPAN, "--categories", "1.A.1.a:GAS,COAL", "3A1")
+        made = workbook("new", self.folder, *SPAN, "--uncertainties", "--categories", "1.A.1.a:GAS,COAL", "3A1")
         self.assertEqual((made.returncode, made.stderr.splitlines()), (0, [
             "1A1a: defaults/ has nothing of GAS; near it: NATURAL.GAS",
             "1A1a: defaults/ has nothing of COAL; near it: ANTHRACITE, COKING.COAL, BITUMINOUS, SUB.BITUMINOUS, "
@@ -61,7 +61,7 @@ class New(unittest.TestCase):
 
     def test_lines_of_all_categories_are_sound(self) -> None:
         codes = ("0", *vocabulary.MEMOS)
-        made = workbook("new", self.folder, *SPAN, "--categories", *codes)
+        made = workbook("new", self.folder, *SPAN, "--uncertainties", "--categories", *codes)
         *told, last = made.stderr.splitlines()
         without = {line.split()[0] for line in told}
         self.assertIn("./workbook words templates", last)
