@@ -129,4 +129,12 @@ def explain(arguments: argparse.Namespace, sheets: list[Sheet], reply: Reply) ->
     for fault in faults:
         print(fault)
     if not faults:
-        print(f"{said_of(last, reply)}; these files alone have no such fault: look at what others have sent")
+        print(f"{said_of(last, reply)}; {said_of_others(reply)}")
+
+
+def said_of_others(reply: Reply) -> str:
+    """What to do where these files alone have no fault."""
+    if reply.text.split()[2] == "Exists":
+        return ("an earlier state of this file, or others, have entered this row; undo the change, and write "
+                "rows with correct into a file of their own")
+    return "these files alone have no such fault: look at what others have sent"

@@ -8,9 +8,9 @@ TOP = pathlib.Path(__file__).resolve().parent.parent.parent
 HELP = TOP / "tools/help"
 
 
-def ghg(*words: str) -> "subprocess.CompletedProcess[str]":
+def ghg(*words: str, launcher: str = "ghg") -> "subprocess.CompletedProcess[str]":
     """What the launcher prints for words."""
-    return subprocess.run([TOP / "ghg", *words], capture_output=True, text=True, check=False)
+    return subprocess.run([TOP / launcher, *words], capture_output=True, text=True, check=False)
 
 
 class Launcher(unittest.TestCase):
@@ -23,6 +23,10 @@ class Launcher(unittest.TestCase):
             run = ghg(*words)
             self.assertEqual((run.returncode, run.stderr), (0, ""), words)
             self.assertEqual(run.stdout, (HELP / f"{page}.txt").read_text("utf-8"), words)
+
+    def test_try_answers_the_same_before_it_compiles(self) -> None:
+        for words in (["--help"], ["-h"], ["help", "serve"], ["compile", "--help"], ["--version"]):
+            self.assertEqual(ghg(*words, launcher="try").stdout, ghg(*words).stdout, words)
 
     def test_each_page_has_an_example(self) -> None:
         for page in HELP.glob("*.txt"):
