@@ -4,6 +4,7 @@ that take the record are of that, and how to come to what they are of. No such w
 import collections.abc
 import fractions
 import functools
+import re
 import typing
 
 from tools import causes, unit_bases, units, vocabulary
@@ -135,8 +136,14 @@ def other_denominators(asked: Asked) -> Told | None:
         for due, taker in asked.due_per():
             if (said, due) in RATIOS and said != due:
                 cause = f"for one of {named(said)}, and {taker} is for one of {named(due)}"
-                return Told(f"{cause}: {asked.write(f'divide by {RATIOS[said, due]}')}")
+                return Told(f"{cause}: {asked.write(divided_by(RATIOS[said, due]))}")
     return None
+
+
+def divided_by(ratio: str) -> str:
+    """How to divide by a ratio, in the shortest words."""
+    inverse = re.match("1 over |1/", ratio)
+    return f"multiply by {ratio[inverse.end():]}" if inverse else f"divide by {ratio}"
 
 
 def other_gases_of_factors(asked: Asked) -> Told | None:
@@ -174,8 +181,9 @@ def dry_weights(asked: Asked) -> Told | None:
     is_due = DRY in [due for due, _ in asked.due() + asked.due_per()]
     if is_due or not is_mass and DRY not in asked.words.denominator:
         return None
-    what = "the factor" if is_mass else "the mass"
-    return Told(f"dry weight: {asked.write()} if {what} that it is multiplied by is of dry weight too")
+    what, does = ("the factor", "divide") if is_mass else ("the mass", "multiply")
+    else_do = f"else {does} by the fraction of dry matter"
+    return Told(f"dry weight: {asked.write()} if {what} that it is multiplied by is of dry weight too, {else_do}")
 
 
 def electricity(asked: Asked) -> Told | None:
@@ -209,8 +217,10 @@ def volumes_at_other_states(asked: Asked) -> Told | None:
         due = f"{asked.taker} those at 20 \u00b0C, of 0.67 kg"
         return Told(f"cubic metres at {said[0]}, and {due}: {asked.write(how)}")
     if said and OF_GAS & set(asked.takers):
-        other = "the factor" if asked.measures == "volume" else "the volume"
-        return Told(f"cubic metres at {said[0]}: {asked.write()} if {other} is of them too")
+        is_volume = asked.measures == "volume"
+        other, does = ("the factor", "multiply") if is_volume else ("the volume", "divide")
+        else_do = f"else {does} by {TO_20_C[said[0]]} to come to those at 20 \u00b0C"
+        return Told(f"cubic metres at {said[0]}: {asked.write()} if {other} is of them too, {else_do}")
     return None
 
 

@@ -8,6 +8,7 @@ import re
 from tools import vocabulary
 from tools.book import lines_taken_by
 from tools.faults import Fault, warn, years_said
+from tools.line_notices import OF_STAGES
 from tools.fuels import is_of_biomass, is_of_bunkers, is_of_fossil_fuel
 from tools.recognisers import Recogniser
 from tools.results import ZERO, Results, gas_of, plain
@@ -31,6 +32,8 @@ MOST_OF_SHARES = decimal.Decimal("1.005")
 OF_BIOMASS_ALONE = {decimal.Decimal(factor) for factor in (112000, 70800, 79600)}
 # How far the parts of a line may be from the whole.
 APART = decimal.Decimal("0.005")
+# Of so many years in which the parts are the whole one may be apart.
+FEW_APART = 4
 
 
 def same_quantity_twice(results: Results) -> list[Fault]:
@@ -107,6 +110,9 @@ def told_apart(results: Results, line: str) -> frozenset[str]:
     has_shares = others if any(code in alike for alike in ALIKE) else [line, *others]
     shares = {bound.field("low") for other in has_shares for bound in results.bindings(other).values()
               if is_share(results, bound)}
+    if code in OF_STAGES:
+        shares.update(bound.field("low") for bound in results.bindings(line).values()
+                      if bound.field("value") == "factor")
     below = [results.book.lines.get(other) for other in others]
     return frozenset(shares.union(row.field("value") for row in below if row) - ADDING)
 
@@ -194,10 +200,27 @@ def whole_beside_parts(results: Results) -> list[Fault]:
             if years:
                 names = listed([part.field("name") for part in parts], "and")
                 said = f"line {row.field('name')} takes as much as {names} ({parts[0].place}) together in"
-                said += f" {years_said(years)}; withdraw it, or enter its activity as IE in these years"
-                found.append(warn(row, said))
+                found.append(warn(row, f"{said} {years_said(years)}; {way_out(results, row, years)}"))
                 break
     return found
+
+
+def way_out(results: Results, row: Row, years: list[int]) -> str:
+    """What to do with a line that its parts split: without another line of its activities, IE in these may do
+    as well.
+    """
+    name, taken = row.field("name"), results.book.taken()
+    others = {bound.field("subject") for activity in activities(results, name)
+              for bound in taken.get(("activity", activity), []) if bound.field("subject") != name}
+    above = [other for other in results.book.lines if other != name and name in results.below(other)]
+    if above:
+        return f"take {listed(above, 'and')} of the parts, and withdraw it"
+    if others:
+        takes = "takes" if len(others) == 1 else "take"
+        return f"withdraw it alone: {listed(sorted(others)[:3], 'and')} {takes} its activity too"
+    if len(years) < len(results.series(name)):
+        return "withdraw it"
+    return "withdraw it, or enter its activity as IE in these years"
 
 
 def groups_of_lines(lines: list[Row]) -> dict[tuple[str, ...], list[Row]]:
@@ -227,16 +250,20 @@ def groups_of_parts(row: Row, groups: dict[tuple[str, ...], list[Row]], files: l
 
 def years_of_whole(own: Amounts, parts: list[Amounts]) -> list[int]:
     """The years in which the quantities of parts are that of a line together, where all are above zero: these
-    have to be all such years, and the quantity none that stays the same.
+    have to be all such years but for few, of which a record was corrected, and the quantity none that stays
+    the same.
     """
-    years = []
+    years, others_apart = [], 0
     for year, amount in own.items():
         others = [part[year] for part in parts if part.get(year)]
         if not amount or len(others) < len(parts):
             continue
         if abs(sum(others, ZERO) - amount) > APART * abs(amount):
-            return []
-        years.append(year)
+            others_apart += 1
+        else:
+            years.append(year)
+    if others_apart * FEW_APART > len(years):
+        return []
     is_one_year = len(years) == len(own) == 1
     return years if is_one_year or len({own[year] for year in years}) > 1 else []
 

@@ -7,12 +7,12 @@ from tools import vocabulary
 from tools.book import record_taken_by
 from tools.faults import Fault, warn
 from tools.figure_notices import NO_SHARES
-from tools.fuels import fuels_of
+from tools.fuels import fuels_of, rows_of
 from tools.line_notices import is_measured
 from tools.recognisers import Recogniser
 from tools.results import NUMBER, Results, figure_of, gas_of, plain
 from tools.sheets import Row
-from tools.usual import CO2_OF_FUELS, Usual, usual, usual_row
+from tools.usual import CARBON_IN_CO2, CO2_OF_FUELS, Usual, usual, usual_row
 
 Number = decimal.Decimal
 Ratio = tuple[Number, str, str]
@@ -22,6 +22,15 @@ RATIOS: tuple[Ratio, ...] = (
     (Number(12) / 44, "12/44, C for CO2", "is it of CO2"),
     (Number(44) / 28, "44/28, N2O for N2O-N", "is it of nitrogen"),
     (Number(28) / 44, "28/44, N2O-N for N2O", "is it of N2O"),
+    (Number("4.1868"), "4.1868, GJ in a Gcal", "is it in Gcal or Mcal"),
+    (1 / Number("4.1868"), "1/4.1868, Gcal in a GJ", "is it for a Gcal"),
+    (Number(1000) / Number("41.868"), "1000/41.868, GJ for a toe", "is it for a toe"),
+    (Number("0.365"), "0.365, kg a year for g a day", "is it of a day in g"),
+    (1 / Number("0.365"), "1/0.365, g a day for kg a year", "is it of a year in kg"),
+    (Number(365), "365, days of a year", "is it of a day"),
+    (1 / Number(365), "1/365, a day of a year", "is it of a year"),
+    (Number(100), "100, percent for a share", "is it a share under the unit pct"),
+    (1 / Number(100), "1/100, a share for percent", "is it in percent"),
     (Number("3.6"), "3.6, GJ in a MWh", "is it for a MWh or a GWh"),
     (1 / Number("3.6"), "1/3.6, MWh in a GJ", "is it of a MWh or a GWh"),
     (1 / Number("41.868"), "1/41.868, toe in a GJ", "is it for a toe or a ktoe"),
@@ -33,16 +42,29 @@ RATIOS: tuple[Ratio, ...] = (
     (1 / Number(1000000), "1/1000000", "is its unit a million times off"),
 )
 # Those by which activities jump that are given in another unit for a year, and how near these are met.
-RATIOS_OF = {"energy": (RATIOS[4][1], RATIOS[7][1]), "carbon": (RATIOS[0][1],), "gas": (RATIOS[0][1],)}
+RATIOS_OF = {"energy": ("3.6, GJ in a MWh", "41.868, GJ in a toe"), "carbon": (RATIOS[0][1],),
+             "gas": (RATIOS[0][1],)}
+# What is measured where a ratio may be met that is no matter of every factor.
+OF_TIME = ("mass per person and day", "mass per person and year", "mass per head and day",
+           "mass per head or per head and year", "mass per area and day", "mass per area",
+           "excretion per live mass and day")
+OF_ENERGY = ("net calorific value", "carbon content of fuel", "emission factor of fuel")
+OF_CARBON = ("carbon content of fuel", "emission factor of fuel", "ratio", "mass per area")
+MET_IN = {"365": OF_TIME, "0.365": OF_TIME, "4.1868": OF_ENERGY, "41.868": OF_ENERGY, "3.6": OF_ENERGY,
+          "100": ("ratio",), **dict.fromkeys(("44/12", "12/44"), OF_CARBON)}
 NEAR, LEAST_OF_THESE = Number("0.12"), 3
 WIDE = 20
 GASES_ALONE = "10/9, net for gross calorific value of gases"
 DEFAULT_APART = Number("0.006")
+# So near to a default a ratio is the one that is met.
+WELL_MET = Number("0.03")
 # A factor that changes by more than this from one record to the next jumps.
 JUMP = Number("1.3")
 STEADY = ("net calorific value", "carbon content of fuel", "mass per head or per head and year",
           "mass per head and day", "excretion per live mass and day")
 JUMP_OF_OTHERS = Number(5)
+# The equations whose factors have defaults, and change with the plant, the engine or what is thrown away.
+OF_PLANTS = {"Q11", "Q12", "Q16", "Q17", "Q38", "Q39", "Q90", "Q99"}
 
 
 def factors(results: Results) -> list[tuple[Row, str, Row]]:
@@ -100,15 +122,20 @@ def said_of_unusual(results: Results, line: Row, bound: Row, figure: Number, kno
     row = results.record(bound, results.years[0])
     is_other = row and row.field("unit") != parameter["unit"] and row.field("value") != plain(figure)
     written = f" ({row.field('value')} {row.field('unit')})" if row and is_other else ""
-    least, greatest = plain(known.range.least), plain(known.range.greatest)
+    shown = known.shown or known.range
+    least, greatest = plain(shown.least), plain(shown.greatest)
     between = least if least == greatest else f"{least} to {greatest}"
     said = f"{what} {plain(figure)} {unit}".rstrip() + f"{written}, and {known.of} {verb(known.of)} {between}"
     said += f" ({known.range.source})"
     if gas_of(line) in ("CH4", "N2O") and CO2_OF_FUELS.least <= figure <= CO2_OF_FUELS.greatest:
         return f"{said}; is it of CO2?"
-    ratio = known_ratio(figure, known, gas_of(line))
-    if ratio:
-        return f"{said}; times {ratio[1]}, it is {plain(figure * ratio[0])}: {ratio[2]}?"
+    other = default_of_other_fuel(figure, parameter["measures"], gas_of(line))
+    if other:
+        return f"{said}; {plain(figure)} is that of {other}: is another factor meant?"
+    ratios = known_ratios(figure, known, gas_of(line), parameter["measures"])
+    if ratios:
+        times = [f"times {word}, it is {plain(figure * size)}: {asked}" for size, word, asked in ratios]
+        return f"{said}; {'; or '.join(times)}?"
     if gas_of(line) and fuels_of([bound.field("low")]):
         return f"{said}; line {line.field('name')} takes it: is another factor meant, or another unit?"
     return f"{said}; is it of something else, or in another unit?"
@@ -119,17 +146,41 @@ def verb(of: str) -> str:
     return "is" if " of " in of else "has"
 
 
-def known_ratio(figure: Number, known: Usual, gas: str | None) -> Ratio | None:
-    """The known ratio that leads from a figure nearest to a default; or None, also where almost anything is
-    usual and no default is met.
+def default_of_other_fuel(figure: Number, measures: str, gas: str | None) -> str | None:
+    """The fuel of which a figure is the default, or None where no table has it."""
+    if measures == "net calorific value":
+        table, value = "volume-2-table-1.2", figure
+    elif measures == "carbon content of fuel":
+        table, value = "volume-2-table-1.4", figure * 1000 / CARBON_IN_CO2
+    elif measures == "emission factor of fuel" and gas == "CO2":
+        table, value = "volume-2-table-1.4", figure
+    else:
+        return None
+    names = [name for name, each in rows_of(table).items() if value in each.defaults]
+    return names[0].split(".", 1)[1].replace(".", " ").lower() if names else None
+
+
+def is_met_in(ratio: Ratio, measures: str) -> bool:
+    """Tells whether a ratio may be met in a factor of what is measured."""
+    size = ratio[1].split(",")[0].removeprefix("1/").removeprefix("1000/")
+    return measures in MET_IN.get(size, (measures,))
+
+
+def known_ratios(figure: Number, known: Usual, gas: str | None, measures: str) -> list[Ratio]:
+    """The known ratio that leads from a figure nearest to a default, with the next one where neither meets it;
+    or none, also where almost anything is usual and no default is met.
     """
     ratios = [ratio for ratio in RATIOS if ("gas" in known.of or ratio[1] != GASES_ALONE)
-              and ("N2O" not in ratio[1] or gas == "N2O")]
+              and ("N2O" not in ratio[1] or gas == "N2O") and is_met_in(ratio, measures)]
     distances = {known.distance(figure * ratio[0]): ratio for ratio in ratios
                  if known.has(figure * ratio[0], Number("1.02"))}
-    nearest = min(distances, default=None)
+    nearest = sorted(distances)
+    is_met = bool(nearest) and nearest[0] <= DEFAULT_APART
     is_wide = known.range.greatest > WIDE * known.range.least
-    return None if nearest is None or is_wide and nearest > DEFAULT_APART else distances[nearest]
+    if not nearest or is_wide and not is_met:
+        return []
+    is_alone = nearest[0] <= WELL_MET or len(nearest) < 2 or nearest[1] > 3 * nearest[0]
+    return [distances[distance] for distance in nearest[:1 if is_alone else 2]]
 
 
 def defaults_times_a_ratio(results: Results) -> list[Fault]:
@@ -190,7 +241,7 @@ def jump_of(line: Row, parameter: str, measures: str) -> Number:
 def has_default(line: Row, parameter: str) -> bool:
     """Tells whether a parameter has a default that does not come of a plant."""
     row = usual_row(line, parameter)
-    return bool(row and row["defaults"])
+    return bool(row and row["defaults"]) and line.field("value") not in OF_PLANTS
 
 
 def times_of(one: Row, other: Row) -> Number:

@@ -7,6 +7,8 @@ from tools import vocabulary
 from tools.book import Book
 from tools.faults import Fault, counted, warn
 from tools.sheets import Row
+from tools.usual import usual_row
+from tools.vocabulary import listed
 
 # The ratios that are no share of anything, by equation: corrections, emission factors of metals, biomass
 # below ground to that above, and scales of rice, soils and wastewater. None is near this.
@@ -16,6 +18,10 @@ NO_SHARES = {
     "Q85": {"FLU", "FMG", "FI"}, "Q99": {"I"}, "Q102": {"FNON", "FIND"},
 }
 MOST_OF_NO_SHARE = 10
+# Where the template other-gases has the potential of a gas in place of a factor.
+OTHER_GASES = ("5B", "Q32", "EF")
+# The units of ratios, and how many of each are one.
+UNITS_OF_RATIOS = (("pct", 100), ("kg/t", 1000))
 # The changes of stocks of the reference approach have a sign.
 SIGNED = {"SC"}
 
@@ -65,20 +71,47 @@ def ratios(book: Book) -> Iterator[Fault]:
         return MOST_OF_NO_SHARE if any(is_no_share(book, binding) for binding in bound) else 1
 
     def is_odd(row: Row, measures: str | None) -> bool:
-        return measures == "ratio" and any(not 0 <= figure <= most(row) for figure in figures(row))
+        bound = taken.get((row.field("kind"), row.field("name")), [])
+        if measures != "ratio" or bound and all(is_of_other_gas(book, binding) for binding in bound):
+            return False
+        return any(not 0 <= figure <= most(row) for figure in figures(row))
 
     for kind, name, row, others in odd_records(book, is_odd):
         low, high = row.field("low"), row.field("high")
         bounds = f" ({low} to {high})" if low else ""
         more = f", and {others} more of its records" if others else ""
         figure = f"{row.field('value')}{bounds} {row.field('unit')}"
-        yield warn(row, f"{kind} {name} is a ratio outside 0 to {most(row)}: {figure}{more}")
+        said = f"{kind} {name} is a ratio outside 0 to {most(row)}: {figure}{more}"
+        yield warn(row, said + asked_of_ratio(book, row, taken.get((kind, name), [])))
+
+
+def asked_of_ratio(book: Book, row: Row, bound: list[Row]) -> str:
+    """The unit of a ratio in which a figure above one is usual for what takes it, else is a share."""
+    figure = figures(row)[0] if row.field("value") not in vocabulary.words()["keys"] else decimal.Decimal(0)
+    if figure <= 1 or vocabulary.units()[row.field("unit")]["under"] != 1:
+        return ""
+    lines = [(book.lines.get(binding.field("subject")), binding) for binding in bound]
+    known = [usual_row(line, binding.field("name"), [binding.field("low")]) for line, binding in lines if line]
+    for each in filter(None, known):
+        least, greatest = (decimal.Decimal(each[column] or 0) for column in ("least", "greatest"))
+        units = [word for word, size in UNITS_OF_RATIOS if least / 2 <= figure / size <= greatest * 2]
+        if units:
+            return f"; is it in {listed(units)}?"
+    return "; is it in pct?" if figure <= 100 else ""
 
 
 def is_no_share(book: Book, bound: Row) -> bool:
     """Tells whether a binding is of a ratio that may be above 1."""
     line = book.lines.get(bound.field("subject"))
     return line is not None and bound.field("name") in NO_SHARES.get(line.field("value"), ())
+
+
+def is_of_other_gas(book: Book, bound: Row) -> bool:
+    """Tells whether a binding is of the potential of a gas that no equation emits, which the template
+    other-gases has at 5B.
+    """
+    line = book.lines.get(bound.field("subject"))
+    return line is not None and (line.field("subject"), line.field("value"), bound.field("name")) == OTHER_GASES
 
 
 def negatives(book: Book) -> Iterator[Fault]:

@@ -13,7 +13,12 @@ STOCK = "Q91"
 # What stocks measure.
 STOCKS = "carbon"
 
-# The equation of a line, its activities, and the forms and targets of its ratios, both with their parameters.
+# The equations of the coal, oil and gas industries, whose stages have a factor each for one activity: mining
+# and what follows it (Volume 2, section 4.1), venting and flaring (Volume 2, Table 4.2.4).
+OF_STAGES = {"Q14", "Q15", "Q16", "Q17"}
+
+# The equation of a line, its activities, and the forms and targets of its ratios and of factors of stages, all
+# with their parameters.
 Taken = tuple[str, frozenset[tuple[str, str]], frozenset[tuple[str, str, str]]]
 
 
@@ -162,7 +167,8 @@ def what_it_takes(book: Book, name: str, code: str) -> Taken | None:
     activities = frozenset((parameter, row.field("low")) for parameter, row in bound.items()
                            if row.field("value") == "activity")
     shares = frozenset((parameter, row.field("value"), row.field("low")) for parameter, row in bound.items()
-                       if parameters[parameter]["measures"] == "ratio")
+                       if parameters[parameter]["measures"] == "ratio"
+                       or code in OF_STAGES and row.field("value") == "factor")
     return (code, activities, shares) if activities else None
 
 

@@ -13,7 +13,8 @@ PLACES, LIVESTOCK_UNITS = "places", "livestock units"
 NORMAL, STANDARD = "0 \u00b0C", "15 \u00b0C"
 # What people write for these, in lower case.
 SPELLINGS = {
-    GROSS: "gcv hhv gross gchv hs ho pcs upper brut superior", NET: "ncv lhv net hi hu pci lower inferior",
+    GROSS: "gcv hcv hhv gross gchv hs ho pcs upper higher brut superior",
+    NET: "ncv lcv lhv net nchv hi hu pci lower inferior",
     EQUIVALENTS: "equivalence",
     "CO2": "co2", "CH4": "ch4", "N2O": "n2o", "CF4": "cf4", "C2F6": "c2f6", "N2O-N": "n2o-n",
     "CH4-C": "ch4-c", "C": "c carbon co2-c", "N": "n nitrogen urea-n nh4-n no3-n",
@@ -105,8 +106,18 @@ def words_of(text: str) -> Words:
     kept = [" ".join(word for word in part if is_unit(word)) for part in parts]
     others = [word for part in parts for word in part if is_other(word)]
     denominator = [of for part in found[1:] for of in part]
+    if len(parts) == 1 and is_share(kept[0]):
+        # a share is one of dry matter or of wet weight, and no amount of it
+        denominator = [of for of in found[0] if of in (DRY, WET, ASH_FREE)]
+        found[0] = [of for of in found[0] if of not in denominator]
     last = [of for of in denominator if of in AT_THE_END]
     return Words(found[0] or last, denominator, "/".join(kept), others)
+
+
+def is_share(text: str) -> bool:
+    """Tells whether a text is the unit of a ratio, as pct, with no strokes."""
+    reading = units.read(text)
+    return reading is not None and set(reading.powers) == {"ratio"}
 
 
 def is_other(word: str) -> bool:

@@ -27,22 +27,33 @@ ANIMALS = ("DAIRY", "CATTLE", "BUFFALO", "SHEEP", "GOATS", "CAMELS", "HORSES", "
 CALLED = {"COW": "DAIRY", "BEEF": "CATTLE", "BULL": "CATTLE", "HEIFER": "CATTLE", "CALVE": "CATTLE",
           "EWE": "SHEEP", "LAMB": "SHEEP", "PIG": "SWINE", "SOW": "SWINE", "ASSES": "MULES",
           "DONKEY": "MULES"}
+# What burns a fuel with far more CH4 and N2O than boilers, by Volume 2, Tables 2.6 to 2.10, and how far these
+# gases of one fuel may be from the tables.
+ENGINES = {"ENGINE", "ENGINES", "TURBINE", "TURBINES", "FLUIDISED", "FLUIDIZED", "CNG"}
+OF_PLANTS = Number(10)
 # How far a factor may be from what is usual: of the carbon and the energy of a known fuel little, of others
 # twice.
 OF_FUELS, MARGIN = Number("1.05"), Number(2)
 
 
 @functools.cache
-def usual_values() -> dict[tuple[str, str], dict[str, str]]:
+def usual_values() -> dict[tuple[str, str], list[dict[str, str]]]:
     """The rows of usual-values.csv, by equation and parameter."""
+    found: dict[tuple[str, str], list[dict[str, str]]] = {}
     with open(USUAL, encoding="utf-8", newline="") as file:
-        return {(row["equation"], row["parameter"]): row for row in csv.DictReader(file)}
+        for row in csv.DictReader(file):
+            found.setdefault((row["equation"], row["parameter"]), []).append(row)
+    return found
 
 
-def usual_row(line: Row, parameter: str) -> dict[str, str] | None:
-    """The row of usual values of a parameter of a line, or None."""
-    row = usual_values().get((line.field("value"), parameter))
-    return row if row and line.field("subject").startswith(row["category"]) else None
+def usual_row(line: Row, parameter: str, said: typing.Iterable[str] = ()) -> dict[str, str] | None:
+    """The first row of usual values of a parameter of a line that is of its category, and of whose words each
+    stands in the names that tell what it is of; or None.
+    """
+    words = {part for name in (line.field("name"), *said) for part in re.split("[._-]", name)}
+    rows = usual_values().get((line.field("value"), parameter), ())
+    return next((row for row in rows if line.field("subject").startswith(row["category"])
+                 and words.issuperset(row["words"].split())), None)
 
 
 class Usual(typing.NamedTuple):
@@ -50,6 +61,8 @@ class Usual(typing.NamedTuple):
     range: Range
     of: str
     margin: Number
+
+    shown: Range | None = None
 
     def has(self, figure: Number, margin: Number) -> bool:
         """Tells whether a figure is usual within a margin."""
@@ -64,10 +77,10 @@ class Usual(typing.NamedTuple):
 def usual(results: Results, line: Row, parameter: str, bound: Row) -> Usual | None:
     """What is usual of what a parameter of a line takes, or None where nothing is known."""
     measures = vocabulary.parameters_of(line.field("value"))[parameter]["measures"]
-    row = usual_row(line, parameter)
-    if row:
-        return Usual(range_of(row), f"{parameter} of {line.field('value')}", MARGIN)
     said = names(results, line, bound)
+    row = usual_row(line, parameter, sum(said, []))
+    if row:
+        return Usual(range_of(row), f"{parameter} of {line.field('value')}", Number(row["margin"] or MARGIN))
     if measures == "net calorific value":
         return of_fuels("volume-2-table-1.2", "NCV", said, ENERGY_OF_FUELS)
     if measures == "carbon content of fuel":
@@ -76,8 +89,7 @@ def usual(results: Results, line: Row, parameter: str, bound: Row) -> Usual | No
     if measures == "emission factor of fuel" and gas_of(line) == "CO2":
         return of_fuels("volume-2-table-1.4", "CO2", said, CO2_OF_FUELS)
     if measures == "emission factor of fuel":
-        gas = gas_of(line) or ""
-        return Usual(of_other_gas(gas), f"{gas} of fuels", MARGIN)
+        return of_other_gas(gas_of(line) or "", said, line.field("subject"))
     if line.field("value") == "Q55" and parameter == "EF" and line.field("subject") == "3A1":
         return of_animals(said)
     return None
@@ -114,11 +126,33 @@ def of_fuels(table: str, what: str, said: list[list[str]], any_fuel: Range) -> U
     return Usual(found, " or ".join(fuel.replace(".", " ").lower() for fuel in fuels[:3]), OF_FUELS)
 
 
+def of_other_gas(gas: str, said: list[list[str]], category: str) -> Usual:
+    """What is usual of CH4 or N2O of fuels burnt: of the fuels that names speak of, at a category of plants or
+    homes and not in an engine, else of all fuels in all their uses.
+    """
+    every = Usual(of_fuels_burnt(gas, ()) or ENERGY_OF_FUELS, f"{gas} of fuels", MARGIN)
+    fuels = next(filter(None, map(fuels_of, said)), ())
+    is_of_engines = ENGINES & {part for name in sum(said, []) for part in re.split("[._-]", name)}
+    is_moving = category.startswith(("1A3", "MB"))
+    own = of_fuels_burnt(gas, fuels) if fuels and not is_of_engines and not is_moving else None
+    if own is None:
+        return every
+    within = Range(max(own.least / OF_PLANTS, every.range.least), min(own.greatest * OF_PLANTS,
+                   every.range.greatest), own.defaults, own.source)
+    of = " or ".join(fuel.replace(".", " ").lower() for fuel in fuels[:3])
+    return Usual(within, f"{gas} of {of}", MARGIN, own)
+
+
 @functools.cache
-def of_other_gas(gas: str) -> Range:
-    """What is usual of CH4 or N2O of fuels burnt, of all fuels in all their uses."""
-    found = [each for table in OTHER_GASES for name, each in rows_of(table).items() if name.startswith(gas)]
-    return together(found)._replace(source="Volume 2, Tables 2.2 to 2.5 and 3.2.2")
+def of_fuels_burnt(gas: str, fuels: tuple[str, ...]) -> Range | None:
+    """What the tables have of CH4 or N2O of fuels burnt but for road transport, or of all fuels in all their
+    uses where none are named; or None.
+    """
+    ends = tuple(f".{fuel}" for fuel in fuels)
+    found = [each for table in OTHER_GASES for name, each in rows_of(table).items() if name.startswith(gas)
+             and (not fuels or name.endswith(ends) and ".ROAD." not in name)]
+    source = "Volume 2, Tables 2.2 to 2.5" + ("" if fuels else " and 3.2.2")
+    return together(found)._replace(source=source) if found else None
 
 
 def of_animals(said: list[list[str]]) -> Usual | None:

@@ -282,13 +282,36 @@ MISTAKES = [Mistake(*fields) for fields in (
      "enter,line,4C1,BURNT.CH4", ("below zero", "R")),
     ("dairy", ("+enter,factor,,CATTLE.EF,2014,NE,,,kg/head,", "+enter,factor,,CATTLE.EF,2015,57,,,kg/head,"),
      "enter,factor,,CATTLE.EF,2014", ("NE in 2014",)),
+    # other units of energy, of time and of ratios
+    ("sewage", ("BOD:21.9",), "enter,factor,,BOD,", ("0.365", "of a year")),
+    ("sewage", ("PROTEIN:91",), "enter,factor,,PROTEIN,", ("0.365", "of a day")),
+    ("sewage", ("~N.IN.PROTEIN,2010,0.16~N.IN.PROTEIN,2010,16",), "enter,factor,,N.IN.PROTEIN",
+     ("is it in pct?",)),
+    ("power", ("~COAL.NCV~HARD.COAL.NCV", "~COAL.T,~HARD.COAL.T,", "HARD.COAL.NCV:6.16"),
+     "enter,factor,,HARD.COAL.NCV", ("4.1868", "Gcal")),
+    ("homes", ("GAS.CO2:2340",), "enter,factor,,GAS.CO2", ("1000/41.868", "toe")),
+    ("homes", ("PEAT.CO2:56100",), "enter,factor,,PEAT.CO2", ("that of natural gas",)),
+    ("homes", ("STOVES.N2O:4000",), "enter,factor,,STOVES.N2O", ("thousand",)),
+    ("power", ("GAS.CH4:1000",), "enter,factor,,GAS.CH4", ("CH4 of natural gas", "thousand")),
+    ("acids", ("~NITRIC.EF,2010,7,,,kg/t~NITRIC.EF,2010,7,,,t/t",), "enter,factor,,NITRIC.EF,2010",
+     ("is it in kg/t?",)),
+    ("acids", ("NITRIC.EF:0.007",), "enter,factor,,NITRIC.EF,2010", ("thousand",)),
+    ("acids", ("~DESTROYED,2010,98.5,,,pct~DESTROYED,2010,98.5,,,1",), "enter,factor,,DESTROYED",
+     ("is it in pct?",)),
+    ("wells", ("FLARES.N2O:0.64",), "enter,factor,,FLARES.N2O", ("thousand",)),
+    ("balance", ("~GAS.C,~LNG.C,", "~,GAS.IN,~,LNG.IN,", "LNG.C:56.1"), "enter,factor,,LNG.C", ("12/44",)),
+    ("landfill", ("DOC:0.15",), "enter,factor,,DOC,", ("pct",)),
+    # an old line beside the lines that split it, of which other lines take its activity too
+    ("power", ("++", "split GAS.TJ 2010 NORTH.TJ SOUTH.TJ", "+line 1A1a NORTH.CO2 Q10 FC=a:NORTH.TJ EF=f:GAS.CO2",
+               "+line 1A1a SOUTH.CO2 Q10 FC=a:SOUTH.TJ EF=f:GAS.CO2", "GAS.TJ@2019*1.02"),
+     "enter,line,1A1a,GAS.CO2",
+     ("together in 2010 to 2018 and 2020", "withdraw it alone: GAS.CH4 and GAS.N2O take its activity")),
 )]
 
-# Those that are not told: a calorific value of hard coal that lignite may have, which some call coal; organic
-# matter in kg in a year, which is usual in g in a day; and municipal waste, which is biomass in part.
+# Those that are not told: a calorific value of hard coal that lignite may have, which some call coal; and
+# municipal waste, which is biomass in part.
 NOT_TOLD = [
     Mistake("power", ("COAL.NCV:6.16",), "enter,factor,,COAL.NCV", ("bituminous",)),
-    Mistake("sewage", ("BOD:21.9",), "enter,factor,,BOD,", ("BOD",)),
     Mistake("burners", ("~line,1A1a,MSW~line,MC,MSW",), "enter,line,MC,MSW.CO2", ("MC",)),
 ]
 # The potentials of the second report.
@@ -313,6 +336,12 @@ STILL_RIGHT: tuple[tuple[str, tuple[str, ...]], ...] = (
                "+line 1A1b NORTH Q10 FC=a:NORTH.GAS EF=f:REFINERY.GAS",
                "+line 1A1b SOUTH Q10 FC=a:SOUTH.GAS EF=f:REFINERY.GAS", "REFINERY.GAS=IE")),
     ("acids", ("NITRIC.EF:5", "AMMONIA.FUEL:33")), ("uses", ("PETCOKE.CO2:95200", "LUBRICANTS.C:19.7")),
+    ("wells", ("+line 1B1 AFTER.CH4 Q14 P=a:COAL.UNDERGROUND EF=f:AFTER.EF", "+f AFTER.EF m3/t 2.5",
+               "+line 1B2 VENTS.CH4 Q15 A=a:OIL.PUMPED EF=f:VENTS.CH4", "+f VENTS.CH4 kg/m3 0.72")),
+    ("power", ("+line 5B SF6 Q32 MCL=a:SF6 EF=f:SF6.POTENTIAL CF=f:ALL", "+a SF6 t 2.8 2.4",
+               "+f SF6.POTENTIAL 1 23500", "+f ALL 1 1")),
+    ("sewage", ("BOD:34", "PROTEIN:21")), ("acids", ("NITRIC.EF:9", "ADIPIC.EF:290")),
+    ("landfill", ("DOC:4",)), ("wells", ("FLARES.N2O:0.0003",)),
     ("cropland", ("BOGS:7.9", "LITTLE:1.1")), ("wells", ("MINES.EF:11", "REFINERY.GAS:56800")),
 )
 
