@@ -23,7 +23,8 @@ BOUNDED = {"value": EQUIVALENT, "low": EQUIVALENT, "high": EQUIVALENT}
 SHARES = {"value": EQUIVALENT, "base": EQUIVALENT, "trend": PERCENT, "share": PERCENT, "cumulative": PERCENT}
 UNITS = {
     "summary": BOUNDED,
-    "series": {f"{total}{bound}": EQUIVALENT for total in ("total", "gross") for bound in ("", "_low", "_high")},
+    "series": {f"{total}{bound}": EQUIVALENT for total in ("total", "gross")
+               for bound in ("", "_low", "_high")},
     "reference": {"value": "Gg CO2, or percent"},
     "uncertainty": {"value": EQUIVALENT, "activity": PERCENT, "factor": PERCENT, "combined_low": PERCENT,
                     "combined_high": PERCENT},
@@ -78,7 +79,8 @@ def add_table(book: Spreadsheet, table: str, shown: dict[int, list[str]]) -> int
     header = shown[years[0]][0].split(",")
     columns = columns_of(table, header)
     headings = [with_unit(table, column) for column in columns]
-    widths = {at: WIDTHS.get(heading, max(NARROWEST, len(heading) + 2)) for at, heading in enumerate(headings, 1)}
+    widths = {at: WIDTHS.get(heading, max(NARROWEST, len(heading) + 2))
+              for at, heading in enumerate(headings, 1)}
     sheet = book.add(table, headings, widths)
     lines = [(year, line) for year in years for line in shown[year][1:]]
     for year, line in lines:

@@ -191,7 +191,7 @@ class Reports(unittest.TestCase):
                             "1A2 Manufacturing industries and construction NO 0.019 NE 0.038"],
             "totals": ["1 Energy 0.281 IE, NE IE, NE IE, NE -"],
             "tree": ["1A1a Main activity electricity and heat production NE GAS CO2 NE 2-power.csv:2."],
-            "key": ["1A2 Manufacturing industries and construction CO2 NE 0.00", "CO2 NO NE 0.00"],
+            "key": ["1A2 Manufacturing industries and construction CO2 NE - - no", "CO2 NO NE 0.00 - - no"],
         }.items():
             for row in rows:
                 self.assertIn(row, self.texts(page, part))
@@ -206,9 +206,9 @@ class Reports(unittest.TestCase):
         self.assertIn("<p>Tea &amp; Co; 2018 to 2020", page)
 
     def test_no_line_at_the_reference_approach(self) -> None:
-        said = "Reference and sectoral approach No line stands at RA, so that there is no reference approach to " \
-               "compare with."
-        self.assertEqual(self.texts(self.page("examples/how-to", "2019"), "reference"), said)
+        said = "No line stands at RA, so that there is no reference approach to compare with."
+        text = self.texts(self.page("examples/how-to", "2019"), "reference")
+        self.assertTrue(text.endswith(f"Reference and sectoral approach {said}"), text)
 
     def test_bars_of_lines_without_a_value(self) -> None:
         rows = HEADER + "enter,span,,,2019,2020,2019,,,\nenter,factor,,GWP.CO2,2019,1,,,1,\n"

@@ -79,7 +79,8 @@ class Files(unittest.TestCase):
     def test_headings_have_units_and_a_filter(self) -> None:
         book = load(self.tables())
         headings = {sheet.title: [cell.value for cell in sheet[1]] for sheet in book}
-        self.assertEqual(headings["summary"][3:], ["value (Gg CO2 eq)", "low (Gg CO2 eq)", "high (Gg CO2 eq)"])
+        self.assertEqual(headings["summary"][3:], [
+            "value (Gg CO2 eq)", "low (Gg CO2 eq)", "high (Gg CO2 eq)"])
         self.assertEqual(headings["reference"], ["year", "item", "value (Gg CO2, or percent)"])
         self.assertEqual(headings["trend"][4:], [
             "base (Gg CO2 eq)", "value (Gg CO2 eq)", "trend (percent)", "share (percent)",
