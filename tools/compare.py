@@ -138,7 +138,8 @@ def rows_of(lines: list[dict[str, str]], states: tuple[State, State], graphs: tu
     with_line = {key: bindings_with(key, states) for key in found if key[0] == "line"}
     for bound in set().union(*with_line.values()):
         found.pop(bound, None)
-    return [{**said_of_key(key, states), "bindings": len(with_line.get(key, ())), "lines": list(dict.fromkeys(line["line"] for line in taking)),
+    return [{**said_of_key(key, states), "bindings": len(with_line.get(key, ())),
+             "lines": list(dict.fromkeys(line["line"] for line in taking)),
              "difference_of_first": taking[0]["difference"]} for key, taking in found.items()]
 
 
