@@ -57,7 +57,8 @@ def parser() -> argparse.ArgumentParser:
     """The reader of the words behind `./workbook`."""
     top = argparse.ArgumentParser(
         prog="./workbook",
-        description="Everyday tools around the proved program, which alone judges what is a fault.",
+        description="Everyday tools around the proved program, which alone judges what is a fault. "
+                    "Begin with new; docs/A-YEAR.md goes through a year.",
         epilog=STATUSES,
     )
     commands = top.add_subparsers(dest="command", required=True, metavar="COMMAND",

@@ -19,7 +19,8 @@ BROWSER = shutil.which("chromium") or shutil.which("chromium-browser") or shutil
 YEARS = range(1990, 2021)
 GASES = ["CO2", "CH4", "N2O", "CF4", "C2F6"]
 # What a page tells of itself, once it is loaded: by how much it is wider than its window, the links that lead
-# nowhere, and one after which its target is not shown.
+# nowhere, and one after which its target is not shown; how much of its tree stays closed when it is printed, and
+# how much stays open after that.
 TOLD = """<script>window.addEventListener("load", () => {
   const lost = [], hidden = [];
   for (const link of document.querySelectorAll("a[href^='#']")) {
@@ -27,13 +28,17 @@ TOLD = """<script>window.addEventListener("load", () => {
     if (!target) lost.push(link.href);
   }
   for (const one of document.querySelectorAll("details")) one.open = false;
+  window.dispatchEvent(new Event("beforeprint"));
+  const unprinted = document.querySelectorAll("details:not([open])").length;
+  window.dispatchEvent(new Event("afterprint"));
+  const left_open = document.querySelectorAll("details[open]").length;
   const link = document.querySelector("#uncertainty a");
   location.hash = link.getAttribute("href");
   setTimeout(() => {
     const target = document.getElementById(link.getAttribute("href").slice(1));
     if (!target.querySelector("p").checkVisibility()) hidden.push(link.href);
     const wide = document.documentElement.scrollWidth - document.documentElement.clientWidth;
-    document.title = JSON.stringify({wide, lost, hidden});
+    document.title = JSON.stringify({wide, lost, hidden, unprinted, left_open});
   }, 0);
 });</script>"""
 
@@ -309,7 +314,8 @@ class InABrowser(unittest.TestCase):
             for window in ("1200,900", "500,800"):
                 title = re.search("<title>(.*?)</title>", self.shown(room, page, window))
                 told = json.loads(html.unescape(title.group(1))) if title else None
-                self.assertEqual(told, {"wide": 0, "lost": [], "hidden": []}, window)
+                due = {"wide": 0, "lost": [], "hidden": [], "unprinted": 0, "left_open": 0}
+                self.assertEqual(told, due, window)
 
     def test_a_thousand_lines(self) -> None:
         with tempfile.TemporaryDirectory() as room:
