@@ -19,8 +19,8 @@ BROWSER = shutil.which("chromium") or shutil.which("chromium-browser") or shutil
 YEARS = range(1990, 2021)
 GASES = ["CO2", "CH4", "N2O", "CF4", "C2F6"]
 # What a page tells of itself, once it is loaded: by how much it is wider than its window, the links that lead
-# nowhere, and one after which its target is not shown; how much of its tree stays closed when it is printed, and
-# how much stays open after that.
+# nowhere, and one after which its target is not shown; how much of its tree stays closed when it is printed,
+# and how much stays open after that.
 TOLD = """<script>window.addEventListener("load", () => {
   const lost = [], hidden = [];
   for (const link of document.querySelectorAll("a[href^='#']")) {
