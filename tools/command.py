@@ -57,7 +57,8 @@ def parser() -> argparse.ArgumentParser:
     """The reader of the words behind `./workbook`."""
     top = argparse.ArgumentParser(
         prog="./workbook",
-        description="Everyday tools around the proved program, which alone judges what is a fault.",
+        description="Everyday tools around the proved program, which alone judges what is a fault. "
+                    "Begin with new; docs/A-YEAR.md goes through a year.",
         epilog=STATUSES,
     )
     commands = top.add_subparsers(dest="command", required=True, metavar="COMMAND",
@@ -178,14 +179,9 @@ def add_compare(commands: Commands) -> None:
 def add_report(commands: Commands) -> None:
     """Adds the command `report`."""
     what = "write one page with all tables of a year, their trends, pictures, and what figures come of"
-    made = command(commands, "report", what, "examples/fuel-combustion 2020 -o report.html", run_report)
+    made = command(commands, "report", what, "examples/fuel-combustion 2020 -o report.html", report.run)
     report.add_words(made)
     made.add_argument("--program", metavar="PATH", help=PROGRAM)
-
-
-def run_report(arguments: argparse.Namespace) -> int:
-    """Writes a report, and answers the status."""
-    return report.run(found_program(arguments.program), arguments.words, arguments.output)
 
 
 def add_words(commands: Commands) -> None:

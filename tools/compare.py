@@ -15,7 +15,7 @@ from typing import Any
 
 from tools.book import KIND_TAKEN, Book, book_of
 from tools.complete import Taking
-from tools.faults import years_said
+from tools.faults import counted, years_said
 from tools.printed import Printed, by_size, difference, figure, percent
 from tools.program import Program, found_program
 from tools.sheets import FolderFault, Key, Row, Sheet, read_folders
@@ -135,8 +135,20 @@ def rows_of(lines: list[dict[str, str]], states: tuple[State, State], graphs: tu
             keys |= graph.of_line(line["line"], line["gas"], year)
         for key in sorted(keys):
             found.setdefault(key, []).append(line)
-    return [{**said_of_key(key, states), "lines": list(dict.fromkeys(line["line"] for line in taking)),
+    with_line = {key: bindings_with(key, states) for key in found if key[0] == "line"}
+    for bound in set().union(*with_line.values()):
+        found.pop(bound, None)
+    return [{**said_of_key(key, states), "bindings": len(with_line.get(key, ())),
+             "lines": list(dict.fromkeys(line["line"] for line in taking)),
              "difference_of_first": taking[0]["difference"]} for key, taking in found.items()]
+
+
+def bindings_with(line: Key, states: tuple[State, State]) -> set[Key]:
+    """The bindings of a line that one state alone has: they come and go with it."""
+    before, after = (state.book.rows for state in states)
+    if (line in before) == (line in after):
+        return set()
+    return {key for key in (before if line in before else after) if key[:2] == ("bind", *line[1:])}
 
 
 def said_of_key(key: Key, states: tuple[State, State]) -> dict[str, str]:
@@ -192,7 +204,8 @@ def text_of(found: dict[str, Any]) -> Iterator[str]:
     for row in found["rows"]:
         more = f" and {len(row['lines']) - 1} more" if len(row["lines"]) > 1 else ""
         was = f", before {row['place_before']}" if row["place_before"] else ""
-        yield (f"  {row['record']}: {row['before']} to {row['after']}; {row['place']}{was}"
+        bound = f", with its {counted(row['bindings'], 'binding')}" if row["bindings"] else ""
+        yield (f"  {row['record']}{bound}: {row['before']} to {row['after']}; {row['place']}{was}"
                f"{said_of_note(row['note'])}")
         yield f"    in {row['lines'][0]}{more}, {row['difference_of_first']}"
 

@@ -18,10 +18,11 @@ from tools.faults import counted
 from tools.given_away import warnings_of
 from tools.notices import warn_left
 from tools.printed import BLANK, Printed, Row, by_size, difference, figure, percent
-from tools.program import Program
+from tools.program import Program, found_program
 from tools.sheets import FolderFault, Sheet, read_folders
 from tools.trace import Tracer, conversion, is_in, is_under, said_of_category
 from tools.variants import Variants, gases_of
+from tools.whole_files import check_place
 
 TEMPLATES = pathlib.Path(__file__).resolve().parent / "templates"
 # The Debian packages of the libraries that the report is made with.
@@ -69,6 +70,11 @@ class Cell:
     keys: str = ""
 
 
+def said_of_keys(states: list[str]) -> str:
+    """The notation keys among states; a missing record leaves what is not estimated."""
+    return ", ".join(sorted({BLANK if key == GAP else key for key in states} - {"E"}))
+
+
 def cell(row: Row, column: str, table: str, year: int, *keys: str) -> Cell:
     """A cell with a printed figure."""
     return Cell(row[column], " ".join([table, str(year), *(row[key] for key in keys), column]))
@@ -92,7 +98,7 @@ def name_of(code: str) -> str:
 
 
 class Tables:
-    """The tables of the report, as rows of cells."""
+    """The tables of the report, as rows of cells; notation keys stand where no line of a code has a value."""
 
     def __init__(self, inventory: Inventory, gases: dict[str, dict[bool, dict[int, dict[str, Row]]]]) -> None:
         self.inventory, self.gases = inventory, gases
@@ -101,23 +107,28 @@ class Tables:
         self.summaries = inventory.summaries()
         self.states = matrix(inventory.book, read_cells(inventory.printed.program, inventory.years),
                              inventory.years)
+        self.pairs = {code: [pair for pair in self.states if is_in(pair[0], code)] for code in self.codes}
 
-    def keys(self, code: str, gas: str) -> list[str]:
-        """The states of the year of the categories at a code or under it that have lines of a gas."""
-        at = self.year - self.inventory.years[0]
-        return [states[at] for (category, of_gas), states in self.states.items()
-                if of_gas == gas and is_in(category, code)]
+    def keys(self, code: str, year: int, gas: str = "") -> list[str]:
+        """The states of a year of the categories at a code or under it, of those that have lines of a gas."""
+        at = year - self.inventory.years[0]
+        return [self.states[pair][at] for pair in self.pairs[code] if gas in ("", pair[1])]
+
+    def keyed(self, shown: Cell, code: str, year: int, gas: str = "") -> Cell:
+        """A figure of a code, or the notation keys where no line has a value."""
+        keys = self.keys(code, year, gas)
+        return Cell(said_of_keys(keys)) if keys and "E" not in keys and figure(shown.text) == 0 else shown
 
     def of_gas(self, code: str, gas: str, as_mass: bool) -> Cell:
         """The total of a code of one gas, or a notation key where nothing was estimated, or nothing."""
-        keys = self.keys(code, gas)
-        row = self.gases[gas][as_mass][self.year][code]
-        keyed = ", ".join(sorted({BLANK if key == GAP else key for key in keys} - {"E"}))
-        if not keys or (keyed and "E" not in keys and figure(row["value"]) == 0):
-            return Cell(keyed)
+        keys = self.keys(code, self.year, gas)
+        if not keys:
+            return Cell("")
         form = "mass" if as_mass else "equivalent"
+        row = self.gases[gas][as_mass][self.year][code]
         shown = cell(row, "value", f"{form}:{gas}", self.year, "category")
-        return dataclasses.replace(shown, keys=keyed)
+        keyed = self.keyed(shown, code, self.year, gas)
+        return keyed if keyed is not shown else dataclasses.replace(shown, keys=said_of_keys(keys))
 
     def by_gas(self, as_mass: bool) -> list[tuple[str, list[Cell]]]:
         """The codes with a cell for each gas, and as equivalents with the total and its bounds."""
@@ -131,7 +142,7 @@ class Tables:
 
     def total(self, code: str, year: int, column: str = "value") -> Cell:
         """The total of a code in a year."""
-        return cell(self.summaries[year][code], column, "summary", year, "category")
+        return self.keyed(cell(self.summaries[year][code], column, "summary", year, "category"), code, year)
 
     def by_year(self) -> list[tuple[list[int], list[tuple[str, list[Cell]]]]]:
         """The codes with a cell for each year, as many years in a part as a page has room for."""
@@ -151,8 +162,12 @@ class Tables:
         return [years[at:at + most] for at in range(0, len(years), most)]
 
     def change(self, code: str) -> tuple[Cell, Cell, str]:
-        """The total of a code in the base year and in this one, and by which percentage they differ."""
+        """The total of a code in the base year and in this one, and by which percentage they differ, if both
+        have a value.
+        """
         before, after = self.total(code, self.inventory.base), self.total(code, self.year)
+        if not (before.of and after.of):
+            return before, after, "-"
         return before, after, percent(figure(difference(before.text, after.text)), figure(before.text))
 
     def rows(self, table: str, keys: Sequence[str], rows: list[Row] | None = None,
@@ -161,6 +176,16 @@ class Tables:
         found = self.printed.rows(table, self.year) if rows is None else rows
         return [{column: cell(row, column, shown or table, self.year, *keys) for column in row}
                 for row in found]
+
+    def key_categories(self, table: str, rows: list[Row] | None, shown: str) -> list[dict[str, Cell]]:
+        """The rows of an assessment of key categories, of the whole inventory or of a variant."""
+        found = self.rows(table, ["category", "gas"], rows, shown)
+        for row in found:
+            code, gas = row["category"].text, row["gas"].text
+            for column, year in (("value", self.year), ("base", self.inventory.base)):
+                if column in row:
+                    row[column] = self.keyed(row[column], code, year, gas)
+        return found
 
     def uncertainty(self) -> list[dict[str, Cell]]:
         """The rows of Table 3.2, each with the value of the base year."""
@@ -244,12 +269,12 @@ class Drawings:
             [row["key"].text == "yes" for row in known]))
 
     def uncertainty(self, rows: list[dict[str, Cell]]) -> str:
-        """The parts of the lines in the squared uncertainty of the total, where the total has one."""
+        """The parts of the lines with a value in the squared uncertainty of the total, where that has one."""
         lines, total = rows[:-1], rows[-1]
         if total["combined_high"].text == "-":
             return ""
         squares = {row["code"].text: float(figure(row["value"].text) * figure(row["combined_high"].text)) ** 2
-                   for row in lines}
+                   for row in lines if figure(row["value"].text)}
         whole = sum(squares.values()) or 1
         names = sorted(squares, key=lambda name: -squares[name])[:MOST_BARS]
         said = {row["code"].text: f"{row['value'].text} ± {row['combined_high'].text} %" for row in lines}
@@ -306,7 +331,7 @@ def page_of(inventory: Inventory, path: str, title: str) -> str:
     made.globals.update(
         depth=depth, name_of=name_of, conversion=conversion, equation=vocabulary.equations().get,
         key_names=vocabulary.words()["key_names"])
-    keys = {(table, land): tables.rows(table, ["category", "gas"], rows, shown)
+    keys = {(table, land): tables.key_categories(table, rows, shown)
             for table in ("level", "trend")
             for land, rows, shown in ((True, None, table), (False, without_land[table], f"{table}:land"))}
     return str(made.get_template("report.html").render(
@@ -341,11 +366,14 @@ def warned(program: Program, checked: check.Check, left: list[tuple[str, str]]) 
     yield from warn_left(left)
 
 
-def run(path: str, words: list[str], output: str) -> int:
+def run(arguments: argparse.Namespace) -> int:
     """Writes the report, and answers the status: 1 where there are faults or is no such year."""
     for module in PACKAGES:
         needed(module)
-    folders, year = read_words(words)
+    output = pathlib.Path(arguments.output)
+    check_place(output)
+    path = found_program(arguments.program)
+    folders, year = read_words(arguments.words)
     sheets, left = read_folders(folders)
     with Program(path) as program:
         checked = check.Check(program, sheets)
@@ -357,8 +385,9 @@ def run(path: str, words: list[str], output: str) -> int:
             return 1
         inventory = Inventory(sheets, checked.book, Printed(program), list(warned(program, checked, left)),
                               year or checked.book.known_span()[1])
-        text = page_of(inventory, path, " ".join(pathlib.Path(folder).name for folder in folders))
-    write(pathlib.Path(output), text)
+        named = " ".join(pathlib.Path(folder).name for folder in folders)
+        text = page_of(inventory, path, arguments.title or named)
+    write(output, text)
     print(f"{output}: {inventory.year}, {len(inventory.book.lines)} lines", file=sys.stderr)
     return 0
 
@@ -382,7 +411,9 @@ def said_of_span(span: tuple[int, int] | None, year: int | None) -> str:
 
 def add_words(made: argparse.ArgumentParser) -> None:
     """Adds the words of the command."""
-    made.usage = "./workbook report [--program PATH] FOLDER.. [YEAR] -o FILE"
+    made.usage = "./workbook report [--title TEXT] [--program PATH] FOLDER.. [YEAR] -o FILE"
     what = "the folders, and the year of the report; without it the last year of the span"
     made.add_argument("words", nargs="+", metavar="FOLDER", help=what)
     made.add_argument("-o", "--output", required=True, metavar="FILE", help="the file to write")
+    title = "the country and the agency, as the page names them; without it the folders"
+    made.add_argument("--title", metavar="TEXT", help=title)

@@ -13,7 +13,7 @@ from tools.service import Service
 from tools.sheets import FolderFault, Sheet
 from tools.sources import words_of
 from tools.vocabulary import listed
-from tools.whole_files import write_whole
+from tools.whole_files import check_place, write_whole
 
 
 def said_of(sheet: Sheet, reply: Reply) -> str:
@@ -66,6 +66,8 @@ def run(program: Program, sheets: list[Sheet], arguments: argparse.Namespace) ->
     """Writes the tables of the years, where each file is accepted and no quote is open, and answers the
     status.
     """
+    if tables_file.is_meant(arguments.output):
+        check_place(pathlib.Path(arguments.output))
     accepted = submit_all(program, sheets, arguments.quiet)
     so = "the tables are without {}" if arguments.partial else "no table is written"
     lacking = say_lacking(sheets, accepted, words_of(arguments), so)

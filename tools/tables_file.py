@@ -17,8 +17,24 @@ OF_ALL_YEARS = "series"
 # Columns of codes, with the heading of what is written beside them.
 NAMES = {"category": "category name", "equation": "equation name"}
 TEXTS = {"code", "category", "equation", "gas", "unit", "item", "flag", "key"}
+# The units of the figures of each table; in `cells` the unit is a column.
+EQUIVALENT, PERCENT = "Gg CO2 eq", "percent"
+BOUNDED = {"value": EQUIVALENT, "low": EQUIVALENT, "high": EQUIVALENT}
+SHARES = {"value": EQUIVALENT, "base": EQUIVALENT, "trend": PERCENT, "share": PERCENT, "cumulative": PERCENT}
+UNITS = {
+    "summary": BOUNDED,
+    "series": {f"{total}{bound}": EQUIVALENT for total in ("total", "gross")
+               for bound in ("", "_low", "_high")},
+    "reference": {"value": "Gg CO2, or percent"},
+    "uncertainty": {"value": EQUIVALENT, "activity": PERCENT, "factor": PERCENT, "combined_low": PERCENT,
+                    "combined_high": PERCENT},
+    "level": SHARES,
+    "trend": SHARES,
+    "checks": {"previous": EQUIVALENT, "value": EQUIVALENT, "change": PERCENT},
+}
 NUMBER = re.compile(r"-?\d+(?:\.\d+)?")
 WIDTHS = {"code": 26, "category name": 40, "equation name": 40}
+NARROWEST = 14
 
 
 def name_of(column: str, code: str) -> str:
@@ -28,8 +44,14 @@ def name_of(column: str, code: str) -> str:
     return vocabulary.equations()[code]["computes"] if code in vocabulary.equations() else ""
 
 
-def headings_of(table: str, header: list[str]) -> list[str]:
-    """The headings of a sheet: the year, and the columns with names beside codes."""
+def with_unit(table: str, column: str) -> str:
+    """A heading: a column with the unit of its figures, if it has one."""
+    unit = UNITS.get(table, {}).get(column)
+    return f"{column} ({unit})" if unit else column
+
+
+def columns_of(table: str, header: list[str]) -> list[str]:
+    """The columns of a sheet: the year, and those of the table with names beside codes."""
     found = [] if table == OF_ALL_YEARS else ["year"]
     for column in header:
         found += [column, NAMES[column]] if column in NAMES else [column]
@@ -44,22 +66,26 @@ def fields_of(table: str, year: int, header: list[str], line: str) -> list[str]:
     return found
 
 
-def cells_of(book: Spreadsheet, sheet: typing.Any, headings: list[str],
+def cells_of(book: Spreadsheet, sheet: typing.Any, columns: list[str],
              fields: list[str]) -> list[typing.Any]:
     """The cells of a row: figures as numbers, in the decimals that were printed."""
-    return [book.number(sheet, field) if heading not in TEXTS and NUMBER.fullmatch(field) else field
-            for heading, field in zip(headings, fields)]
+    return [book.number(sheet, field) if column not in TEXTS and NUMBER.fullmatch(field) else field
+            for column, field in zip(columns, fields)]
 
 
 def add_table(book: Spreadsheet, table: str, shown: dict[int, list[str]]) -> int:
     """Adds the sheet of a table with the rows of its years, and answers how many these are."""
     years = [max(shown)] if table == OF_ALL_YEARS else sorted(shown)
     header = shown[years[0]][0].split(",")
-    headings = headings_of(table, header)
-    sheet = book.add(table, headings, {at: WIDTHS.get(heading, 14) for at, heading in enumerate(headings, 1)})
+    columns = columns_of(table, header)
+    headings = [with_unit(table, column) for column in columns]
+    widths = {at: WIDTHS.get(heading, max(NARROWEST, len(heading) + 2))
+              for at, heading in enumerate(headings, 1)}
+    sheet = book.add(table, headings, widths)
     lines = [(year, line) for year in years for line in shown[year][1:]]
     for year, line in lines:
-        sheet.append(cells_of(book, sheet, headings, fields_of(table, year, header, line)))
+        sheet.append(cells_of(book, sheet, columns, fields_of(table, year, header, line)))
+    book.choose_rows(sheet, len(headings), len(lines) + 1)
     return len(lines)
 
 

@@ -21,8 +21,8 @@ LAND = "3B"
 # The unit of what is no more than a number.
 RATIO = "1"
 LineOfYear = tuple[str, int]
-# So far in a part is written at the most.
-FARTHEST_IN = 40
+# So many steps of two blanks a part is written in at the most.
+FARTHEST_IN = 10
 
 
 @dataclasses.dataclass(frozen=True)

@@ -5,6 +5,16 @@ import os
 import pathlib
 import tempfile
 
+from tools.sheets import FolderFault
+
+
+def check_place(path: pathlib.Path) -> None:
+    """Refuses a place that no file can be written to, before what belongs there is worked out."""
+    if path.is_dir():
+        raise FolderFault(f"{path} is a folder; name a file in it")
+    if not path.parent.is_dir():
+        raise FolderFault(f"there is no folder {path.parent}")
+
 
 def write_whole(path: pathlib.Path, data: bytes) -> None:
     """Writes a file, in the place of one that is there. Where that fails, what was there stays."""

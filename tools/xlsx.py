@@ -45,6 +45,10 @@ class Spreadsheet:
         cell.number_format = f"0.{'0' * decimals}" if decimals else "0"
         return cell
 
+    def choose_rows(self, sheet: typing.Any, columns: int, last: int) -> None:
+        """Gives the headings of a sheet a filter, by which rows are chosen."""
+        sheet.auto_filter.ref = f"A1:{letters_of(columns)}{last}"
+
     def choose(self, sheet: typing.Any, column: int, last: int, words: str, is_strict: bool) -> None:
         """Gives the cells of a column a list to choose from; a strict one takes no other word."""
         validation = self.library.worksheet.datavalidation

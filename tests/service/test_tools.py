@@ -119,8 +119,8 @@ class Send(Folders):
             self.put(gas=GAS.replace(b"56100,", b"56000,"))
             status, printed, _ = self.sent(url_of(service))
         self.assertEqual((status, printed), (1, [
-            "gas.csv: refused 9 Exists row 1, which is line 2; an earlier state of this file, or others, have "
-            "entered this row; undo the change, and write rows with correct into a file of their own"]))
+            "gas.csv: refused 9 Exists row 1, which is line 2; an earlier state of this file, or others, "
+            "have entered this row; undo the change, and write rows with correct into a file of their own"]))
 
     def test_ids(self) -> None:
         sheet = Sheet

@@ -132,6 +132,10 @@ national total in Gg of CO2 equivalent:
         self.assertIn("  COKE, 1A2, CH4, in Gg of CO2 equivalent: - to 0.050, +0.050\n",
                       self.compared(ROWS, "1991", before=after))
         self.assertIn("  1A2, CH4: 0.050 to -, -0.050, -100.00 %\n", self.compared(after, "1991"))
+        self.assertIn("1991, rows:\n  line COKE, with its 2 bindings: 1A2 Q11 to none; ",
+                      self.compared(after, "1991"))
+        self.assertNotIn("binding of", self.compared(after, "1991"))
+        self.assertNotIn("binding of", self.compared(ROWS, "1991", before=after))
 
     def test_nothing_differs(self) -> None:
         self.assertEqual(self.compared(ROWS), "nothing differs in 1990 to 1992\n")

@@ -19,7 +19,8 @@ BROWSER = shutil.which("chromium") or shutil.which("chromium-browser") or shutil
 YEARS = range(1990, 2021)
 GASES = ["CO2", "CH4", "N2O", "CF4", "C2F6"]
 # What a page tells of itself, once it is loaded: by how much it is wider than its window, the links that lead
-# nowhere, and one after which its target is not shown.
+# nowhere, and one after which its target is not shown; how much of its tree stays closed when it is printed,
+# and how much stays open after that.
 TOLD = """<script>window.addEventListener("load", () => {
   const lost = [], hidden = [];
   for (const link of document.querySelectorAll("a[href^='#']")) {
@@ -27,13 +28,17 @@ TOLD = """<script>window.addEventListener("load", () => {
     if (!target) lost.push(link.href);
   }
   for (const one of document.querySelectorAll("details")) one.open = false;
+  window.dispatchEvent(new Event("beforeprint"));
+  const unprinted = document.querySelectorAll("details:not([open])").length;
+  window.dispatchEvent(new Event("afterprint"));
+  const left_open = document.querySelectorAll("details[open]").length;
   const link = document.querySelector("#uncertainty a");
   location.hash = link.getAttribute("href");
   setTimeout(() => {
     const target = document.getElementById(link.getAttribute("href").slice(1));
     if (!target.querySelector("p").checkVisibility()) hidden.push(link.href);
     const wide = document.documentElement.scrollWidth - document.documentElement.clientWidth;
-    document.title = JSON.stringify({wide, lost, hidden});
+    document.title = JSON.stringify({wide, lost, hidden, unprinted, left_open});
   }, 0);
 });</script>"""
 
@@ -184,6 +189,46 @@ class Reports(unittest.TestCase):
         self.assertEqual(cells["1A1"], ["IE, NE", "NE"])
         self.assertIn('<td class="missing">!</td>', page)
 
+    def test_keys_stand_for_categories_without_a_value(self) -> None:
+        page = self.page(str(HERE / "complete"), "2019")
+        for part, rows in {
+            "trend-table": ["1A1a Main activity electricity and heat production 0.281 0.281 NE 0.281",
+                            "1A2 Manufacturing industries and construction NO 0.019 NE 0.038"],
+            "totals": ["1 Energy 0.281 IE, NE IE, NE IE, NE -"],
+            "tree": ["1A1a Main activity electricity and heat production NE GAS CO2 NE 2-power.csv:2."],
+            "key": ["1A2 Manufacturing industries and construction CO2 NE - - no", "CO2 NO NE 0.00 - - no"],
+        }.items():
+            for row in rows:
+                self.assertIn(row, self.texts(page, part))
+
+    def texts(self, page: str, part: str) -> str:
+        """The text of a part of a page."""
+        found = page.split(f'<section id="{part}"')[1].split("</section>")[0]
+        return html.unescape(" ".join(re.sub("<[^>]*>", " ", f"<{found}").split()))
+
+    def test_its_title(self) -> None:
+        page = self.page("examples/how-to", "2019", "--title", "Tea & Co")
+        self.assertIn("<p>Tea &amp; Co; 2018 to 2020", page)
+
+    def test_no_line_at_the_reference_approach(self) -> None:
+        said = "No line stands at RA, so that there is no reference approach to compare with."
+        text = self.texts(self.page("examples/how-to", "2019"), "reference")
+        self.assertTrue(text.endswith(f"Reference and sectoral approach {said}"), text)
+
+    def test_bars_of_lines_without_a_value(self) -> None:
+        rows = HEADER + "enter,span,,,2019,2020,2019,,,\nenter,factor,,GWP.CO2,2019,1,,,1,\n"
+        for name, value in (("GAS", "1000"), ("COAL", "NE"), ("PEAT", "NO")):
+            rows += f"enter,line,1A1a,{name},,Q10,,,,\nenter,bind,{name},FC,,activity,{name},,,\n"
+            rows += f"enter,bind,{name},EF,,factor,EF,,,\nenter,uncert,,{name},,5,5,,,\n"
+            rows += f"enter,activity,,{name},2020,{value},,,TJ,\n"
+        with tempfile.TemporaryDirectory() as room:
+            (pathlib.Path(room) / "1.csv").write_text(f"{rows}enter,factor,,EF,2019,56100,,,kg/TJ,\n")
+            page = self.page(room)
+        self.assertRegex(page, r">56\.100 ± 7\.\d\d %</text>")
+        self.assertNotRegex(page, r">(NE|0\.000) ±")
+        self.assertIn("error propagation gives the national total an uncertainty of 7.", page.lower())
+        self.assertNotIn("NE to NE", page)
+
     def test_a_key_of_what_is_left_out(self) -> None:
         part = '<td class="part"><span data-of="mass:CO2 2019 2A1 value">40.180</span>, NE</td>'
         self.assertIn(part, self.page("examples/how-to", "2019"))
@@ -233,10 +278,11 @@ class Refusals(unittest.TestCase):
     @unittest.skipIf(LIBRARIES, f"not installed: {' '.join(LIBRARIES)}")
     def test_a_place_that_cannot_be_written(self) -> None:
         with tempfile.TemporaryDirectory() as room:
-            for place in (f"{room}/none/report.html", room):
-                ran = workbook("report", "examples/how-to", "-o", place)
+            for place, due in ((f"{room}/none/report.html", f"there is no folder {room}/none"),
+                               (room, f"{room} is a folder; name a file in it")):
+                ran = workbook("report", "examples/how-to", "-o", place, "--program", "/no/program")
                 self.assertEqual((ran.returncode, os.listdir(room)), (2, []))
-                self.assertRegex(ran.stderr, f"^./workbook: {room}.*: (No such file|Is a directory)")
+                self.assertEqual(ran.stderr, f"./workbook: {due}\n")
 
     def test_a_library_that_is_missing(self) -> None:
         with tempfile.TemporaryDirectory() as room:
@@ -268,7 +314,8 @@ class InABrowser(unittest.TestCase):
             for window in ("1200,900", "500,800"):
                 title = re.search("<title>(.*?)</title>", self.shown(room, page, window))
                 told = json.loads(html.unescape(title.group(1))) if title else None
-                self.assertEqual(told, {"wide": 0, "lost": [], "hidden": []}, window)
+                due = {"wide": 0, "lost": [], "hidden": [], "unprinted": 0, "left_open": 0}
+                self.assertEqual(told, due, window)
 
     def test_a_thousand_lines(self) -> None:
         with tempfile.TemporaryDirectory() as room:

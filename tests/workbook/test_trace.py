@@ -147,7 +147,9 @@ GAS 1990 = 5.386 Gg CO2, 5.385 to 8.079
                      f"enter,bind,L{number:04},PR,,line,L{number - 1:04},,,"]
             rows += [f"enter,bind,L{number:04},{name},,key,NO,,," for name in ("IM", "EX", "IB", "SC")]
         body = HEADER + SPAN + "\n".join(rows) + "\n"
-        self.assertEqual(self.traced("1990", "L1199", rows=body).count("L0000 1990 = 0.000000 TJ"), 1)
+        traced = self.traced("1990", "L1199", rows=body)
+        self.assertEqual(traced.count("L0000 1990 = 0.000000 TJ"), 1)
+        self.assertEqual(max(len(line) - len(line.lstrip()) for line in traced.splitlines()), 22)
         self.assertEqual(len(json.loads(self.traced("1990", "L1199", "--json", rows=body))["lines"]), 1200)
 
 

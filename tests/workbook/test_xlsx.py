@@ -76,6 +76,24 @@ class Files(unittest.TestCase):
         row_due = [1990, "AMMONIA.CO2", "2B1", "Ammonia production", "Q37", "Ammonia, to CO2"]
         self.assertIn(row_due, [row[:6] for row in rows])
 
+    def test_headings_have_units_and_a_filter(self) -> None:
+        book = load(self.tables())
+        headings = {sheet.title: [cell.value for cell in sheet[1]] for sheet in book}
+        self.assertEqual(headings["summary"][3:], [
+            "value (Gg CO2 eq)", "low (Gg CO2 eq)", "high (Gg CO2 eq)"])
+        self.assertEqual(headings["reference"], ["year", "item", "value (Gg CO2, or percent)"])
+        self.assertEqual(headings["trend"][4:], [
+            "base (Gg CO2 eq)", "value (Gg CO2 eq)", "trend (percent)", "share (percent)",
+            "cumulative (percent)", "key"])
+        self.assertEqual(headings["uncertainty"][5:7], ["value (Gg CO2 eq)", "activity (percent)"])
+        for sheet in book:
+            self.assertEqual(sheet.auto_filter.ref, sheet.dimensions, sheet.title)
+
+    def test_a_folder_that_is_missing_is_told_first(self) -> None:
+        made = workbook("tables", TOP / "examples/how-to", "2020", "-o", self.room / "none/tables.xlsx")
+        self.assertEqual(made.stderr, f"./workbook: there is no folder {self.room}/none\n")
+        self.assertEqual((made.returncode, list(self.room.iterdir())), (2, []))
+
     def test_template(self) -> None:
         path = self.room / "template.xlsx"
         self.assertEqual(workbook("words", "--template", path).returncode, 0)

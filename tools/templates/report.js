@@ -18,5 +18,13 @@ for (const button of document.querySelectorAll("button[data-open]")) {
     for (const one of document.querySelectorAll("details")) one.open = button.dataset.open === "true";
   });
 }
+let closed = [];
+window.addEventListener("beforeprint", () => {
+  closed = [...document.querySelectorAll("details:not([open])")];
+  for (const one of closed) one.open = true;
+});
+window.addEventListener("afterprint", () => {
+  for (const one of closed) one.open = false;
+});
 window.addEventListener("hashchange", openTarget);
 openTarget();
