@@ -106,8 +106,8 @@ def corrected_to_another(cycle: Cycle) -> list[Fault]:
     """
     found = []
     for one, other in cycle.corrections():
-        is_known = other.field("kind") == "activity" and all(row.field("unit") in vocabulary.units()
-                                                                  for row in (one, other))
+        units = {row.field("unit") for row in (one, other)}
+        is_known = other.field("kind") == "activity" and units <= vocabulary.units().keys()
         was, figure = (figure_of(row) if is_known else None for row in (one, other))
         if not was or not figure or abs(figure - was) <= FAR * abs(was):
             continue
@@ -118,6 +118,35 @@ def corrected_to_another(cycle: Cycle) -> list[Fault]:
             found.append(warn(other, f"{said} {record_said(row)}, {figures_said(row)} ({row.place}); "
                                      "is that meant?"))
     return found
+
+
+def corrected_in_another_year(cycle: Cycle) -> list[Fault]:
+    """Corrections of one year of an activity to a figure outside its bounds and within those of the last year
+    before this cycle, which a cycle corrects most often.
+    """
+    found = []
+    pairs = [pair for pair in cycle.corrections() if pair[1].field("kind") == "activity"]
+    for one, other in pairs:
+        years = cycle.book.years["activity"].get(other.field("name"), {})
+        order = cycle.order.get(id(other), 0)
+        earlier = [year for year, row in years.items()
+                   if row.sheet is not other.sheet and cycle.order.get(id(row), order) < order]
+        row, figure = years.get(max(earlier, default=0)), numbers(other, "value")
+        is_alone = sum(pair[1].field("name") == other.field("name") for pair in pairs) == 1
+        if row and is_alone and int(other.field("year")) < max(earlier):
+            if is_within(one, figure) is False and is_within(row, figure):
+                said = f"{record_said(other)} was {figures_said(one)} ({one.place}), and this is outside"
+                said += f" these bounds and within those of {row.field('year')}, {figures_said(row)}"
+                found.append(warn(other, f"{said} ({row.place}); is {row.field('year')} meant?"))
+    return found
+
+
+def is_within(row: Row, figure: str | decimal.Decimal) -> bool | None:
+    """Tells whether a figure is within the bounds of a record, or None where it has none."""
+    bounds = numbers(row, "low"), numbers(row, "high")
+    if isinstance(figure, str) or isinstance(bounds[0], str) or isinstance(bounds[1], str):
+        return None
+    return bounds[0] <= figure <= bounds[1]
 
 
 def beside(cycle: Cycle, row: Row) -> list[Row]:
@@ -250,6 +279,13 @@ RECOGNISERS: tuple[Recogniser, ...] = (
         example="correct,activity,,MANURE.N,2021,40600,,,t,",
         says="activity MANURE.N of 2021 was 20700 t (1.csv:36), and this is nearly activity FERTILISER.N of 2021",
         right="correct,activity,,MANURE.N,2021,21400,,,t,"),
+    Recogniser(
+        corrected_in_another_year, "a correction outside the bounds of its year and within those of the last year",
+        example="enter,activity,,COAL,2020,1050,1040,1060,kt,\nenter,activity,,COAL,2021,1020,1010,1030,kt,\n\n"
+                f"{LONGER}{NEW_YEAR}correct,activity,,COAL,2020,1025,1015,1035,kt,",
+        says="outside these bounds and within those of 2021, 1020 (1010 to 1030) kt (1.csv:16); is 2021 meant?",
+        right="enter,activity,,COAL,2020,1050,1040,1060,kt,\nenter,activity,,COAL,2021,1020,1010,1030,kt,\n\n"
+              f"{LONGER}{NEW_YEAR}correct,activity,,COAL,2021,1025,1015,1035,kt,"),
     Recogniser(
         bounds_dropped, "corrections that leave out the bounds that a figure had",
         example="correct,factor,,COAL.EF,2019,95100,,,kg/TJ,",

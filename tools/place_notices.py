@@ -2,14 +2,13 @@
 another fuel or another parameter, gains for losses, and bunkers that the reference approach leaves in.
 """
 import decimal
-import re
 from collections.abc import Iterator
 
 from tools import vocabulary
 from tools.book import lines_taken_by
 from tools.faults import Fault, warn
 from tools.fuels import fuels_of
-from tools.line_notices import is_measured
+from tools.line_notices import OF_LIVESTOCK, is_measured, livestock_of
 from tools.recognisers import Recogniser
 from tools.results import Results, gas_of, plain
 from tools.sheets import Row
@@ -25,8 +24,6 @@ SOURCES = {
     "Q88": "3C1", "Q89": "3C1", "Q94": "4A", "Q95": "4B 4C", "Q96": "4B 4C", "Q97": "4C", "Q100": "4D",
     "Q103": "4D",
 }
-# Words of names of enteric fermentation and of manure, and the category of each.
-OF_LIVESTOCK = {"3A1": {"ENTERIC", "FERMENTATION"}, "3A2": {"MANURE", "SLURRY", "DUNG", "LAGOON", "LAGOONS"}}
 # The equations of gains and of losses of biomass.
 GAINS, LOSSES = {"Q78", "Q79"}, {"Q80", "Q81", "Q82"}
 # How far out of what is usual a figure is another's.
@@ -54,8 +51,7 @@ def manure_for_enteric(results: Results) -> Iterator[Fault]:
     for row in results.lines:
         category, name = row.field("subject"), row.field("name")
         names = [name, *(bound.field("low") for bound in results.bindings(name).values())]
-        parts = {part for each in names for part in re.split("[._-]", each)}
-        own = [code for code, words in OF_LIVESTOCK.items() if words & parts]
+        own = livestock_of(names)
         if row.field("value") == "Q55" and category in OF_LIVESTOCK and own and category not in own:
             said = f"line {name} at {category} ({vocabulary.categories()[category]['name']}) is of {own[0]}"
             yield warn(row, f"{said} ({vocabulary.categories()[own[0]]['name']}) by its names")
