@@ -96,7 +96,7 @@ def asked_of_ratio(book: Book, row: Row, bound: list[Row]) -> str:
         units = [word for word, size in UNITS_OF_RATIOS if least / 2 <= figure / size <= greatest * 2]
         if units:
             return f"; is it in {units[0]}?"
-    return "; is it in pct?" if figure <= 100 else ""
+    return "; is it in pct?" if figure <= 100 and row.field("unit") == "1" else ""
 
 
 def is_no_share(book: Book, bound: Row) -> bool:

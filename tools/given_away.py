@@ -9,8 +9,8 @@ from tools.program import Program
 from tools.results import Results
 
 # What is told of records, and of results, which are an inventory's own where no file has a fault.
-OF_RECORDS = (factor_notices, place_notices, potential_notices)
-OF_RESULTS = (counting_notices, result_notices)
+OF_RECORDS = (factor_notices, potential_notices)
+OF_RESULTS = (counting_notices, place_notices, result_notices)
 
 
 def warnings_of(program: Program, checked: Check) -> list[Fault]:
