@@ -182,8 +182,9 @@ def dry_weights(asked: Asked) -> Told | None:
     if is_due or not is_mass and DRY not in asked.words.denominator:
         return None
     what, does = ("the factor", "divide") if is_mass else ("the mass", "multiply")
-    else_do = f"else {does} by the fraction of dry matter"
-    return Told(f"dry weight: {asked.write()} if {what} that it is multiplied by is of dry weight too, {else_do}")
+    is_of_both = not is_mass and DRY in asked.words.numerator
+    else_do = "" if is_of_both else f", else {does} by the fraction of dry matter"
+    return Told(f"dry weight: {asked.write()} if {what} that it is multiplied by is of dry weight too{else_do}")
 
 
 def electricity(asked: Asked) -> Told | None:

@@ -1,15 +1,18 @@
 """Warnings of a year's cycle: corrections, withdrawals and new years that do not do what is meant."""
 import decimal
 
+from tools import vocabulary
 from tools.book import Book
 from tools.faults import Fault, counted, warn, years_said
 from tools.recognisers import Recogniser
-from tools.results import NUMBER, Results
+from tools.results import NUMBER, Results, figure_of
 from tools.sheets import Row, Sheet
 from tools.vocabulary import listed
 
 FIGURES = ("value", "low", "high", "unit")
 FIGURES_SHOWN = 3
+# How far from its own figure a correction is, and how near that of another record.
+FAR, NEARLY = decimal.Decimal("0.15"), decimal.Decimal("0.02")
 
 
 class Cycle:
@@ -72,14 +75,19 @@ def target(row: Row) -> str:
 
 
 def are_same(one: Row, other: Row) -> bool:
-    """Tells whether two rows set the same."""
+    """Tells whether two rows set the same, in whatever units."""
     return all(numbers(one, column) == numbers(other, column) for column in ("subject", *FIGURES))
 
 
 def numbers(row: Row, column: str) -> str | decimal.Decimal:
-    """A field, or its number where it is one."""
+    """A field, or its number in the base unit where it is one; and what a unit measures."""
     text = row.field(column)
-    return decimal.Decimal(text) if NUMBER.fullmatch(text) else text
+    unit = vocabulary.units().get(row.field("unit"))
+    if column == "unit":
+        return vocabulary.measured_by(text) or text
+    if not NUMBER.fullmatch(text):
+        return text
+    return decimal.Decimal(text) * unit["over"] / unit["under"] if unit else decimal.Decimal(text)
 
 
 def corrected_to_the_same(cycle: Cycle) -> list[Fault]:
@@ -90,6 +98,62 @@ def corrected_to_the_same(cycle: Cycle) -> list[Fault]:
             said = f"this correction changes nothing: {record_said(other)} is {target(one)} already"
             found.append(warn(other, f"{said} ({one.place})"))
     return found
+
+
+def corrected_to_another(cycle: Cycle) -> list[Fault]:
+    """Corrections of an activity to a figure that is far from its own, and near that of another activity of
+    the year or of another year of its own.
+    """
+    found = []
+    for one, other in cycle.corrections():
+        units = {row.field("unit") for row in (one, other)}
+        is_known = other.field("kind") == "activity" and units <= vocabulary.units().keys()
+        was, figure = (figure_of(row) if is_known else None for row in (one, other))
+        if not was or not figure or abs(figure - was) <= FAR * abs(was):
+            continue
+        near = {abs(known / figure - 1): row for row in beside(cycle, other) if (known := figure_of(row))}
+        if near and min(near) <= NEARLY:
+            row = near[min(near)]
+            said = f"{record_said(other)} was {figures_said(one)} ({one.place}), and this is nearly"
+            found.append(warn(other, f"{said} {record_said(row)}, {figures_said(row)} ({row.place}); "
+                                     "is that meant?"))
+    return found
+
+
+def corrected_in_another_year(cycle: Cycle) -> list[Fault]:
+    """Corrections of one year of an activity to a figure outside its bounds and within those of the last year
+    before this cycle, which a cycle corrects most often.
+    """
+    found = []
+    pairs = [pair for pair in cycle.corrections() if pair[1].field("kind") == "activity"]
+    for one, other in pairs:
+        years = cycle.book.years["activity"].get(other.field("name"), {})
+        order = cycle.order.get(id(other), 0)
+        earlier = [year for year, row in years.items()
+                   if row.sheet is not other.sheet and cycle.order.get(id(row), order) < order]
+        row, figure = years.get(max(earlier, default=0)), numbers(other, "value")
+        is_alone = sum(pair[1].field("name") == other.field("name") for pair in pairs) == 1
+        if row and is_alone and int(other.field("year")) < max(earlier):
+            if is_within(one, figure) is False and is_within(row, figure):
+                said = f"{record_said(other)} was {figures_said(one)} ({one.place}), and this is outside"
+                said += f" these bounds and within those of {row.field('year')}, {figures_said(row)}"
+                found.append(warn(other, f"{said} ({row.place}); is {row.field('year')} meant?"))
+    return found
+
+
+def is_within(row: Row, figure: str | decimal.Decimal) -> bool | None:
+    """Tells whether a figure is within the bounds of a record, or None where it has none."""
+    bounds = numbers(row, "low"), numbers(row, "high")
+    if isinstance(figure, str) or isinstance(bounds[0], str) or isinstance(bounds[1], str):
+        return None
+    return bounds[0] <= figure <= bounds[1]
+
+
+def beside(cycle: Cycle, row: Row) -> list[Row]:
+    """The records of other activities in the same unit of the year of a row."""
+    rows = (years.get(int(row.field("year"))) for name, years in cycle.book.years["activity"].items()
+            if name != row.field("name"))
+    return [other for other in rows if other and other.field("unit") == row.field("unit")]
 
 
 def bounds_dropped(cycle: Cycle) -> list[Fault]:
@@ -130,6 +194,23 @@ def earlier_factor_holds_on(cycle: Cycle) -> list[Fault]:
             until = f" to {min(later) - 1}" if later else " on"
             said = f"after this withdrawal the factor {key[1]} of {max(earlier)}, {figures_said(holds)}"
             found.append(warn(row, f"{said} ({holds.place}), holds from {key[2]}{until}"))
+    return found
+
+
+def first_factor_withdrawn(cycle: Cycle) -> list[Fault]:
+    """Withdrawals of the first record of a factor that lines take, after which the next one begins later."""
+    taken = cycle.book.taken()
+    found = []
+    for key, row in cycle.book.withdrawn.items():
+        years = cycle.book.years["factor"].get(key[1], {}) if key[0] == "factor" else {}
+        bound = taken.get((key[0], key[1]))
+        if key in cycle.book.rows or not bound or not years or min(years) < int(key[2]):
+            continue
+        blank = [year for year in cycle.results.years if year < min(years)]
+        if blank:
+            lines = listed(sorted({other.field("subject") for other in bound})[:FIGURES_SHOWN], "and")
+            said = f"after this withdrawal factor {key[1]} begins in {min(years)} ({years[min(years)].place})"
+            found.append(warn(row, f"{said}, and what takes it is blank in {years_said(blank)}: {lines}"))
     return found
 
 
@@ -190,9 +271,21 @@ RECOGNISERS: tuple[Recogniser, ...] = (
               "correct,activity,,COAL,2020,1060,,,kt,"),
     Recogniser(
         corrected_to_the_same, "corrections that change nothing",
-        example="correct,activity,,COAL,2020,1050.0,,,kt,",
+        example="correct,activity,,COAL,2020,1050000,,,t,",
         says="this correction changes nothing: activity COAL of 2020 is 1050 kt already",
-        right="correct,activity,,COAL,2020,1050.5,,,kt,"),
+        right="correct,activity,,COAL,2020,1050500,,,t,"),
+    Recogniser(
+        corrected_to_another, "a correction that is near the figure of another activity, and far from its own",
+        example="correct,activity,,MANURE.N,2021,40600,,,t,",
+        says="activity MANURE.N of 2021 was 20700 t (1.csv:36), and this is nearly activity FERTILISER.N of 2021",
+        right="correct,activity,,MANURE.N,2021,21400,,,t,"),
+    Recogniser(
+        corrected_in_another_year, "a correction outside the bounds of its year and within those of the last year",
+        example="enter,activity,,COAL,2020,1050,1040,1060,kt,\nenter,activity,,COAL,2021,1020,1010,1030,kt,\n\n"
+                f"{LONGER}{NEW_YEAR}correct,activity,,COAL,2020,1025,1015,1035,kt,",
+        says="outside these bounds and within those of 2021, 1020 (1010 to 1030) kt (1.csv:16); is 2021 meant?",
+        right="enter,activity,,COAL,2020,1050,1040,1060,kt,\nenter,activity,,COAL,2021,1020,1010,1030,kt,\n\n"
+              f"{LONGER}{NEW_YEAR}correct,activity,,COAL,2021,1025,1015,1035,kt,"),
     Recogniser(
         bounds_dropped, "corrections that leave out the bounds that a figure had",
         example="correct,factor,,COAL.EF,2019,95100,,,kg/TJ,",
@@ -208,6 +301,12 @@ RECOGNISERS: tuple[Recogniser, ...] = (
         says="after this withdrawal the factor COWS.EF of 2019, 126 kg/head (1.csv:20), holds from 2021 on",
         right="enter,factor,,COWS.EF,2021,131,,,kg/head,\n\nwithdraw,factor,,COWS.EF,2021,,,,,\n"
               "enter,factor,,COWS.EF,2021,132,,,kg/head,"),
+    Recogniser(
+        first_factor_withdrawn, "the withdrawal of the first record of a factor, after which it begins later",
+        example="enter,factor,,COWS.EF,2021,131,,,kg/head,\n\nwithdraw,factor,,COWS.EF,2019,,,,,",
+        says="after this withdrawal factor COWS.EF begins in 2021 (1.csv:37), and what takes it is blank in 2019",
+        right="enter,factor,,COWS.EF,2021,131,,,kg/head,\n\nwithdraw,factor,,COWS.EF,2019,,,,,\n"
+              "enter,factor,,COWS.EF,2019,127,,,kg/head,"),
     Recogniser(
         gaps_of_withdrawals, "the withdrawal of an activity that lines take",
         example="withdraw,activity,,COAL,2020,,,,,",

@@ -6,7 +6,7 @@ import decimal
 from tools import vocabulary
 from tools.book import record_taken_by
 from tools.faults import Fault, warn
-from tools.figure_notices import NO_SHARES
+from tools.figure_notices import MOST_OF_NO_SHARE, NO_SHARES
 from tools.fuels import fuels_of, rows_of
 from tools.line_notices import is_measured
 from tools.recognisers import Recogniser
@@ -44,6 +44,8 @@ RATIOS: tuple[Ratio, ...] = (
 # Those by which activities jump that are given in another unit for a year, and how near these are met.
 RATIOS_OF = {"energy": ("3.6, GJ in a MWh", "41.868, GJ in a toe"), "carbon": (RATIOS[0][1],),
              "gas": (RATIOS[0][1],)}
+# Ratios that are met seldom: with them a figure has to be within what is usual.
+RARE = ("365", "0.365", "4.1868")
 # What is measured where a ratio may be met that is no matter of every factor.
 OF_TIME = ("mass per person and day", "mass per person and year", "mass per head and day",
            "mass per head or per head and year", "mass per area and day", "mass per area",
@@ -110,8 +112,8 @@ def is_told_or_measured(results: Results, line: Row, parameter: str, figure: Num
     name, equation = line.field("name"), line.field("value")
     if vocabulary.parameters_of(equation)[parameter]["measures"] != "ratio":
         return bool(line.has_other_figure)
-    is_share = parameter not in NO_SHARES.get(equation, ())
-    return is_share and figure > 1 or bool(is_measured(results.book, name, equation))
+    most = MOST_OF_NO_SHARE if parameter in NO_SHARES.get(equation, ()) else 1
+    return figure > most or bool(is_measured(results.book, name, equation))
 
 
 def said_of_unusual(results: Results, line: Row, bound: Row, figure: Number, known: Usual) -> str:
@@ -162,8 +164,12 @@ def default_of_other_fuel(figure: Number, measures: str, gas: str | None) -> str
 
 def is_met_in(ratio: Ratio, measures: str) -> bool:
     """Tells whether a ratio may be met in a factor of what is measured."""
-    size = ratio[1].split(",")[0].removeprefix("1/").removeprefix("1000/")
-    return measures in MET_IN.get(size, (measures,))
+    return measures in MET_IN.get(size_of(ratio), (measures,))
+
+
+def size_of(ratio: Ratio) -> str:
+    """The size of a ratio as it is written, without the one that it is under."""
+    return ratio[1].split(",")[0].removeprefix("1/").removeprefix("1000/")
 
 
 def known_ratios(figure: Number, known: Usual, gas: str | None, measures: str) -> list[Ratio]:
@@ -173,7 +179,7 @@ def known_ratios(figure: Number, known: Usual, gas: str | None, measures: str) -
     ratios = [ratio for ratio in RATIOS if ("gas" in known.of or ratio[1] != GASES_ALONE)
               and ("N2O" not in ratio[1] or gas == "N2O") and is_met_in(ratio, measures)]
     distances = {known.distance(figure * ratio[0]): ratio for ratio in ratios
-                 if known.has(figure * ratio[0], Number("1.02"))}
+                 if known.has(figure * ratio[0], Number(1) if size_of(ratio) in RARE else Number("1.02"))}
     nearest = sorted(distances)
     is_met = bool(nearest) and nearest[0] <= DEFAULT_APART
     is_wide = known.range.greatest > WIDE * known.range.least

@@ -8,7 +8,6 @@ from tools.book import Book
 from tools.faults import Fault, counted, warn
 from tools.sheets import Row
 from tools.usual import usual_row
-from tools.vocabulary import listed
 
 # The ratios that are no share of anything, by equation: corrections, emission factors of metals, biomass
 # below ground to that above, and scales of rice, soils and wastewater. None is near this.
@@ -96,8 +95,8 @@ def asked_of_ratio(book: Book, row: Row, bound: list[Row]) -> str:
         least, greatest = (decimal.Decimal(each[column] or 0) for column in ("least", "greatest"))
         units = [word for word, size in UNITS_OF_RATIOS if least / 2 <= figure / size <= greatest * 2]
         if units:
-            return f"; is it in {listed(units)}?"
-    return "; is it in pct?" if figure <= 100 else ""
+            return f"; is it in {units[0]}?"
+    return "; is it in pct?" if figure <= 100 and row.field("unit") == "1" else ""
 
 
 def is_no_share(book: Book, bound: Row) -> bool:

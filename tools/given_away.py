@@ -1,5 +1,6 @@
 """What the results of all years and the files of a year's cycle give away, once all files are checked."""
-from tools import counting_notices, cycle_notices, factor_notices, potential_notices, result_notices
+from tools import counting_notices, cycle_notices, factor_notices, place_notices, potential_notices
+from tools import result_notices
 from tools.check import Check
 from tools.cycle_notices import Cycle
 from tools.faults import Fault, in_order
@@ -9,7 +10,7 @@ from tools.results import Results
 
 # What is told of records, and of results, which are an inventory's own where no file has a fault.
 OF_RECORDS = (factor_notices, potential_notices)
-OF_RESULTS = (counting_notices, result_notices)
+OF_RESULTS = (counting_notices, place_notices, result_notices)
 
 
 def warnings_of(program: Program, checked: Check) -> list[Fault]:

@@ -17,6 +17,9 @@ STOCKS = "carbon"
 # and what follows it (Volume 2, section 4.1), venting and flaring (Volume 2, Table 4.2.4).
 OF_STAGES = {"Q14", "Q15", "Q16", "Q17"}
 
+# Words of names of enteric fermentation and of manure, and the category of each.
+OF_LIVESTOCK = {"3A1": {"ENTERIC", "FERMENTATION"}, "3A2": {"MANURE", "SLURRY", "DUNG", "LAGOON", "LAGOONS"}}
+
 # The equation of a line, its activities, and the forms and targets of its ratios and of factors of stages, all
 # with their parameters.
 Taken = tuple[str, frozenset[tuple[str, str]], frozenset[tuple[str, str, str]]]
@@ -57,7 +60,7 @@ def is_measured(book: Book, line: str, equation: str) -> bool:
     for name, parameter in vocabulary.parameters_of(equation).items():
         if parameter["measures"] == "ratio" and name in bound:
             record = book.some_record("factor", bound[name].field("low"))
-            ratios.append(record is not None and record.field("value") == "1")
+            ratios.append(record is not None and record.field("value") == "1" and record.field("unit") != "pct")
     return bool(ratios) and all(ratios)
 
 
@@ -149,12 +152,19 @@ def double_lines(book: Book) -> list[Fault]:
             continue
         # an equation of two sources, as enteric fermentation and manure: two categories take one herd
         is_of_two = " or " in vocabulary.equations()[key[0]]["computes"]
-        before = seen.setdefault((key, row.field("subject") if is_of_two else ""), row)
+        source = next(iter(livestock_of([name])), row.field("subject")) if is_of_two else ""
+        before = seen.setdefault((key, source), row)
         if before is not row:
             activities = listed(sorted({taken for _, taken in key[1]}), "and")
             both = f"line {name} and line {before.field('name')} ({before.place}) are both {key[0]}"
             found.append(warn(row, f"{both} of activity {activities}; is it counted twice?"))
     return found
+
+
+def livestock_of(names: list[str]) -> list[str]:
+    """The categories of livestock that names speak of."""
+    parts = {part for name in names for part in re.split("[._-]", name)}
+    return [code for code, words in OF_LIVESTOCK.items() if words & parts]
 
 
 def what_it_takes(book: Book, name: str, code: str) -> Taken | None:

@@ -96,10 +96,20 @@ def taken_like(book: Book, kind: str, name: str) -> tuple[str | None, set[int]]:
     """
     known = [taken for of_kind, taken in book.taken() if of_kind == kind and taken in book.years[kind]
              and book.measured_by(kind, taken) == book.measured_by(kind, name)]
-    near = next(iter(nearest(name, known, 1, 0.8)), None)
+    near = next((other for other in nearest(name, known, 3, 0.8) if not is_of_another_place(name, other)), None)
     if near is None or kind != "activity":
         return near, set()
     return near, set(book.years[kind][name]) - set(book.years[kind][near])
+
+
+def is_of_another_place(name: str, other: str) -> bool:
+    """Tells whether two names differ in a category or a gas alone, as those of the tables do: these are two
+    factors, and no slip of typing.
+    """
+    one, two = name.split("."), other.split(".")
+    apart = [pair for pair in zip(one, two) if pair[0] != pair[1]]
+    known = {code.upper() for code in vocabulary.categories()} | set(vocabulary.gases())
+    return len(one) == len(two) and bool(apart) and all(set(pair) <= known for pair in apart)
 
 
 def outside(book: Book, first: int, last: int) -> list[Fault]:
@@ -169,12 +179,22 @@ def reached(book: Book, refused: Refused, last: int) -> int:
     return min(last, max((max(years) for years in book.years["activity"].values()), default=last))
 
 
+def first_withdrawn(book: Book, name: str, begins: int) -> bool:
+    """Tells whether a record of a factor was withdrawn before the year in which it begins. The withdrawal is
+    told of.
+    """
+    return any(key[:2] == ("factor", name) and int(key[2]) < begins and key not in book.rows
+               for key in book.withdrawn)
+
+
 def late_factors(book: Book, refused: Refused, first: int, last: int) -> list[Fault]:
     """Factors that lines take and that begin after the first year."""
     found = []
     taken = book.taken()
     for name, years in sorted(book.years["factor"].items()):
         begins = min(years)
+        if first_withdrawn(book, name, begins):
+            continue
         if first < begins <= last and ("factor", name) in taken and not refused.that_enters("factor", name):
             lines, blank = lines_of(taken["factor", name]), years_said(range(first, begins))
             found.append(warn(years[begins], f"factor {name} begins in {begins}; {lines} blank in {blank}"))

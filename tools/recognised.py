@@ -1,7 +1,7 @@
 """The one table of what `check` recognises: the page and the tests are made from it."""
 from tools import basis_faults, counting_notices, cycle_notices, factor_notices, noticed, number_faults
-from tools import parted_numbers, potential_notices, record_faults, result_notices, shape_faults, shifts
-from tools import word_faults
+from tools import parted_numbers, place_notices, potential_notices, record_faults, result_notices
+from tools import shape_faults, shifts, word_faults
 from tools.recognisers import Recogniser
 
 Tables = dict[str, tuple[Recogniser, ...]]
@@ -23,6 +23,7 @@ WARNED: Tables = {
     "figures": noticed.FIGURES,
     "lines": noticed.LINES,
     "factors": factor_notices.RECOGNISERS,
+    "the place of another": place_notices.RECOGNISERS,
     "potentials": potential_notices.RECOGNISERS,
     "double counting": counting_notices.RECOGNISERS,
     "results": result_notices.RECOGNISERS,

@@ -2,6 +2,7 @@
 correct or withdraw: rules 8 and 9.
 """
 import itertools
+from collections.abc import Collection
 
 from tools import units, vocabulary
 from tools.ahead import is_below, said_of_later
@@ -11,6 +12,9 @@ from tools.number_faults import year_between
 from tools.recognisers import Recogniser
 from tools.sheets import Key, Row
 from tools.vocabulary import listed, nearest
+
+# So many years beside the records a further one may be.
+YEARS_BESIDE = 5
 
 
 def unit_of_another_dimension(asking: Asking, row: Row) -> Explained:
@@ -153,11 +157,25 @@ def absent(asking: Asking, row: Row) -> Explained:
         return meant
     years = asking.book.years.get(key[0], {}).get(key[1]) if len(key) > 1 else None
     there = f"; there are records of {years_said(years)}" if years else ""
+    year = meant_year(int(key[-1]), years) if years else None
+    if year:
+        cause = f"there is no {said_of_key(key)} to {act}; is {year} meant?{there}"
+        return at_row(row, cause, "year"), row.with_fields(year=str(year))
     near = nearest_name(asking, key)
     other = f"; the nearest name is {near}" if near else ""
     instead = "" if near else "; use enter" if act == "correct" else "; take the row out"
     changed = row.with_fields(act="enter") if act == "correct" and not near else None
     return at_row(row, f"there is no {said_of_key(key)} to {act}{instead}{there}{other}"), changed
+
+
+def meant_year(year: int, years: Collection[int]) -> int | None:
+    """The year of a record that is meant by one far from all of them: the last with the same digits, else the
+    nearest; or None for a year beside them.
+    """
+    if min(years) - YEARS_BESIDE <= year <= max(years) + YEARS_BESIDE:
+        return None
+    alike = [each for each in years if sorted(str(each)) == sorted(str(year))]
+    return max(alike) if alike else min(years, key=lambda each: abs(each - year))
 
 
 def of_another_kind(asking: Asking, row: Row) -> Explained | None:

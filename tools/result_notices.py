@@ -37,6 +37,13 @@ class Change(typing.NamedTuple):
     line: str
 
 
+class KindApart(typing.NamedTuple):
+    """How far the approaches are apart for a kind of fuels, in Gg CO2 and in percent."""
+    size: decimal.Decimal
+    kind: str
+    percent: decimal.Decimal
+
+
 def below_zero(results: Results) -> list[Fault]:
     """Lines below zero that cannot be: those of which no line that they take is below zero too."""
     found = []
@@ -135,7 +142,44 @@ def approaches_apart(results: Results) -> list[Fault]:
     said = f"the reference approach is {one} Gg CO2 and {what} {other} in {worst}, {percent:+.2f} %"
     others = [year for year in apart if year != worst]
     more = f"; above 5 % in {years_said(others)} too" if others else ""
-    return [warn(rows[0], f"{said}{more}; {fuels_of_one(results, rows, own)}")]
+    by_kind = kinds_apart(results, rows, own, worst)
+    at = next((row for row in rows if by_kind and by_kind[0][1] in kinds_of_fuels(results, row)), rows[0])
+    most = "; most of it is " + listed([f"{kind}, {kind_percent:+.1f} %" for _, kind, kind_percent in by_kind[:2]],
+                                       "and") if by_kind else ""
+    swapped = imports_and_exports(results, rows, by_kind[0], worst) if by_kind else None
+    return [warn(at, f"{said}{more}{most}; {swapped or fuels_of_one(results, rows, own)}")]
+
+
+def imports_and_exports(results: Results, rows: list[Row], kind: KindApart, year: int) -> str | None:
+    """The line of apparent consumption by which the approaches agree for a kind of fuels if its imports are its
+    exports; or None.
+    """
+    of_kind = [row for row in rows if kind.kind in kinds_of_fuels(results, row)]
+    reference = sum_of(results, of_kind, year) or ZERO
+    sectoral = reference / (1 + kind.percent / 100)
+    lines = [name for row in of_kind for name in results.below(row.field("name"))]
+    for line in lines if len(of_kind) == 1 else []:
+        bindings = results.bindings(line)
+        if {"IM", "EX"} <= bindings.keys():
+            amounts = [results.taken(bindings[name], year) or ZERO for name in ("IM", "EX")]
+            consumed = results.cells.get((line, year)) or ZERO
+            other = reference * (consumed - 2 * (amounts[0] - amounts[1])) / consumed if consumed else ZERO
+            if abs(other - sectoral) * 20 <= abs(sectoral):
+                return f"with IM and EX of line {line} in each other's place they agree: are these swapped?"
+    return None
+
+
+def kinds_apart(results: Results, rows: list[Row], burnt: list[Row], year: int) -> list[KindApart]:
+    """The kinds of fuels that both approaches have and that are more than 5 percent apart in a year, the
+    largest difference first.
+    """
+    found = []
+    for kind in KINDS:
+        one, other = (sum_of(results, [row for row in lines if kind in kinds_of_fuels(results, row)], year)
+                      for lines in (rows, burnt))
+        if one and other and abs(one - other) * 20 > abs(other):
+            found.append(KindApart(abs(one - other), kind, 100 * (one - other) / abs(other)))
+    return sorted(found, reverse=True)
 
 
 def sum_of(results: Results, rows: list[Row], year: int) -> Figure:
@@ -152,7 +196,8 @@ def fuels_of_one(results: Results, rows: list[Row], burnt: list[Row]) -> str:
     kinds = [{kind for row in lines for kind in kinds_of_fuels(results, row)} for lines in (rows, burnt)]
     alone = [f"lines of {listed(sorted(own - other), 'and')} stand {where} alone" for own, other, where in
              ((kinds[0], kinds[1], "at RA"), (kinds[1], kinds[0], "under 1A")) if own - other]
-    return "; ".join(alone) or "is a change of stocks, a bunker or a use as feedstock in one of them alone?"
+    asked = "is a line of burnt fuel missing under 1A, or a change of stocks, a bunker or a use as feedstock in one"
+    return "; ".join(alone) or f"{asked} of them alone?"
 
 
 def kinds_of_fuels(results: Results, row: Row) -> set[str]:

@@ -1,0 +1,314 @@
+"""Warnings of what stands in the place of another: a line at the category of another source, a factor of
+another fuel or another parameter, gains for losses, and bunkers that the reference approach leaves in.
+"""
+import decimal
+from collections.abc import Iterator
+
+from tools import vocabulary
+from tools.book import lines_taken_by
+from tools.faults import Fault, warn
+from tools.fuels import fuels_of
+from tools.line_notices import OF_LIVESTOCK, is_measured, livestock_of
+from tools.recognisers import Recogniser
+from tools.results import Results, gas_of, plain
+from tools.sheets import Row
+from tools.usual import usual_row
+from tools.vocabulary import listed
+
+# The categories of the source that an equation is of, by their first signs.
+SOURCES = {
+    "Q14": "1B1", "Q15": "1B2 1B3", "Q16": "1B2 1B3 1C", "Q17": "1B2 1B3", "Q31": "2A1", "Q33": "2A2",
+    "Q34": "2A3", "Q37": "2B1", "Q38": "2B2 2B3", "Q39": "2B2 2B3", "Q40": "2C1", "Q41": "2C3", "Q42": "2C3",
+    "Q44": "2C3", "Q45": "2C3", "Q46": "2D", "Q55": "3A", "Q59": "3A2", "Q61": "3C6", "Q69": "3C4",
+    "Q70": "3C4", "Q71": "3C4", "Q72": "3C5", "Q73": "3C5", "Q74": "3C2", "Q75": "3C3", "Q77": "3C7",
+    "Q88": "3C1", "Q89": "3C1", "Q94": "4A", "Q95": "4B 4C", "Q96": "4B 4C", "Q97": "4C", "Q100": "4D",
+    "Q103": "4D",
+}
+# The equations of gains and of losses of biomass.
+GAINS, LOSSES = {"Q78", "Q79"}, {"Q80", "Q81", "Q82"}
+# How far out of what is usual a figure is another's.
+NEAR = decimal.Decimal("1.05")
+# The equations of apparent consumption, and those of fuel burnt.
+APPARENT, BURNT = {"Q20", "Q21", "Q22", "Q23"}, {"Q10", "Q13"}
+
+
+def other_sources(results: Results) -> Iterator[Fault]:
+    """Lines at a category of the same volume whose source another equation is of."""
+    for row in results.lines:
+        category, equation = row.field("subject"), row.field("value")
+        due = SOURCES.get(equation, category).split()
+        is_same = vocabulary.volume_of_category(category) == vocabulary.volume_of_equation(equation)
+        is_there = category.startswith(tuple(due)) or row.has_other_figure
+        if is_same and not is_there and not is_measured(results.book, row.field("name"), equation):
+            at = [f"{code} ({vocabulary.categories()[code]['name']})" for code in due]
+            of = f"line {row.field('name')} at {category} ({vocabulary.categories()[category]['name']})"
+            what = vocabulary.equations()[equation]["computes"]
+            yield warn(row, f"{of} has {equation} ({what}), which is of {listed(at)}; is the category another?")
+
+
+def manure_for_enteric(results: Results) -> Iterator[Fault]:
+    """Lines of enteric fermentation at the category of manure by their names, or the other way round."""
+    for row in results.lines:
+        category, name = row.field("subject"), row.field("name")
+        names = [name, *(bound.field("low") for bound in results.bindings(name).values())]
+        own = livestock_of(names)
+        if row.field("value") == "Q55" and category in OF_LIVESTOCK and own and category not in own:
+            said = f"line {name} at {category} ({vocabulary.categories()[category]['name']}) is of {own[0]}"
+            yield warn(row, f"{said} ({vocabulary.categories()[own[0]]['name']}) by its names")
+
+
+def gains_for_losses(results: Results) -> Iterator[Fault]:
+    """Changes of a stock whose gains are lines of losses, or whose losses are lines of gains, but for sums of
+    losses alone.
+    """
+    for row in results.lines:
+        bindings = results.bindings(row.field("name"))
+        if any(bound.field("value") == "key" for bound in bindings.values()):
+            continue
+        for parameter, wrong, what in (("G", LOSSES, "loses"), ("L", GAINS, "gains")):
+            bound = bindings.get(parameter)
+            taken = lines_taken_by(bound) if bound and row.field("value") == "Q83" else []
+            lines = [results.book.lines[name] for name in taken if name in results.book.lines]
+            if bound and lines and all(line.field("value") in wrong for line in lines):
+                is_of = "gains" if parameter == "G" else "losses"
+                said = f"{parameter} of line {row.field('name')} is of {is_of}, and line"
+                yield warn(bound, f"{said} {taken[0]} is carbon that biomass {what}; are G and L swapped?")
+                break
+
+
+def swapped_figures(results: Results) -> Iterator[Fault]:
+    """Two parameters of a line of which the one has a figure that is usual of the other, and is not its own."""
+    for row in results.lines:
+        name = row.field("name")
+        bindings = {parameter: bound for parameter, bound in results.bindings(name).items()
+                    if bound.field("value") == "factor" and results.is_own(bound)}
+        usual = {parameter: usual_row(row, parameter, [bound.field("low")])
+                 for parameter, bound in bindings.items()}
+        for one, bound in bindings.items():
+            other = next((each for each in bindings if are_swapped(results, bindings, usual, one, each)), None)
+            if other:
+                figures = [f"{bindings[each].field('low')}, "
+                           f"{plain(results.taken(bindings[each], results.years[0]) or decimal.Decimal(0))}, at {each}"
+                           for each in (one, other)]
+                yield warn(bound, f"line {name} has {' and '.join(figures)}; are {one} and {other} swapped?")
+                break
+
+
+def are_swapped(results: Results, bindings: dict[str, Row], usual: dict[str, dict[str, str] | None],
+                one: str, other: str) -> bool:
+    """Tells whether the figure of one parameter is not usual of it and is of another one, whose figure is
+    usual of the one.
+    """
+    figures = [results.taken(bindings[parameter], results.years[0]) for parameter in (one, other)]
+    known = [usual[parameter] for parameter in (one, other)]
+    measures = [vocabulary.parameters_of(results.book.lines[bindings[one].field("subject")].field("value"))[each]
+                ["measures"] for each in (one, other)]
+    if one == other or measures[0] != measures[1] or not all(known) or not all(figures) or figures[0] == figures[1]:
+        return False
+    return not is_usual(known[0], figures[0]) and is_usual(known[1], figures[0]) and is_usual(known[0], figures[1])
+
+
+def is_usual(row: dict[str, str] | None, figure: decimal.Decimal | None) -> bool:
+    """Tells whether a figure is within what is usual."""
+    if row is None or figure is None:
+        return False
+    least, greatest = decimal.Decimal(row["least"] or 0), decimal.Decimal(row["greatest"])
+    return least / NEAR <= figure <= greatest * NEAR
+
+
+def factors_of_other_fuels(results: Results) -> Iterator[Fault]:
+    """Lines of fuel burnt whose CO2 factor or calorific value is of another fuel by its name."""
+    for row in results.lines:
+        name = row.field("name")
+        if row.field("value") not in BURNT:
+            continue
+        bindings = results.bindings(name)
+        taken = [bound.field("low") for bound in results.bound_below(name) if bound.field("value") == "activity"]
+        own = fuels_of(taken) or fuels_of([name])
+        bound = bindings.get("EF") or bindings.get("NCV")
+        of = fuels_of([bound.field("low")]) if bound and bound.field("value") == "factor" else ()
+        is_of_coke = any("COKE" in fuel for fuel in own + of)
+        if bound and own and of and not set(own) & set(of) and not is_of_coke:
+            fuels = [each[0].replace(".", " ").lower() for each in (own, of)]
+            said = f"line {name} burns {fuels[0]} by the names of what it takes, and factor {bound.field('low')}"
+            yield warn(bound, f"{said} is of {fuels[1]}; is another factor meant?")
+
+
+def bunkers_left_in(results: Results) -> Iterator[Fault]:
+    """Lines of the reference approach without bunkers, of a fuel that a line of bunkers burns and that no other
+    line of the reference approach takes off.
+    """
+    at_bunkers = [row for row in results.emitting if row.field("subject") == "MB" and gas_of(row) == "CO2"]
+    apparent = [row for row in results.lines if row.field("value") in APPARENT]
+    off = {name for row in apparent if "IB" in results.bindings(row.field("name"))
+           for name in below(results, results.bindings(row.field("name"))["IB"])}
+    for row in apparent:
+        bindings = results.bindings(row.field("name"))
+        bound = bindings.get("IB")
+        if bound is None or any(results.taken(bound, year) for year in results.years):
+            continue
+        own = fuels_of([row.field("name"), *(each.field("low") for each in bindings.values()
+                                             if each.field("value") == "activity")])
+        for other in at_bunkers:
+            activities = [each.field("low") for each in results.bound_below(other.field("name"))
+                          if each.field("value") == "activity"]
+            if set(own[:1]) & set(fuels_of(activities)) and not off & set(activities):
+                said = f"IB of line {row.field('name')} is nothing, and line {other.field('name')} at MB burns"
+                yield warn(bound, f"{said} {activities[0]} ({other.place}); take the bunkers off here")
+                break
+
+
+def below(results: Results, bound: Row) -> list[str]:
+    """The activities that a binding takes, by itself or through lines."""
+    if bound.field("value") == "activity":
+        return [bound.field("low")]
+    return [other.field("low") for line in lines_taken_by(bound) for other in results.bound_below(line)
+            if other.field("value") == "activity"]
+
+
+def stocks_added_before(results: Results) -> Iterator[Fault]:
+    """Stocks of the year before the span that stand with the wrong sign, so that the change of the first year
+    is twice the stock.
+    """
+    for row in results.lines:
+        bindings = results.bindings(row.field("name"))
+        gain, loss = bindings.get("G"), bindings.get("L")
+        if row.field("value") != "Q83" or gain is None or loss is None or gain.field("value") != "prev":
+            continue
+        first = results.years[0]
+        record, figure = results.record(loss, first), results.taken(loss, first)
+        if record and figure and figure > 0 and loss.field("value") == "activity":
+            said = f"activity {record.field('name')} is {record.field('value')} {record.field('unit')} in {first},"
+            said += f" and L of line {row.field('name')} is taken off the stock of the year before, which is zero"
+            yield warn(record, f"{said} there; give the stock before the span as a negative figure")
+
+
+# Coal that is mined and burnt in ships; a forest that grows and is cut; and grassland with the stock before.
+MINE = "enter,line,{0},MINE.CH4,,Q14,,,,\nenter,bind,MINE.CH4,P,,activity,COAL,,,\n" \
+       "enter,bind,MINE.CH4,EF,,factor,MINE.EF,,,\nenter,factor,,MINE.EF,2019,18,,,m3/t,"
+FOREST = """\
+enter,line,3B1,GROWTH,,Q78,,,,
+enter,bind,GROWTH,A,,activity,FOREST,,,
+enter,bind,GROWTH,GW,,factor,GROWTH,,,
+enter,bind,GROWTH,R,,factor,{2},,,
+enter,bind,GROWTH,CF,,factor,{3},,,
+enter,line,3B1,LOGS,,Q80,,,,
+enter,bind,LOGS,H,,activity,LOGS,,,
+enter,bind,LOGS,BCEF,,factor,BCEF,,,
+enter,bind,LOGS,R,,factor,ROOTS,,,
+enter,bind,LOGS,CF,,factor,CARBON,,,
+enter,line,3B1,NET,,Q83,,,,
+enter,bind,NET,G,,line,{0},,,
+enter,bind,NET,L,,line,{1},,,
+enter,line,3B1,FOREST.CO2,,Q84,,,,
+enter,bind,FOREST.CO2,C,,line,NET,,,
+enter,factor,,GROWTH,2019,4,,,t/ha,
+enter,factor,,ROOTS,2019,0.29,,,1,
+enter,factor,,CARBON,2019,0.47,,,t/t,
+enter,factor,,BCEF,2019,0.77,,,t/m3,
+enter,activity,,FOREST,2019,900,,,kha,
+enter,activity,,FOREST,2020,901,,,kha,
+enter,activity,,FOREST,2021,902,,,kha,
+enter,activity,,LOGS,2019,2.1,,,Mm3,
+enter,activity,,LOGS,2020,2.2,,,Mm3,
+enter,activity,,LOGS,2021,2.15,,,Mm3,
+"""
+PETROL = """\
+enter,line,1A3b,PETROL.CO2,,Q10,,,,
+enter,bind,PETROL.CO2,FC,,activity,PETROL,,,
+enter,bind,PETROL.CO2,EF,,factor,{0}.CO2,,,
+enter,factor,,{0}.CO2,2019,{1},,,kg/TJ,
+enter,activity,,PETROL,2019,9100,,,TJ,
+enter,activity,,PETROL,2020,9000,,,TJ,
+enter,activity,,PETROL,2021,8900,,,TJ,
+"""
+GRASS = """\
+enter,line,3B3,STOCK,,Q85,,,,
+enter,bind,STOCK,SREF,,factor,SREF,,,
+enter,bind,STOCK,FLU,,factor,ONE,,,
+enter,bind,STOCK,FMG,,factor,ONE,,,
+enter,bind,STOCK,FI,,factor,ONE,,,
+enter,bind,STOCK,A,,activity,GRASS,,,
+enter,line,3B3,BEFORE,,Q83,,,,
+enter,bind,BEFORE,G,,prev,STOCK,,,
+enter,bind,BEFORE,L,,activity,STOCK.FIRST,,,
+enter,line,3B3,CHANGE,,Q83,,,,
+enter,bind,CHANGE,G,,line,STOCK,,,
+enter,bind,CHANGE,L,,line,BEFORE,,,
+enter,line,3B3,GRASS.CO2,,Q84,,,,
+enter,bind,GRASS.CO2,C,,line,CHANGE,,,
+enter,factor,,SREF,2019,47,,,t/ha,
+enter,factor,,ONE,2019,1,,,1,
+enter,activity,,GRASS,2019,100,,,kha,
+enter,activity,,GRASS,2020,101,,,kha,
+enter,activity,,GRASS,2021,102,,,kha,
+enter,activity,,STOCK.FIRST,2019,{0}4650,,,GgC,
+enter,activity,,STOCK.FIRST,2020,0,,,GgC,
+enter,activity,,STOCK.FIRST,2021,0,,,GgC,
+"""
+JETS = """\
+enter,line,RA,RA.JET,,Q23,,,,
+enter,bind,RA.JET,IM,,activity,JET.BOUGHT,,,
+enter,bind,RA.JET,EX,,key,NO,,,
+enter,bind,RA.JET,IB,,{0},,,
+enter,bind,RA.JET,SC,,key,NO,,,
+enter,line,RA,RA.JET.CO2,,Q26,,,,
+enter,bind,RA.JET.CO2,AC,,line,RA.JET,,,
+enter,bind,RA.JET.CO2,CC,,factor,JET.C,,,
+enter,bind,RA.JET.CO2,XC,,key,NO,,,
+enter,bind,RA.JET.CO2,COF,,factor,ONE,,,
+enter,line,MB,FLIGHTS.CO2,,Q10,,,,
+enter,bind,FLIGHTS.CO2,FC,,activity,JET.ABROAD,,,
+enter,bind,FLIGHTS.CO2,EF,,factor,JET.CO2,,,
+enter,line,1A3a,HERE.CO2,,Q10,,,,
+enter,bind,HERE.CO2,FC,,activity,JET.HERE,,,
+enter,bind,HERE.CO2,EF,,factor,JET.CO2,,,
+enter,factor,,JET.C,2019,19.5,,,tC/TJ,
+enter,factor,,JET.CO2,2019,71500,,,kg/TJ,
+enter,factor,,ONE,2019,1,,,1,
+enter,activity,,JET.BOUGHT,2019,3000,,,TJ,
+enter,activity,,JET.BOUGHT,2020,3000,,,TJ,
+enter,activity,,JET.BOUGHT,2021,3000,,,TJ,
+enter,activity,,JET.HERE,2019,2000,,,TJ,
+enter,activity,,JET.HERE,2020,2000,,,TJ,
+enter,activity,,JET.HERE,2021,2000,,,TJ,
+enter,activity,,JET.ABROAD,2019,1000,,,TJ,
+enter,activity,,JET.ABROAD,2020,1000,,,TJ,
+enter,activity,,JET.ABROAD,2021,1000,,,TJ,
+"""
+
+RECOGNISERS: tuple[Recogniser, ...] = (
+    Recogniser(
+        other_sources, "a line at a category whose source another equation is of",
+        example=MINE.format("1B2"), right=MINE.format("1B1"),
+        says="line MINE.CH4 at 1B2 (Oil and natural gas) has Q14 (Coal mined, to CH4), which is of 1B1"),
+    Recogniser(
+        manure_for_enteric, "enteric fermentation at the category of manure, and the other way round",
+        example="enter,line,3A2,COWS.ENTERIC,,Q55,,,,\nenter,bind,COWS.ENTERIC,N,,activity,COWS,,,\n"
+                "enter,bind,COWS.ENTERIC,EF,,factor,COWS.EF,,,",
+        says="line COWS.ENTERIC at 3A2 (Manure management) is of 3A1 (Enteric fermentation) by its names",
+        right="enter,line,3A2,COWS.MANURE,,Q55,,,,\nenter,bind,COWS.MANURE,N,,activity,COWS,,,\n"
+              "enter,bind,COWS.MANURE,EF,,factor,COWS.EF,,,"),
+    Recogniser(
+        gains_for_losses, "gains of a carbon stock that are losses, and the other way round",
+        example=FOREST.format("LOGS", "GROWTH", "ROOTS", "CARBON"),
+        right=FOREST.format("GROWTH", "LOGS", "ROOTS", "CARBON"),
+        says="G of line NET is of gains, and line LOGS is carbon that biomass loses; are G and L swapped?"),
+    Recogniser(
+        swapped_figures, "two parameters with figures that are usual of each other",
+        example=FOREST.format("GROWTH", "LOGS", "CARBON", "ROOTS"),
+        right=FOREST.format("GROWTH", "LOGS", "ROOTS", "CARBON"),
+        says="line GROWTH has ROOTS, 0.29, at CF and CARBON, 0.47, at R; are CF and R swapped?"),
+    Recogniser(
+        factors_of_other_fuels, "a CO2 factor or a calorific value of another fuel, by the names",
+        example=PETROL.format("DIESEL", 74100), right=PETROL.format("GASOLINE", 69300),
+        says="line PETROL.CO2 burns motor gasoline by the names of what it takes, and factor DIESEL.CO2 is of gas"),
+    Recogniser(
+        bunkers_left_in, "bunkers that the reference approach does not take off",
+        example=JETS.format("key,NO"), right=JETS.format("activity,JET.ABROAD").replace("BOUGHT", "SOLD"),
+        says="IB of line RA.JET is nothing, and line FLIGHTS.CO2 at MB burns JET.ABROAD"),
+    Recogniser(
+        stocks_added_before, "the stock before the span with the wrong sign",
+        example=GRASS.format(""), right=GRASS.format("-"),
+        says="activity STOCK.FIRST is 4650 GgC in 2019, and L of line BEFORE is taken off"),
+)
