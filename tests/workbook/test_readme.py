@@ -1,7 +1,5 @@
 """The first page: its rows make its table as they stand."""
-import pathlib
 import re
-import tempfile
 import unittest
 
 from tests.workbook.running import TOP, workbook
@@ -15,11 +13,9 @@ class FirstPage(unittest.TestCase):
         blocks = [re.sub("^    ", "", block, flags=re.MULTILINE)
                   for block in BLOCK.findall((TOP / "README.md").read_text("utf-8"))]
         rows, (command, table) = blocks[0], blocks[1].split("\n", 1)
-        with tempfile.TemporaryDirectory() as room:
-            (pathlib.Path(room) / "first").mkdir()
-            (pathlib.Path(room) / "first/1.csv").write_text(rows)
-            launcher, *words = command.split()
-            checked, ran = workbook("check", "first", cwd=room), workbook(*words, cwd=room)
+        self.assertEqual((TOP / "examples/first/1.csv").read_text("utf-8"), rows)
+        launcher, *words = command.split()
+        checked, ran = workbook("check", "examples/first"), workbook(*words)
         self.assertEqual(launcher, "./workbook")
         self.assertIn("1 file: 0 faults", checked.stdout)
         self.assertEqual((ran.returncode, ran.stdout), (0, table), ran.stderr)
