@@ -33,7 +33,7 @@ MADE = {
     "README.md": ("79 equations", "56 units"),
     "tools/facts.json": ('"word": "Mt"', '"code": "Q110"', "14 Late row N", '"sum": "401"'),
     "docs/EQUATIONS.md": (
-        "| Q110 | Mass of fuel sold: half of `FM` in t. | Equation 9.9 |", "`FM * 1/2`"),
+        "| Q110 | Mass of fuel sold: half of `FM`. | Equation 9.9 |", "`FM * 1/2`"),
     "docs/FORMATS.md": (
         "`Gg` 1000, `Mt` 1000000", "| 14 | `14 Late row N` | the row is late |", "1 to 401 different"),
 }
