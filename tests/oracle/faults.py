@@ -1,6 +1,7 @@
 """Random faults: bodies that break a rule, most of them beside rows that break none."""
+from tests.limits import limit
 from tests.oracle.changes import Changes, Row, row
-from tests.oracle.rows import HEADER
+from tests.oracle.rows import FIRST_YEAR, HEADER, LAST_YEAR
 from tests.oracle.tables import HALF_LIFE, POTENTIALS, TABLES
 from tests.oracle.workbook import reached
 
@@ -109,8 +110,8 @@ class Faults:
 
     def long_span(self) -> list[Row]:
         """Rule 11: a span of too many years."""
-        last = self.random.choice(("2051", "2100"))
-        return [row("correct", "span", year="1900", value=last, low="1950")]
+        last = self.random.choice((FIRST_YEAR + limit("span") + 1, LAST_YEAR))
+        return [row("correct", "span", year=str(FIRST_YEAR), value=str(last), low="1950")]
 
     def ring(self) -> list[Row]:
         """Rule 12: lines in a ring, among those that are there or new ones."""

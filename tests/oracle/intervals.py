@@ -4,9 +4,11 @@ from functools import lru_cache
 from math import ceil, floor, isqrt
 from typing import Callable, NamedTuple
 
+from tests.limits import limit
+
 SCALE = 10**12
-LIMIT = 10**26
-TOTAL_LIMIT = 10**21
+LIMIT = limit("figure") * SCALE
+TOTAL_LIMIT = limit("equivalent") * SCALE
 
 
 class Over(Exception):

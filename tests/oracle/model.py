@@ -2,6 +2,7 @@
 import re
 from typing import NamedTuple, Union
 
+from tests.limits import limit
 from tests.oracle.outcomes import Compilation
 from tests.oracle.printing import TABLES as PRINTED
 from tests.oracle.printing import Printer
@@ -9,10 +10,10 @@ from tests.oracle.rows import HEADER, Refused, records_in, row_in
 from tests.oracle.tables import TABLES, Tables
 from tests.oracle.workbook import Records, Workbook, apply, judge
 
-MOST_BODY_BYTES = 4_194_304
-ID = re.compile(rb"[A-Za-z0-9._-]{1,40}")
-SUBMIT = re.compile(rb"SUBMIT ([^ \n]{1,60}) ([0-9]{1,8})\n")
-SHOW = re.compile(rb"SHOW ([a-z]{1,16}) ([0-9]{4})\n")
+MOST_BODY_BYTES = limit("body")
+ID = re.compile(b"[A-Za-z0-9._-]{1,%d}" % limit("id"))
+SUBMIT = re.compile(rb"SUBMIT ([^ \n]{1,%d}) ([0-9]{1,%d})\n" % (limit("id_in_script"), limit("length_digits")))
+SHOW = re.compile(rb"SHOW ([a-z]{1,%d}) ([0-9]{4})\n" % limit("table_in_script"))
 END = b"END\n"
 
 

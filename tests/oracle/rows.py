@@ -7,6 +7,7 @@ from fractions import Fraction
 from functools import cached_property
 from typing import NamedTuple, Optional, Union
 
+from tests.limits import limit
 from tests.oracle.intervals import LIMIT, SCALE, Bounds, Interval, around, decay_bracket
 from tests.oracle.tables import HALF_LIFE, POTENTIALS, Tables
 
@@ -17,15 +18,16 @@ FORMS = ("activity", "factor", "line", "prev", "sum", "decay", "key")
 ZERO_KEYS = ("NO", "NA", "IE")
 KEYS = ZERO_KEYS + ("NE",)
 
-FIRST_YEAR, LAST_YEAR = 1900, 2100
-LONGEST_HALF_LIFE = 60
-MOST_PERCENT = 1000
-MOST_IN_A_SUM = 400
+FIRST_YEAR, LAST_YEAR = limit("first_year"), limit("last_year")
+LONGEST_HALF_LIFE = limit("half_life")
+MOST_PERCENT = limit("percentage")
+MOST_IN_A_SUM = limit("sum")
 
-NAME = re.compile(r"[A-Z][A-Z0-9._-]{0,23}")
-PARAMETER = re.compile(r"[A-Z0-9]{1,8}")
-DECIMAL = re.compile(r"-?[0-9]{1,14}(\.[0-9]{1,12})?")
-PERCENTAGE = re.compile(r"-?[0-9]{1,14}(\.[0-9]{1,2})?")
+NAME = re.compile(r"[A-Z][A-Z0-9._-]{0,%d}" % (limit("name") - 1))
+PARAMETER = re.compile(r"[A-Z0-9]{1,%d}" % limit("parameter"))
+WHOLE = r"-?[0-9]{1,%d}" % limit("digits")
+DECIMAL = re.compile(WHOLE + r"(\.[0-9]{1,%d})?" % limit("decimals"))
+PERCENTAGE = re.compile(WHOLE + r"(\.[0-9]{1,%d})?" % limit("percentage_decimals"))
 YEAR = re.compile(r"[0-9]{4}")
 WHOLE_YEARS = re.compile(r"[0-9]{1,2}")
 

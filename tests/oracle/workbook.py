@@ -1,13 +1,14 @@
 """The records in force, read by their names, and the rules 8 to 12."""
 from typing import Iterator, Mapping, Optional
 
+from tests.limits import limit
 from tests.oracle.rows import Binding, Figure, Key, Line, Record, Refused, Row, Span, Uncertainty
 from tests.oracle.tables import DECAY, HALF_LIFE, POTENTIALS, Equation, Tables
 
-MOST_LINES = 5_000
-MOST_RECORDS = 500_000
-MOST_YEARS_AFTER_FIRST = 150
-MOST_KEPT_BYTES = 536_870_912
+MOST_LINES = limit("lines")
+MOST_RECORDS = limit("records")
+MOST_YEARS_AFTER_FIRST = limit("span")
+MOST_KEPT_BYTES = limit("bytes")
 
 Records = dict[Key, Record]
 
@@ -100,9 +101,9 @@ def judge(workbook: Workbook, kept_bytes: int) -> None:
     limits = {"lines": len(workbook.lines) > MOST_LINES, "records": workbook.size > MOST_RECORDS,
               "span": span is not None and span.last - span.first > MOST_YEARS_AFTER_FIRST,
               "bytes": kept_bytes > MOST_KEPT_BYTES}
-    for limit, is_passed in limits.items():
+    for word, is_passed in limits.items():
         if is_passed:
-            raise Refused(f"11 TooMany {limit}")
+            raise Refused(f"11 TooMany {word}")
     for line in sorted(workbook.lines):
         if line in reached(workbook, line):
             raise Refused(f"12 Cycle {line}")

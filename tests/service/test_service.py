@@ -21,10 +21,10 @@ import time
 import typing
 import unittest
 
+from tests.limits import limit
 from tests.service.serving import (GAS, HEADER, HOST, PROGRAM, SECONDS, TOP, Service, free_port, get, post,
                                    read_to_the_end, reply, table)
 from tests.workbook.test_country import files
-from tools.vocabulary import limit
 
 CELLS = b"""code,category,equation,gas,unit,value,low,high
 ELEC.GAS,1A1a,Q10,CO2,Gg,56.100,54.300,58.300
@@ -39,7 +39,7 @@ TOO_LONG = reply("413 Payload Too Large", "refused 3 BodyTooLong")
 NO_TABLE = reply("404 Not Found", "no table")
 NO_MEMORY = reply("507 Insufficient Storage", "memory")
 ACCEPTED, REPEATED = reply("201 Created", "accepted 1"), reply("200 OK", "repeated 1")
-LONGEST = int(limit("body").replace(",", ""))
+LONGEST, HEAD, FIELDS = limit("body"), limit("head"), limit("fields")
 # What makes `close` reset a connection.
 RESET = struct.pack("ii", 1, 0)
 
@@ -78,7 +78,7 @@ class Exchanges(unittest.TestCase):
     def test_rules_that_refuse(self) -> None:
         heard = b"enter,activity,,A,1990,%b,,,t,\n"
         self.exchanged(
-            (post("a+b", GAS), refused("1 BadId")), (post("a" * 41, GAS), refused("1 BadId")),
+            (post("a+b", GAS), refused("1 BadId")), (post("a" * (limit("id") + 1), GAS), refused("1 BadId")),
             (post("empty", b""), refused("4 BadShape row 0")),
             (post("short", HEADER + b"enter,activity,,A,1990,1,,,t\n"), refused("4 BadShape row 1")),
             (post("unit", HEADER + b"enter,activity,,A,1990,1,,,T,\n"),
@@ -89,7 +89,8 @@ class Exchanges(unittest.TestCase):
             (post("years", HEADER + b"enter,activity,,A,1990,1,,,yr,\n"), refused("8 WrongUnit row 1")),
             (post("absent", HEADER + b"withdraw,activity,,A,1990,,,,,\n"), refused("9 Absent row 1")),
             (post("binding", HEADER + b"enter,line,1A1a,L,,Q10,,,,\n"), refused("10 BadBinding L EF")),
-            (post("span", HEADER + b"enter,span,,,1900,2051,1900,,,\n"), refused("11 TooMany span")),
+            (post("span", HEADER + b"enter,span,,,1900,%d,1900,,,\n" % (1901 + limit("span"))),
+             refused("11 TooMany span")),
             (post("ring", HEADER + b"enter,span,,,1990,1990,1990,,,\nenter,line,RA,L,,Q83,,,,\n"
                   b"enter,bind,L,G,,line,L,,,\nenter,bind,L,L,,key,NO,,,\n"), refused("12 Cycle L")),
             (post("great", GAS.replace(b",1000,", b",99999999999999,").replace(b"56100,54300,58300", b"2,,")),
@@ -98,7 +99,7 @@ class Exchanges(unittest.TestCase):
 
     def test_heads_that_are_refused(self) -> None:
         chunked = b"POST /submissions/a HTTP/1.1\r\nTransfer-Encoding: chunked\r\n\r\n5\r\nabcde\r\n0\r\n\r\n"
-        fields = [f"X-{number}: y" for number in range(65)]
+        fields = [f"X-{number}: y" for number in range(FIELDS + 1)]
         self.exchanged(
             (b"DELETE /tables/cells/1990 HTTP/1.1\r\n\r\n", METHOD),
             (b"GET /submissions/a HTTP/1.1\r\n\r\n", METHOD),
@@ -123,17 +124,17 @@ class Exchanges(unittest.TestCase):
             (b"\r\n\x01\r\n", BAD), (b"GET /\xff HTTP/1.1\r\n\r\n", BAD), (b"GET / HTTP/2.0\r\n\r\n", BAD),
             (post("\xff", GAS), BAD), (b"GET /tables/cells/\xc3\x28 HTTP/1.1\r\n\r\n", BAD),
             (get("cells", 1990, *fields), TOO_LARGE), (get("cells", 1990, *fields)[:-2], TOO_LARGE),
-            (b"GET / HTTP/1.1\r\nX: " + b"y" * 16_365, TOO_LARGE))
+            (b"GET / HTTP/1.1\r\nX: " + b"y" * (HEAD - 19), TOO_LARGE))
 
     def test_the_longest_heads_and_those_that_are_longer(self) -> None:
-        fields = [f"X-{number}: y" for number in range(64)]
+        fields = [f"X-{number}: y" for number in range(FIELDS)]
         head = get("cells", 1990, "X: ")
-        longest, longer = (head[:-4] + b"y" * (size - len(head)) + head[-4:] for size in (16_384, 16_385))
-        self.assertEqual((len(longest), len(longer)), (16_384, 16_385))
+        longest, longer = (head[:-4] + b"y" * (size - len(head)) + head[-4:] for size in (HEAD, HEAD + 1))
+        self.assertEqual((len(longest), len(longer)), (HEAD, HEAD + 1))
         posted = post("a", GAS, "X: ")
         at = posted.index(b"X: ") + 3
-        posted = posted[:at] + b"y" * (16_384 + len(GAS) - len(posted)) + posted[at:]
-        self.assertEqual(posted.index(GAS), 16_384)
+        posted = posted[:at] + b"y" * (HEAD + len(GAS) - len(posted)) + posted[at:]
+        self.assertEqual(posted.index(GAS), HEAD)
         self.exchanged((posted, ACCEPTED), (longest, table(CELLS)), (longer, TOO_LARGE),
                        (get("cells", 1990, *fields), table(CELLS)), (get("cells", 1990, *fields)[:-2], b""),
                        (get("cells", 1990, *fields, "X: y"), TOO_LARGE))

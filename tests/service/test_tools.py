@@ -13,6 +13,7 @@ import threading
 import unittest
 from unittest import mock
 
+from tests.limits import limit
 from tests.service.serving import GAS, HEADER, PROGRAM, TOP, Service, free_port
 from tests.workbook.running import workbook
 from tools import send
@@ -135,7 +136,7 @@ class Send(Folders):
         self.put(**{"1": GAS, "2": long, "3": HEADER + open_quote})
         status, printed, said = self.sent("http://127.0.0.1:9")
         self.assertEqual((status, printed, said), (1, [
-            f"2.csv:1: {len(long):,} bytes where 4,194,304 are the most; split the file",
+            f"2.csv:1: {len(long):,} bytes where {limit('body'):,} are the most; split the file",
             "3.csv:2: an open quote: it takes in the rows up to line 3; close the quote at the end of this "
             "line"], ["./workbook: 2 faults, and nothing is sent"]))
 

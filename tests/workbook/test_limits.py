@@ -1,14 +1,17 @@
 """Files beyond a limit of the program, and rows that are many."""
 import itertools
 import pathlib
+import string
 import tempfile
 import unittest
 from unittest import mock
 
+from tests.limits import limit
 from tests.workbook.running import HEADER, PROGRAM, workbook
 from tools import program as session
 
 SPAN = "enter,span,,,1990,2020,1990,,,\n"
+DIGITS = limit("digits")
 
 
 def checked(*bodies: str, program: str | pathlib.Path = PROGRAM) -> list[str]:
@@ -25,13 +28,13 @@ class Limits(unittest.TestCase):
         line = HEADER + "enter,line,1A1a,L,,Q11,,,,\n"
         line += "enter,bind,L,FC,,activity,A1,,,\nenter,bind,L,EF,,key,NO,,,\n"
         self.assertEqual(checked(HEADER + SPAN, long, line), [
-            f"2.csv:1: {len(long):,} bytes where 4,194,304 are the most; split the file",
+            f"2.csv:1: {len(long):,} bytes where {limit('body'):,} are the most; split the file",
             '3.csv:3 low "A1": there is no activity A1, since its row was refused (follows from 2.csv:3)',
             "3 files: 2 faults, of which 1 only follows from others, 0 warnings"])
 
     def test_a_file_whose_length_has_nine_digits(self) -> None:
         self.assertEqual(checked(HEADER + SPAN, HEADER + "n" * (100_000_000 - len(HEADER))), [
-            "2.csv:1: 100,000,000 bytes where 4,194,304 are the most; split the file",
+            f"2.csv:1: 100,000,000 bytes where {limit('body'):,} are the most; split the file",
             "2 files: 1 fault, 0 warnings"])
 
     def test_more_commands_than_a_script_has(self) -> None:
@@ -54,7 +57,7 @@ class Limits(unittest.TestCase):
     def test_a_figure_of_a_million_digits(self) -> None:
         printed = checked(HEADER + SPAN + f"enter,activity,,A,2000,{'1' * 1000000},,,t,\n")
         self.assertEqual(printed, [
-            f'1.csv:3 value "{"1" * 60}...": 1000000 digits where 14 are the most; choose a greater unit',
+            f'1.csv:3 value "{"1" * 60}...": 1000000 digits where {DIGITS} are the most; choose a greater unit',
             "1 file: 1 fault, 0 warnings"])
 
     def test_a_category_of_a_million_letters(self) -> None:
@@ -63,7 +66,7 @@ class Limits(unittest.TestCase):
 
     def test_decimals_behind_many_digits(self) -> None:
         printed = checked(HEADER + SPAN + f"enter,activity,,A,2000,{'1' * 300}.{'1' * 13},,,t,\n")
-        self.assertIn("300 digits where 14 are the most", printed[0])
+        self.assertIn(f"300 digits where {DIGITS} are the most", printed[0])
 
     def test_a_file_that_is_there_twice(self) -> None:
         rows = HEADER + "".join(f"enter,activity,,A{n},2000,{n},,,t,\n" for n in range(2000))
@@ -82,17 +85,19 @@ class Limits(unittest.TestCase):
     def test_lines_beyond_the_limit(self) -> None:
         lines = "".join(
             f"enter,line,RA,L{n},,Q83,,,,\nenter,bind,L{n},G,,key,NO,,,\nenter,bind,L{n},L,,key,NO,,,\n"
-            for n in range(5001))
+            for n in range(limit("lines") + 1))
         self.assertEqual(checked(HEADER + SPAN, HEADER + lines), [
-            "2.csv:1: more than 5,000 lines with this file", "2 files: 1 fault, 0 warnings"])
+            f"2.csv:1: more than {limit('lines'):,} lines with this file", "2 files: 1 fault, 0 warnings"])
 
     def test_records_beyond_the_limit(self) -> None:
-        names = map("".join, itertools.product("ABCDEFGHIJKLMNOPQRSTUVWXYZ", repeat=3))
-        rows = [f"enter,activity,,{name},{year},1,,,t,\n"
-                for name in itertools.islice(names, 2500) for year in range(1900, 2100)]
-        bodies = [HEADER + "".join(rows[at:at + 125000]) for at in range(0, 500000, 125000)]
+        # With the span they are one too many.
+        records, names = limit("records"), map("".join, itertools.product(string.ascii_uppercase, repeat=3))
+        places = itertools.islice(itertools.product(names, range(1900, 2100)), records)
+        rows = [f"enter,activity,,{name},{year},1,,,t,\n" for name, year in places]
+        part = -(-records // 4)
+        bodies = [HEADER + "".join(rows[at:at + part]) for at in range(0, records, part)]
         self.assertEqual(checked(HEADER + SPAN, *bodies), [
-            "5.csv:1: more than 500,000 records with this file", "5 files: 1 fault, 0 warnings"])
+            f"5.csv:1: more than {records:,} records with this file", "5 files: 1 fault, 0 warnings"])
 
     def test_bytes_beyond_the_limit(self) -> None:
         # The limit is half a GiB of bodies, so a script answers in the program's place.
@@ -102,7 +107,7 @@ class Limits(unittest.TestCase):
             program.chmod(0o755)
             printed = checked(HEADER + SPAN, HEADER + SPAN.replace("enter", "correct"), program=program)
         self.assertEqual(printed, [
-            "2.csv:1: more than 536,870,912 bytes with this file", "2 files: 1 fault, 0 warnings"])
+            f"2.csv:1: more than {limit('bytes'):,} bytes with this file", "2 files: 1 fault, 0 warnings"])
 
 
 if __name__ == "__main__":
