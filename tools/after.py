@@ -109,7 +109,7 @@ class After:
 
 
 def added(place: Row, *fields: str) -> Row:
-    """A row of the tools' own at the place of another row, with nothing behind its fields."""
+    """A row of the tools' own at the place of another row, with nothing after its fields."""
     made = Row(place.sheet, place.line, joined([*fields, *[""] * (len(COLUMNS) - len(fields))]))
     made.has_other_figure = made.is_added = True
     return made

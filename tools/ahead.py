@@ -1,6 +1,6 @@
 """What the files are meant to enter, the rows to come too: to say why something is not there, never to judge.
 
-A refusal of one row is often told best by a row that stands behind it, as a unit by the parameter that the
+A refusal of one row is often told best by a row that stands after it, as a unit by the parameter that the
 figure is bound to further down.
 """
 import collections
@@ -18,7 +18,7 @@ from tools.vocabulary import Parameter
 
 
 class Ahead:
-    """The rows of all files as they most likely are meant, of which some files are behind the one at hand."""
+    """The rows of all files as they most likely are meant, of which some files are after the one at hand."""
 
     def __init__(self, sheets: list[Sheet]) -> None:
         self.sheets, self.waiting = sheets, list(sheets)
@@ -45,7 +45,7 @@ class Ahead:
         return (found[0], found[-1]) if found else None
 
     def entry_behind(self, row: Row) -> Row | None:
-        """The first row behind another one that enters the same record, or None."""
+        """The first row after another one that enters the same record, or None."""
         later = {id(sheet) for sheet in self.waiting}
         return next((entry for entry in self._entered.get((row.key[0], row.field("name")), [])
                      if entry.key == row.key and (id(entry.sheet) in later or is_below(entry, row))), None)

@@ -20,9 +20,9 @@ SEPARATORS = [
     (" \u2009", "a blank"), (NO_BREAK, "a no-break space"), ("'\u2019", "an apostrophe"), ("_", "_"),
 ]
 QUOTES = "'\"`\u2018\u2019\u201a\u201c\u201d\u201e\u00ab\u00bb"
-# Words in front of a number, and the mark of a footnote or of an estimate behind it.
+# Words in front of a number, and the mark of a footnote or of an estimate after it.
 ABOUT = r"^(ca|circa|approx|about|~|\u2248)\.?\s*(?=\d)"
-# A power of ten behind a sign of multiplication, its exponent behind a sign or raised.
+# A power of ten after a sign of multiplication, its exponent after a sign or raised.
 POWER = "a power of ten"
 POWER_OF_TEN = re.compile(
     r"(-?[\d.,]+)\s*[x*\u00d7\u00b7\u22c5]\s*10\s*(?:\^|\*\*)\s*([+-]?\d{1,3})", re.IGNORECASE)
@@ -143,7 +143,7 @@ def power_of_ten(mended: Mended) -> Mended:
 
 
 def product(mended: Mended) -> Mended:
-    """Without a word for thousands or millions behind it, and without signs of multiplication."""
+    """Without a word for thousands or millions after it, and without signs of multiplication."""
     found = re.fullmatch(r"(.*\d)\s*(thousand|million|mio|mln|billion|bn)\.?", mended.text.lower())
     front = number(found.group(1)) if found else None
     if found and front and front.sure and re.fullmatch(r"-?\d+(\.\d+)?", front.text):

@@ -22,7 +22,7 @@ from tools.sheets import COLUMNS, COLUMNS_OF_KEY, Key, Row, Sheet, joined
 from tools.vocabulary import limit
 
 HEADER = joined(COLUMNS)
-# A row that no workbook has its line for. Behind it no body is accepted: what a row breaks by itself comes
+# A row that no workbook has its line for. After it no body is accepted: what a row breaks by itself comes
 # first.
 NEVER_ACCEPTED = joined(["enter", "bind", "NO.SUCH.LINE.-.-.-.-.-", "X", "", "key", "NE", "", "", ""])
 OF_THE_ROW_ALONE = (4, 5, 6, 7)
@@ -222,10 +222,10 @@ class Check:
         return kept
 
     def beside(self, front: list[Row], rows: list[Row], asking: Asking) -> list[Row]:
-        """The rows behind others without what they break of rules 8 and 9, for which rows of one record alone
+        """The rows after others without what they break of rules 8 and 9, for which rows of one record alone
         count.
 
-        In each round a row of each record is asked for, behind the rows of the record that stand before it in
+        In each round a row of each record is asked for, after the rows of the record that stand before it in
         the file.
         """
         before: dict[Key, list[Row]] = {}
@@ -296,7 +296,7 @@ class Check:
         return reply.rule != 4 and not (reply.rule in (5, 6) and reply.column == column)
 
     def probe(self, rows: list[Row], before: list[list[Row]] | None = None) -> list[Reply]:
-        """What the program answers to each row, behind other rows if need be.
+        """What the program answers to each row, after other rows if need be.
 
         None of these bodies is accepted.
         """

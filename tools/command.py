@@ -54,7 +54,7 @@ class CommandParser(argparse.ArgumentParser):
 
 
 def parser() -> argparse.ArgumentParser:
-    """The reader of the words behind `./workbook`."""
+    """The reader of the words after `./workbook`."""
     top = argparse.ArgumentParser(
         prog="./workbook",
         description="Everyday tools around the proved program, which alone judges what is a fault. "
@@ -126,7 +126,7 @@ def add_tables(commands: Commands) -> None:
 
 
 def read_year(text: str) -> int:
-    """The year of tables, which stands behind the folders."""
+    """The year of tables, which stands after the folders."""
     if not re.fullmatch("[0-9]{4}", text):
         due = "behind the folders stands a year of four digits"
         raise argparse.ArgumentTypeError(f"{text} is no year: {due}")
@@ -141,7 +141,7 @@ def years_of(text: str) -> list[int] | None:
 
 
 def read_years(text: str) -> list[int]:
-    """Years of tables, which stand behind the folders."""
+    """Years of tables, which stand after the folders."""
     return years_of(text) or [read_year(text)]
 
 
@@ -344,7 +344,7 @@ def of_sources(run: OnProgram, run_of_service: OnService) -> Function:
 
 
 def run_tables(arguments: argparse.Namespace) -> int:
-    """Writes the tables of years. Of the words behind the folders, all are years that can be."""
+    """Writes the tables of years. Of the words after the folders, all are years that can be."""
     folders, years = arguments.folders, arguments.years
     while folders and years_of(folders[-1]) and not os.path.isdir(folders[-1]):
         years.insert(0, years_of(folders.pop()))

@@ -247,13 +247,13 @@ def year_behind_the_span(cycle: Cycle) -> list[Fault]:
 
 
 def new_years(book: Book) -> list[Row]:
-    """The activities of the years behind the span, that have the last year of it too and that lines take."""
+    """The activities of the years after the span, that have the last year of it too and that lines take."""
     last, taken = book.known_span()[1], book.taken()
     named = [years for name, years in book.years["activity"].items() if ("activity", name) in taken]
     return [row for years in named if last in years for year, row in years.items() if year > last]
 
 
-# The rows of a new year behind the small inventory.
+# The rows of a new year after the small inventory.
 NEW_YEAR = """\
 enter,activity,,COAL,2022,1010,,,kt,
 enter,activity,,COWS,2022,244000,,,head,

@@ -144,7 +144,7 @@ def said_of_unusual(results: Results, line: Row, bound: Row, figure: Number, kno
 
 
 def verb(of: str) -> str:
-    """The verb behind what is usual of something."""
+    """The verb after what is usual of something."""
     return "is" if " of " in of else "has"
 
 

@@ -27,7 +27,7 @@ SPREADSHEETS = (b"PK\x03\x04", b"\xd0\xcf\x11\xe0")
 SAVE = "save it as CSV UTF-8 with commas"
 # A title and notes in front of the header are looked for in so many rows.
 ROWS_IN_FRONT = 30
-# A file may have so many faults of this kind one behind the other, as semicolons, a title in front and an
+# A file may have so many faults of this kind one after the other, as semicolons, a title in front and an
 # empty column.
 MOST_FAULTS = 6
 
@@ -55,7 +55,7 @@ def explain(sheet: Sheet, rows: list[Row]) -> tuple[Fault, list[Row] | None]:
 
 
 def rows_as_meant(sheet: Sheet) -> list[Row]:
-    """The rows behind the header of a file that nothing was asked of yet, as they most likely are meant."""
+    """The rows after the header of a file that nothing was asked of yet, as they most likely are meant."""
     rows: list[Row] | None = close_quotes(sheet)[1]
     for _ in range(MOST_FAULTS):
         if rows and rows[0].fields != COLUMNS:
@@ -79,7 +79,7 @@ def of_years(sheet: Sheet, rows: list[Row]) -> tuple[Fault, list[Row]] | None:
 
 
 def begins_as_a_row(row: Row) -> bool:
-    """Tells whether a row begins with an act, whatever stands behind it."""
+    """Tells whether a row begins with an act, whatever stands after it."""
     return sheets.BEGIN_OF_ROWS.match(row.raw.decode("utf-8-sig", "replace")) is not None
 
 
@@ -176,7 +176,7 @@ def other_words(rows: list[Row], names: list[str]) -> tuple[str, list[Row]]:
 
 
 def placed_by(rows: list[Row], places: Sequence[int | None]) -> list[Row]:
-    """The rows behind a header with their fields by the places of the columns. One that has not as many
+    """The rows after a header with their fields by the places of the columns. One that has not as many
     fields as the header stays.
     """
     width = len(rows[0].fields)
@@ -199,7 +199,7 @@ def likeness(rows: list[Row]) -> int:
 
 
 def is_filled_in_order(row: Row) -> bool:
-    """Tells whether a row has a value, and behind it nothing, or low alone, or bounds in their order."""
+    """Tells whether a row has a value, and after it nothing, or low alone, or bounds in their order."""
     value, low, high = (row.field(column).strip() for column in ("value", "low", "high"))
     figures = [causes.number(text).text for text in (low, high)]
     if high and all(re.fullmatch(r"-?\d{1,40}(\.\d{1,40})?", figure) for figure in figures):
@@ -286,7 +286,7 @@ def with_columns(row: Row, places: Sequence[int | None]) -> Row:
 
 
 def no_header(rows: list[Row]) -> tuple[str, list[Row] | None]:
-    """A first row that is no header. The rows behind it are read where they begin with an act."""
+    """A first row that is no header. The rows after it are read where they begin with an act."""
     rest = rows[1:] if rows[1:] and bare(rows[1].fields)[0] in ACTS else None
     return f"no header; the first row is {HEADER}", [header_of(rows)] + rest if rest else None
 
@@ -329,13 +329,13 @@ def without_open_quote(row: Row) -> tuple[Row, str]:
 
 
 def moved(rows: list[Row], line: int) -> list[Row]:
-    """Rows of a text that begins behind a line."""
+    """Rows of a text that begins after a line."""
     return [Row(row.sheet, row.line + line, row.raw) for row in rows]
 
 
 def takes_in_rows(row: Row) -> bool:
     """Tells whether a quote of the row is open, or holds what looks like further rows up to a quote with a
-    text behind it.
+    text after it.
     """
     return sheets.open_quote(row.raw) is not None or holds_rows(row) and sheets.is_closed_within(row.raw)
 

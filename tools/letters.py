@@ -38,5 +38,5 @@ def without_accents(text: str) -> str:
 
 
 def lowered(text: str, sign: str) -> str:
-    """A text with digits in place of raised ones, behind a sign."""
+    """A text with digits in place of raised ones, after a sign."""
     return RAISED.sub(lambda found: sign + found.group().translate(LOWERED), text)

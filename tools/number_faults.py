@@ -125,7 +125,7 @@ def wrong_key(asking: Asking, row: Row, column: str) -> Explained | None:
 
 
 def all_in_one(asking: Asking, row: Row, column: str) -> Explained | None:
-    """A value with its bounds in brackets behind it, as 25 (7.5-86), or None."""
+    """A value with its bounds in brackets after it, as 25 (7.5-86), or None."""
     found = ALL_IN_ONE.fullmatch(row.field(column).strip()) if column == "value" else None
     figures = [figure_of(text) for text in found.groups()] if found else []
     texts = [written(figure) for figure in figures if figure is not None]
@@ -180,7 +180,7 @@ def in_two(asking: Asking, row: Row, column: str) -> Explained | None:
 
 
 def with_unit(asking: Asking, row: Row, column: str) -> Explained | None:
-    """A number with a unit behind it, or None. It is sure where that is the row's own unit."""
+    """A number with a unit after it, or None. It is sure where that is the row's own unit."""
     found = re.fullmatch(r"(-?[\d.,\s]*\d)\s*([A-Za-z].*)", row.field(column).strip())
     meant = units.meant(found.group(2)) if found else None
     if found is None or meant is None:
@@ -386,7 +386,7 @@ def of_two_digits(mended: Mended, span: tuple[int, int] | None) -> Mended:
 
 
 def without_years(mended: Mended) -> Mended:
-    """A half-life without its unit behind it."""
+    """A half-life without its unit after it."""
     found = re.fullmatch(r"(\d[\d.]*)\s*([A-Za-z]+)", mended.text)
     meant = units.meant(found.group(2)) if found else None
     is_unit = meant is not None and meant.word == HALF_LIFE_UNIT

@@ -112,7 +112,7 @@ def ratio_or_distance(asking: Asking, row: Row, column: str) -> Explained:
 
 
 def uncertain_figure(asking: Asking, row: Row, value: str, distance: str, percent: str) -> Explained:
-    """A value with its uncertainty behind it."""
+    """A value with its uncertainty after it."""
     cause = "a value with its uncertainty; the bounds stand in low and high"
     figure, apart = figure_of(value), figure_of(distance)
     if figure is None or apart is None or (percent and is_of_a_ratio(row)):

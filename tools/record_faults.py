@@ -214,7 +214,7 @@ def nearest_name(asking: Asking, key: Key) -> str | None:
 
 
 def entered_behind(row: Row, entry: Row) -> str:
-    """That the record that a row changes is entered behind it, and what to move."""
+    """That the record that a row changes is entered after it, and what to move."""
     what = said_of_key(row.key)
     if entry.sheet is not row.sheet:
         return said_of_later(what, entry)

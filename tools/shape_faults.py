@@ -41,7 +41,7 @@ def totals_of_other_fields(_: Asking, row: Row) -> Explained | None:
 
 
 def other_marks(asking: Asking, row: Row) -> Explained | None:
-    """Semicolons or tabs between the fields. A comma behind them is one of a number."""
+    """Semicolons or tabs between the fields. A comma after them is one of a number."""
     text = row.raw.decode("utf-8", "replace")
     for mark, marks in ((";", "semicolons"), ("\t", "tabs")):
         if row.fields[0].count(mark) >= COLUMNS.index("value"):
@@ -94,7 +94,7 @@ def numbers_with_commas(asking: Asking, row: Row) -> Explained | None:
 
 
 def commas_at_the_end(_: Asking, row: Row) -> Explained | None:
-    """Empty fields behind the ten."""
+    """Empty fields after the ten."""
     left = row.fields[len(COLUMNS):]
     if not left or any(left):
         return None

@@ -148,7 +148,7 @@ def unquoted(field: bytes) -> bytes:
 
 
 def is_closed_within(raw: bytes) -> bool:
-    """Tells whether a text stands behind the closing quote of a field of a record."""
+    """Tells whether a text stands after the closing quote of a field of a record."""
     quoted = (QUOTED.fullmatch(field) for field in written_fields(raw))
     return any(found and found.group(2) for found in quoted)
 

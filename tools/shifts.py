@@ -159,7 +159,7 @@ def moved_right(row: Row, last: int, columns: int = 1) -> Iterator[tuple[str, li
 
 def moved_left(row: Row, last: int) -> Iterator[tuple[str, list[str]]]:
     """The row without one of its empty fields, each up to the last that may be meant; and what stands
-    behind it.
+    after it.
     """
     for at in range(last, 1, -1):
         if not row.fields[at]:
@@ -189,7 +189,7 @@ def astray(asking: Asking, row: Row) -> Explained | None:
 
 
 def unit_astray(asking: Asking, row: Row) -> Explained | None:
-    """The fault of a figure behind its unit, both in front of the column of the unit; or None."""
+    """The fault of a figure after its unit, both in front of the column of the unit; or None."""
     value, low = row.field("value"), row.field("low")
     meant = row.with_fields(value=low, low="", unit=value)
     if value not in vocabulary.units() or not low or row.field("unit") or not asking.takes(meant, None):

@@ -23,7 +23,7 @@ class StoreFault(FolderFault):
 
 
 def submissions(path: pathlib.Path) -> list[Sheet]:
-    """What a store has accepted, in its order, each under its id behind the name of the store."""
+    """What a store has accepted, in its order, each under its id after the name of the store."""
     if not path.is_file():
         raise StoreFault(f"{path} is no file")
     with tempfile.TemporaryDirectory() as room:

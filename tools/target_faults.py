@@ -43,7 +43,7 @@ def form_of_target(asking: Asking, row: Row, column: str) -> Explained | None:
 
 
 def target_in_value(asking: Asking, row: Row, text: str) -> Explained | None:
-    """The target of a binding in value, alone or behind its form, or None. Which form is meant is told by
+    """The target of a binding in value, alone or after its form, or None. Which form is meant is told by
     what has the name.
     """
     forms = vocabulary.words()["forms"]

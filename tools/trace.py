@@ -142,7 +142,7 @@ def conversion(unit: str) -> str:
 
 
 def said_of_note(note: str) -> str:
-    """A note behind a place."""
+    """A note after a place."""
     return f", {json.dumps(note, ensure_ascii=False)}" if note else ""
 
 

@@ -59,16 +59,16 @@ PHRASES = {
     "watt hour": "Wh", "watt-hour": "Wh", "per cent": "%", "p.c.": "%", "p.a.": "/yr", "d.m.": "dm",
     "anode effect minute": "AEmin", "ae min": "AEmin",
 }
-# Equivalents of a gas, behind its formula.
+# Equivalents of a gas, after its formula.
 EQUIVALENTS = re.compile(r"(co2|ch4|n2o)[\s-]*e(q\.?|quivalents?)?(?![a-z0-9])", re.IGNORECASE)
 # Tonnes of fuel that measure energy.
 FUEL_EQUIVALENTS = re.compile(
     r"t(?:on(?:ne)?s?)?(?: of)?[\s.-]*(oil|coal|o|c)\.?[\s-]*e(?:q\.?|quivalents?|\.)(?![a-z0-9])",
     re.IGNORECASE)
-# Animals are counted in heads. Behind a mass they only say what it is of.
+# Animals are counted in heads. After a mass they only say what it is of.
 ANIMALS = {"animal", "cow", "cattle", "bovine", "sheep", "goat", "pig", "swine", "horse", "poultry", "bird"}
 GASES = {"co2", "ch4", "n2o", "cf4", "c2f6"}
-# What stands without a blank behind the mass of it.
+# What stands without a blank after the mass of it.
 GLUED = GASES | {"c", "n", "n2o-n", "gas", "dm", "vs", "bod", "cod"}
 # What makes another figure: a gross calorific value, and equivalents of something else.
 OTHER_FIGURES = {"gross", "gcv", "hhv", "equivalent", "equivalents", "eq"}
@@ -78,7 +78,7 @@ class Reading:
     """A unit in its parts: the power of each thing measured, and the size in t, TJ, ha, m3, head and person.
 
     `of` is C for carbon or gas for a gas in front of the first stroke, and `words` are the units as the table
-    writes them, those behind a stroke with it.
+    writes them, those after a stroke with it.
     """
 
     def __init__(self) -> None:
@@ -226,7 +226,7 @@ def without_what_it_is_of(word: str) -> tuple[str | None, str]:
 
 
 def is_of_something(what: str) -> bool:
-    """Tells whether a word behind a unit says what it is of, and changes no figure."""
+    """Tells whether a word after a unit says what it is of, and changes no figure."""
     plain = what.casefold().replace(".", "")
     return plain not in OTHER_FIGURES and bool(re.fullmatch("[a-z][a-z0-9-]*", plain))
 

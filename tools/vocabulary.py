@@ -275,7 +275,7 @@ def listed(items: Iterable[str], last: str = "or") -> str:
 
 
 def are(items: Sized) -> str:
-    """The verb of items that are listed behind it."""
+    """The verb of items that are listed after it."""
     return "is" if len(items) == 1 else "are"
 
 

@@ -78,7 +78,7 @@ class Wide:
 
     `years` are its columns of figures, and `beside` says what other columns hold: a word of HEADINGS,
     uncertainty, part, or label for what names a series. `over` has the texts over these. The rows of figures
-    are those from `first` to `last`, and behind `top` begins what stands above the table. `unit` is one that
+    are those from `first` to `last`, and after `top` begins what stands above the table. `unit` is one that
     the table has for all rows, with its place.
     """
     grid: Grid

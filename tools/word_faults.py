@@ -323,7 +323,7 @@ def plain_text(text: str) -> Mended:
 
 
 def code_in_front(text: str) -> str:
-    """The code that a text begins with, without its dots and blanks and without the name behind it."""
+    """The code that a text begins with, without its dots and blanks and without the name after it."""
     parts = text.replace(".", "").split()
     behind = itertools.takewhile(lambda part: len(part) < 3 or part.casefold() == "iii", parts[1:])
     return "".join([*parts[:1], *behind])
@@ -379,7 +379,7 @@ def text_above(row: Row, column: str, kind: str) -> str:
 
 
 def alone(text: str, known: Container[str], cause: str) -> list[Candidate]:
-    """The word that a text begins with, as a candidate, where it is a known one and more stands behind it."""
+    """The word that a text begins with, as a candidate, where it is a known one and more stands after it."""
     first = re.split(r"[\s(,:;/-]", text, maxsplit=1)[0]
     return [(cause, first, True)] if first in known and first != text else []
 

@@ -1,4 +1,4 @@
-"""The rows of defaults: each file is accepted behind a span, and says where its figures come from."""
+"""The rows of defaults: each file is accepted after a span, and says where its figures come from."""
 import csv
 import decimal
 import unittest
@@ -23,7 +23,7 @@ def rows_of(name: str) -> list[dict[str, str]]:
 
 
 def fuels(name: str, *fronts: str) -> list[list[str]]:
-    """The fuels that a file has a factor for, behind each of these fronts of a name."""
+    """The fuels that a file has a factor for, after each of these fronts of a name."""
     names = [row["name"] for row in rows_of(name)]
     return [[name.removeprefix(front) for name in names if name.startswith(front)] for front in fronts]
 

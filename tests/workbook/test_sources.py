@@ -1,4 +1,4 @@
-"""A store of submissions in place of folders and behind it, and the years of `tables`."""
+"""A store of submissions in place of folders and after it, and the years of `tables`."""
 from __future__ import annotations
 
 import contextlib
