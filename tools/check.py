@@ -176,7 +176,7 @@ class Check:
         if reply.rule == 10:
             return bindings.explain(words[0], words[1], after)
         if reply.rule == 12:
-            return limit_faults.ring(words[0], after)
+            return limit_faults.cycle(words[0], after)
         return limit_faults.overflow(words[0], sheet, after)
 
     def swept(self, rows: list[Row], reply: Reply) -> list[Row]:

@@ -1,4 +1,4 @@
-"""Explains the refusals that name a ring of lines, a node beyond the limits, or a limit of the workbook:
+"""Explains the refusals that name a cycle of lines, a node beyond the limits, or a limit of the workbook:
 rules 11 to 13. They are judged with all rows of a file applied.
 """
 from tools import vocabulary
@@ -9,8 +9,8 @@ from tools.sheets import Row, Sheet
 from tools.vocabulary import limit, listed
 
 
-def ring(line: str, after: After) -> Rewritten:
-    """The fault of lines that take each other in a ring, and the rows with one of its bindings blank."""
+def cycle(line: str, after: After) -> Rewritten:
+    """The fault of lines that take each other in a cycle, and the rows with one of its bindings blank."""
     path = bindings_to_itself(line, after.book)
     own = [bound for bound in path if after.is_own(bound)]
     if not own:
@@ -23,7 +23,7 @@ def ring(line: str, after: After) -> Rewritten:
         return at_row(bound, cause, "value", "prev"), after.changed(bound, value="prev")
     steps = [f"{bound.field('subject')} takes {taken} ({bound.place})"
              for bound, taken in zip(path, following(path, line))]
-    cause = f"lines take each other's values of the same year in a ring: {listed(steps, 'and')}"
+    cause = f"lines take each other's values of the same year in a cycle: {listed(steps, 'and')}"
     cause += "; bind one of them to last year by prev, or to an activity"
     return at_row(own[0], cause, "low"), after.blank(own[0])
 

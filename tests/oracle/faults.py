@@ -23,7 +23,7 @@ class Faults:
         """Rows of one fault."""
         return self.random.choice((self.junk, self.junk, self.disorder, self.other_unit, self.misplaced_unit,
                                    self.twice, self.absent, self.unsound, self.unsound_decay, self.unbound,
-                                   self.lone_uncertainty, self.long_span, self.ring, self.overflow,
+                                   self.lone_uncertainty, self.long_span, self.cycle, self.overflow,
                                    self.overflow_of_totals))()
 
     def junk(self) -> list[Row]:
@@ -113,14 +113,14 @@ class Faults:
         last = self.random.choice((FIRST_YEAR + limit("span") + 1, LAST_YEAR))
         return [row("correct", "span", year=str(FIRST_YEAR), value=str(last), low="1950")]
 
-    def ring(self) -> list[Row]:
-        """Rule 12: lines in a ring, among those that are there or new ones."""
-        rings = [(line, parameter, other) for line in self.workbook.lines
+    def cycle(self) -> list[Row]:
+        """Rule 12: lines in a cycle, among those that are there or new ones."""
+        cycles = [(line, parameter, other) for line in self.workbook.lines
                  for parameter, dimension in self.workbook.equation(line).parameters.items()
                  for other in self.workbook.lines if self.workbook.equation(other).dimension == dimension
                  if other == line or line in reached(self.workbook, other)]
-        if rings and self.changes.figures.chance(0.7):
-            line, parameter, other = self.random.choice(rings)
+        if cycles and self.changes.figures.chance(0.7):
+            line, parameter, other = self.random.choice(cycles)
             form = self.random.choice(("line", "sum"))
             return [row("correct", "bind", subject=line, name=parameter, value=form, low=other)]
         names = [self.changes.new_name("R") for _ in range(self.random.randint(1, 3))]
