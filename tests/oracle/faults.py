@@ -116,9 +116,9 @@ class Faults:
     def cycle(self) -> list[Row]:
         """Rule 12: lines in a cycle, among those that are there or new ones."""
         cycles = [(line, parameter, other) for line in self.workbook.lines
-                 for parameter, dimension in self.workbook.equation(line).parameters.items()
-                 for other in self.workbook.lines if self.workbook.equation(other).dimension == dimension
-                 if other == line or line in reached(self.workbook, other)]
+                  for parameter, dimension in self.workbook.equation(line).parameters.items()
+                  for other in self.workbook.lines if self.workbook.equation(other).dimension == dimension
+                  if other == line or line in reached(self.workbook, other)]
         if cycles and self.changes.figures.chance(0.7):
             line, parameter, other = self.random.choice(cycles)
             form = self.random.choice(("line", "sum"))
