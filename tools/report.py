@@ -239,12 +239,13 @@ class Tables:
 
 
 class Drawings:
-    """The pictures of the report."""
+    """The pictures of the report, over the years in which something was estimated."""
 
     def __init__(self, tables: Tables) -> None:
         pictures = importlib.import_module("tools.pictures")
         self.made, self.tables, self.series = pictures.Pictures(), tables, pictures.Series
-        self.years = list(tables.inventory.years)
+        years = list(tables.inventory.years)
+        self.years = [year for year in years if tables.total(NATIONAL, year).of] or years
 
     def totals(self) -> list[Any]:
         """The lines of the net and the gross total."""
@@ -292,7 +293,7 @@ class Drawings:
 
     def reference(self) -> str:
         """Both approaches over the years."""
-        rows = [row for _, row in self.tables.reference()]
+        rows = [row for year, row in self.tables.reference() if year in self.years]
         return str(self.made.lines(self.years, [
             self.series(name, [float(row[item].text) for row in rows])
             for name, item in (("reference approach", "reference"), ("sectoral approach", "sectoral"))],

@@ -279,6 +279,20 @@ class Reports(unittest.TestCase):
         name = "1A1a Main activity electricity and heat production"
         self.assertIn(f"GAS {name} CH4 NE NE", self.texts(page, "uncertainty"))
 
+    def test_pictures_end_with_what_is_estimated(self) -> None:
+        """The span goes to 2022, and the last figure is of 2021."""
+        rows = HEADER + ("enter,span,,,2019,2022,2019,,,\nenter,factor,,GWP.CO2,2019,1,,,1,\n"
+                         "enter,line,1A1a,GAS,,Q10,,,,\nenter,bind,GAS,FC,,activity,GAS,,,\n"
+                         "enter,bind,GAS,EF,,factor,EF,,,\nenter,factor,,EF,2019,56100,,,kg/TJ,\n")
+        rows += "".join(f"enter,activity,,GAS,{year},1000,,,TJ,\n" for year in (2019, 2020, 2021))
+        with tempfile.TemporaryDirectory() as room:
+            (pathlib.Path(room) / "1.csv").write_text(rows)
+            page = self.page(room)
+        pictures = "".join(re.findall("<svg.*?</svg>", page, re.DOTALL))
+        self.assertIn(">2021</text>", pictures)
+        self.assertNotIn(">2022</text>", pictures)
+        self.assertIn("0 National total 56.100 56.100 56.100 NE", self.texts(page, "trend-table"))
+
     def test_a_sector_without_a_line_is_not_estimated(self) -> None:
         page = self.page("examples/how-to", "2019")
         for part in ("year", "totals", "trend-table"):
