@@ -89,9 +89,10 @@ def unusual_factors(results: Results) -> list[Fault]:
         known = usual(results, line, parameter, bound)
         if known is None or not results.is_own(bound) or is_of_another_gas(line, bound):
             continue
+        figure: Number | None = None
         for year in results.years:
-            figure = results.taken(bound, year)
-            if figure and not known.has(figure, known.margin):
+            before, figure = figure, results.taken(bound, year)
+            if figure and figure is not before and not known.has(figure, known.margin):
                 row = results.record(bound, year) or bound
                 if id(row) not in told and not is_told_or_measured(results, line, parameter, figure):
                     told.add(id(row))
@@ -274,6 +275,9 @@ def activities_by_a_ratio(results: Results) -> list[Fault]:
     found = []
     for name, years in sorted(results.book.years["activity"].items()):
         rows = [row for year, row in sorted(years.items()) if NUMBER.fullmatch(row.field("value"))]
+        sizes = [abs(figure) for figure in map(figure_of, rows) if figure]
+        if not sizes or max(sizes) < LEAST_OF_THESE * min(sizes):
+            continue
         times = [times_of(one, other) for one, other in zip(rows, rows[1:])]
         jumps = [at for at, size in enumerate(times) if fitting(rows[at], size)]
         others = [size for at, size in enumerate(times) if at not in jumps]

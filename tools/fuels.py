@@ -76,6 +76,7 @@ def together(ranges: list[Range]) -> Range:
                  " and ".join(sources))
 
 
+@functools.cache
 def words_of(name: str) -> list[str]:
     """The words of the table that stand in a name, each part of it in one of them, in their order there."""
     found, spoken = [], f".{'.'.join(re.split('[._-]', name))}."
