@@ -1,6 +1,7 @@
 """Warnings of what is counted twice, in the wrong place or not at all: quantities that two lines take, shares
 above one, a line beside its parts, and bunkers and biomass in national totals.
 """
+import collections
 import decimal
 import functools
 import re
@@ -57,6 +58,7 @@ def same_quantity_twice(results: Results) -> list[Fault]:
     return found
 
 
+@functools.cache
 def quantities(results: Results, line: str) -> dict[str, bool]:
     """The activities that are amounts and that a line takes, by whether it takes them itself, without those
     that are taken off on the way.
@@ -187,17 +189,37 @@ def years_above_one(results: Results, bindings: list[Row]) -> dict[int, decimal.
     return found
 
 
+class Group:
+    """Lines that may be the parts of another one, with what they take together and how many of them take
+    something, by year.
+    """
+
+    def __init__(self) -> None:
+        self.lines: dict[int, Row] = {}
+        self.amounts: Amounts = {}
+        self.counts: collections.Counter[int] = collections.Counter()
+
+    def add(self, line: Row, amounts: Amounts) -> None:
+        """Adds a line."""
+        self.lines[id(line)] = line
+        for year, amount in amounts.items():
+            if amount:
+                self.amounts[year] = self.amounts.get(year, ZERO) + amount
+                self.counts[year] += 1
+
+
 def whole_beside_parts(results: Results) -> list[Fault]:
     """Lines that stand beside the lines which split them: the quantities of these are its own together."""
     found = []
     lines = [row for row in results.emitting if row.field("subject") not in MEMOS]
     amounts = {row.field("name"): amounts_of(results, row) for row in lines}
-    groups, names_of_files = groups_of_lines(lines), list({row.sheet.name: None for row in lines})
+    groups, names_of_files = groups_of_lines(lines, amounts), list({row.sheet.name: None for row in lines})
     for row in lines:
-        for parts in groups_of_parts(row, groups, names_of_files):
-            own, others = amounts[row.field("name")], [amounts[part.field("name")] for part in parts]
-            years = years_of_whole(own, others)
+        own = amounts[row.field("name")]
+        for group in groups_of_parts(row, groups, names_of_files):
+            years = years_of_whole(row, own, group)
             if years:
+                parts = [part for part in group.lines.values() if part is not row]
                 names = listed([part.field("name") for part in parts], "and")
                 said = f"line {row.field('name')} takes as much as {names} ({parts[0].place}) together in"
                 found.append(warn(row, f"{said} {years_said(years)}; {way_out(results, row, years)}"))
@@ -223,42 +245,45 @@ def way_out(results: Results, row: Row, years: list[int]) -> str:
     return "withdraw it, or enter its activity as IE in these years"
 
 
-def groups_of_lines(lines: list[Row]) -> dict[tuple[str, ...], list[Row]]:
+def groups_of_lines(lines: list[Row], amounts: dict[str, Amounts]) -> dict[tuple[str, ...], Group]:
     """The lines of one equation by their category, by the first part of their names and by their file, the
     last two near each other in the tree; and by each beginning of their names.
     """
-    groups: dict[tuple[str, ...], list[Row]] = {}
+    groups: dict[tuple[str, ...], Group] = {}
     for row in lines:
-        code, category, parts = row.field("value"), row.field("subject"), re.split("[._-]", row.field("name"))
+        code, category, name = row.field("value"), row.field("subject"), row.field("name")
+        parts = re.split("[._-]", name)
         keys = [(code, "in", category), (code, "first", category[:3], parts[0]),
                 (code, "file", category[:3], row.sheet.name)]
         lengths = [len(".".join(parts[:at])) for at in range(1, len(parts))]
-        for key in keys + [(code, "name", row.field("name")[:length]) for length in lengths]:
-            groups.setdefault(key, []).append(row)
+        for key in keys + [(code, "name", name[:length]) for length in lengths]:
+            groups.setdefault(key, Group()).add(row, amounts[name])
     return groups
 
 
-def groups_of_parts(row: Row, groups: dict[tuple[str, ...], list[Row]], files: list[str]) -> list[list[Row]]:
-    """The groups of lines that may be the parts of another one, without it."""
+def groups_of_parts(row: Row, groups: dict[tuple[str, ...], Group], files: list[str]) -> list[Group]:
+    """The groups of lines that may be the parts of another one, which may be in them too."""
     name, code, category = row.field("name"), row.field("value"), row.field("subject")
     first = re.split("[._-]", name)[0]
     keys = [(code, "name", name), (code, "in", category), (code, "first", category[:3], first)]
     keys += [(code, "file", category[:3], file) for file in files if file != row.sheet.name]
-    found = [[other for other in groups.get(key, []) if other is not row] for key in keys]
-    return [group for group in found if len(group) > 1]
+    return [groups[key] for key in keys if key in groups]
 
 
-def years_of_whole(own: Amounts, parts: list[Amounts]) -> list[int]:
-    """The years in which the quantities of parts are that of a line together, where all are above zero: these
-    have to be all such years but for few, of which a record was corrected, and the quantity none that stays
-    the same.
+def years_of_whole(row: Row, own: Amounts, group: Group) -> list[int]:
+    """The years in which the quantities of the other lines of a group are that of a line together, where all
+    are above zero: these have to be all such years but for few, of which a record was corrected, and the
+    quantity none that stays the same.
     """
+    is_in = id(row) in group.lines
+    if len(group.lines) - is_in < 2:
+        return []
     years, others_apart = [], 0
     for year, amount in own.items():
-        others = [part[year] for part in parts if part.get(year)]
-        if not amount or len(others) < len(parts):
+        if not amount or group.counts[year] < len(group.lines):
             continue
-        if abs(sum(others, ZERO) - amount) > APART * abs(amount):
+        others = group.amounts[year] - amount if is_in else group.amounts[year]
+        if abs(others - amount) > APART * abs(amount):
             others_apart += 1
         else:
             years.append(year)
@@ -315,9 +340,9 @@ def biomass_in_totals(results: Results) -> list[Fault]:
     for row in results.emitting:
         name, code = row.field("name"), row.field("subject")
         if code.startswith("1A") and row.field("value") == "Q10":
-            bound = results.bindings(name).get("EF")
-            why = "by its names" if is_of_biomass(names_of(results, name)) else ""
-            if bound and not why and not is_of_fossil_fuel(names_of(results, name)):
+            bound, names = results.bindings(name).get("EF"), names_of(results, name)
+            why = "by its names" if is_of_biomass(names) else ""
+            if bound and not why and not is_of_fossil_fuel(names):
                 taken = results.taken(bound, results.years[-1])
                 why = f"by its factor, {plain(taken)} kg/TJ" if taken in OF_BIOMASS_ALONE else ""
             if why:

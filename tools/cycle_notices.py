@@ -1,6 +1,7 @@
 """Warnings of a year's cycle: corrections, withdrawals and new years that do not do what is meant."""
 import collections
 import decimal
+import functools
 
 from tools import vocabulary
 from tools.book import Book
@@ -32,11 +33,12 @@ class Cycle:
             self.rows.setdefault(row.key, []).append(row)
         self.spans = [self.order[id(row)] for row in self.rows.get(("span",), [])]
 
+    @functools.cached_property
     def corrections(self) -> list[tuple[Row, Row]]:
         """Each correction of a record that is in force, with the row that set it before."""
         found = []
         for key, rows in self.rows.items():
-            if key in self.book.rows:
+            if len(rows) > 1 and key in self.book.rows:
                 found += [(one, other) for one, other in zip(rows, rows[1:])
                           if other.field("act") == "correct" and one.field("act") != "withdraw"]
         return found
@@ -66,7 +68,7 @@ def record_said(row: Row) -> str:
 def corrected_twice(cycle: Cycle) -> list[Fault]:
     """Records that one cycle corrects twice, to different figures."""
     found = []
-    for one, other in cycle.corrections():
+    for one, other in cycle.corrections:
         both = one.field("act") == "correct" and other.field("kind") != "span"
         if both and cycle.are_of_one_cycle(one, other) and not are_same(one, other):
             said = f"{record_said(other)} is corrected twice: to {target(one)} at {one.place}, and here to"
@@ -98,7 +100,7 @@ def numbers(row: Row, column: str) -> str | decimal.Decimal:
 def corrected_to_the_same(cycle: Cycle) -> list[Fault]:
     """Corrections that change nothing."""
     found = []
-    for one, other in cycle.corrections():
+    for one, other in cycle.corrections:
         if are_same(one, other):
             said = f"this correction changes nothing: {record_said(other)} is {target(one)} already"
             found.append(warn(other, f"{said} ({one.place})"))
@@ -110,7 +112,7 @@ def corrected_to_another(cycle: Cycle) -> list[Fault]:
     the year or of another year of its own.
     """
     found = []
-    for one, other in cycle.corrections():
+    for one, other in cycle.corrections:
         units = {row.field("unit") for row in (one, other)}
         is_known = other.field("kind") == "activity" and units <= vocabulary.units().keys()
         was, figure = (figure_of(row) if is_known else None for row in (one, other))
@@ -130,7 +132,7 @@ def corrected_in_another_year(cycle: Cycle) -> list[Fault]:
     before this cycle, which a cycle corrects most often.
     """
     found = []
-    pairs = [pair for pair in cycle.corrections() if pair[1].field("kind") == "activity"]
+    pairs = [pair for pair in cycle.corrections if pair[1].field("kind") == "activity"]
     for one, other in pairs:
         years = cycle.book.years["activity"].get(other.field("name"), {})
         order = cycle.order.get(id(other), 0)
@@ -151,7 +153,7 @@ def corrected_out_of_line(cycle: Cycle) -> list[Fault]:
     are nearly the figure of another year.
     """
     found = []
-    pairs = [pair for pair in cycle.corrections() if pair[1].field("kind") == "activity"]
+    pairs = [pair for pair in cycle.corrections if pair[1].field("kind") == "activity"]
     counts = collections.Counter(pair[1].field("name") for pair in pairs)
     for one, other in pairs:
         figures = figures_by_year(cycle, other.field("name"))
@@ -203,7 +205,7 @@ def beside(cycle: Cycle, row: Row) -> list[Row]:
 def bounds_dropped(cycle: Cycle) -> list[Fault]:
     """Corrections of a figure that leave out the bounds that it had."""
     found = []
-    for one, other in cycle.corrections():
+    for one, other in cycle.corrections:
         kept = other.field("low") or other.field("kind") not in ("activity", "factor")
         if one.field("low") and not kept and NUMBER.fullmatch(other.field("value")):
             said = f"{record_said(other)} had the bounds {one.field('low')} to {one.field('high')}"

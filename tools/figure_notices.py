@@ -1,11 +1,12 @@
 """Warnings about figures: what the program takes, and is most likely another number or in another unit."""
 import decimal
-import re
-from collections.abc import Callable, Iterator
+import typing
+from collections.abc import Iterator
 
 from tools import vocabulary
 from tools.book import Book
 from tools.faults import Fault, counted, warn
+from tools.results import NUMBER, ZERO, figure_of
 from tools.sheets import Row
 from tools.usual import usual_row
 
@@ -23,12 +24,23 @@ OTHER_GASES = ("5B", "Q32", "EF")
 UNITS_OF_RATIOS = (("pct", 100), ("kg/t", 1000))
 # The changes of stocks of the reference approach have a sign.
 SIGNED = {"SC"}
+# The bindings that take each record.
+Taken = dict[tuple[str, str], list[Row]]
+
+
+class Records(typing.NamedTuple):
+    """The records of an activity or a factor by years, with what it measures."""
+    kind: str
+    name: str
+    measures: str | None
+    rows: list[Row]
 
 
 def all_of_figures(book: Book, mismeasured: set[tuple[str, str]]) -> list[Fault]:
     """Every warning about figures, but for those of activities and factors whose unit is a fault."""
-    kinds = (ratios, negatives, hundredfold, shares_as_percentages, distances)
-    found = (warning for kind in kinds for warning in kind(book))
+    records, taken = named_records(book), book.taken()
+    found = [*ratios(book, records, taken), *negatives(book, records, taken), *hundredfold(records),
+             *shares_as_percentages(book), *distances(records)]
     return [warning for warning in found if warning.row is None or warning.row.key[:2] not in mismeasured]
 
 
@@ -36,52 +48,38 @@ def figures(row: Row) -> list[decimal.Decimal]:
     """The figures of a record in the base unit, without what is no number."""
     unit = vocabulary.units()[row.field("unit")]
     texts = [row.field(column) for column in ("value", "low", "high")]
-    numbers = (decimal.Decimal(text) for text in texts if re.fullmatch(r"-?\d+(\.\d+)?", text))
+    numbers = (decimal.Decimal(text) for text in texts if NUMBER.fullmatch(text))
     return [number * unit["over"] / unit["under"] for number in numbers]
 
 
-def named_records(book: Book) -> Iterator[tuple[str, str, str | None, list[Row]]]:
+def named_records(book: Book) -> list[Records]:
     """Each activity and factor, with what it measures and its records by years, without those whose figure is
     not the writer's, but for the potentials and what has a name like one.
     """
+    found = []
     for kind, named in book.years.items():
         for name, years in sorted(named.items()):
             rows = [row for _, row in sorted(years.items()) if not row.has_other_figure]
             if rows and not vocabulary.potential_like(name):
-                yield kind, name, vocabulary.measured_by(rows[0].field("unit")), rows
+                found.append(Records(kind, name, vocabulary.measured_by(rows[0].field("unit")), rows))
+    return found
 
 
-def odd_records(book: Book, is_odd: Callable[[Row, str | None], bool]) -> Iterator[tuple[str, str, Row, int]]:
-    """Each activity and factor with records that are odd for what it measures: the first of these, and how
-    many more there are.
-    """
-    for kind, name, measures, rows in named_records(book):
-        odd = [row for row in rows if is_odd(row, measures)]
-        if odd:
-            yield kind, name, odd[0], len(odd) - 1
-
-
-def ratios(book: Book) -> Iterator[Fault]:
+def ratios(book: Book, records: list[Records], taken: Taken) -> Iterator[Fault]:
     """Ratios outside 0 to 1, or beyond what those may be that are no shares: once for each name."""
-    taken = book.taken()
-
-    def most(row: Row) -> int:
-        bound = taken.get((row.field("kind"), row.field("name")), [])
-        return MOST_OF_NO_SHARE if any(is_no_share(book, binding) for binding in bound) else 1
-
-    def is_odd(row: Row, measures: str | None) -> bool:
-        bound = taken.get((row.field("kind"), row.field("name")), [])
+    for kind, name, measures, rows in records:
+        bound = taken.get((kind, name), [])
         if measures != "ratio" or bound and all(is_of_other_gas(book, binding) for binding in bound):
-            return False
-        return any(not 0 <= figure <= most(row) for figure in figures(row))
-
-    for kind, name, row, others in odd_records(book, is_odd):
-        low, high = row.field("low"), row.field("high")
-        bounds = f" ({low} to {high})" if low else ""
-        more = f", and {others} more of its records" if others else ""
-        figure = f"{row.field('value')}{bounds} {row.field('unit')}"
-        said = f"{kind} {name} is a ratio outside 0 to {most(row)}: {figure}{more}"
-        yield warn(row, said + asked_of_ratio(book, row, taken.get((kind, name), [])))
+            continue
+        most = MOST_OF_NO_SHARE if any(is_no_share(book, binding) for binding in bound) else 1
+        odd = [row for row in rows if any(not 0 <= figure <= most for figure in figures(row))]
+        if odd:
+            row, low, high = odd[0], odd[0].field("low"), odd[0].field("high")
+            bounds = f" ({low} to {high})" if low else ""
+            more = f", and {len(odd) - 1} more of its records" if odd[1:] else ""
+            figure = f"{row.field('value')}{bounds} {row.field('unit')}"
+            said = f"{kind} {name} is a ratio outside 0 to {most}: {figure}{more}"
+            yield warn(row, said + asked_of_ratio(book, row, bound))
 
 
 def asked_of_ratio(book: Book, row: Row, bound: list[Row]) -> str:
@@ -113,20 +111,17 @@ def is_of_other_gas(book: Book, bound: Row) -> bool:
     return line is not None and (line.field("subject"), line.field("value"), bound.field("name")) == OTHER_GASES
 
 
-def negatives(book: Book) -> Iterator[Fault]:
+def negatives(book: Book, records: list[Records], taken: Taken) -> Iterator[Fault]:
     """Negative activities: once for each name."""
-    taken = book.taken()
-
-    def is_odd(row: Row, measures: str | None) -> bool:
-        is_amount = row.field("kind") == "activity" and measures != "ratio"
-        return is_amount and row.field("value").startswith("-") and figures(row)[0] < 0
-
-    for kind, name, row, others in odd_records(book, is_odd):
-        bound = taken.get((kind, name), [])
-        if not bound or not all(has_a_sign(book, binding) for binding in bound):
-            more = f", and in {counted(others, 'more year')}" if others else ""
-            figure = f"{row.field('value')} {row.field('unit')} in {row.field('year')}"
-            yield warn(row, f"activity {name} is negative: {figure}{more}")
+    for kind, name, measures, rows in records:
+        if kind != "activity" or measures == "ratio":
+            continue
+        odd = [row for row in rows if row.field("value").startswith("-") and figures(row)[0] < 0]
+        bound = taken.get((kind, name), []) if odd else []
+        if odd and not (bound and all(has_a_sign(book, binding) for binding in bound)):
+            more = f", and in {counted(len(odd) - 1, 'more year')}" if odd[1:] else ""
+            figure = f"{odd[0].field('value')} {odd[0].field('unit')} in {odd[0].field('year')}"
+            yield warn(odd[0], f"activity {name} is negative: {figure}{more}")
 
 
 def has_a_sign(book: Book, bound: Row) -> bool:
@@ -138,16 +133,15 @@ def has_a_sign(book: Book, bound: Row) -> bool:
     return bound.field("name") in SIGNED or before_span
 
 
-def distances(book: Book) -> Iterator[Fault]:
+def distances(records: list[Records]) -> Iterator[Fault]:
     """Bounds that lie at one distance to both sides of zero, and not of the value: once for each name."""
-    def is_odd(row: Row, _: str | None) -> bool:
-        return is_of_distances(row)
-
-    for kind, name, row, others in odd_records(book, is_odd):
-        more = f", and in {counted(others, 'more record')}" if others else ""
-        bounds = f"from {row.field('low')} to {row.field('high')}{more}"
-        cause = f"{kind} {name} is {row.field('value')} {bounds}"
-        yield warn(row, f"{cause}; low and high are bounds, and no distances")
+    for kind, name, _, rows in records:
+        odd = [row for row in rows if is_of_distances(row)]
+        if odd:
+            more = f", and in {counted(len(odd) - 1, 'more record')}" if odd[1:] else ""
+            bounds = f"from {odd[0].field('low')} to {odd[0].field('high')}{more}"
+            cause = f"{kind} {name} is {odd[0].field('value')} {bounds}"
+            yield warn(odd[0], f"{cause}; low and high are bounds, and no distances")
 
 
 def is_of_distances(row: Row) -> bool:
@@ -159,27 +153,28 @@ def is_of_distances(row: Row) -> bool:
     return value != 0 and most > 0 and least == -most
 
 
-def hundredfold(book: Book) -> Iterator[Fault]:
+def hundredfold(records: list[Records]) -> Iterator[Fault]:
     """Activities that grow or shrink a hundredfold from one record to the next: once for each name."""
-    for kind, name, _, rows in named_records(book):
-        known = [(row, figures(row)[0]) for row in rows if kind == "activity" and figures(row)]
-        for (before, one), (row, other) in zip(known, known[1:]):
+    for kind, name, _, rows in records:
+        numbers = [row for row in rows if NUMBER.fullmatch(row.field("value"))] if kind == "activity" else []
+        known = [figure_of(row) or ZERO for row in numbers]
+        for at, (one, other) in enumerate(zip(known, known[1:])):
             least, most = sorted((abs(one), abs(other)))
             if one * other > 0 and most >= 100 * least:
                 were = " and ".join(f"{of.field('value')} {of.field('unit')} in {of.field('year')}"
-                                    for of in (before, row))
-                yield warn(row, f"activity {name} is {were}; is a unit or a point wrong?")
+                                    for of in numbers[at:at + 2])
+                yield warn(numbers[at + 1], f"activity {name} is {were}; is a unit or a point wrong?")
                 break
 
 
 def shares_as_percentages(book: Book) -> list[Fault]:
     """Uncertainties of which both percentages are below 1."""
     found = []
-    for key, row in sorted(book.rows.items(), key=lambda item: item[1].line):
-        if key[0] == "uncert" and not row.has_other_figure:
-            both = [decimal.Decimal(row.field(column)) for column in ("value", "low")]
-            if all(0 < percentage < 1 for percentage in both):
-                figures_said = f"{row.field('value')} and {row.field('low')}"
-                cause = f"both percentages of {key[1]} are below 1: {figures_said}; are they shares?"
-                found.append(warn(row, cause))
+    rows = [(key, row) for key, row in book.rows.items() if key[0] == "uncert" and not row.has_other_figure]
+    for key, row in sorted(rows, key=lambda item: item[1].line):
+        both = [decimal.Decimal(row.field(column)) for column in ("value", "low")]
+        if all(0 < percentage < 1 for percentage in both):
+            figures_said = f"{row.field('value')} and {row.field('low')}"
+            cause = f"both percentages of {key[1]} are below 1: {figures_said}; are they shares?"
+            found.append(warn(row, cause))
     return found

@@ -51,6 +51,7 @@ WORDS = {
         "PROCESS OFF WASTE PRODUCER SYNTHESIS SYN MINE ASSOCIATED FLARE FLARED COAL WOOD FLUE STACK MIXED OTHER "
         "DERIVED RESIDUAL PURGE CRACKER").split()},
 }
+ORDER = {word: place for place, word in enumerate(WORDS)}
 # The kinds of fossil fuels, without those that are made of another kind.
 KINDS = {"coal": COALS[:4], "lignite": ("LIGNITE", "BKB"), "gas": ("NATURAL.GAS",), "peat": ("PEAT",),
          "oil": (*OILS, "MOTOR.GASOLINE", "JET.KEROSENE", "LPG", "NAPHTHA")}
@@ -110,8 +111,7 @@ def words_of(name: str) -> tuple[str, ...]:
             if means:
                 found.append((-length, means))
                 parts[at:at + length] = ["-"] * length
-    order = {word: place for place, word in enumerate(WORDS)}
-    return tuple(word for _, word in sorted(found, key=lambda pair: (pair[0], order[pair[1]])))
+    return tuple(word for _, word in sorted(found, key=lambda pair: (pair[0], ORDER[pair[1]])))
 
 
 def fuels_of(names: list[str]) -> tuple[str, ...]:

@@ -49,6 +49,7 @@ class Results:
         """The lines that emit a gas."""
         return [row for row in self.lines if gas_of(row)]
 
+    @functools.cache
     def series(self, line: str) -> dict[int, decimal.Decimal]:
         """The values of a line by year, without the blank ones."""
         found = ((year, self.cells[line, year]) for year in self.years)
@@ -76,8 +77,13 @@ class Results:
         """The record that a binding takes in a year, or None where it takes no figure or there is none."""
         if bound.field("value") not in ("activity", "factor"):
             return None
-        found: Row | None = self.book.in_force(bound.field("value"), bound.field("low"), year)
-        return found
+        return self.records(bound.field("value"), bound.field("low")).get(year)
+
+    @functools.cache
+    def records(self, kind: str, name: str) -> dict[int, Row]:
+        """The record that an activity or a factor has in each year of the span that it has one in."""
+        found = ((year, self.book.in_force(kind, name, year)) for year in self.years)
+        return {year: row for year, row in found if row}
 
     @functools.cache
     def below(self, line: str) -> list[str]:

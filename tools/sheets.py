@@ -42,21 +42,15 @@ class Row:
     One with a figure or a target that is not the writer's is marked, and so is one that the tools added.
     """
 
-    __slots__ = ("sheet", "line", "raw", "has_other_figure", "is_added", "_fields", "_key")
+    __slots__ = ("sheet", "line", "raw", "fields", "has_other_figure", "is_added", "_key")
 
     def __init__(self, sheet: "Sheet", line: int, raw: bytes) -> None:
         self.sheet, self.line, self.raw = sheet, line, raw
         self.has_other_figure, self.is_added = False, False
-        self._fields: list[str] | None = None
+        # bytes that are no UTF-8 are kept as lone surrogates
+        text = raw.decode("utf-8", "surrogateescape")
+        self.fields = text.split(",") if '"' not in text else fields_of(raw)
         self._key: Key | None = None
-
-    @property
-    def fields(self) -> list[str]:
-        """The fields as texts. Bytes that are no UTF-8 are kept as lone surrogates."""
-        if self._fields is None:
-            text = self.raw.decode("utf-8", "surrogateescape")
-            self._fields = text.split(",") if '"' not in text else fields_of(self.raw)
-        return self._fields
 
     @property
     def place(self) -> str:
@@ -76,8 +70,8 @@ class Row:
 
     def field(self, column: str) -> str:
         """The field of a column by its name, or nothing where the row is too short."""
-        at = COLUMN_AT[column]
-        return self.fields[at] if at < len(self.fields) else ""
+        at, fields = COLUMN_AT[column], self.fields
+        return fields[at] if at < len(fields) else ""
 
     def with_fields(self, **changed: str) -> "Row":
         """The same row with other fields, at the same place."""
