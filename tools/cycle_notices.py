@@ -153,7 +153,8 @@ def corrected_out_of_line(cycle: Cycle) -> list[Fault]:
     are nearly the figure of another year.
     """
     found = []
-    pairs = [pair for pair in cycle.corrections if pair[1].field("kind") == "activity"]
+    pairs = [pair for pair in cycle.corrections if pair[1].field("kind") == "activity"
+             and {row.field("unit") for row in pair} <= vocabulary.units().keys()]
     counts = collections.Counter(pair[1].field("name") for pair in pairs)
     for one, other in pairs:
         figures = figures_by_year(cycle, other.field("name"))

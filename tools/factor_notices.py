@@ -6,7 +6,9 @@ import typing
 
 from tools import vocabulary
 from tools.book import record_taken_by
-from tools.factor_hints import DEFAULT_APART, RATIOS, Odd, hint, of_another_fuel, of_other_animals
+from tools.factor_hints import (
+    DEFAULT_APART, RATIOS, Odd, hint, of_a_default_off_by_ten, of_a_sibling, of_another_fuel, of_other_animals,
+    of_swapped_digits)
 from tools.faults import Fault, warn
 from tools.figure_notices import MOST_OF_NO_SHARE, NO_SHARES
 from tools.fuels import fuels_of
@@ -23,6 +25,8 @@ RATIOS_OF = {"energy": ("3.6, GJ in a MWh", "41.868, GJ in a toe"), "carbon": (R
 NEAR, LEAST_OF_THESE = Number("0.12"), 3
 # A default of another fuel is told of where it is so far from those of its own, and these so wide.
 FAR, WIDE_OF_FUELS = Number("0.25"), Number("1.5")
+# Coke goes for coal in many names.
+OF_COAL_TOO = {"COKE", "GAS.COKE"}
 # How many odd factors of one kind are compared with each other.
 MOST_SWAPPED = 50
 # A factor that changes by more than this from one record to the next jumps.
@@ -70,18 +74,29 @@ def unusual_factors(results: Results) -> list[Fault]:
                 if not is_told_or_measured(results, line, parameter, odd.figure):
                     found.setdefault(id(row), Unusual(odd, row, bound))
                 break
-    return [warn(each.row, said_of_unusual(each, swapped_with(each, found.values()))) for each in found.values()]
+    told = [each for each in found.values() if not comes_of_another(results, each, found)]
+    pairs = [(each, swapped_with(each, told)) for each in told]
+    seconds = {id(other.row) for at, (each, other) in enumerate(pairs) if other and other in told[at:]}
+    return [warn(each.row, said_of_unusual(each, other)) for each, other in pairs if id(each.row) not in seconds]
+
+
+def comes_of_another(results: Results, one: Unusual, found: dict[int, Unusual]) -> bool:
+    """Tells whether what a line gives is not usual since a factor that it takes is not."""
+    if one.bound.field("value") != "line":
+        return False
+    below = [results.record(bound, results.years[0]) or bound for bound in results.bound_below(one.bound.field("low"))]
+    return any(id(row) in found for row in below)
 
 
 def is_odd(odd: Odd) -> bool:
     """Tells whether a figure is out of what is usual, by more than its margin, or as the default of another fuel
     or animal.
     """
-    if not odd.known.has(odd.figure, odd.known.margin):
+    if not odd.known.has(odd.figure, odd.known.margin) or of_a_sibling(odd) or of_a_default_off_by_ten(odd):
         return True
-    if not odd.known.named or odd.known.has(odd.figure, Number(1)):
+    if not odd.known.named or odd.known.has(odd.figure, Number(1)) or OF_COAL_TOO.intersection(odd.known.named):
         return is_far_default(odd)
-    return bool(of_another_fuel(odd) or of_other_animals(odd))
+    return bool(of_another_fuel(odd) or of_other_animals(odd) or of_swapped_digits(odd))
 
 
 def is_far_default(odd: Odd) -> bool:
@@ -93,15 +108,15 @@ def is_far_default(odd: Odd) -> bool:
     return bool(is_far and odd.known.named and of_another_fuel(odd))
 
 
-def swapped_with(one: Unusual, others: typing.Collection[Unusual]) -> str | None:
-    """The name of another factor that is not usual, where each of the two has the other's figure; or None."""
+def swapped_with(one: Unusual, others: typing.Collection[Unusual]) -> Unusual | None:
+    """Another factor that is not usual, where each of the two has the other's figure; or None."""
     if len(others) > MOST_SWAPPED:
         return None
     for other in others:
         are_alike = other.odd.measures == one.odd.measures and other.odd.gas == one.odd.gas
         is_other = other.odd.known.has(one.odd.figure, Number(1)) and one.odd.known.has(other.odd.figure, Number(1))
         if other.row is not one.row and are_alike and is_other:
-            return str(other.bound.field("low"))
+            return other
     return None
 
 
@@ -121,7 +136,7 @@ def is_told_or_measured(results: Results, line: Row, parameter: str, figure: Num
     return figure > most or bool(is_measured(results.book, name, equation))
 
 
-def said_of_unusual(one: Unusual, swapped: str | None) -> str:
+def said_of_unusual(one: Unusual, swapped: Unusual | None) -> str:
     """A factor that is not usual, with what is, and what it is most likely."""
     odd, bound, row = one.odd, one.bound, one.row
     parameter = vocabulary.parameters_of(odd.line.field("value"))[odd.parameter]
@@ -136,7 +151,8 @@ def said_of_unusual(one: Unusual, swapped: str | None) -> str:
     said = f"{what} {plain(odd.figure)} {unit}".rstrip() + f"{written}, and {of} {verb(of)} {between}"
     said += f" ({odd.known.range.source})"
     if swapped:
-        return f"{said}; it and {swapped} have each other's figures: are the two swapped?"
+        other = f"{swapped.bound.field('low')} ({swapped.row.place})"
+        return f"{said}; it and {other} have each other's figures: are the two swapped?"
     likely = hint(odd)
     if likely:
         return f"{said}; compare it with its source: {likely}"
@@ -281,10 +297,11 @@ RECOGNISERS: tuple[Recogniser, ...] = (
         says="factor SOILS.EF1 is 0.0157 kg/kg, 44/28 of the default 0.01 kg/kg of EF1",
         right="enter,factor,,SOILS.EF1,2019,0.013,,,kg/kg,"),
     Recogniser(
-        unusual_factors, "factors that no fuel, animal or process has, with the known ratio that leads there"
-        " (44/12, 44/28, 3.6, 41.868, 10/9, 1000)",
+        unusual_factors, "factors that no fuel, animal or process has, or that another one has as its default, with"
+        " what leads to a usual figure: a known ratio (44/12, 44/28, 3.6, 41.868, 10/9, 10, 1000), a tonne, a litre or"
+        " a m3 of the fuel, two digits in each other's place, the rest of a share, another factor's figure",
         example="enter,factor,,COAL.EF,2019,25.8,,,t/TJ,",
-        says="times 44/12, CO2 for C, it is 94600: is it of carbon?",
+        says="compare it with its source: times 44/12, CO2 for C, it is 94600: is it of carbon?",
         right="enter,factor,,COAL.EF,2019,101,,,t/TJ,"),
     Recogniser(
         factors_that_jump, "factors that jump from one record to the next",

@@ -1,13 +1,14 @@
 """Warnings of what stands in the place of another: a line at the category of another source, a factor of
 another fuel or another parameter, gains for losses, and bunkers that the reference approach leaves in.
 """
+import collections
 import decimal
 import re
 from collections.abc import Iterator
 
 from tools import unit_bases, vocabulary
 from tools.book import lines_taken_by
-from tools.faults import Fault, warn
+from tools.faults import Fault, warn, years_said
 from tools.fuels import fuels_of
 from tools.line_notices import OF_LIVESTOCK, is_measured, livestock_of
 from tools.recognisers import Recogniser
@@ -50,6 +51,8 @@ OF_NAMES = {"GASF": "FG", "FRACGASF": "FG", "GASM": "FM", "FRACGASM": "FM", "LEA
 OF_WAYS = {"Q72": {"VOLATILISED", "VOLATILIZED", "VOLATILISATION", "VOLATILIZATION", "VOLAT", "DEPOSITION",
                    "DEPOSITED", "ATMOSPHERIC", "NH3", "NOX"},
            "Q73": {"LEACHED", "LEACHING", "LEACH", "RUNOFF", "LIXIVIATION", "AUSWASCHUNG", "LIXIVIACION"}}
+# What coal becomes, and what goes for one fuel in many names.
+OF_COKE = ("COKE", "GAS.COKE", "PETROLEUM.COKE", "COKING.COAL")
 # The equations of apparent consumption, and those of fuel burnt.
 APPARENT, BURNT = {"Q20", "Q21", "Q22", "Q23"}, {"Q10", "Q13"}
 
@@ -99,11 +102,16 @@ def gains_for_losses(results: Results) -> Iterator[Fault]:
 
 
 def swapped_figures(results: Results) -> Iterator[Fault]:
-    """Two parameters of a line of which the one has a figure that is usual of the other, and is not its own."""
+    """Two parameters of a line of which the one has a figure that is usual of the other, and is not its own, but
+    for factors that several lines take in one place.
+    """
+    counts = collections.Counter((bound.field("low"), bound.field("name")) for row in results.lines
+                                 for bound in results.bindings(row.field("name")).values())
     for row in results.lines:
         name = row.field("name")
         bindings = {parameter: bound for parameter, bound in results.bindings(name).items()
-                    if bound.field("value") == "factor" and results.is_own(bound)}
+                    if bound.field("value") == "factor" and results.is_own(bound)
+                    and counts[bound.field("low"), bound.field("name")] == 1}
         usual = {parameter: usual_row(row, parameter, [bound.field("low")])
                  for parameter, bound in bindings.items()}
         for one, bound in bindings.items():
@@ -149,7 +157,7 @@ def factors_of_other_fuels(results: Results) -> Iterator[Fault]:
         own = fuels_of(taken) or fuels_of([name])
         bound = bindings.get("EF") or bindings.get("NCV")
         of = fuels_of([bound.field("low")]) if bound and bound.field("value") == "factor" else ()
-        is_of_coke = any("COKE" in fuel for fuel in own + of)
+        is_of_coke = any(fuel in OF_COKE for fuel in own + of)
         if bound and own and of and not set(own) & set(of) and not is_of_coke:
             fuels = [each[0].replace(".", " ").lower() for each in (own, of)]
             said = f"line {name} burns {fuels[0]} by the names of what it takes, and factor {bound.field('low')}"
@@ -203,6 +211,23 @@ def stocks_added_before(results: Results) -> Iterator[Fault]:
             said = f"activity {record.field('name')} is {record.field('value')} {record.field('unit')} in {first},"
             said += f" and L of line {row.field('name')} is taken off the stock of the year before, which is zero"
             yield warn(record, f"{said} there; give the stock before the span as a negative figure")
+
+
+def stocks_before_in_later_years(results: Results) -> Iterator[Fault]:
+    """Stocks of the year before the span that are entered once more in later years, in each of which they are taken
+    off again.
+    """
+    for row in results.lines:
+        bindings = results.bindings(row.field("name"))
+        gain, loss = bindings.get("G"), bindings.get("L")
+        if row.field("value") != "Q83" or gain is None or loss is None or gain.field("value") != "prev":
+            continue
+        later = [year for year in results.years[1:] if results.taken(loss, year)]
+        record = results.record(loss, later[0]) if later else None
+        if record and results.taken(loss, results.years[0]):
+            said = f"{loss.field('value')} {record.field('name')} is {record.field('value')} {record.field('unit')} in"
+            said += f" {years_said(later)}, and L of line {row.field('name')} is the stock before the span, which is of"
+            yield warn(record, f"{said} {results.years[0]} alone; enter 0 from {results.years[1]} on")
 
 
 def fuel_of_others_at_bunkers(results: Results) -> Iterator[Fault]:
@@ -450,6 +475,10 @@ RECOGNISERS: tuple[Recogniser, ...] = (
         stocks_added_before, "the stock before the span with the wrong sign",
         example=GRASS.format(""), right=GRASS.format("-"),
         says="activity STOCK.FIRST is 4650 GgC in 2019, and L of line BEFORE is taken off"),
+    Recogniser(
+        stocks_before_in_later_years, "the stock before the span once more in later years",
+        example=GRASS.format("-").replace("FIRST,2020,0", "FIRST,2020,-4650"), right=GRASS.format("-"),
+        says="activity STOCK.FIRST is -4650 GgC in 2020, and L of line BEFORE is the stock before the span"),
     Recogniser(
         fuel_of_others_at_bunkers, "fuel of fishing vessels and of armed forces at international bunkers",
         example=SHIPS.format("MB", "FISHING"), right=SHIPS.format("MB", "TANKERS"),

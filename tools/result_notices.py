@@ -84,6 +84,13 @@ def said_of_negative(results: Results, row: Row, years: list[int]) -> str:
     more = f", and in {counted(len(years) - 1, 'more year')}" if len(years) > 1 else ""
     cause = f"line {name} is below zero: {value} {what} in {years[0]}{more}"
     bindings = results.bindings(name)
+    off_one = re.search(r"\(1 - \(([A-Z +]+)\)\)", equation["expression"])
+    if off_one:
+        shares = [bindings[parameter] for parameter in off_one.group(1).split(" + ") if parameter in bindings]
+        size = sum((results.taken(bound, years[0]) or ZERO for bound in shares), ZERO)
+        named = listed([f"{bound.field('name')} ({bound.field('low')})" for bound in shares
+                        if bound.field("value") == "factor"], "and")
+        cause += f"; {named}, which are taken off one, are {plain(size)} together: are they what is left?"
     for parameter in re.findall(r"(?<!1 )- ([A-Z][A-Z0-9]*)", equation["expression"]):
         taken = results.taken(bindings[parameter], years[0]) if parameter in bindings else None
         if taken:

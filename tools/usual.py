@@ -19,6 +19,7 @@ CO2_OF_FUELS = Range(Number(37000), Number(300000), (), "Volume 2, Table 1.4")
 ENERGY_OF_FUELS = Range(Number(1), Number(150), (), "Volume 2, Table 1.2, and hydrogen")
 CARBON_IN_CO2 = Number(12) / Number(44)
 HUNDREDTHS = Number("0.01")
+FUELS_SHOWN = 3
 # The tables of CH4 and N2O of fuels burnt, and those of enteric fermentation.
 OTHER_GASES = ("volume-2-table-2.2", "volume-2-table-2.3", "volume-2-table-2.4", "volume-2-table-2.5",
                "volume-2-table-3.2.2")
@@ -80,9 +81,10 @@ def usual(results: Results, line: Row, parameter: str, bound: Row) -> Usual | No
     """What is usual of what a parameter of a line takes, or None where nothing is known."""
     measures = vocabulary.parameters_of(line.field("value"))[parameter]["measures"]
     said = names(results, line, bound)
-    row = usual_row(line, parameter, sum(said, []))
+    of_takers = animals_of(said[0] + said[1]) if said[2] else ()
+    row = usual_row(line, parameter, sum(said[:2] if of_takers else said, []))
     if row:
-        animals = animals_of(sum(said, [])) if set(row["words"].split()) & set(ANIMALS) else ()
+        animals = (of_takers or animals_of(said[2])) if set(row["words"].split()) & set(ANIMALS) else ()
         of = f"{parameter} of {line.field('value')}" + (f" for {' or '.join(animals).lower()}" if animals else "")
         return Usual(range_of(row), of, Number(row["margin"] or MARGIN), named=animals)
     if measures == "net calorific value":
@@ -145,8 +147,9 @@ def default_of_fuel(figure: Number, measures: str, gas: str | None, known: Usual
         return None
     if figure in known.range.defaults:
         return None
-    names = [name for name, each in rows_of(table).items() if value.quantize(HUNDREDTHS) in each.defaults]
-    return names[0].split(".", 1)[1].replace(".", " ").lower() if names else None
+    names = [name.split(".", 1)[1].replace(".", " ").lower() for name, each in rows_of(table).items()
+             if value.quantize(HUNDREDTHS) in each.defaults]
+    return vocabulary.listed(names[:FUELS_SHOWN]) if names else None
 
 
 def of_other_gas(gas: str, said: list[list[str]], category: str) -> Usual:
@@ -202,8 +205,10 @@ def animals_in(name: str) -> tuple[str, ...]:
 
 
 def of_animals(said: list[list[str]]) -> Usual | None:
-    """The emission factor of enteric fermentation of the animals that names speak of, or None."""
-    animals = animals_of(sum(said, []))
+    """The emission factor of enteric fermentation of the animals that names speak of, or None: those of what
+    takes a factor before its own.
+    """
+    animals = animals_of(said[0] + said[1]) or animals_of(said[2])
     tables = [usual_of(table, enteric(table, animals)) for table in ENTERIC]
     known = [each for each in tables if each]
     return Usual(together(known), " and ".join(animals).lower(), MARGIN, named=animals) if known else None
@@ -214,8 +219,8 @@ def enteric(table: str, animals: tuple[str, ...]) -> list[str]:
     return [name for name in rows_of(table) if name.split(".")[1] in animals]
 
 
-def default_of_animals(figure: Number, others_than: tuple[str, ...] = ()) -> str | None:
-    """An animal, but for some, of whose enteric fermentation a figure is a default, or None."""
-    found = [name.split(".")[1] for table in ENTERIC for name, each in rows_of(table).items()
-             if figure in each.defaults and name.split(".")[1] not in others_than]
+def default_of_animals(figure: Number, animals: tuple[str, ...]) -> str | None:
+    """One of some animals of whose enteric fermentation a figure is a default, or None."""
+    found = [name.split(".")[1] for table in ENTERIC for name in enteric(table, animals)
+             if figure in rows_of(table)[name].defaults]
     return found[0].lower() if found else None
