@@ -6,7 +6,6 @@ each fault is one that the program found.
 """
 import collections
 import itertools
-from collections.abc import Callable
 
 from tools import bindings, explain, headers, limit_faults
 from tools.after import After
@@ -16,6 +15,7 @@ from tools.book import Book
 from tools.faults import Fault, Rewritten, counted
 from tools.mending import Cures
 from tools.program import Program, Reply
+from tools.progress import Progress
 from tools.record_faults import exists
 from tools.refused import Refused
 from tools.sheets import COLUMNS, COLUMNS_OF_KEY, Key, Row, Sheet, joined
@@ -59,17 +59,18 @@ class Check:
     def __init__(self, program: Program, sheets: list[Sheet]) -> None:
         self.program, self.sheets = program, sheets
         self.book, self.refused, self.ahead = Book(), Refused(), Ahead(sheets)
-        self.applied = Applied(self.book)
+        self.applied, self.progress = Applied(self.book), Progress([], True)
         self.faults: list[Fault] = []
         self.left: list[Sheet] = []
         self.lost: list[Row] = []
         self.cures = Cures()
         self.clean: dict[int, Row] = {}
 
-    def run(self, before: Callable[[Sheet], None] = lambda sheet: None) -> None:
-        """Checks all files. Something may be done before each."""
+    def run(self, progress: Progress | None = None) -> None:
+        """Checks all files, and shows how far this has come."""
+        self.progress = progress or self.progress
         for sheet in self.sheets:
-            before(sheet)
+            self.progress.before(sheet)
             self.ahead.next_file()
             self.add(sheet)
 
@@ -184,6 +185,7 @@ class Check:
         that follow.
         """
         at = reply.row
+        self.progress.within(at or 0)
         asking = self.asking(self.book_behind(rows[1:at]))
         front, rows = rows[:at], self.alone(rows[at:], reply, asking)
         if reply.rule in OF_THE_ROW_ALONE:

@@ -10,8 +10,8 @@ import typing
 from collections.abc import Callable, Iterable
 
 from tools import as_json, check, compare, complete, completion, from_sheets, gathered, import_sheet
-from tools import mending, missing, new_folder, report, send, service_notices, tables, template, trace
-from tools import vocabulary, wordlist
+from tools import mending, missing, new_folder, report, row_templates, send, service_notices, tables
+from tools import template, trace, vocabulary, wordlist
 from tools.faults import in_order
 from tools.progress import Progress
 from tools.program import Program, ProgramFailed, found_program
@@ -182,6 +182,7 @@ def add_report(commands: Commands) -> None:
     made = command(commands, "report", what, "examples/fuel-combustion 2020 -o report.html", report.run)
     report.add_words(made)
     made.add_argument("--program", metavar="PATH", help=PROGRAM)
+    made.add_argument("--quiet", action="store_true", help="say nothing of progress")
 
 
 def add_words(commands: Commands) -> None:
@@ -189,7 +190,9 @@ def add_words(commands: Commands) -> None:
     what = "search units, categories, equations and parameters by any word of their names"
     made = command(commands, "words", what, "equations nitric", run_words)
     words = f"optionally one of {', '.join(wordlist.PARTS)}; then words that all have to be found"
-    completion.complete(made.add_argument("words", nargs="*", metavar="WORD", help=words), wordlist.PARTS)
+    found = made.add_argument("words", nargs="*", metavar="WORD", help=words)
+    completion.complete(found, wordlist.PARTS)
+    completion.complete_after(found, {"templates": list(row_templates.TEMPLATES)})
     file = "make a file .xlsx with empty sheets of rows and lists to choose words from"
     made.add_argument("--template", metavar="FILE", type=xlsx_path, help=file)
 
@@ -281,8 +284,9 @@ def run_check(arguments: argparse.Namespace) -> int:
     sheets, left = sheets_of(arguments)
     if arguments.mend:
         mending.places(arguments.mend, arguments.folders)
-    with Program(found_program(arguments.program)) as program:
-        checked = checked_of(program, sheets, arguments.quiet)
+    with Program(found_program(arguments.program)) as program, Progress(sheets, arguments.quiet) as progress:
+        checked = checked_of(program, sheets, progress)
+        progress.after("warnings")
         warnings = [] if arguments.no_warnings else warnings_of(program, checked)
         is_whole = arguments.all or arguments.json
         largest = [] if is_whole else gathered.largest(warnings, checked.book, program)
@@ -303,16 +307,15 @@ def run_check(arguments: argparse.Namespace) -> int:
     return 1 if faults else 0
 
 
-def checked_of(program: Program, sheets: list[Sheet], quiet: bool) -> check.Check:
+def checked_of(program: Program, sheets: list[Sheet], progress: Progress) -> check.Check:
     """The check of all files. If the program fails, the faults up to there are printed."""
-    checked, progress = check.Check(program, sheets), Progress(sheets, quiet)
+    checked = check.Check(program, sheets)
     try:
-        checked.run(progress.before)
+        checked.run(progress)
     except ProgramFailed:
+        progress.clear()
         print_all(in_order(checked.faults, sheets))
         raise
-    finally:
-        progress.clear()
     return checked
 
 

@@ -13,11 +13,13 @@ import sys
 from collections.abc import Iterator
 from typing import Any
 
+from tools import vocabulary
 from tools.book import KIND_TAKEN, Book, book_of
 from tools.complete import Taking
 from tools.faults import counted, years_said
 from tools.printed import Printed, by_size, difference, figure, percent
 from tools.program import Program, found_program
+from tools.results import figure_of
 from tools.sheets import FolderFault, Key, Row, Sheet, read_folders
 from tools.store import submissions
 from tools.tables import say_lacking, submit_all
@@ -112,16 +114,25 @@ def differences(before: list[dict[str, str]], after: list[dict[str, str]],
     return by_size(found, "difference")
 
 
-def lines_of(printed: Printed, year: int) -> list[dict[str, str]]:
-    """The lines that emit a gas: those of the tree by their equivalents, and the others by their gas."""
+def gases_with_potential(states: tuple[State, State], year: int) -> set[str]:
+    """The gases whose potential is above zero in a year of a state, so that they have equivalents there."""
+    found = ((gas, state.book.in_force("factor", f"GWP.{gas}", year)) for state in states
+             for gas in vocabulary.gases())
+    return {gas for gas, row in found if row and figure_of(row)}
+
+
+def lines_of(printed: Printed, year: int, gases: set[str]) -> list[dict[str, str]]:
+    """The lines that emit a gas: those of the tree by their equivalents where their gas is one of some, and
+    the others by their gas.
+    """
     equivalents = printed.equivalents(year)
     found = []
     for row in printed.rows("cells", year):
         if row["gas"] != "-":
-            of_tree = row["code"] in equivalents
+            of_tree = row["code"] in equivalents and row["gas"] in gases
             found.append({"line": row["code"], "category": row["category"], "gas": row["gas"],
                           "unit": "Gg of CO2 equivalent" if of_tree else f"Gg of {row['gas']}",
-                          "value": equivalents.get(row["code"], row["value"])})
+                          "value": equivalents[row["code"]] if of_tree else row["value"]})
     return found
 
 
@@ -174,7 +185,9 @@ def said_of(row: Any) -> str:
 def of_year(states: tuple[State, State], graphs: tuple[Changed, Changed], year: int) -> dict[str, Any]:
     """What differs in a year: the categories, their gases, the lines, and the rows."""
     old, new = (state.printed for state in states)
-    lines = differences(lines_of(old, year), lines_of(new, year), ["line", "category", "gas", "unit"])
+    with_potential = gases_with_potential(states, year)
+    lines = differences(lines_of(old, year, with_potential), lines_of(new, year, with_potential),
+                        ["line", "category", "gas", "unit"])
     categories = differences(old.rows("summary", year), new.rows("summary", year), ["category"])
     gases = differences(old.rows("checks", year), new.rows("checks", year), ["category", "gas"])
     rows = rows_of(lines, states, graphs, year)

@@ -15,6 +15,7 @@ SCRIPT = """{front}_workbook() {{
     done
     case "$command $option $((COMP_CWORD - at))" in
 {values}
+{files}
     esac
     if [[ -z $known ]]; then
         case $command in
@@ -40,6 +41,11 @@ def complete(action: argparse.Action, words: list[str]) -> None:
     vars(action)["completes"] = words
 
 
+def complete_after(action: argparse.Action, words: dict[str, list[str]]) -> None:
+    """Says which words may stand behind some of the words of an argument."""
+    vars(action)["completes_after"] = words
+
+
 def words_of(action: argparse.Action) -> list[str]:
     """The words that may stand for an argument, or nothing if any may."""
     return [str(word) for word in getattr(action, "completes", None) or action.choices or []]
@@ -57,6 +63,15 @@ def values_of(name: str, command: argparse.ArgumentParser) -> typing.Iterator[st
             place = "*" if action.nargs == "+" else "1"
             for option in action.option_strings:
                 yield branch(f'"{name} {option} "{place}', words_of(action))
+        for word, others in getattr(action, "completes_after", {}).items():
+            yield branch(f'"{name} {word} "*', others)
+
+
+def files_of(commands: dict[str, argparse.ArgumentParser]) -> str:
+    """The branch of the options that take a text of their own: the shell itself completes files there."""
+    free = [f'"{name} {option} 1"' for name, command in commands.items() for action in command._actions
+            if action.nargs != 0 and not words_of(action) for option in action.option_strings]
+    return f"        {'|'.join(free)}) COMPREPLY=(); return ;;"
 
 
 def options_of(name: str, command: argparse.ArgumentParser) -> str:
@@ -71,5 +86,5 @@ def script(shell: str, parser: argparse.ArgumentParser) -> str:
     commands = commands_of(parser)
     values = [branch for name, command in commands.items() for branch in values_of(name, command)]
     options = [options_of(name, command) for name, command in commands.items()]
-    return SCRIPT.format(front=SHELLS[shell], values="\n".join(values), options="\n".join(options),
-                         commands=shlex.quote(" ".join(commands)))
+    return SCRIPT.format(front=SHELLS[shell], values="\n".join(values), files=files_of(commands),
+                         options="\n".join(options), commands=shlex.quote(" ".join(commands)))

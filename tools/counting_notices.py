@@ -1,7 +1,6 @@
 """Warnings of what is counted twice, in the wrong place or not at all: quantities that two lines take, shares
 above one, a line beside its parts, and bunkers and biomass in national totals.
 """
-import collections
 import decimal
 import functools
 import re
@@ -212,22 +211,22 @@ def years_above_one(results: Results, bindings: list[Row]) -> dict[int, decimal.
 
 
 class Group:
-    """Lines that may be the parts of another one, with what they take together and how many of them take
-    something, by year.
-    """
+    """Lines that may be the parts of another one, with what each of them takes."""
 
     def __init__(self) -> None:
         self.lines: dict[int, Row] = {}
-        self.amounts: Amounts = {}
-        self.counts: collections.Counter[int] = collections.Counter()
+        self.of_lines: list[Amounts] = []
 
     def add(self, line: Row, amounts: Amounts) -> None:
         """Adds a line."""
         self.lines[id(line)] = line
-        for year, amount in amounts.items():
-            if amount:
-                self.amounts[year] = self.amounts.get(year, ZERO) + amount
-                self.counts[year] += 1
+        self.of_lines.append(amounts)
+
+    @functools.cached_property
+    def amounts(self) -> Amounts:
+        """What the lines take together in each year in which all of them take something."""
+        years = [year for year in self.of_lines[0] if all(amounts.get(year) for amounts in self.of_lines)]
+        return {year: sum((amounts[year] for amounts in self.of_lines), ZERO) for year in years}
 
 
 def whole_beside_parts(results: Results) -> list[Fault]:
@@ -302,7 +301,7 @@ def years_of_whole(row: Row, own: Amounts, group: Group) -> list[int]:
         return []
     years, others_apart = [], 0
     for year, amount in own.items():
-        if not amount or group.counts[year] < len(group.lines):
+        if not amount or year not in group.amounts:
             continue
         others = group.amounts[year] - amount if is_in else group.amounts[year]
         if abs(others - amount) > APART * abs(amount):

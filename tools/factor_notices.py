@@ -66,9 +66,11 @@ def unusual_factors(results: Results) -> list[Fault]:
         if known is None or not results.is_own(bound) or is_of_another_gas(line, bound):
             continue
         measures = vocabulary.parameters_of(line.field("value"))[parameter]["measures"]
+        figure: Number | None = None
         for year in results.years:
-            figure = results.taken(bound, year)
-            odd = Odd(figure, known, line, parameter, measures, gas_of(line)) if figure else None
+            before, figure = figure, results.taken(bound, year)
+            is_new = figure and figure is not before
+            odd = Odd(figure, known, line, parameter, measures, gas_of(line)) if figure and is_new else None
             if odd and is_odd(odd):
                 row = results.record(bound, year) or bound
                 if not is_told_or_measured(results, line, parameter, odd.figure):
@@ -251,6 +253,9 @@ def activities_by_a_ratio(results: Results) -> list[Fault]:
     found = []
     for name, years in sorted(results.book.years["activity"].items()):
         rows = [row for year, row in sorted(years.items()) if NUMBER.fullmatch(row.field("value"))]
+        sizes = [abs(figure) for figure in map(figure_of, rows) if figure]
+        if not sizes or max(sizes) < LEAST_OF_THESE * min(sizes):
+            continue
         times = [times_of(one, other) for one, other in zip(rows, rows[1:])]
         jumps = [at for at, size in enumerate(times) if fitting(rows[at], size)]
         others = [size for at, size in enumerate(times) if at not in jumps]

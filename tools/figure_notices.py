@@ -158,6 +158,9 @@ def hundredfold(records: list[Records]) -> Iterator[Fault]:
     for kind, name, _, rows in records:
         numbers = [row for row in rows if NUMBER.fullmatch(row.field("value"))] if kind == "activity" else []
         known = [figure_of(row) or ZERO for row in numbers]
+        sizes = [abs(figure) for figure in known]
+        if not sizes or max(sizes) < 100 * min(sizes):
+            continue
         for at, (one, other) in enumerate(zip(known, known[1:])):
             least, most = sorted((abs(one), abs(other)))
             if one * other > 0 and most >= 100 * least:

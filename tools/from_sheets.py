@@ -20,7 +20,7 @@ from tools.whole_files import differs, write_whole
 NO_TEXTS = {
     DATE: "a date, which the spreadsheet made of what was typed; write a year as 2020, and a number as one",
     TRUTH: "a truth value; write a text or a number",
-    ERROR: "an error of the spreadsheet; write the figure, or a notation key",
+    ERROR: "an error of the spreadsheet; write the figure, a notation key or the text that is meant",
     UNSAVED: "a formula whose value the file does not have; open the file in a spreadsheet, and save it",
 }
 PERCENTAGE = "shown as a percentage, so that the cell has {}, and the row needs percent; write {}"
@@ -28,6 +28,8 @@ NO_PERCENTAGE = "shown as a percentage, and its unit is no ratio; write the figu
 FIGURES = ("value", "low", "high")
 # So many headings of a row make it a header.
 HEADINGS = 4
+SECOND_HEADER = "a second header; take this row out"
+OTHER_HEADINGS = "a second header in other words: it has no act, no kind and no year; take this row out"
 
 
 class Rows:
@@ -96,10 +98,18 @@ class Rows:
 
     def is_header(self, row: int, cells: dict[int, Cell]) -> bool:
         """Tells whether a row is a header once more, which is a fault."""
-        if sum(plain(cell) in COLUMNS for cell in cells.values()) < HEADINGS:
+        is_same = sum(plain(cell) in COLUMNS for cell in cells.values()) >= HEADINGS
+        if not is_same and not self.has_other_headings(cells):
             return False
-        self.fault(row, min(cells), "a second header; take this row out")
+        self.fault(row, min(cells), SECOND_HEADER if is_same else OTHER_HEADINGS)
         return True
+
+    def has_other_headings(self, cells: dict[int, Cell]) -> bool:
+        """Tells whether a row has headings in other words: no act, no kind, and words in place of a year."""
+        words = vocabulary.words()
+        act, kind, year = (plain(cells.get(self.column_of.get(name, 0), spreadsheet.EMPTY))
+                           for name in ("act", "kind", "year"))
+        return bool(year) and not re.search(r"\d", year) and act not in words["acts"] and kind not in words["kinds"]
 
     def read_row(self, row: int, cells: dict[int, Cell]) -> None:
         """Reads a row, if it has a cell in a column of the header."""
@@ -111,7 +121,7 @@ class Rows:
         """What stands in a column of a row, as it is written."""
         column = self.column_of.get(name, 0)
         cell = cells.get(column, spreadsheet.EMPTY)
-        if cell.kind in NO_TEXTS and name != "note":
+        if cell.kind in NO_TEXTS and (name != "note" or cell.kind in (ERROR, UNSAVED)):
             self.fault(row, column, NO_TEXTS[cell.kind])
         if cell.is_percentage and name in FIGURES:
             self.look_at_percentage(row, column, cells)

@@ -42,7 +42,7 @@ def headers_alone(sheets: list[Sheet]) -> list[Fault]:
 def rows_in_quotes(sheets: list[Sheet]) -> list[Fault]:
     """Rows in which a closed quote holds what looks like further rows."""
     cause = "what looks like further rows stands in quotes, and counts as text"
-    rows = (row for sheet in sheets for row in headers.close_quotes(sheet)[1])
+    rows = (row for sheet in sheets if b'"' in sheet.data for row in headers.close_quotes(sheet)[1])
     return [warn(row, cause) for row in rows if headers.holds_rows(row)]
 
 

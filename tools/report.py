@@ -19,6 +19,7 @@ from tools.given_away import warnings_of
 from tools.notices import warn_left
 from tools.printed import BLANK, Printed, Row, by_size, difference, figure, percent
 from tools.program import Program, found_program
+from tools.progress import Progress
 from tools.sheets import FolderFault, Sheet, read_folders
 from tools.trace import Tracer, conversion, is_in, is_under, said_of_category
 from tools.variants import Variants, gases_of
@@ -109,25 +110,32 @@ class Tables:
                              inventory.years)
         self.pairs = {code: [pair for pair in self.states if is_in(pair[0], code)] for code in self.codes}
 
-    def keys(self, code: str, year: int, gas: str = "") -> list[str]:
-        """The states of a year of the categories at a code or under it, of those that have lines of a gas."""
+    def keys(self, code: str, year: int, gas: str = "", as_mass: bool = False) -> list[str]:
+        """The states of a year of the categories at a code or under it, of those that have lines of a gas. As
+        an equivalent a gas without a potential is not estimated.
+        """
         at = year - self.inventory.years[0]
-        return [self.states[pair][at] for pair in self.pairs[code] if gas in ("", pair[1])]
+        pairs = [pair for pair in self.pairs[code] if gas in ("", pair[1])]
+        return [self.states[pair][at] if as_mass or self.has_potential(pair[1], year) else BLANK for pair in pairs]
 
-    def keyed(self, shown: Cell, code: str, year: int, gas: str = "") -> Cell:
-        """A figure of a code, or the notation keys where no line has a value."""
-        keys = self.keys(code, year, gas)
-        return Cell(said_of_keys(keys)) if keys and "E" not in keys and figure(shown.text) == 0 else shown
+    def has_potential(self, gas: str, year: int) -> bool:
+        """Tells whether a potential of a gas is in force in a year."""
+        return self.inventory.book.in_force("factor", f"GWP.{gas}", year) is not None
+
+    def keyed(self, shown: Cell, code: str, year: int, gas: str = "", as_mass: bool = False) -> Cell:
+        """A figure of a code, or the notation keys where no line has a value, or where there is no line."""
+        keys = self.keys(code, year, gas, as_mass) or [BLANK]
+        return Cell(said_of_keys(keys)) if "E" not in keys and figure(shown.text) == 0 else shown
 
     def of_gas(self, code: str, gas: str, as_mass: bool) -> Cell:
         """The total of a code of one gas, or a notation key where nothing was estimated, or nothing."""
-        keys = self.keys(code, self.year, gas)
+        keys = self.keys(code, self.year, gas, as_mass)
         if not keys:
             return Cell("")
         form = "mass" if as_mass else "equivalent"
         row = self.gases[gas][as_mass][self.year][code]
         shown = cell(row, "value", f"{form}:{gas}", self.year, "category")
-        keyed = self.keyed(shown, code, self.year, gas)
+        keyed = self.keyed(shown, code, self.year, gas, as_mass)
         return keyed if keyed is not shown else dataclasses.replace(shown, keys=said_of_keys(keys))
 
     def by_gas(self, as_mass: bool) -> list[tuple[str, list[Cell]]]:
@@ -256,7 +264,8 @@ class Drawings:
         """Areas of the gases without land over the years, with the net and the gross total."""
         parts = [self.series(gas, [float(of[False][year][GROSS]["value"]) for year in self.years])
                  for gas, of in self.tables.gases.items()]
-        return str(self.made.areas(self.years, parts, self.totals(), EQUIVALENT))
+        return str(self.made.areas(self.years, [part for part in parts if any(part.figures)], self.totals(),
+                                   EQUIVALENT))
 
     def key_categories(self, rows: list[dict[str, Cell]]) -> str:
         """The shares of key categories; nothing where no share is defined."""
@@ -321,10 +330,12 @@ def gases_apart(path: str, inventory: Inventory) -> tuple[dict[str, Any], dict[s
         return gases, variants.without_land(inventory.year, ("level", "trend"))
 
 
-def page_of(inventory: Inventory, path: str, title: str) -> str:
+def page_of(inventory: Inventory, path: str, title: str, progress: Progress) -> str:
     """The page of an inventory."""
     jinja2 = needed("jinja2")
+    progress.after("each gas alone, and all without land")
     gases, without_land = gases_apart(path, inventory)
+    progress.after("tables and pictures")
     tables = Tables(inventory, gases)
     made = jinja2.Environment(loader=jinja2.FileSystemLoader(TEMPLATES), autoescape=True, trim_blocks=True,
                               lstrip_blocks=True, undefined=jinja2.StrictUndefined)
@@ -375,18 +386,20 @@ def run(arguments: argparse.Namespace) -> int:
     path = found_program(arguments.program)
     folders, year = read_words(arguments.words)
     sheets, left = read_folders(folders)
-    with Program(path) as program:
+    with Program(path) as program, Progress(sheets, arguments.quiet) as progress:
         checked = check.Check(program, sheets)
-        checked.run()
+        checked.run(progress)
+        progress.after("warnings")
         span = checked.book.span
         lacking = said_of_faults(checked.faults, folders) or said_of_span(span, year)
         if lacking:
+            progress.clear()
             print(f"./workbook: {lacking}", file=sys.stderr)
             return 1
         inventory = Inventory(sheets, checked.book, Printed(program), list(warned(program, checked, left)),
                               year or checked.book.known_span()[1])
         named = " ".join(pathlib.Path(folder).name for folder in folders)
-        text = page_of(inventory, path, arguments.title or named)
+        text = page_of(inventory, path, arguments.title or named, progress)
     write(output, text)
     print(f"{output}: {inventory.year}, {len(inventory.book.lines)} lines", file=sys.stderr)
     return 0
@@ -411,7 +424,7 @@ def said_of_span(span: tuple[int, int] | None, year: int | None) -> str:
 
 def add_words(made: argparse.ArgumentParser) -> None:
     """Adds the words of the command."""
-    made.usage = "./workbook report [--title TEXT] [--program PATH] FOLDER.. [YEAR] -o FILE"
+    made.usage = "./workbook report [--title TEXT] [--program PATH] [--quiet] FOLDER.. [YEAR] -o FILE"
     what = "the folders, and the year of the report; without it the last year of the span"
     made.add_argument("words", nargs="+", metavar="FOLDER", help=what)
     made.add_argument("-o", "--output", required=True, metavar="FILE", help="the file to write")

@@ -106,6 +106,8 @@ def blank_between(results: Results) -> list[Fault]:
         known = results.series(name)
         blank = [year for year in results.years if known and min(known) < year < max(known)
                  and year not in known]
+        if not blank:
+            continue
         for bound in results.bindings(name).values():
             record = record_taken_by(bound)
             if record and any(is_not_estimated(results.record(bound, year)) for year in blank):
@@ -136,6 +138,8 @@ def approaches_apart(results: Results) -> list[Fault]:
     """
     of_co2 = [row for row in results.emitting if gas_of(row) == "CO2"]
     rows = [row for row in of_co2 if row.field("subject") == "RA"]
+    if not rows:
+        return []
     burnt = [row for row in of_co2 if row.field("subject").startswith("1A")]
     kinds = {kind for row in rows for kind in kinds_of_fuels(results, row)}
     alike = [row for row in burnt if kinds & kinds_of_fuels(results, row)]
@@ -397,10 +401,13 @@ def apart(one: Row, other: Row) -> decimal.Decimal:
     """How much of the greater of two figures they are apart, but for a hundred times, which is told of by
     itself.
     """
-    figures = [abs(figure) for figure in (figure_of(one), figure_of(other)) if figure is not None]
-    if len(figures) < 2 or not any(figures) or max(figures) >= HUNDREDFOLD * min(figures) > 0:
+    figures = figure_of(one), figure_of(other)
+    if figures[0] is None or figures[1] is None:
         return ZERO
-    return (max(figures) - min(figures)) / max(figures)
+    least, most = sorted((abs(figures[0]), abs(figures[1])))
+    if not most or most >= HUNDREDFOLD * least > 0:
+        return ZERO
+    return (most - least) / most
 
 
 def whole_stock_at_first(results: Results) -> list[Fault]:

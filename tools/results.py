@@ -12,6 +12,8 @@ from tools.sheets import Row
 Figure = decimal.Decimal | None
 NUMBER = re.compile(r"-?\d+(\.\d+)?")
 ZERO = decimal.Decimal(0)
+# The columns of values in the tables that the program prints.
+VALUE_OF_CELL, VALUE_OF_UNCERTAINTY = 5, 3
 
 
 class Results:
@@ -24,18 +26,18 @@ class Results:
         self.years = range(book.span[0], book.span[1] + 1) if book.span else range(0)
         self.cells: dict[tuple[str, int], Figure] = {}
         for year in self.years:
-            for fields in self.table("cells", year):
-                self.cells[fields[0], year] = printed(fields[5])
+            self.cells.update(((line, year), value) for line, value in self._column("cells", year, VALUE_OF_CELL))
 
-    @functools.cache
-    def table(self, name: str, year: int) -> list[list[str]]:
-        """The fields of each row of a table, or none where the program has no such table."""
-        return [line.split(",") for line in (self._program.show(name, year) or [])[1:]]
+    def _column(self, table: str, year: int, column: int) -> list[tuple[str, Figure]]:
+        """The first field of each row of a table, with the value in a column."""
+        lines = (self._program.show(table, year) or [])[1:]
+        fields = (line.split(",", column + 1) for line in lines)
+        return [(row[0], printed(row[column])) for row in fields]
 
     @functools.cache
     def equivalents(self, year: int) -> dict[str, Figure]:
         """What each line emits in a year in Gg of CO2 equivalent."""
-        return {fields[0]: printed(fields[3]) for fields in self.table("uncertainty", year)}
+        return dict(self._column("uncertainty", year, VALUE_OF_UNCERTAINTY))
 
     @functools.cached_property
     def lines(self) -> list[Row]:
@@ -63,6 +65,9 @@ class Results:
     def taken(self, bound: Row, year: int) -> Figure:
         """What a parameter takes in a year."""
         form = bound.field("value")
+        if form in ("activity", "factor"):
+            record = self.records(form, bound.field("low")).get(year)
+            return figure_of(record) if record else None
         if form == "key":
             return None if bound.field("low") == "NE" else ZERO
         if form == "prev" and year == self.years[0]:
@@ -70,8 +75,7 @@ class Results:
         if form in ("line", "prev", "sum"):
             at = year - 1 if form == "prev" else year
             return total(self.cells.get((line, at)) for line in lines_taken_by(bound))
-        record = self.record(bound, year)
-        return figure_of(record) if record else None
+        return None
 
     def record(self, bound: Row, year: int) -> Row | None:
         """The record that a binding takes in a year, or None where it takes no figure or there is none."""
@@ -82,8 +86,11 @@ class Results:
     @functools.cache
     def records(self, kind: str, name: str) -> dict[int, Row]:
         """The record that an activity or a factor has in each year of the span that it has one in."""
-        found = ((year, self.book.in_force(kind, name, year)) for year in self.years)
-        return {year: row for year, row in found if row}
+        found: dict[int, Row] = {}
+        for start, row in sorted(self.book.years[kind].get(name, {}).items()):
+            until = self.years[-1] if kind == "factor" else min(start, self.years[-1])
+            found.update(dict.fromkeys(range(max(start, self.years[0]), until + 1), row))
+        return found
 
     @functools.cache
     def below(self, line: str) -> list[str]:
@@ -128,8 +135,7 @@ def figure_of(record: Row) -> Figure:
     if not NUMBER.fullmatch(text):
         return None if text == "NE" else ZERO
     unit = vocabulary.units()[record.field("unit")]
-    over, under = decimal.Decimal(unit["over"]), decimal.Decimal(unit["under"])
-    return decimal.Decimal(text) * over / under
+    return decimal.Decimal(text) * unit["over"] / unit["under"]
 
 
 def gas_of(line: Row) -> str | None:

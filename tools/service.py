@@ -3,7 +3,6 @@ from __future__ import annotations
 
 import base64
 import datetime
-import http.client
 import json
 import re
 import typing
@@ -48,6 +47,7 @@ class Service:
 
     def ask(self, method: str, path: str, body: bytes | None = None) -> Answer:
         """The answer to a request. One that does not come whole is an OSError."""
+        import http.client  # here alone, since it takes longer than the other modules together
         kind = http.client.HTTPSConnection if self.is_secure else http.client.HTTPConnection
         link = kind(self.host, self.port, timeout=self.seconds)
         try:

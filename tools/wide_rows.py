@@ -36,6 +36,13 @@ NO_FIGURES = {
     ERROR: "an error of the spreadsheet in place of a number; write the number, or a notation key",
     UNSAVED: "a formula whose value the file does not have; open the file in a spreadsheet, and save it",
 }
+# Why a cell of these kinds is no text beside figures.
+NO_WORDS = {ERROR: "an error of the spreadsheet in place of a text; write the text, or clear the cell",
+            UNSAVED: NO_FIGURES[UNSAVED]}
+# Words without a digit.
+WORDS = re.compile(r"(?=.*[^\W\d_])\D*", re.DOTALL)
+OTHER_HEADINGS = ("words under the years in place of figures; take a second row of headings out, and write a figure "
+                  "or a notation key elsewhere")
 NO_TABLE = "no table with a column or a row for each year, as 1990, 1991 and 1992 side by side"
 TWO_YEARS = "two years in one heading; write one of them, in all headings the first or in all the second"
 MERGED = "one figure in merged cells; write a figure in each cell"
@@ -215,6 +222,11 @@ class Reader:
         if is_header(cells, headings_of(cells)) and not self.unit(row, label, place)[3]:
             self.made.fault(place, FURTHER_YEARS, label)
             return
+        if self.are_words(row, columns):
+            self.made.fault(place, OTHER_HEADINGS, label)
+            return
+        if self.has_errors(row):
+            return
         if TOTAL.fullmatch(label.split("\n")[0].strip()):
             self.made.warn(place, "a row of totals is not read", label)
             return
@@ -234,6 +246,22 @@ class Reader:
             heading = self.table.years[column]
             at = heading.part if part == VALUE else part
             last.figures.setdefault(heading.year, {}).setdefault(at, (row, column))
+
+    def are_words(self, row: int, columns: list[int]) -> bool:
+        """Tells whether words stand under several years in place of figures and notation keys."""
+        cells = [self.grid.cell(row, column) for column in columns]
+        return len(cells) > 1 and all(cell.kind == TEXT and WORDS.fullmatch(cell.text)
+                                      and causes.notation_key(cell.text) not in vocabulary.words()["keys"]
+                                      for cell in cells)
+
+    def has_errors(self, row: int) -> bool:
+        """Tells each error of the spreadsheet beside the figures of a row, and whether there is one."""
+        places = [(row, column) for column, held in self.table.beside.items() if held != "unread"]
+        errors = [place for place in places if self.grid.cell(*place).kind in NO_WORDS]
+        for place in errors:
+            cell = self.grid.cell(*place)
+            self.made.fault(self.grid.place(*place), NO_WORDS[cell.kind], cell.text)
+        return bool(errors)
 
     def label(self, row: int) -> tuple[str, str]:
         """What names a row, the last of several labels first, and its place."""

@@ -124,6 +124,18 @@ national total in Gg of CO2 equivalent:
         self.assertIn("  SHIPS, MB, CO2, in Gg of CO2: 0.561 to 1.122, +0.561, 100.00 %\n",
                       self.compared(after, "1991"))
 
+    def test_a_gas_without_a_potential(self) -> None:
+        """In 1991 2 TJ at 1000 kg/TJ are 0.002 Gg of CH4, and 3 TJ 0.003 Gg."""
+        potential = "enter,factor,,GWP.CH4,1990,25,,,1,\n"
+        before = ROWS.replace(potential, "")
+        after = before + "correct,activity,,COKE,1991,3,,,TJ,the new survey\n"
+        said = self.compared(after, "1991", before=before)
+        self.assertIn("  COKE, 1A2, CH4, in Gg of CH4: 0.002 to 0.003, +0.001, 50.00 %\n", said)
+        self.assertIn("  activity COKE 1991: 2 TJ to 3 TJ; new/1.csv:28, before old/1.csv:24, \"the new survey\"\n",
+                      said)
+        self.assertIn("  COKE, 1A2, CH4, in Gg of CO2 equivalent: NE to 0.050, +0.050\n",
+                      self.compared(ROWS, "1991", before=before))
+
     def test_what_one_state_lacks(self) -> None:
         after = ROWS + ("withdraw,line,,COKE,,,,,,\nwithdraw,bind,COKE,FC,,,,,,\nwithdraw,bind,COKE,EF,,,,,,"
                         "closed\n")

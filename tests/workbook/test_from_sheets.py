@@ -39,6 +39,10 @@ TOLD: dict[str, tuple[Rows, str]] = {
     "an error": ([changed(value="#DIV/0!")], 'Data!F2 "#DIV/0!": an error of the spreadsheet'),
     "a formula never worked out": ([changed(value="=1+1")], 'Data!F2 "": a formula whose value'),
     "a truth value": ([changed(value=True)], 'Data!F2 "TRUE": a truth value'),
+    "an error in a note": ([changed(note="#REF!")], 'Data!J2 "#REF!": an error of the spreadsheet'),
+    "a second header in other words": (
+        [["Aktion", "Art", "Thema", "Name", "Jahr", "Wert", "von", "bis", "Einheit", "Notiz"], ROW],
+        'Data!A2 "Aktion": a second header in other words'),
     "two headers": ([ROW, COLUMNS, ROW], 'Data!A3 "act": a second header'),
 }
 

@@ -134,6 +134,12 @@ TOLD: dict[str, tuple[str, list[str], list[str]]] = {
         "sheet.csv!D2 warning: GAS has no figure of 1991; write it, or a notation key",
         "sheet.csv!C3 warning: GAS has no figure of 1990; write it, or a notation key"], [
         'sheet.csv!A3 "gas": gives the name GAS, as sheet.csv!A2 does; write another']),
+    "a second row of headings in other words": (
+        "Fuel,Unit,1990,1991\nBrennstoff,Einheit,Wert,Wert\nGas,TJ,1,2\n", [], [
+            'sheet.csv!A2 "Brennstoff": words under the years in place of figures; take a second row of headings '
+            'out, and write a figure or a notation key elsewhere']),
+    "an error in a note": ("Fuel,unit,1990,1991,Source\nGas,TJ,1,2,#REF!\n", [], [
+        'sheet.csv!E2 "#REF!": an error of the spreadsheet in place of a text; write the text, or clear the cell']),
     "errors, and what is no number": ("Fuel,unit,1990,1991,1992\nGas,TJ,#REF!,n/a,1\n", [], [
         'sheet.csv!C2 "#REF!": an error of the spreadsheet in place of a number; write the number, '
         "or a notation key",

@@ -1,6 +1,7 @@
 """`--json` prints for programs, `--quiet` leaves out what went well, and terminals show progress."""
 from __future__ import annotations
 
+import importlib.util
 import json
 import os
 import pathlib
@@ -10,10 +11,11 @@ import tempfile
 import typing
 import unittest
 
-from tests.workbook.running import HERE, PROGRAM, TOP, workbook
+from tests.workbook.running import HEADER, HERE, PROGRAM, TOP, workbook
 
 EXAMPLE = TOP / "examples/power-plants"
 HOW_TO = TOP / "examples/how-to"
+LIBRARIES = [name for name in ("jinja2", "matplotlib") if not importlib.util.find_spec(name)]
 
 
 def parsed(*words: typing.Any) -> dict[str, typing.Any]:
@@ -22,12 +24,14 @@ def parsed(*words: typing.Any) -> dict[str, typing.Any]:
     return found
 
 
-def on_a_terminal(*words: typing.Any) -> str:
+def on_a_terminal(*words: typing.Any, status: int = 0) -> str:
     """What a command says on standard error if that is a terminal; one without a byte fails to be read."""
     ours, theirs = pty.openpty()
     environment = {**os.environ, "GHG_PROGRAM": PROGRAM}
     command = [TOP / "workbook", *words]
-    subprocess.run(command, env=environment, stdout=subprocess.DEVNULL, stderr=theirs, check=True)
+    ran = subprocess.run(command, env=environment, stdout=subprocess.DEVNULL, stderr=theirs, check=False)
+    if ran.returncode != status:
+        raise AssertionError(f"status {ran.returncode}")
     os.close(theirs)
     try:
         return os.read(ours, 65536).decode("utf-8")
@@ -96,6 +100,23 @@ class Progress(unittest.TestCase):
             shown = on_a_terminal(*words)
             self.assertIn("\r3 of 4 files, 17 of 57 rows done: 3-stock.csv", shown)
             self.assertNotIn("files,", on_a_terminal(*words, "--quiet"))
+        self.assertIn("\r4 of 4 files, 57 of 57 rows done: warnings", on_a_terminal("check", HOW_TO))
+
+    def test_rows_are_counted_within_a_file(self) -> None:
+        with tempfile.TemporaryDirectory() as room:
+            wrong = "enter,activity,,GAS,2020,1 000,,,TJ,\n"
+            (pathlib.Path(room) / "1.csv").write_text(f"{HEADER}enter,span,,,2020,2020,2020,,,\n{wrong}")
+            shown = on_a_terminal("check", room, status=1)
+        self.assertIn("\r1 of 1 file, 2 of 2 rows done: 1.csv", shown)
+
+    @unittest.skipIf(LIBRARIES, f"not installed: {' '.join(LIBRARIES)}")
+    def test_a_report_shows_how_far_it_is(self) -> None:
+        with tempfile.TemporaryDirectory() as room:
+            words = ["report", HOW_TO, "-o", f"{room}/report.html"]
+            shown, quiet = on_a_terminal(*words), on_a_terminal(*words, "--quiet")
+        self.assertIn("\r3 of 4 files, 17 of 57 rows done: 3-stock.csv", shown)
+        self.assertIn("\r4 of 4 files, 57 of 57 rows done: tables and pictures", shown)
+        self.assertNotIn("files,", quiet)
 
     def test_nothing_is_shown_elsewhere(self) -> None:
         self.assertEqual(workbook("check", HOW_TO).stderr, "")

@@ -140,7 +140,8 @@ class Reports(unittest.TestCase):
         page, due = Page(self.page(*COUNTRY, "2020")), all_printed()
         wrong = [(of, text) for of, text in page.figures if due.get(of) != text]
         self.assertEqual(wrong, [])
-        self.assertEqual(page.others, [])
+        # sector 5 has no line
+        self.assertEqual(set(page.others), {"NE"})
         shown = {of for of, _ in page.figures}
         for name in ("summary 1990 0 value", "summary 2020 gross high", "cells 2020 POWER.COAL low",
                      "cells 2020 BUNKERS.JET value", "equivalent:CH4 2020 4A value", "mass:N2O 2020 3 value",
@@ -259,6 +260,30 @@ class Reports(unittest.TestCase):
             figures = dict(Page(self.page(room)).figures)
         shown = [figures[f"{form} 2020 0 value"] for form in ("mass:CH4", "mass:N2O", "equivalent:N2O")]
         self.assertEqual(shown, ["0.002", "0.006", "1.590"])
+        self.assertEqual([of for of in figures if of.startswith("equivalent:CH4")], [])
+
+    def test_no_equivalent_is_shown_without_a_potential(self) -> None:
+        """Of CH4 there is a mass alone; all that stands in Gg of CO2 equivalent is NE."""
+        rows = HEADER + ("enter,span,,,2019,2020,2019,,,\nenter,line,1A1a,GAS,,Q11,,,,\n"
+                         "enter,bind,GAS,FC,,activity,GAS,,,\nenter,bind,GAS,EF,,factor,EF,,,\n"
+                         "enter,factor,,EF,2019,1000,,,kg/TJ,\nenter,activity,,GAS,2019,2,,,TJ,\n"
+                         "enter,activity,,GAS,2020,2,,,TJ,\n")
+        with tempfile.TemporaryDirectory() as room:
+            (pathlib.Path(room) / "1.csv").write_text(rows)
+            page = self.page(room)
+        zeros = [of for of, text in Page(page).figures if text == "0.000"]
+        self.assertEqual(zeros, ["uncertainty 2019 total value", "uncertainty 2020 total value"])
+        self.assertIn("GAS CH4 0.002 Gg 0.002 to 0.002 1.csv:3", self.texts(page, "tree"))
+        self.assertIn("1A1a Main activity electricity and heat production NE NE NE NE",
+                      self.texts(page, "year"))
+        name = "1A1a Main activity electricity and heat production"
+        self.assertIn(f"GAS {name} CH4 NE NE", self.texts(page, "uncertainty"))
+
+    def test_a_sector_without_a_line_is_not_estimated(self) -> None:
+        page = self.page("examples/how-to", "2019")
+        for part in ("year", "totals", "trend-table"):
+            self.assertRegex(self.texts(page, part), r"\b4 Waste (?:NE|-)")
+            self.assertNotRegex(self.texts(page, part), r"\b4 Waste 0\.000")
 
 
 class Refusals(unittest.TestCase):
