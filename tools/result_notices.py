@@ -187,11 +187,12 @@ def imports_and_exports(results: Results, rows: list[Row], kind: KindApart, year
 def stock_changes_with_other_sign(results: Results) -> list[Fault]:
     """Changes of stocks in the reference approach with which the approaches agree if they have the other sign."""
     of_co2 = [row for row in results.emitting if gas_of(row) == "CO2"]
+    reference = [row for row in of_co2 if row.field("subject") == "RA"]
     burnt = [row for row in of_co2 if row.field("subject").startswith("1A")]
     found: list[Fault] = []
-    for kind in (*KINDS, ""):
+    for kind in (*KINDS, "") if reference else ():
         rows = [[row for row in lines if not kind or kind in kinds_of_fuels(results, row)]
-                for lines in ([row for row in of_co2 if row.field("subject") == "RA"], burnt)]
+                for lines in (reference, burnt)]
         changes = stock_changes(results, rows[0])
         first = next((bound for row in rows[0] for bound in bound_to_changes(results, row)), None)
         apart = [apart_by_sign(results, rows, changes, year) for year in results.years]
