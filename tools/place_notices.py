@@ -52,7 +52,7 @@ OF_WAYS = {"Q72": {"VOLATILISED", "VOLATILIZED", "VOLATILISATION", "VOLATILIZATI
                    "DEPOSITED", "ATMOSPHERIC", "NH3", "NOX"},
            "Q73": {"LEACHED", "LEACHING", "LEACH", "RUNOFF", "LIXIVIATION", "AUSWASCHUNG", "LIXIVIACION"}}
 # What coal becomes, and what goes for one fuel in many names.
-OF_COKE = ("COKE", "GAS.COKE", "PETROLEUM.COKE", "COKING.COAL")
+OF_COKE = ("COKE", "GAS.COKE", "PETROLEUM.COKE")
 # The equations of apparent consumption, and those of fuel burnt.
 APPARENT, BURNT = {"Q20", "Q21", "Q22", "Q23"}, {"Q10", "Q13"}
 
