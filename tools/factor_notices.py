@@ -71,7 +71,7 @@ def unusual_factors(results: Results) -> list[Fault]:
             before, figure = figure, results.taken(bound, year)
             is_new = figure and figure is not before
             odd = Odd(figure, known, line, parameter, measures, gas_of(line)) if figure and is_new else None
-            if odd and is_odd(odd):
+            if odd and is_odd(odd) and (is_beyond(odd) or is_whole(results, line)):
                 row = results.record(bound, year) or bound
                 if not is_told_or_measured(results, line, parameter, odd.figure):
                     found.setdefault(id(row), Unusual(odd, row, bound))
@@ -90,11 +90,21 @@ def comes_of_another(results: Results, one: Unusual, found: dict[int, Unusual]) 
     return any(id(row) in found for row in below)
 
 
+def is_beyond(odd: Odd) -> bool:
+    """Tells whether a figure is out of what is usual by more than its margin."""
+    return not odd.known.has(odd.figure, odd.known.margin)
+
+
+def is_whole(results: Results, line: Row) -> bool:
+    """Tells whether all that a line takes is the writer's, so that it is known what it is of."""
+    return all(results.is_own(bound) for bound in results.bindings(line.field("name")).values())
+
+
 def is_odd(odd: Odd) -> bool:
     """Tells whether a figure is out of what is usual, by more than its margin, or as the default of another fuel
     or animal.
     """
-    if not odd.known.has(odd.figure, odd.known.margin) or of_a_sibling(odd) or of_a_default_off_by_ten(odd):
+    if is_beyond(odd) or of_a_sibling(odd) or of_a_default_off_by_ten(odd):
         return True
     if not odd.known.named or odd.known.has(odd.figure, Number(1)) or OF_COAL_TOO.intersection(odd.known.named):
         return is_far_default(odd)
