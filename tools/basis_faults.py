@@ -76,11 +76,6 @@ def said_of(taker: tuple[str, str]) -> str:
     return f"{taker[1]} of {taker[0]}"
 
 
-def named(of: str) -> str:
-    """What a figure is of as a word of a sentence."""
-    return {"N": "nitrogen", "C": "carbon"}.get(of, of)
-
-
 def gross_values(asked: Asked) -> Told | None:
     """A figure of gross calorific values."""
     if GROSS not in asked.words.numerator + asked.words.denominator or asked.measures in units.COUNTED:
@@ -109,13 +104,13 @@ def equivalents(asked: Asked) -> Told | None:
         ratio = f" and multiply by {RATIOS[gas, due]}" if gas != due else ""
         if gas == "CO2":
             mass = asked.write(f"multiply by {RATIOS[gas, due]}" if gas != due else "")
-            return Told(f"CO2 equivalents, and {taker} takes {named(due)}: {mass} if they count CO2 alone")
+            return Told(f"CO2 equivalents, and {taker} takes {unit_bases.said(due)}: {mass} if they count CO2 alone")
         if gas in GASES:
             potential = asked.potential(gas)
             by = f"GWP.{gas}" + (f", {potential} here" if potential else "")
             mass = asked.write(f"divide by {by}{ratio}")
-            return Told(f"CO2 equivalents, and {taker} takes {named(due)}: {mass}")
-        return Told(f"CO2 equivalents, and {taker} takes {named(due)}: another figure is needed")
+            return Told(f"CO2 equivalents, and {taker} takes {unit_bases.said(due)}: {mass}")
+        return Told(f"CO2 equivalents, and {taker} takes {unit_bases.said(due)}: another figure is needed")
     alone = asked.write() or "write its mass"
     return Told(f"CO2 equivalents: {alone} if they count CO2 alone; divide by its potential for another gas")
 
@@ -125,7 +120,7 @@ def other_substances(asked: Asked) -> Told | None:
     for said in asked.words.numerator:
         for due, taker in asked.due():
             if (said, due) in RATIOS and said != due:
-                cause = f"{named(said)}, and {taker} takes {named(due)}"
+                cause = f"{unit_bases.said(said)}, and {taker} takes {unit_bases.said(due)}"
                 return Told(f"{cause}: {asked.write(f'multiply by {RATIOS[said, due]}')}")
     return None
 
@@ -135,7 +130,7 @@ def other_denominators(asked: Asked) -> Told | None:
     for said in asked.words.denominator:
         for due, taker in asked.due_per():
             if (said, due) in RATIOS and said != due:
-                cause = f"for one of {named(said)}, and {taker} is for one of {named(due)}"
+                cause = f"for one of {unit_bases.said(said)}, and {taker} is for one of {unit_bases.said(due)}"
                 return Told(f"{cause}: {asked.write(divided_by(RATIOS[said, due]))}")
     return None
 
@@ -154,8 +149,8 @@ def other_gases_of_factors(asked: Asked) -> Told | None:
             if {said, due} <= set(GASES + ELEMENTS) and said != due and (said, due) not in SAME:
                 others = vocabulary.equations_alike(taker[0], said)
                 gives = f" ({others[0]} gives {said})" if others else ""
-                return Told(f"{named(said)}, and {said_of(taker)} takes {named(due)}{gives}; "
-                            f"write the figure of {named(due)}")
+                return Told(f"{unit_bases.said(said)}, and {said_of(taker)} takes {unit_bases.said(due)}{gives}; "
+                            f"write the figure of {unit_bases.said(due)}")
     return None
 
 
@@ -243,7 +238,7 @@ def right_substances(asked: Asked) -> Told | None:
     for said in asked.words.numerator:
         takers = [taker for due, taker in asked.due() if said == due or (said, due) in SAME]
         if takers and asked.meant and asked.measures not in SAID_BY_UNITS:
-            cause = f"{takers[0]} takes {named(said)}, as here: the unit is written {asked.meant.word}"
+            cause = f"{takers[0]} takes {unit_bases.said(said)}, as here: the unit is written {asked.meant.word}"
             return Told(cause, True)
     return None
 

@@ -8,7 +8,7 @@ import re
 from tools import vocabulary
 from tools.book import lines_taken_by
 from tools.faults import Fault, warn, years_said
-from tools.line_notices import OF_STAGES
+from tools.line_notices import OF_STAGES, what_it_takes
 from tools.fuels import is_of_biomass, is_of_bunkers, is_of_fossil_fuel
 from tools.recognisers import Recogniser
 from tools.results import ZERO, Results, gas_of, plain
@@ -24,6 +24,13 @@ ADDING = {"Q13", "Q20", "Q21", "Q22", "Q23", "Q67", "Q83"}
 # The parameters that are shares of one whole by equation, and the parameter that tells which whole that is.
 SHARES = {"Q57": ("MS", ""), "Q59": ("MS", "N"), "Q60": ("MS", "N"), "Q63": ("MS", "N"), "Q64": ("MS", "N"),
           "Q101": ("T", "U")}
+# Ratios of all that a line takes, by which no two lines share it.
+NO_SPLIT = {("Q90", "DOCF"), ("Q93", "F"), ("Q94", "OX")}
+# The equations whose amounts are one quantity together, the nitrogen of soils.
+TOGETHER = ("Q69", "Q73")
+# What counts an amount once more where a line takes it twice, and the equations that hand such amounts on.
+COUNTED_TWICE, HANDING_ON = ("mass", "energy"), (*sorted(ADDING), "Q68")
+PASTURE, OF_PASTURE = "Q64", "FP"
 # Manure that is managed and that stays on pasture: the systems of a herd.
 SYSTEMS = ("Q59", "Q64")
 # Shares are written with two or three digits.
@@ -41,20 +48,28 @@ def same_quantity_twice(results: Results) -> list[Fault]:
     another equation, where no share tells them apart.
     """
     found: list[Fault] = []
-    seen: dict[tuple[str, tuple[str, str, str], frozenset[str]], tuple[Row, bool]] = {}
+    seen: dict[tuple[str, tuple[str, str, str], frozenset[str]], Row] = {}
     for row in results.emitting:
-        name, code = row.field("name"), row.field("value")
+        name = row.field("name")
         if row.field("subject") in MEMOS or not any(results.series(name).values()):
             continue
         for activity, is_direct in sorted(quantities(results, name).items()):
-            key = (activity, family(row), told_apart(results, name))
-            before, was_direct = seen.setdefault(key, (row, is_direct))
-            if before is row or before.field("value") == code and is_direct and was_direct:
+            key = (activity, family(row), told_apart(results, name, is_direct))
+            before = seen.setdefault(key, row)
+            if before is row:
                 continue
+            if are_double(results, before, row):
+                break
             said = f"line {name} and line {before.field('name')} ({before.place}) both emit {gas_of(row)} of"
             found.append(warn(row, f"{said} activity {activity}; is it counted twice?"))
             break
     return found
+
+
+def are_double(results: Results, one: Row, other: Row) -> bool:
+    """Tells whether two lines take all the same by one equation, which is told of by itself."""
+    taken = [what_it_takes(results.book, row.field("name"), row.field("value")) for row in (one, other)]
+    return taken[0] is not None and taken[0] == taken[1]
 
 
 @functools.cache
@@ -101,13 +116,18 @@ def family(row: Row) -> tuple[str, str, str]:
     return gas_of(row) or "", min(alike or {code}), row.field("subject") if of_two else ""
 
 
-def told_apart(results: Results, line: str) -> frozenset[str]:
+@functools.cache
+def told_apart(results: Results, line: str, is_direct: bool) -> frozenset[str]:
     """What tells lines of one quantity apart: the shares and half-lives that a line takes, directly or
     through others, and the equations of these others but for those that add and convert. Of a line whose
-    emission other equations compute too its own ratios are factors.
+    emission other equations compute too its own ratios are factors. What a line takes itself is not told apart by
+    what comes with its other amounts.
     """
     code = results.book.lines[line].field("value")
-    others = [other for other in results.below(line) if other != line]
+    skipped = amounts_taken(code) if is_direct else []
+    through = [bound for parameter, bound in results.bindings(line).items() if parameter not in skipped]
+    others = list(dict.fromkeys(other for bound in through for taken in lines_taken_by(bound)
+                                for other in results.below(taken) if other != line))
     has_shares = others if any(code in alike for alike in ALIKE) else [line, *others]
     shares = {bound.field("low") for other in has_shares for bound in results.bindings(other).values()
               if is_share(results, bound)}
@@ -126,7 +146,9 @@ def is_share(results: Results, bound: Row) -> bool:
     parameters = vocabulary.parameters_of(line.field("value")) if line else {}
     parameter = parameters.get(bound.field("name"))
     is_record = bound.field("value") in ("activity", "factor")
-    if not parameter or parameter["measures"] != "ratio" or not is_record:
+    if not line or not parameter or parameter["measures"] != "ratio" or not is_record:
+        return False
+    if (line.field("value"), bound.field("name")) in NO_SPLIT:
         return False
     return results.taken(bound, results.years[0]) != 1
 
@@ -293,11 +315,13 @@ def years_of_whole(row: Row, own: Amounts, group: Group) -> list[int]:
 
 
 def amounts_of(results: Results, row: Row) -> Amounts:
-    """The first amount that a line takes, by year."""
-    bindings = results.bindings(row.field("name"))
-    bound = next((bindings[name] for name in amounts_taken(row.field("value"))
-                  if name in bindings and bindings[name].field("value") != "key"), None)
-    return {year: results.taken(bound, year) or ZERO for year in results.years} if bound else {}
+    """The first amount that a line takes, or all of them where they are one quantity, by year."""
+    bindings, code = results.bindings(row.field("name")), row.field("value")
+    bound = [bindings[name] for name in amounts_taken(code)
+             if name in bindings and bindings[name].field("value") != "key"]
+    bound = bound if code in TOGETHER else bound[:1]
+    found = {year: sum((results.taken(each, year) or ZERO for each in bound), ZERO) for year in results.years}
+    return found if bound else {}
 
 
 @functools.cache
@@ -394,6 +418,64 @@ def added(results: Results, line: str) -> list[str]:
             off = subtracted(row.field("value"))
             found += [name for parameter, bound in results.bindings(other).items() if parameter not in off
                       and bound.field("value") != "prev" for name in lines_taken_by(bound)]
+    return found
+
+
+def amount_in_a_line_twice(results: Results) -> list[Fault]:
+    """Lines of which two parameters take one amount, by itself or within what other lines add up."""
+    found = []
+    for row in results.emitting:
+        name, seen = row.field("name"), dict[tuple[str, str], str]()
+        for parameter, bound in results.bindings(name).items():
+            if parameter not in amounts_taken(row.field("value")) or bound.field("value") == "prev":
+                continue
+            own = handed_on(results, bound)
+            twice = next((key for key in own if key in seen), None)
+            if twice:
+                what, taken = twice
+                said = f"line {name} takes {what} {taken} twice, at {seen[twice]} and at {parameter}"
+                found.append(warn(bound, f"{said}; is it counted twice?"))
+                break
+            seen.update(dict.fromkeys(own, parameter))
+    return found
+
+
+def handed_on(results: Results, bound: Row) -> list[tuple[str, str]]:
+    """The activities and lines whose amounts a binding takes, directly or through lines that hand them on."""
+    form = bound.field("value")
+    found, waiting = [], [(form, bound.field("low"))] if form == "activity" else []
+    waiting += [("line", name) for name in (lines_taken_by(bound) if form in ("line", "sum") else [])]
+    while waiting:
+        key = waiting.pop()
+        found.append(key)
+        row = results.book.lines.get(key[1]) if key[0] == "line" else None
+        if row and row.field("value") in HANDING_ON:
+            off = subtracted(row.field("value"))
+            for parameter, other in results.bindings(key[1]).items():
+                if parameter not in off and measured(row, parameter) in COUNTED_TWICE:
+                    forms = other.field("value")
+                    waiting += [("activity", other.field("low"))] if forms == "activity" else []
+                    waiting += [("line", name) for name in lines_taken_by(other)] if forms in ("line", "sum") else []
+    return found
+
+
+def measured(line: Row, parameter: str) -> str:
+    """What a parameter of a line measures."""
+    return str(vocabulary.parameters_of(line.field("value"))[parameter]["measures"])
+
+
+def pasture_as_applied(results: Results) -> list[Fault]:
+    """Nitrogen that animals leave on pasture as manure that is applied, or as any other input to soils."""
+    found = []
+    for row in results.lines:
+        for parameter, bound in results.bindings(row.field("name")).items():
+            taken = [name for name in lines_taken_by(bound) if bound.field("value") in ("line", "sum")]
+            lines = [results.book.lines.get(name) for name in taken]
+            there = [line.field("name") for line in lines if line and line.field("value") == PASTURE]
+            if there and parameter != OF_PASTURE and row.field("value") != "Q83":
+                said = f"{parameter} of line {row.field('name')} takes line {there[0]}, nitrogen that animals leave on"
+                found.append(warn(bound, f"{said} pasture ({PASTURE}); {OF_PASTURE} of Q71, Q72 and Q73 takes that,"
+                                         " and it is counted twice in both"))
     return found
 
 
@@ -502,6 +584,20 @@ enter,activity,,LOGS,2020,2.2,,,Mm3,
 enter,activity,,LOGS,2021,2.15,,,Mm3,
 """
 SECOND = "enter,line,3B6,MORE.CO2,,Q84,,,,\nenter,bind,MORE.CO2,C,,line,GROWTH,,,"
+# Cows whose dung stays on pasture.
+GRAZING = """\
+enter,line,3C4,DUNG,,Q64,,,,
+enter,bind,DUNG,N,,activity,COWS,,,
+enter,bind,DUNG,NEX,,factor,COWS.NEX,,,
+enter,bind,DUNG,MS,,factor,GRAZING,,,
+enter,factor,,COWS.NEX,2019,102,,,kg/head,
+enter,factor,,GRAZING,2019,38,,,pct,
+enter,bind,SOILS.N2O,{0},,{1},,,
+enter,line,3C4,GRAZING.N2O,,Q71,,,,
+enter,bind,GRAZING.N2O,FP,,{2},,,
+enter,bind,GRAZING.N2O,EF3,,factor,GRAZING.EF3,,,
+enter,factor,,GRAZING.EF3,2019,0.02,,,kg/kg,
+"""
 COAL_ONCE_MORE = """\
 enter,line,{0},MILLS.CO2,,Q10,,,,
 enter,bind,MILLS.CO2,FC,,line,COAL.TJ,,,
@@ -542,4 +638,14 @@ RECOGNISERS: tuple[Recogniser, ...] = (
         carbon_in_two_lines, "carbon that two lines turn into CO2",
         example=FOREST.format("line,NET") + SECOND, right=FOREST.format("line,NET"),
         says="line MORE.CO2 and line FOREST.CO2 (1.csv:50) both count the carbon of line GROWTH"),
+    Recogniser(
+        amount_in_a_line_twice, "an amount that two parameters of a line take, by itself or within a sum",
+        example="enter,bind,SOILS.N2O,FON,,activity,FERTILISER.N,,,\n-enter,activity,,MANURE.N",
+        right="enter,bind,SOILS.N2O,FON,,key,NO,,,\n-enter,activity,,MANURE.N",
+        says="line SOILS.N2O takes activity FERTILISER.N twice, at FSN and at FON"),
+    Recogniser(
+        pasture_as_applied, "nitrogen that animals leave on pasture as manure that is applied",
+        example=GRAZING.format("FON", "line,DUNG", "key,NO"),
+        right=GRAZING.format("FON", "activity,MANURE.N", "line,DUNG"),
+        says="FON of line SOILS.N2O takes line DUNG, nitrogen that animals leave on pasture (Q64)"),
 )

@@ -1,4 +1,5 @@
 """Warnings of a year's cycle: corrections, withdrawals and new years that do not do what is meant."""
+import collections
 import decimal
 import functools
 
@@ -14,6 +15,10 @@ FIGURES = ("value", "low", "high", "unit")
 FIGURES_SHOWN = 3
 # How far from its own figure a correction is, and how near that of another record.
 FAR, NEARLY = decimal.Decimal("0.15"), decimal.Decimal("0.02")
+# A correction leaves the years beside it where it is so far from them and so many times more than is usual, and is
+# so near another year; of fewer years nothing is usual.
+LEAST_APART, FAR_MORE, NEAR_ANOTHER = decimal.Decimal("0.03"), 3, decimal.Decimal("0.01")
+FEWEST_YEARS = 5
 
 
 class Cycle:
@@ -143,6 +148,46 @@ def corrected_in_another_year(cycle: Cycle) -> list[Fault]:
     return found
 
 
+def corrected_out_of_line(cycle: Cycle) -> list[Fault]:
+    """Corrections of one year of an activity that leave its neighbours, by far more than its other years do, and
+    are nearly the figure of another year.
+    """
+    found = []
+    pairs = [pair for pair in cycle.corrections if pair[1].field("kind") == "activity"
+             and {row.field("unit") for row in pair} <= vocabulary.units().keys()]
+    counts = collections.Counter(pair[1].field("name") for pair in pairs)
+    for one, other in pairs:
+        figures = figures_by_year(cycle, other.field("name"))
+        year, was, figure = int(other.field("year")), figure_of(one), figure_of(other)
+        if counts[other.field("name")] > 1 or not was or not figure or len(figures) < FEWEST_YEARS:
+            continue
+        before = {**figures, year: was}
+        apart = {at: from_neighbours(before, at) for at in before}
+        usual = sorted(apart.values())[len(apart) // 2]
+        if from_neighbours({**before, year: figure}, year) <= max(LEAST_APART, FAR_MORE * max(usual, apart[year])):
+            continue
+        near = {abs(known / figure - 1): at for at, known in figures.items() if at != year and known}
+        if near and min(near) <= NEAR_ANOTHER:
+            meant = cycle.book.years["activity"][other.field("name")][near[min(near)]]
+            said = f"{record_said(other)} was {figures_said(one)} ({one.place}), near the years beside it, and this is"
+            found.append(warn(other, f"{said} not: it is nearly that of {near[min(near)]}, {figures_said(meant)}"
+                                     f" ({meant.place}); is {near[min(near)]} meant?"))
+    return found
+
+
+def figures_by_year(cycle: Cycle, name: str) -> dict[int, decimal.Decimal]:
+    """The figures of an activity by year, without blank ones."""
+    rows = cycle.book.years["activity"].get(name, {})
+    return {year: figure for year, row in rows.items() if (figure := figure_of(row))}
+
+
+def from_neighbours(figures: dict[int, decimal.Decimal], year: int) -> decimal.Decimal:
+    """How far a figure is from those of the years beside it, as a share of these."""
+    beside_it = [figures[at] for at in (year - 1, year + 1) if at in figures]
+    middle = sum(beside_it, decimal.Decimal(0)) / len(beside_it) if beside_it else figures[year]
+    return abs(figures[year] / middle - 1) if middle else decimal.Decimal(0)
+
+
 def is_within(row: Row, figure: str | decimal.Decimal) -> bool | None:
     """Tells whether a figure is within the bounds of a record, or None where it has none."""
     bounds = numbers(row, "low"), numbers(row, "high")
@@ -262,6 +307,16 @@ enter,activity,,COWS,2022,244000,,,head,
 enter,activity,,FERTILISER.N,2022,40900,,,t,
 enter,activity,,MANURE.N,2022,20600,,,t,
 """
+FIVE_YEARS = """\
+enter,span,,,2019,2023,2019,,,
+enter,activity,,COAL,2022,1010,,,kt,
+enter,activity,,COAL,2023,1000,,,kt,
+enter,activity,,COWS,2022,242000,,,head,
+enter,activity,,COWS,2023,239000,,,head,
+enter,activity,,FERTILISER.N,2022,40900,,,t,
+enter,activity,,FERTILISER.N,2023,40700,,,t,
+enter,activity,,MANURE.N,2022,20600,,,t,
+enter,activity,,MANURE.N,2023,20500,,,t,"""
 LONGER = "correct,span,,,2019,2022,2019,,,\n"
 
 RECOGNISERS: tuple[Recogniser, ...] = (
@@ -288,6 +343,11 @@ RECOGNISERS: tuple[Recogniser, ...] = (
         says="outside these bounds and within those of 2021, 1020 (1010 to 1030) kt (1.csv:16); is 2021 meant?",
         right="enter,activity,,COAL,2020,1050,1040,1060,kt,\nenter,activity,,COAL,2021,1020,1010,1030,kt,\n\n"
               f"{LONGER}{NEW_YEAR}correct,activity,,COAL,2021,1025,1015,1035,kt,"),
+    Recogniser(
+        corrected_out_of_line, "a correction that leaves the years beside it and is nearly another year's figure",
+        example=f"{FIVE_YEARS}\n\ncorrect,activity,,COWS,2019,238500,,,head,", right=f"{FIVE_YEARS}\n\n"
+        "correct,activity,,COWS,2019,250900,,,head,",
+        says="was 250000 head (1.csv:21), near the years beside it, and this is not: it is nearly that of 2023"),
     Recogniser(
         bounds_dropped, "corrections that leave out the bounds that a figure had",
         example="correct,factor,,COAL.EF,2019,95100,,,kg/TJ,",

@@ -2,64 +2,33 @@
 off by a known ratio, and those that jump.
 """
 import decimal
+import typing
 
 from tools import vocabulary
 from tools.book import record_taken_by
+from tools.factor_hints import (
+    DEFAULT_APART, RATIOS, Odd, hint, of_a_default_off_by_ten, of_a_sibling, of_another_fuel, of_other_animals,
+    of_swapped_digits)
 from tools.faults import Fault, warn
 from tools.figure_notices import MOST_OF_NO_SHARE, NO_SHARES
-from tools.fuels import fuels_of, rows_of
+from tools.fuels import fuels_of
 from tools.line_notices import is_measured
 from tools.recognisers import Recogniser
 from tools.results import NUMBER, Results, figure_of, gas_of, plain
 from tools.sheets import Row
-from tools.usual import CARBON_IN_CO2, CO2_OF_FUELS, Usual, usual, usual_row
+from tools.usual import usual, usual_row
 
 Number = decimal.Decimal
-Ratio = tuple[Number, str, str]
-# What a factor is off by, and what that speaks of.
-RATIOS: tuple[Ratio, ...] = (
-    (Number(44) / 12, "44/12, CO2 for C", "is it of carbon"),
-    (Number(12) / 44, "12/44, C for CO2", "is it of CO2"),
-    (Number(44) / 28, "44/28, N2O for N2O-N", "is it of nitrogen"),
-    (Number(28) / 44, "28/44, N2O-N for N2O", "is it of N2O"),
-    (Number("4.1868"), "4.1868, GJ in a Gcal", "is it in Gcal or Mcal"),
-    (1 / Number("4.1868"), "1/4.1868, Gcal in a GJ", "is it for a Gcal"),
-    (Number(1000) / Number("41.868"), "1000/41.868, GJ for a toe", "is it for a toe"),
-    (Number("0.365"), "0.365, kg a year for g a day", "is it of a day in g"),
-    (1 / Number("0.365"), "1/0.365, g a day for kg a year", "is it of a year in kg"),
-    (Number(365), "365, days of a year", "is it of a day"),
-    (1 / Number(365), "1/365, a day of a year", "is it of a year"),
-    (Number(100), "100, percent for a share", "is it a share under the unit pct"),
-    (1 / Number(100), "1/100, a share for percent", "is it in percent"),
-    (Number("3.6"), "3.6, GJ in a MWh", "is it for a MWh or a GWh"),
-    (1 / Number("3.6"), "1/3.6, MWh in a GJ", "is it of a MWh or a GWh"),
-    (1 / Number("41.868"), "1/41.868, toe in a GJ", "is it for a toe or a ktoe"),
-    (Number("41.868"), "41.868, GJ in a toe", "is it of a toe or a ktoe"),
-    (Number(10) / 9, "10/9, net for gross calorific value of gases", "is it for gross calorific value"),
-    (Number(1000), "1000", "is its unit a thousand times off"),
-    (1 / Number(1000), "1/1000", "is its unit a thousand times off"),
-    (Number(1000000), "1000000", "is its unit a million times off"),
-    (1 / Number(1000000), "1/1000000", "is its unit a million times off"),
-)
 # Those by which activities jump that are given in another unit for a year, and how near these are met.
 RATIOS_OF = {"energy": ("3.6, GJ in a MWh", "41.868, GJ in a toe"), "carbon": (RATIOS[0][1],),
              "gas": (RATIOS[0][1],)}
-# Ratios that are met seldom: with them a figure has to be within what is usual.
-RARE = ("365", "0.365", "4.1868")
-# What is measured where a ratio may be met that is no matter of every factor.
-OF_TIME = ("mass per person and day", "mass per person and year", "mass per head and day",
-           "mass per head or per head and year", "mass per area and day", "mass per area",
-           "excretion per live mass and day")
-OF_ENERGY = ("net calorific value", "carbon content of fuel", "emission factor of fuel")
-OF_CARBON = ("carbon content of fuel", "emission factor of fuel", "ratio", "mass per area")
-MET_IN = {"365": OF_TIME, "0.365": OF_TIME, "4.1868": OF_ENERGY, "41.868": OF_ENERGY, "3.6": OF_ENERGY,
-          "100": ("ratio",), **dict.fromkeys(("44/12", "12/44"), OF_CARBON)}
 NEAR, LEAST_OF_THESE = Number("0.12"), 3
-WIDE = 20
-GASES_ALONE = "10/9, net for gross calorific value of gases"
-DEFAULT_APART = Number("0.006")
-# So near to a default a ratio is the one that is met.
-WELL_MET = Number("0.03")
+# A default of another fuel is told of where it is so far from those of its own, and these so wide.
+FAR, WIDE_OF_FUELS = Number("0.25"), Number("1.5")
+# Coke goes for coal in many names.
+OF_COAL_TOO = {"COKE", "GAS.COKE"}
+# How many odd factors of one kind are compared with each other.
+MOST_SWAPPED = 50
 # A factor that changes by more than this from one record to the next jumps.
 JUMP = Number("1.3")
 STEADY = ("net calorific value", "carbon content of fuel", "mass per head or per head and year",
@@ -82,23 +51,85 @@ def factors(results: Results) -> list[tuple[Row, str, Row]]:
     return found
 
 
+class Unusual(typing.NamedTuple):
+    """A factor that is not usual, the row that has it, and what its name says that it is."""
+    odd: Odd
+    row: Row
+    bound: Row
+
+
 def unusual_factors(results: Results) -> list[Fault]:
     """Factors that no fuel, animal or process has, with the known ratio by which they are off."""
-    found, told = [], set()
+    found: dict[int, Unusual] = {}
     for line, parameter, bound in factors(results):
         known = usual(results, line, parameter, bound)
         if known is None or not results.is_own(bound) or is_of_another_gas(line, bound):
             continue
+        measures = vocabulary.parameters_of(line.field("value"))[parameter]["measures"]
         figure: Number | None = None
         for year in results.years:
             before, figure = figure, results.taken(bound, year)
-            if figure and figure is not before and not known.has(figure, known.margin):
+            is_new = figure and figure is not before
+            odd = Odd(figure, known, line, parameter, measures, gas_of(line)) if figure and is_new else None
+            if odd and is_odd(odd) and (is_beyond(odd) or is_whole(results, line)):
                 row = results.record(bound, year) or bound
-                if id(row) not in told and not is_told_or_measured(results, line, parameter, figure):
-                    told.add(id(row))
-                    found.append(warn(row, said_of_unusual(results, line, bound, figure, known)))
+                if not is_told_or_measured(results, line, parameter, odd.figure):
+                    found.setdefault(id(row), Unusual(odd, row, bound))
                 break
-    return found
+    told = [each for each in found.values() if not comes_of_another(results, each, found)]
+    pairs = [(each, swapped_with(each, told)) for each in told]
+    seconds = {id(other.row) for at, (each, other) in enumerate(pairs) if other and other in told[at:]}
+    return [warn(each.row, said_of_unusual(each, other)) for each, other in pairs if id(each.row) not in seconds]
+
+
+def comes_of_another(results: Results, one: Unusual, found: dict[int, Unusual]) -> bool:
+    """Tells whether what a line gives is not usual since a factor that it takes is not."""
+    if one.bound.field("value") != "line":
+        return False
+    below = [results.record(bound, results.years[0]) or bound for bound in results.bound_below(one.bound.field("low"))]
+    return any(id(row) in found for row in below)
+
+
+def is_beyond(odd: Odd) -> bool:
+    """Tells whether a figure is out of what is usual by more than its margin."""
+    return not odd.known.has(odd.figure, odd.known.margin)
+
+
+def is_whole(results: Results, line: Row) -> bool:
+    """Tells whether all that a line takes is the writer's, so that it is known what it is of."""
+    return all(results.is_own(bound) for bound in results.bindings(line.field("name")).values())
+
+
+def is_odd(odd: Odd) -> bool:
+    """Tells whether a figure is out of what is usual, by more than its margin, or as the default of another fuel
+    or animal.
+    """
+    if is_beyond(odd) or of_a_sibling(odd) or of_a_default_off_by_ten(odd):
+        return True
+    if not odd.known.named or odd.known.has(odd.figure, Number(1)) or OF_COAL_TOO.intersection(odd.known.named):
+        return is_far_default(odd)
+    return bool(of_another_fuel(odd) or of_other_animals(odd) or of_swapped_digits(odd))
+
+
+def is_far_default(odd: Odd) -> bool:
+    """Tells whether a figure is the default of another fuel and far from those of its own, of which almost
+    anything is usual.
+    """
+    known = odd.known.range
+    is_far = known.defaults and odd.known.distance(odd.figure) > FAR and known.greatest > WIDE_OF_FUELS * known.least
+    return bool(is_far and odd.known.named and of_another_fuel(odd))
+
+
+def swapped_with(one: Unusual, others: typing.Collection[Unusual]) -> Unusual | None:
+    """Another factor that is not usual, where each of the two has the other's figure; or None."""
+    if len(others) > MOST_SWAPPED:
+        return None
+    for other in others:
+        are_alike = other.odd.measures == one.odd.measures and other.odd.gas == one.odd.gas
+        is_other = other.odd.known.has(one.odd.figure, Number(1)) and one.odd.known.has(other.odd.figure, Number(1))
+        if other.row is not one.row and are_alike and is_other:
+            return other
+    return None
 
 
 def is_of_another_gas(line: Row, bound: Row) -> bool:
@@ -117,77 +148,34 @@ def is_told_or_measured(results: Results, line: Row, parameter: str, figure: Num
     return figure > most or bool(is_measured(results.book, name, equation))
 
 
-def said_of_unusual(results: Results, line: Row, bound: Row, figure: Number, known: Usual) -> str:
+def said_of_unusual(one: Unusual, swapped: Unusual | None) -> str:
     """A factor that is not usual, with what is, and what it is most likely."""
-    parameter = vocabulary.parameters_of(line.field("value"))[bound.field("name")]
+    odd, bound, row = one.odd, one.bound, one.row
+    parameter = vocabulary.parameters_of(odd.line.field("value"))[odd.parameter]
     unit, given = (parameter["unit"] or "").replace("1", ""), bound.field("value")
     what = f"line {bound.field('low')} gives" if given == "line" else f"{given} {bound.field('low')} is"
-    row = results.record(bound, results.years[0])
-    is_other = row and row.field("unit") != parameter["unit"] and row.field("value") != plain(figure)
-    written = f" ({row.field('value')} {row.field('unit')})" if row and is_other else ""
-    shown = known.shown or known.range
+    is_other = row is not bound and row.field("unit") != parameter["unit"] and row.field("value") != plain(odd.figure)
+    written = f" ({row.field('value')} {row.field('unit')})" if is_other else ""
+    shown = odd.known.shown or odd.known.range
     least, greatest = plain(shown.least), plain(shown.greatest)
     between = least if least == greatest else f"{least} to {greatest}"
-    said = f"{what} {plain(figure)} {unit}".rstrip() + f"{written}, and {known.of} {verb(known.of)} {between}"
-    said += f" ({known.range.source})"
-    if gas_of(line) in ("CH4", "N2O") and CO2_OF_FUELS.least <= figure <= CO2_OF_FUELS.greatest:
-        return f"{said}; is it of CO2?"
-    other = default_of_other_fuel(figure, parameter["measures"], gas_of(line))
-    if other:
-        return f"{said}; {plain(figure)} is that of {other}: is another factor meant?"
-    ratios = known_ratios(figure, known, gas_of(line), parameter["measures"])
-    if ratios:
-        times = [f"times {word}, it is {plain(figure * size)}: {asked}" for size, word, asked in ratios]
-        return f"{said}; {'; or '.join(times)}?"
-    if gas_of(line) and fuels_of([bound.field("low")]):
-        return f"{said}; line {line.field('name')} takes it: is another factor meant, or another unit?"
+    of = odd.known.of
+    said = f"{what} {plain(odd.figure)} {unit}".rstrip() + f"{written}, and {of} {verb(of)} {between}"
+    said += f" ({odd.known.range.source})"
+    if swapped:
+        other = f"{swapped.bound.field('low')} ({swapped.row.place})"
+        return f"{said}; it and {other} have each other's figures: are the two swapped?"
+    likely = hint(odd)
+    if likely:
+        return f"{said}; compare it with its source: {likely}"
+    if odd.gas and fuels_of([bound.field("low")]):
+        return f"{said}; line {odd.line.field('name')} takes it: is another factor meant, or another unit?"
     return f"{said}; is it of something else, or in another unit?"
 
 
 def verb(of: str) -> str:
     """The verb after what is usual of something."""
     return "is" if " of " in of else "has"
-
-
-def default_of_other_fuel(figure: Number, measures: str, gas: str | None) -> str | None:
-    """The fuel of which a figure is the default, or None where no table has it."""
-    if measures == "net calorific value":
-        table, value = "volume-2-table-1.2", figure
-    elif measures == "carbon content of fuel":
-        table, value = "volume-2-table-1.4", figure * 1000 / CARBON_IN_CO2
-    elif measures == "emission factor of fuel" and gas == "CO2":
-        table, value = "volume-2-table-1.4", figure
-    else:
-        return None
-    names = [name for name, each in rows_of(table).items() if value in each.defaults]
-    return names[0].split(".", 1)[1].replace(".", " ").lower() if names else None
-
-
-def is_met_in(ratio: Ratio, measures: str) -> bool:
-    """Tells whether a ratio may be met in a factor of what is measured."""
-    return measures in MET_IN.get(size_of(ratio), (measures,))
-
-
-def size_of(ratio: Ratio) -> str:
-    """The size of a ratio as it is written, without the one that it is under."""
-    return ratio[1].split(",")[0].removeprefix("1/").removeprefix("1000/")
-
-
-def known_ratios(figure: Number, known: Usual, gas: str | None, measures: str) -> list[Ratio]:
-    """The known ratio that leads from a figure nearest to a default, with the next one where neither meets it;
-    or none, also where almost anything is usual and no default is met.
-    """
-    ratios = [ratio for ratio in RATIOS if ("gas" in known.of or ratio[1] != GASES_ALONE)
-              and ("N2O" not in ratio[1] or gas == "N2O") and is_met_in(ratio, measures)]
-    distances = {known.distance(figure * ratio[0]): ratio for ratio in ratios
-                 if known.has(figure * ratio[0], Number(1) if size_of(ratio) in RARE else Number("1.02"))}
-    nearest = sorted(distances)
-    is_met = bool(nearest) and nearest[0] <= DEFAULT_APART
-    is_wide = known.range.greatest > WIDE * known.range.least
-    if not nearest or is_wide and not is_met:
-        return []
-    is_alone = nearest[0] <= WELL_MET or len(nearest) < 2 or nearest[1] > 3 * nearest[0]
-    return [distances[distance] for distance in nearest[:1 if is_alone else 2]]
 
 
 def defaults_times_a_ratio(results: Results) -> list[Fault]:
@@ -324,10 +312,11 @@ RECOGNISERS: tuple[Recogniser, ...] = (
         says="factor SOILS.EF1 is 0.0157 kg/kg, 44/28 of the default 0.01 kg/kg of EF1",
         right="enter,factor,,SOILS.EF1,2019,0.013,,,kg/kg,"),
     Recogniser(
-        unusual_factors, "factors that no fuel, animal or process has, with the known ratio that leads there"
-        " (44/12, 44/28, 3.6, 41.868, 10/9, 1000)",
+        unusual_factors, "factors that no fuel, animal or process has, or that another one has as its default, with"
+        " what leads to a usual figure: a known ratio (44/12, 44/28, 3.6, 41.868, 10/9, 10, 1000), a tonne, a litre or"
+        " a m3 of the fuel, two digits in each other's place, the rest of a share, another factor's figure",
         example="enter,factor,,COAL.EF,2019,25.8,,,t/TJ,",
-        says="times 44/12, CO2 for C, it is 94600: is it of carbon?",
+        says="compare it with its source: times 44/12, CO2 for C, it is 94600: is it of carbon?",
         right="enter,factor,,COAL.EF,2019,101,,,t/TJ,"),
     Recogniser(
         factors_that_jump, "factors that jump from one record to the next",

@@ -7,8 +7,10 @@ import re
 import typing
 
 DEFAULTS = pathlib.Path(__file__).resolve().parent.parent / "defaults"
-# Words of names with the fuels of Volume 2, Table 1.4 that they are of, those of two parts in sequence before
-# their parts.
+# Words of names in other languages, and further English ones, with the words below that they mean.
+NAME_WORDS = pathlib.Path(__file__).resolve().parent / "name-words.csv"
+MOST_PARTS = 4
+# Words of names with the fuels of Volume 2, Table 1.4 that they are of; a gas that no table has is of none.
 COALS = ("ANTHRACITE", "COKING.COAL", "BITUMINOUS", "SUB.BITUMINOUS", "LIGNITE", "BKB",
          "PATENT.FUEL")
 OILS = ("CRUDE.OIL", "GAS.DIESEL.OIL", "RESIDUAL.OIL", "SHALE.OIL", "OTHER.KEROSENE", "WASTE.OILS",
@@ -19,7 +21,7 @@ WOODS = ("WOOD", "SOLID.BIOMASS")
 WORDS = {
     "COKE.OVEN": ("COKE.OVEN.GAS",), "OVEN.GAS": ("COKE.OVEN.GAS",), "BLAST.FURNACE": ("BLAST.FURN.GAS",),
     "COG": ("COKE.OVEN.GAS",), "BFG": ("BLAST.FURN.GAS",),
-    "FURNACE.GAS": ("BLAST.FURN.GAS", "STEEL.FURN.GAS"),
+    "FURNACE.GAS": ("BLAST.FURN.GAS", "STEEL.FURN.GAS"), "STEEL.GAS": ("STEEL.FURN.GAS",),
     "REFINERY.GAS": OF_REFINERIES, "FUEL.GAS": OF_REFINERIES, "WORKS.GAS": ("GAS.WORKS.GAS",),
     "TOWN.GAS": ("GAS.WORKS.GAS", "NATURAL.GAS"), "NATURAL.GAS": ("NATURAL.GAS",),
     "NATGAS": ("NATURAL.GAS",), "LANDFILL.GAS": BIOGASES, "SLUDGE.GAS": BIOGASES, "BIOGAS": BIOGASES,
@@ -31,6 +33,7 @@ WORDS = {
     "DIESEL": ("GAS.DIESEL.OIL",), "BIOGASOLINE": ("BIOGASOLINE",), "BIOETHANOL": ("BIOGASOLINE",),
     "ETHANOL": ("BIOGASOLINE",), "AV.GASOLINE": ("AV.GASOLINE", "JET.GASOLINE"),
     "GASOLINE": ("MOTOR.GASOLINE", "AV.GASOLINE", "JET.GASOLINE"), "PETROL": ("MOTOR.GASOLINE",),
+    "JET.KEROSENE": ("JET.KEROSENE",), "JET.FUEL": ("JET.KEROSENE",),
     "JET": ("JET.KEROSENE", "JET.GASOLINE", "AV.GASOLINE"),
     "KEROSENE": ("JET.KEROSENE", "OTHER.KEROSENE"), "LPG": ("LPG",), "RFO": ("RESIDUAL.OIL",),
     "HFO": ("RESIDUAL.OIL",), "RESIDUAL": ("RESIDUAL.OIL",), "FUEL.OIL": ("RESIDUAL.OIL", "GAS.DIESEL.OIL"),
@@ -43,16 +46,20 @@ WORDS = {
     "FIREWOOD": WOODS, "FUELWOOD": WOODS, "WOOD": WOODS, "PELLETS": WOODS, "BLACK.LIQUOR": ("SULPHITE.LYES",),
     "BIOFUEL": ("BIOGASOLINE", "BIODIESELS", "LIQUID.BIOFUELS"),
     "BIOFUELS": ("BIOGASOLINE", "BIODIESELS", "LIQUID.BIOFUELS"),
-    "OIL": OILS, "GAS": ("NATURAL.GAS",),
+    "NATURAL.GAS.LIQUIDS": ("NGL",), "OIL": OILS, "GAS": ("NATURAL.GAS",),
+    **{f"{word}.GAS": () for word in (
+        "PROCESS OFF WASTE PRODUCER SYNTHESIS SYN MINE ASSOCIATED FLARE FLARED COAL WOOD FLUE STACK MIXED OTHER "
+        "DERIVED RESIDUAL PURGE CRACKER").split()},
 }
+ORDER = {word: place for place, word in enumerate(WORDS)}
 # The kinds of fossil fuels, without those that are made of another kind.
 KINDS = {"coal": COALS[:4], "lignite": ("LIGNITE", "BKB"), "gas": ("NATURAL.GAS",), "peat": ("PEAT",),
          "oil": (*OILS, "MOTOR.GASOLINE", "JET.KEROSENE", "LPG", "NAPHTHA")}
 # What is burnt of biomass, among these words.
 OF_BIOMASS = {"BIOGAS", "LANDFILL.GAS", "SLUDGE.GAS", "BIODIESEL", "BIOGASOLINE", "BIOETHANOL", "ETHANOL",
               "CHARCOAL", "BAGASSE", "STRAW", "BIOMASS", "FIREWOOD", "FUELWOOD", "WOOD", "PELLETS",
-              "BLACK.LIQUOR", "BIOFUEL", "BIOFUELS"}
-BUNKERS = {"BUNKER", "BUNKERS", "INTERNATIONAL", "INTL"}
+              "BLACK.LIQUOR", "BIOFUEL", "BIOFUELS", "WOOD.GAS"}
+BUNKERS = {"BUNKER", "BUNKERS", "INTERNATIONAL", "INTL", "SOUTES", "SEEBUNKER", "INTERNACIONAL", "INTERNATIONALE"}
 
 
 Number = decimal.Decimal
@@ -77,14 +84,34 @@ def together(ranges: list[Range]) -> Range:
 
 
 @functools.cache
-def words_of(name: str) -> list[str]:
-    """The words of the table that stand in a name, each part of it in one of them, in their order there."""
-    found, spoken = [], f".{'.'.join(re.split('[._-]', name))}."
-    for word in WORDS:
-        if f".{word}." in spoken:
-            found.append(word)
-            spoken = spoken.replace(f".{word}.", ".-.")
-    return found
+def name_words() -> dict[str, str]:
+    """The words of name-words.csv, each with what it means."""
+    with open(NAME_WORDS, encoding="utf-8", newline="") as file:
+        return {row["word"]: row["means"] for row in csv.DictReader(file)}
+
+
+@functools.cache
+def spelt() -> dict[str, str]:
+    """How a fuel may be spelt in a name, each with its word of the table; without dots between the parts too."""
+    found = {word: word for word in WORDS}
+    found.update({word: means for word, means in name_words().items() if means in WORDS})
+    return {**{word.replace(".", ""): means for word, means in found.items()}, **found}
+
+
+@functools.lru_cache(maxsize=100000)
+def words_of(name: str) -> tuple[str, ...]:
+    """The words of the table that stand in a name, each part of it in the longest one: those of most parts
+    first, and of these in the order of the table.
+    """
+    parts = [re.sub("(?<=[A-Z]{3})[0-9]+$", "", part) for part in re.split("[._-]", name)]
+    found: list[tuple[int, str]] = []
+    for length in range(MOST_PARTS, 0, -1):
+        for at in range(len(parts) - length + 1):
+            means = spelt().get(".".join(parts[at:at + length]))
+            if means:
+                found.append((-length, means))
+                parts[at:at + length] = ["-"] * length
+    return tuple(word for _, word in sorted(found, key=lambda pair: (pair[0], ORDER[pair[1]])))
 
 
 def fuels_of(names: list[str]) -> tuple[str, ...]:
@@ -101,7 +128,7 @@ def is_of_biomass(names: list[str]) -> bool:
 
 def is_of_fossil_fuel(names: list[str]) -> bool:
     """Tells whether names are of a fossil fuel, and none of biomass."""
-    words = {word for name in names for word in words_of(name)}
+    words = {word for name in names for word in words_of(name) if WORDS[word]}
     return bool(words) and not words & OF_BIOMASS
 
 

@@ -108,7 +108,8 @@ def stocks_of_the_year(book: Book) -> list[Fault]:
             taken = book.lines.get(bound.field("low")) if bound and bound.field("value") == "line" else None
             if bound and taken and taken.field("value") == STOCK:
                 cause = f"{parameter} of {line} is the stock at the end of the year before, and line"
-                cause += f" {bound.field('low')} is taken of the same year; is prev meant?"
+                cause += f" {bound.field('low')} is taken of the same year, so that each year's figure is that of"
+                cause += f" the next; write enter,bind,{row.field('name')},{parameter},,prev,{bound.field('low')},,,"
                 found.append(warn(bound, cause))
     return found
 

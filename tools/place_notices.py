@@ -1,12 +1,14 @@
 """Warnings of what stands in the place of another: a line at the category of another source, a factor of
 another fuel or another parameter, gains for losses, and bunkers that the reference approach leaves in.
 """
+import collections
 import decimal
+import re
 from collections.abc import Iterator
 
-from tools import vocabulary
+from tools import unit_bases, vocabulary
 from tools.book import lines_taken_by
-from tools.faults import Fault, warn
+from tools.faults import Fault, warn, years_said
 from tools.fuels import fuels_of
 from tools.line_notices import OF_LIVESTOCK, is_measured, livestock_of
 from tools.recognisers import Recogniser
@@ -28,6 +30,29 @@ SOURCES = {
 GAINS, LOSSES = {"Q78", "Q79"}, {"Q80", "Q81", "Q82"}
 # How far out of what is usual a figure is another's.
 NEAR = decimal.Decimal("1.05")
+# The category of what is burnt in ships and aircraft and is no bunker, what that is, and words of its names.
+NO_BUNKERS = {
+    ("1A4c", "fishing vessels"): {
+        "FISHING", "FISHERY", "FISHERIES", "FISH", "TRAWLERS", "PECHE", "FISCHEREI", "PESCA", "VISSERIJ"},
+    ("1A5", "armed forces"): {"MILITARY", "ARMY", "NAVY", "MILITAIRE", "MILITAR"},
+}
+# What a mass may be of, of which each has its factor; and pairs of them, of which the first is the one that
+# another activity is due for.
+SUBSTANCES = ("N", "urea", "clinker", "cement", "NH3", "HNO3", "limestone")
+OTHERS_OF = (("urea", "N"), ("clinker", "cement"), ("HNO3", "N"), ("NH3", "N"), ("NH3", "urea"),
+             ("limestone", "urea"))
+# The factors of managed soils that are shares of nitrogen, and how others call them.
+OF_SOILS = {"EF1": "direct N2O of inputs", "EF2": "organic soils", "EF3": "manure and grazing animals",
+            "EF4": "N2O of nitrogen that volatilises", "EF5": "N2O of nitrogen that is leached",
+            "FG": "the share of fertiliser that volatilises", "FM": "the share of manure that volatilises",
+            "FL": "the share that is leached"}
+OF_NAMES = {"GASF": "FG", "FRACGASF": "FG", "GASM": "FM", "FRACGASM": "FM", "LEACH": "FL", "FRACLEACH": "FL",
+            "LEACHING": "FL"}
+OF_WAYS = {"Q72": {"VOLATILISED", "VOLATILIZED", "VOLATILISATION", "VOLATILIZATION", "VOLAT", "DEPOSITION",
+                   "DEPOSITED", "ATMOSPHERIC", "NH3", "NOX"},
+           "Q73": {"LEACHED", "LEACHING", "LEACH", "RUNOFF", "LIXIVIATION", "AUSWASCHUNG", "LIXIVIACION"}}
+# What coal becomes, and what goes for one fuel in many names.
+OF_COKE = ("COKE", "GAS.COKE", "PETROLEUM.COKE")
 # The equations of apparent consumption, and those of fuel burnt.
 APPARENT, BURNT = {"Q20", "Q21", "Q22", "Q23"}, {"Q10", "Q13"}
 
@@ -77,11 +102,16 @@ def gains_for_losses(results: Results) -> Iterator[Fault]:
 
 
 def swapped_figures(results: Results) -> Iterator[Fault]:
-    """Two parameters of a line of which the one has a figure that is usual of the other, and is not its own."""
+    """Two parameters of a line of which the one has a figure that is usual of the other, and is not its own, but
+    for factors that several lines take in one place.
+    """
+    counts = collections.Counter((bound.field("low"), bound.field("name")) for row in results.lines
+                                 for bound in results.bindings(row.field("name")).values())
     for row in results.lines:
         name = row.field("name")
         bindings = {parameter: bound for parameter, bound in results.bindings(name).items()
-                    if bound.field("value") == "factor" and results.is_own(bound)}
+                    if bound.field("value") == "factor" and results.is_own(bound)
+                    and counts[bound.field("low"), bound.field("name")] == 1}
         usual = {parameter: usual_row(row, parameter, [bound.field("low")])
                  for parameter, bound in bindings.items()}
         for one, bound in bindings.items():
@@ -127,7 +157,7 @@ def factors_of_other_fuels(results: Results) -> Iterator[Fault]:
         own = fuels_of(taken) or fuels_of([name])
         bound = bindings.get("EF") or bindings.get("NCV")
         of = fuels_of([bound.field("low")]) if bound and bound.field("value") == "factor" else ()
-        is_of_coke = any("COKE" in fuel for fuel in own + of)
+        is_of_coke = any(fuel in OF_COKE for fuel in own + of)
         if bound and own and of and not set(own) & set(of) and not is_of_coke:
             fuels = [each[0].replace(".", " ").lower() for each in (own, of)]
             said = f"line {name} burns {fuels[0]} by the names of what it takes, and factor {bound.field('low')}"
@@ -181,6 +211,97 @@ def stocks_added_before(results: Results) -> Iterator[Fault]:
             said = f"activity {record.field('name')} is {record.field('value')} {record.field('unit')} in {first},"
             said += f" and L of line {row.field('name')} is taken off the stock of the year before, which is zero"
             yield warn(record, f"{said} there; give the stock before the span as a negative figure")
+
+
+def stocks_before_in_later_years(results: Results) -> Iterator[Fault]:
+    """Stocks of the year before the span that are entered once more in later years, in each of which they are taken
+    off again.
+    """
+    for row in results.lines:
+        bindings = results.bindings(row.field("name"))
+        gain, loss = bindings.get("G"), bindings.get("L")
+        if row.field("value") != "Q83" or gain is None or loss is None or gain.field("value") != "prev":
+            continue
+        later = [year for year in results.years[1:] if results.taken(loss, year)]
+        record = results.record(loss, later[0]) if later else None
+        if record and results.taken(loss, results.years[0]):
+            said = f"{loss.field('value')} {record.field('name')} is {record.field('value')} {record.field('unit')} in"
+            said += f" {years_said(later)}, and L of line {row.field('name')} is the stock before the span, which is of"
+            yield warn(record, f"{said} {results.years[0]} alone; enter 0 from {results.years[1]} on")
+
+
+def fuel_of_others_at_bunkers(results: Results) -> Iterator[Fault]:
+    """Lines of international bunkers that are of fishing vessels or of the armed forces by their names."""
+    for row in results.emitting:
+        if row.field("subject") != "MB":
+            continue
+        names = [row.field("name"), *(bound.field("low") for bound in results.bindings(row.field("name")).values())]
+        parts = {part for name in names for part in re.split("[._-]", name)}
+        for (category, what), words in NO_BUNKERS.items():
+            if parts & words:
+                said = f"line {row.field('name')} at MB is of {what} by its names, and their fuel is no bunker"
+                yield warn(row, f"{said}: it stands at {category}, wherever it was bought")
+                break
+
+
+def records_of_two_substances(results: Results) -> Iterator[Fault]:
+    """Activities that parameters take as the mass of two substances, as nitrogen and urea, and those that are
+    nitrogen by their names and taken as something else.
+    """
+    takers: dict[str, list[tuple[str | None, Row]]] = {}
+    for row in results.lines:
+        for parameter, bound in results.bindings(row.field("name")).items():
+            if bound.field("value") == "activity":
+                of = unit_bases.taken_by(row.field("value"), parameter)
+                takers.setdefault(bound.field("low"), []).append((of, bound))
+    for name, taken in sorted(takers.items()):
+        known = {of: bound for of, bound in reversed(taken) if of and of in SUBSTANCES}
+        if name.split(".")[-1] == "N" and set(known) == {"urea"}:
+            known["N"] = known["urea"]
+        pair = next((pair for pair in OTHERS_OF if set(pair) <= set(known)), None)
+        if pair:
+            wrong, own = reversed(pair) if pair[0].upper() in re.split("[._-]", name) else pair
+            yield warn(known[wrong], said_of_substances(results, name, known, wrong, own))
+
+
+def said_of_substances(results: Results, name: str, known: dict[str, Row], wrong: str, own: str) -> str:
+    """What is said of an activity of one substance that a parameter takes as another one."""
+    bound, elsewhere = known[wrong], known[own]
+    line = results.book.lines[bound.field("subject")]
+    where = f"as line {elsewhere.field('subject')} takes it" if elsewhere is not bound else "by its name"
+    ratio = unit_bases.RATIOS.get((own, wrong))
+    by = f": times {ratio}" if ratio else ""
+    said = f"line {line.field('name')} takes activity {name}, which is {unit_bases.said(own)} {where}, and"
+    said += f" {bound.field('name')} of {line.field('value')} is {unit_bases.said(wrong)}"
+    return f"{said}; enter that as an activity of its own{by}"
+
+
+def parameters_of_others(results: Results) -> Iterator[Fault]:
+    """Factors of managed soils that are another parameter by their names, as EF4 at EF5."""
+    for row in results.lines:
+        for parameter, bound in results.bindings(row.field("name")).items():
+            if parameter not in OF_SOILS or bound.field("value") != "factor":
+                continue
+            said = [OF_NAMES.get(part, part) for part in re.split("[._-]", bound.field("low"))]
+            named = [part for part in said if part in OF_SOILS]
+            if named and parameter not in named:
+                what = f"{parameter} of line {row.field('name')} takes factor {bound.field('low')}"
+                yield warn(bound, f"{what}, which is {named[0]} by its name ({OF_SOILS[named[0]]}); is {parameter}"
+                                  f" ({OF_SOILS[parameter]}) meant?")
+
+
+def ways_of_nitrogen(results: Results) -> Iterator[Fault]:
+    """Lines of nitrogen that is leached by their names, with the equation of nitrogen that volatilises, or the
+    other way round.
+    """
+    for row in results.lines:
+        parts = {part for part in re.split("[._-]", row.field("name"))}
+        for equation, words in OF_WAYS.items():
+            if row.field("value") in OF_WAYS and row.field("value") != equation and parts & words:
+                own = vocabulary.equations()[row.field("value")]["computes"]
+                due = vocabulary.equations()[equation]["computes"]
+                yield warn(row, f"line {row.field('name')} has {row.field('value')} ({own}), and by its name it is"
+                                f" {equation} ({due}); is the equation another?")
 
 
 # Coal that is mined and burnt in ships; a forest that grows and is cut; and grassland with the stock before.
@@ -277,6 +398,49 @@ enter,activity,,JET.ABROAD,2020,1000,,,TJ,
 enter,activity,,JET.ABROAD,2021,1000,,,TJ,
 """
 
+SHIPS = """\
+enter,line,{0},{1}.CO2,,Q10,,,,
+enter,bind,{1}.CO2,FC,,activity,{1}.OIL,,,
+enter,bind,{1}.CO2,EF,,factor,OIL.CO2,,,
+enter,factor,,OIL.CO2,2019,77400,,,kg/TJ,
+enter,activity,,{1}.OIL,2019,1100,,,TJ,
+enter,activity,,{1}.OIL,2020,1150,,,TJ,
+enter,activity,,{1}.OIL,2021,1120,,,TJ,
+"""
+UREA = """\
+enter,line,3C3,UREA.CO2,,Q75,,,,
+enter,bind,UREA.CO2,M,,activity,{0},,,
+enter,bind,UREA.CO2,EF,,factor,UREA.EF,,,
+enter,factor,,UREA.EF,2019,0.2,,,t/t,
+enter,activity,,{0},2019,41000,,,t,
+enter,activity,,{0},2020,42000,,,t,
+enter,activity,,{0},2021,40500,,,t,
+"""
+LEACHED = """\
+enter,line,3C5,{0},,Q73,,,,
+enter,bind,{0},FSN,,activity,FERTILISER.N,,,
+enter,bind,{0},FON,,activity,MANURE.N,,,
+enter,bind,{0},FP,,key,NO,,,
+enter,bind,{0},FCR,,key,NO,,,
+enter,bind,{0},FSOM,,key,NO,,,
+enter,bind,{0},FL,,factor,SHARE.FL,,,
+enter,bind,{0},EF5,,factor,{1},,,
+enter,factor,,SHARE.FL,2019,0.3,,,kg/kg,
+enter,factor,,{1},2019,0.0075,,,kg/kg,
+"""
+VOLATILE = """\
+enter,line,3C5,{0}.N2O,,Q72,,,,
+enter,bind,{0}.N2O,FSN,,activity,FERTILISER.N,,,
+enter,bind,{0}.N2O,FG,,factor,SOILS.FG,,,
+enter,bind,{0}.N2O,FON,,activity,MANURE.N,,,
+enter,bind,{0}.N2O,FP,,key,NO,,,
+enter,bind,{0}.N2O,FM,,factor,SOILS.FM,,,
+enter,bind,{0}.N2O,EF4,,factor,SOILS.EF4,,,
+enter,factor,,SOILS.FG,2019,0.1,,,kg/kg,
+enter,factor,,SOILS.FM,2019,0.2,,,kg/kg,
+enter,factor,,SOILS.EF4,2019,0.01,,,kg/kg,
+"""
+
 RECOGNISERS: tuple[Recogniser, ...] = (
     Recogniser(
         other_sources, "a line at a category whose source another equation is of",
@@ -311,4 +475,24 @@ RECOGNISERS: tuple[Recogniser, ...] = (
         stocks_added_before, "the stock before the span with the wrong sign",
         example=GRASS.format(""), right=GRASS.format("-"),
         says="activity STOCK.FIRST is 4650 GgC in 2019, and L of line BEFORE is taken off"),
+    Recogniser(
+        stocks_before_in_later_years, "the stock before the span once more in later years",
+        example=GRASS.format("-").replace("FIRST,2020,0", "FIRST,2020,-4650"), right=GRASS.format("-"),
+        says="activity STOCK.FIRST is -4650 GgC in 2020, and L of line BEFORE is the stock before the span"),
+    Recogniser(
+        fuel_of_others_at_bunkers, "fuel of fishing vessels and of armed forces at international bunkers",
+        example=SHIPS.format("MB", "FISHING"), right=SHIPS.format("MB", "TANKERS"),
+        says="line FISHING.CO2 at MB is of fishing vessels by its names, and their fuel is no bunker"),
+    Recogniser(
+        records_of_two_substances, "one activity taken as two substances, as nitrogen and urea",
+        example=UREA.format("FERTILISER.N"), right=UREA.format("UREA"),
+        says="line UREA.CO2 takes activity FERTILISER.N, which is nitrogen as line SOILS.N2O takes it"),
+    Recogniser(
+        parameters_of_others, "a factor of soils that is another parameter by its name, as EF4 at EF5",
+        example=LEACHED.format("RUN.N2O", "SOILS.EF4"), right=LEACHED.format("RUN.N2O", "SOILS.EF5"),
+        says="EF5 of line RUN.N2O takes factor SOILS.EF4, which is EF4 by its name"),
+    Recogniser(
+        ways_of_nitrogen, "leached nitrogen by the equation of nitrogen that volatilises, and the other way round",
+        example=VOLATILE.format("LEACHED"), right=VOLATILE.format("AIRBORNE"),
+        says="line LEACHED.N2O has Q72 (Nitrogen volatilised from soils, to indirect N2O), and by its name"),
 )

@@ -11,7 +11,7 @@ from tools import vocabulary
 from tools.book import lines_taken_by, record_taken_by
 from tools.fuels import KINDS, fuels_of
 from tools.faults import Fault, counted, warn, years_said
-from tools.recognisers import Recogniser
+from tools.recognisers import LANDFILL, Recogniser
 from tools.results import NUMBER, ZERO, Figure, Results, figure_of, gas_of, plain
 from tools.sheets import Row
 from tools.vocabulary import listed
@@ -19,6 +19,8 @@ from tools.vocabulary import listed
 # The equations whose result has either sign: the apparent consumption of secondary fuels, of which a country
 # may export more than it imports, what is computed of it, and changes of carbon stocks.
 EITHER_SIGN = {"Q21", "Q23", "Q25", "Q26", "Q83", "Q84", "Q86"}
+# The equations of what goes into a stock that decays.
+OF_DEPOSITS = {"Q90"}
 # So many figures alike are no chance.
 FIGURES_ALIKE = 3
 YEARS_SHOWN = 3
@@ -26,6 +28,8 @@ MOST_PERCENT = 20
 # A record changes much where it does by more than this, and by so many times its change in the middle of the
 # years. The least change keeps a record that never moves comparable.
 HUNDREDFOLD = 100
+# So many years with changes of stocks are no chance, where each is so many times nearer with the other sign.
+FEWEST_YEARS, NEARER = 3, 4
 MOST_CHANGE, EXCEPTIONAL, LEAST_CHANGE = decimal.Decimal("0.1"), 3, decimal.Decimal("0.02")
 
 
@@ -80,6 +84,13 @@ def said_of_negative(results: Results, row: Row, years: list[int]) -> str:
     more = f", and in {counted(len(years) - 1, 'more year')}" if len(years) > 1 else ""
     cause = f"line {name} is below zero: {value} {what} in {years[0]}{more}"
     bindings = results.bindings(name)
+    off_one = re.search(r"\(1 - \(([A-Z +]+)\)\)", equation["expression"])
+    if off_one:
+        shares = [bindings[parameter] for parameter in off_one.group(1).split(" + ") if parameter in bindings]
+        size = sum((results.taken(bound, years[0]) or ZERO for bound in shares), ZERO)
+        named = listed([f"{bound.field('name')} ({bound.field('low')})" for bound in shares
+                        if bound.field("value") == "factor"], "and")
+        cause += f"; {named}, which are taken off one, are {plain(size)} together: are they what is left?"
     for parameter in re.findall(r"(?<!1 )- ([A-Z][A-Z0-9]*)", equation["expression"]):
         taken = results.taken(bindings[parameter], years[0]) if parameter in bindings else None
         if taken:
@@ -173,6 +184,68 @@ def imports_and_exports(results: Results, rows: list[Row], kind: KindApart, year
     return None
 
 
+def stock_changes_with_other_sign(results: Results) -> list[Fault]:
+    """Changes of stocks in the reference approach with which the approaches agree if they have the other sign."""
+    of_co2 = [row for row in results.emitting if gas_of(row) == "CO2"]
+    reference = [row for row in of_co2 if row.field("subject") == "RA"]
+    burnt = [row for row in of_co2 if row.field("subject").startswith("1A")]
+    found: list[Fault] = []
+    for kind in (*KINDS, "") if reference else ():
+        rows = [[row for row in lines if not kind or kind in kinds_of_fuels(results, row)]
+                for lines in (reference, burnt)]
+        changes = stock_changes(results, rows[0])
+        first = next((bound for row in rows[0] for bound in bound_to_changes(results, row)), None)
+        apart = [apart_by_sign(results, rows, changes, year) for year in results.years]
+        known = [each for each in apart if each]
+        if first and len(known) >= FEWEST_YEARS and not found and are_nearer(known):
+            said = f"with the other sign of {listed(sorted(names_of_changes(results, rows[0])), 'and')} the reference"
+            said += f" approach{' of ' + kind if kind else ''} agrees with the sectoral one in all years"
+            found.append(warn(first, f"{said}; SC is above zero where stocks grow"))
+    return found
+
+
+def bound_to_changes(results: Results, row: Row) -> list[Row]:
+    """The bindings of a line and of those that it takes with the change of stocks, where that is an activity."""
+    return [bound for bound in results.bound_below(row.field("name"))
+            if bound.field("name") == "SC" and bound.field("value") == "activity"]
+
+
+def names_of_changes(results: Results, rows: list[Row]) -> set[str]:
+    """The activities that lines of the reference approach take as changes of stocks."""
+    return {bound.field("low") for row in rows for bound in bound_to_changes(results, row)}
+
+
+def stock_changes(results: Results, rows: list[Row]) -> dict[int, decimal.Decimal]:
+    """The CO2 that changes of stocks take off lines of the reference approach, by year: of each line its own by
+    the share of its apparent consumption that they are.
+    """
+    found: dict[int, decimal.Decimal] = {}
+    for row in rows:
+        for bound in bound_to_changes(results, row):
+            for year in results.years:
+                consumed = results.cells.get((bound.field("subject"), year))
+                change, given = results.taken(bound, year), results.cells[row.field("name"), year]
+                if consumed and change and given:
+                    found[year] = found.get(year, ZERO) + given * change / consumed
+    return found
+
+
+def apart_by_sign(results: Results, rows: list[list[Row]], changes: dict[int, decimal.Decimal],
+                  year: int) -> tuple[decimal.Decimal, decimal.Decimal] | None:
+    """How far the approaches are apart in a year, as they are and with the other sign of the changes of stocks; or
+    None where one of them is nothing, or no stock changes.
+    """
+    one, other = (sum_of(results, lines, year) for lines in rows)
+    if not one or not other or not changes.get(year):
+        return None
+    return abs(one - other), abs(one + 2 * changes[year] - other)
+
+
+def are_nearer(apart: list[tuple[decimal.Decimal, decimal.Decimal]]) -> bool:
+    """Tells whether of each pair of differences the second is far less than the first."""
+    return all(other * NEARER <= one for one, other in apart) and any(one for one, _ in apart)
+
+
 def kinds_apart(results: Results, rows: list[Row], burnt: list[Row], year: int) -> list[KindApart]:
     """The kinds of fuels that both approaches have and that are more than 5 percent apart in a year, the
     largest difference first.
@@ -196,10 +269,14 @@ def sum_of(results: Results, rows: list[Row], year: int) -> Figure:
 
 
 def fuels_of_one(results: Results, rows: list[Row], burnt: list[Row]) -> str:
-    """The kinds of fuels, by names, that one approach alone has; or what to ask for."""
-    kinds = [{kind for row in lines for kind in kinds_of_fuels(results, row)} for lines in (rows, burnt)]
-    alone = [f"lines of {listed(sorted(own - other), 'and')} stand {where} alone" for own, other, where in
-             ((kinds[0], kinds[1], "at RA"), (kinds[1], kinds[0], "under 1A")) if own - other]
+    """The kinds of fuels, by names, that one approach alone has, where each line of the other names its own; or
+    what to ask for.
+    """
+    each = [[kinds_of_fuels(results, row) for row in lines] for lines in (rows, burnt)]
+    kinds = [{kind for own in of_lines for kind in own} for of_lines in each]
+    alone = [f"lines of {listed(sorted(kinds[one] - kinds[other]), 'and')} stand {where} alone"
+             for one, other, where in ((0, 1, "at RA"), (1, 0, "under 1A"))
+             if kinds[one] - kinds[other] and all(each[other])]
     asked = "is a line of burnt fuel missing under 1A, or a change of stocks, a bunker or a use as feedstock in one"
     return "; ".join(alone) or f"{asked} of them alone?"
 
@@ -229,6 +306,34 @@ def large_changes(results: Results) -> list[Fault]:
     gathered = [(at, sorted(changes, key=lambda change: -abs(change.size))) for at, changes in found.items()]
     gathered.sort(key=lambda pair: -abs(pair[1][0].size))
     return [warn(records[at], said_of_changes(results, records[at], changes)) for at, changes in gathered]
+
+
+def deposits_that_jump(results: Results) -> list[Fault]:
+    """Activities that go into a stock and change by more than 20 percent in one year, where they usually change
+    less: what the stock gives hardly shows it.
+    """
+    taken: dict[str, Row] = {}
+    for row in results.lines:
+        if row.field("value") in OF_DEPOSITS:
+            bound = results.bindings(row.field("name")).values()
+            taken.update({each.field("low"): row for each in bound if each.field("value") == "activity"})
+    found = []
+    for name, line in sorted(taken.items()):
+        changes = {year: change for year, change in changes_of(results, name).items() if change * 100 > MOST_PERCENT}
+        exceptions = [year for year in changes if exceptional(results, name, year)]
+        if exceptions and not is_return(results, name, exceptions[0]):
+            found.append(warn(*said_of_deposits(results, name, line, exceptions[0])))
+    return found
+
+
+def said_of_deposits(results: Results, name: str, line: Row, year: int) -> tuple[Row, str]:
+    """The record of a year in which a deposit changes much, and what is said of it."""
+    before, row = (results.book.years["activity"][name][at] for at in (year - 1, year))
+    one, other = figure_of(before) or ZERO, figure_of(row) or ZERO
+    percent = 100 * (other - one) / abs(one) if one else ZERO
+    said = f"activity {name} changes by {percent:+.1f} % in {year}, from {before.field('value')}"
+    said += f" {before.field('unit')} to {row.field('value')} {row.field('unit')}, and line {line.field('name')} takes"
+    return row, f"{said} it into a stock, which shows it over many years alone; is a figure wrong?"
 
 
 def change_of(line: str, year: int, before: Figure, now: Figure) -> Change | None:
@@ -437,6 +542,19 @@ enter,activity,,COAL.MINED,2019,{},,,kt,
 enter,activity,,COAL.MINED,2020,{},,,kt,
 enter,activity,,COAL.MINED,2021,{},,,kt,
 """
+# Coal that is mined, and taken out of stocks or put there: as much is burnt as the small inventory has.
+STOCKS_OF_COAL = APPROACH.replace("SC,,key,NO", "SC,,activity,COAL.SC").format(980, 1080, 1000) + """\
+enter,activity,,COAL.SC,2019,{}20,,,kt,
+enter,activity,,COAL.SC,2020,{}30,,,kt,
+enter,activity,,COAL.SC,2021,{}20,,,kt,
+"""
+DEPOSITS = """\
+enter,span,,,2019,2024,2019,,,
+enter,activity,,WASTE,2021,506,,,kt,
+enter,activity,,WASTE,2022,{},,,kt,
+enter,activity,,WASTE,2023,512,,,kt,
+enter,activity,,WASTE,2024,509,,,kt,
+"""
 WETLANDS = """\
 enter,line,3B4,PEAT.LOSS,,Q87,,,,
 enter,bind,PEAT.LOSS,A,,activity,PEAT.AREA,,,
@@ -507,9 +625,18 @@ RECOGNISERS: tuple[Recogniser, ...] = (
         says="no line has a value in the base year, 2017; the years with values are 2019 to 2021",
         right="-enter,span\nenter,span,,,2019,2021,2020,,,"),
     Recogniser(
+        deposits_that_jump, "deposits in a landfill that change by more than 20 percent in one year, which the stock"
+        " hides",
+        example=DEPOSITS.format(268), right=DEPOSITS.format(480), base=LANDFILL,
+        says="activity WASTE changes by -47.0 % in 2022, from 506 kt to 268 kt, and line WASTE.C takes it into"),
+    Recogniser(
         large_changes, "changes of a line above 20 percent, where its activity usually changes less, the"
         " largest first",
         example="enter,activity,,COWS,2021,145000,,,head,",
         says="line COWS.CH4 changes by -41.5 % in 2021, -363.384 Gg CO2 equivalent: activity COWS is 145000",
         right="enter,activity,,COWS,2021,205000,,,head,"),
+    Recogniser(
+        stock_changes_with_other_sign, "changes of stocks with the other sign, with which the approaches agree",
+        example=STOCKS_OF_COAL.format("", "-", ""), right=STOCKS_OF_COAL.format("-", "", "-"),
+        says="with the other sign of COAL.SC the reference approach of coal agrees with the sectoral one"),
 )

@@ -5,7 +5,7 @@ import functools
 import re
 import typing
 
-from tools import units, vocabulary
+from tools import letters, units, vocabulary
 
 GROSS, NET, EQUIVALENTS, ELECTRICITY, PRODUCT = "gross", "net", "equivalents", "electricity", "product"
 DRY, WET, ASH_FREE = "dry matter", "wet weight", "no ash"
@@ -13,21 +13,27 @@ PLACES, LIVESTOCK_UNITS = "places", "livestock units"
 NORMAL, STANDARD = "0 \u00b0C", "15 \u00b0C"
 # What people write for these, in lower case.
 SPELLINGS = {
-    GROSS: "gcv hcv hhv gross gchv hs ho pcs upper higher brut superior",
-    NET: "ncv lcv lhv net nchv hi hu pci lower inferior",
+    GROSS: "gcv hcv hhv gross gchv hs ho pcs upper higher brut superior superieur superiore brennwert hsup bovenwaarde",
+    NET: "ncv lcv lhv net nchv hi hu pci lower inferior inferieur inferiore heizwert hinf onderwaarde",
     EQUIVALENTS: "equivalence",
     "CO2": "co2", "CH4": "ch4", "N2O": "n2o", "CF4": "cf4", "C2F6": "c2f6", "N2O-N": "n2o-n",
-    "CH4-C": "ch4-c", "C": "c carbon co2-c", "N": "n nitrogen urea-n nh4-n no3-n",
+    "CH4-C": "ch4-c", "C": "c carbon co2-c kohlenstoff carbone carbono",
+    "N": "n nitrogen urea-n nh4-n no3-n azote stickstoff nitrogeno azoto azot",
     "NH3": "nh3", "NH3-N": "nh3-n", "NO3": "no3",
-    "urea": "urea", "nitrate": "nh4no3 nitrate", "HNO3": "hno3", "CaO": "cao", "COD": "cod",
+    "urea": "urea uree harnstoff mocznik", "nitrate": "nh4no3 nitrate", "HNO3": "hno3", "CaO": "cao", "COD": "cod",
     "BOD": "bod bod5",
-    "protein": "protein", "clinker": "clinker", "cement": "cement",
-    DRY: "dm dry drymatter odt bdt dw", WET: "wet fresh ww fw", ASH_FREE: "daf maf",
-    ELECTRICITY: "e el elec electric electricity electrical", PLACES: "place places stall stalls",
-    LIVESTOCK_UNITS: "lsu lu gve uba",
+    "protein": "protein", "clinker": "clinker klinker",
+    "cement": "cement zement ciment cemento",
+    DRY: "dm dry drymatter odt bdt dw ms ts tm trocken trockenmasse trockensubstanz sec seche seca seco secca secco "
+         "suchej droog",
+    WET: "wet fresh ww fw fm frischmasse fraiche frais humide humedo humeda nass", ASH_FREE: "daf maf",
+    ELECTRICITY: "e el elec electric electricity electrical electricite strom elettricita electricidad",
+    PLACES: "place places stall stalls stallplatz stallplatze stallplaetze plazas posti emplacements",
+    LIVESTOCK_UNITS: "lsu lu gve gv uba ugb ugm grossvieheinheiten",
     NORMAL: "nm3 mnm3 normal stp 0\u00b0c", STANDARD: "sm3 msm3 scm 15\u00b0c",
     PRODUCT: "product products fertiliser fertilisers fertilizer fertilizers npk dap uan can "
-             "an n-fertiliser n-fertilizer sulphate sulfate manure slurry compost sludge litter digestate",
+             "an n-fertiliser n-fertilizer engrais dunger duenger fertilizante abono nawoz sulphate sulfate "
+             "manure slurry compost sludge litter digestate",
 }
 SAID = {word: of for of, words in SPELLINGS.items() for word in words.split()}
 # What the figures of parameters are of. A factor whose gas is that of its line is in GAS_FACTORS.
@@ -97,9 +103,9 @@ class Words(typing.NamedTuple):
 @functools.lru_cache(maxsize=10000)
 def words_of(text: str) -> Words:
     """What a text of a unit says that it is of."""
-    text = text.replace("(NH4)2SO4", "sulphate")
+    text = letters.without_accents(text).replace("(NH4)2SO4", "sulphate")
     text = re.sub(r"\b([a-z])\.([a-z])\.([a-z])\b\.?", r"\1\2\3", text, flags=re.IGNORECASE)
-    text = units.EQUIVALENTS.sub(r"\1 equivalence", text)
+    text = units.EQUIVALENTS.sub(r"\g<gas> equivalence", text)
     text = re.sub(r"(wh)[_-]?(el?)\b", r"\1 \2", text, flags=re.IGNORECASE)
     parts = [part.split() for part in units.prepared(text).split("/")]
     found = [[of for word in part for of in said_by(word)] for part in parts]
@@ -128,8 +134,8 @@ def is_other(word: str) -> bool:
 
 
 def is_unit(word: str) -> bool:
-    """Tells whether a word is a unit or a number and not only what it is of."""
-    return word.casefold().removesuffix("^-1") not in SAID or units.unit_of(word) is not None
+    """Tells whether a word is a unit or a number and not only what it is of: a cubic metre is both."""
+    return SAID.get(word.casefold().removesuffix("^-1"), NORMAL) in (NORMAL, STANDARD)
 
 
 def said_by(word: str) -> list[str]:
@@ -153,3 +159,8 @@ def taken_by(code: str, parameter: str) -> str | None:
 def per_what(code: str, parameter: str) -> str | None:
     """What the denominator of a parameter is of, or None if that is not known."""
     return next((of for of, names in PER.items() if f"{code}.{parameter}" in names.split()), None)
+
+
+def said(of: str) -> str:
+    """What a figure is of as a word of a sentence."""
+    return {"N": "nitrogen", "C": "carbon"}.get(of, of)

@@ -59,8 +59,10 @@ PHRASES = {
     "watt hour": "Wh", "watt-hour": "Wh", "per cent": "%", "p.c.": "%", "p.a.": "/yr", "d.m.": "dm",
     "anode effect minute": "AEmin", "ae min": "AEmin",
 }
-# Equivalents of a gas, after its formula.
-EQUIVALENTS = re.compile(r"(co2|ch4|n2o)[\s-]*e(q\.?|quivalents?)?(?![a-z0-9])", re.IGNORECASE)
+# Equivalents of a gas, after its formula or in front of it.
+EQUIVALENTS = re.compile(
+    r"(?P<front>\beq\.?[\s-]*)?(?P<gas>co2|ch4|n2o)"
+    r"(?(front)\b|[\s-]*(a?e(q\.?|quivalent[a-z]*)?|aq\.?|aquivalent[a-z]*)(?![a-z0-9]))", re.IGNORECASE)
 # Tonnes of fuel that measure energy.
 FUEL_EQUIVALENTS = re.compile(
     r"t(?:on(?:ne)?s?)?(?: of)?[\s.-]*(oil|coal|o|c)\.?[\s-]*e(?:q\.?|quivalents?|\.)(?![a-z0-9])",
@@ -160,7 +162,7 @@ def prepared(text: str) -> str:
     text = re.sub(r"(?<=[A-Za-z0-9])[:\\](?=[A-Za-z])", "/", text.replace("**", "^").replace("_", " "))
     text = re.sub(rf"({'|'.join(LONG_POWERS)})[ -](?=[a-z])", r"\1", text, flags=re.IGNORECASE)
     text = re.sub(r"\(([^()]*)\)\s*\^?-1(?!\d)", r"/ \1 ", text)
-    text = EQUIVALENTS.sub(r"\1", text)
+    text = EQUIVALENTS.sub(r"\g<gas>", text)
     text = FUEL_EQUIVALENTS.sub(lambda found: f"t{found.group(1)[0].lower()}e", text)
     for phrase, word in PHRASES.items():
         text = re.sub(rf"(?<![a-z]){re.escape(phrase)}s?(?![a-z0-9])\.?", word, text, flags=re.IGNORECASE)

@@ -3,12 +3,13 @@
 """
 import csv
 import functools
+import itertools
 import pathlib
 import re
 import typing
 
 from tools import vocabulary
-from tools.fuels import Number, Range, fuels_of, rows_of, together, usual_of
+from tools.fuels import Number, Range, fuels_of, name_words, rows_of, together, usual_of
 from tools.results import Results, gas_of
 from tools.sheets import Row
 
@@ -17,16 +18,14 @@ USUAL = pathlib.Path(__file__).resolve().parent / "usual-values.csv"
 CO2_OF_FUELS = Range(Number(37000), Number(300000), (), "Volume 2, Table 1.4")
 ENERGY_OF_FUELS = Range(Number(1), Number(150), (), "Volume 2, Table 1.2, and hydrogen")
 CARBON_IN_CO2 = Number(12) / Number(44)
+HUNDREDTHS = Number("0.01")
+FUELS_SHOWN = 3
 # The tables of CH4 and N2O of fuels burnt, and those of enteric fermentation.
 OTHER_GASES = ("volume-2-table-2.2", "volume-2-table-2.3", "volume-2-table-2.4", "volume-2-table-2.5",
                "volume-2-table-3.2.2")
 ENTERIC = ("volume-4-table-10.10", "volume-4-table-10.11")
 ANIMALS = ("DAIRY", "CATTLE", "BUFFALO", "SHEEP", "GOATS", "CAMELS", "HORSES", "MULES", "DEER", "ALPACAS",
-           "SWINE")
-# What people call them.
-CALLED = {"COW": "DAIRY", "BEEF": "CATTLE", "BULL": "CATTLE", "HEIFER": "CATTLE", "CALVE": "CATTLE",
-          "EWE": "SHEEP", "LAMB": "SHEEP", "PIG": "SWINE", "SOW": "SWINE", "ASSES": "MULES",
-          "DONKEY": "MULES"}
+           "SWINE", "POULTRY")
 # What burns a fuel with far more CH4 and N2O than boilers, by Volume 2, Tables 2.6 to 2.10, and how far these
 # gases of one fuel may be from the tables.
 ENGINES = {"ENGINE", "ENGINES", "TURBINE", "TURBINES", "FLUIDISED", "FLUIDIZED", "CNG"}
@@ -42,7 +41,8 @@ def usual_values() -> dict[tuple[str, str], list[dict[str, str]]]:
     found: dict[tuple[str, str], list[dict[str, str]]] = {}
     with open(USUAL, encoding="utf-8", newline="") as file:
         for row in csv.DictReader(file):
-            found.setdefault((row["equation"], row["parameter"]), []).append(row)
+            for pair in itertools.product(row["equation"].split(), row["parameter"].split()):
+                found.setdefault(pair, []).append(row)
     return found
 
 
@@ -50,19 +50,22 @@ def usual_row(line: Row, parameter: str, said: typing.Iterable[str] = ()) -> dic
     """The first row of usual values of a parameter of a line that is of its category, and of whose words each
     stands in the names that tell what it is of; or None.
     """
-    words = {part for name in (line.field("name"), *said) for part in re.split("[._-]", name)}
+    names_said = (line.field("name"), *said)
+    words = {part for name in names_said for part in re.split("[._-]", name)}.union(animals_of(names_said))
     rows = usual_values().get((line.field("value"), parameter), ())
     return next((row for row in rows if line.field("subject").startswith(row["category"])
                  and words.issuperset(row["words"].split())), None)
 
 
 class Usual(typing.NamedTuple):
-    """What is usual of a factor, what it is of, and how far off it has to be to be told of."""
+    """What is usual of a factor, what it is of, how far off it has to be to be told of, and the fuels or animals
+    that names speak of.
+    """
     range: Range
     of: str
     margin: Number
-
     shown: Range | None = None
+    named: tuple[str, ...] = ()
 
     def has(self, figure: Number, margin: Number) -> bool:
         """Tells whether a figure is usual within a margin."""
@@ -78,14 +81,17 @@ def usual(results: Results, line: Row, parameter: str, bound: Row) -> Usual | No
     """What is usual of what a parameter of a line takes, or None where nothing is known."""
     measures = vocabulary.parameters_of(line.field("value"))[parameter]["measures"]
     said = names(results, line, bound)
-    row = usual_row(line, parameter, sum(said, []))
+    of_takers = animals_of(said[0] + said[1]) if said[2] else ()
+    row = usual_row(line, parameter, sum(said[:2] if of_takers else said, []))
     if row:
-        return Usual(range_of(row), f"{parameter} of {line.field('value')}", Number(row["margin"] or MARGIN))
+        animals = (of_takers or animals_of(said[2])) if set(row["words"].split()) & set(ANIMALS) else ()
+        of = f"{parameter} of {line.field('value')}" + (f" for {' or '.join(animals).lower()}" if animals else "")
+        return Usual(range_of(row), of, Number(row["margin"] or MARGIN), named=animals)
     if measures == "net calorific value":
         return of_fuels("volume-2-table-1.2", "NCV", said, ENERGY_OF_FUELS)
     if measures == "carbon content of fuel":
         of_co2 = of_fuels("volume-2-table-1.4", "CO2", said, CO2_OF_FUELS)
-        return Usual(of_carbon(of_co2.range), of_co2.of, OF_FUELS)
+        return Usual(of_carbon(of_co2.range), of_co2.of, OF_FUELS, named=of_co2.named)
     if measures == "emission factor of fuel" and gas_of(line) == "CO2":
         return of_fuels("volume-2-table-1.4", "CO2", said, CO2_OF_FUELS)
     if measures == "emission factor of fuel":
@@ -123,7 +129,27 @@ def of_fuels(table: str, what: str, said: list[list[str]], any_fuel: Range) -> U
     found = usual_of(table, [f"{what}.{fuel}" for fuel in fuels])
     if found is None:
         return Usual(any_fuel, "fuels", Number(1))
-    return Usual(found, " or ".join(fuel.replace(".", " ").lower() for fuel in fuels[:3]), OF_FUELS)
+    of = " or ".join(fuel.replace(".", " ").lower() for fuel in fuels[:3])
+    return Usual(found, of, OF_FUELS, named=fuels)
+
+
+def default_of_fuel(figure: Number, measures: str, gas: str | None, known: Usual) -> str | None:
+    """A fuel but for those that names speak of, of which a figure is the default, or None where no table has it
+    or it is one of theirs too.
+    """
+    if measures == "net calorific value":
+        table, value = "volume-2-table-1.2", figure
+    elif measures == "carbon content of fuel":
+        table, value = "volume-2-table-1.4", figure / CARBON_IN_CO2 * 1000
+    elif measures == "emission factor of fuel" and gas == "CO2":
+        table, value = "volume-2-table-1.4", figure
+    else:
+        return None
+    if figure in known.range.defaults:
+        return None
+    names = [name.split(".", 1)[1].replace(".", " ").lower() for name, each in rows_of(table).items()
+             if value.quantize(HUNDREDTHS) in each.defaults]
+    return vocabulary.listed(names[:FUELS_SHOWN]) if names else None
 
 
 def of_other_gas(gas: str, said: list[list[str]], category: str) -> Usual:
@@ -155,12 +181,46 @@ def of_fuels_burnt(gas: str, fuels: tuple[str, ...]) -> Range | None:
     return together(found)._replace(source=source) if found else None
 
 
+def animals_of(said: typing.Iterable[str]) -> tuple[str, ...]:
+    """The animals that names speak of."""
+    found: list[str] = []
+    for name in said:
+        found += animals_in(name)
+    return tuple(dict.fromkeys(found))
+
+
+@functools.lru_cache(maxsize=100000)
+def animals_in(name: str) -> tuple[str, ...]:
+    """The animals that a name speaks of, in words of two parts before those of one."""
+    parts, found = re.split("[._-]", name), set()
+    for length in (2, 1):
+        for at in range(len(parts) - length + 1):
+            word = ".".join(parts[at:at + length])
+            named = {each: name_words().get(each, each) for each in (word, word.removesuffix("S"), f"{word}S")}
+            means = next((means for means in named.values() if means in ANIMALS), None)
+            if means:
+                found.add(means)
+                parts[at:at + length] = ["-"] * length
+    return tuple(animal for animal in ANIMALS if animal in found)
+
+
 def of_animals(said: list[list[str]]) -> Usual | None:
-    """The emission factor of enteric fermentation of the animals that names speak of, or None."""
-    parts = {part for name in sum(said, []) for part in re.split("[._-]", name)}
-    called = {CALLED.get(part.removesuffix("S"), part) for part in parts}
-    animals = [animal for animal in ANIMALS if {animal, animal.removesuffix("S")} & called]
-    tables = [usual_of(table, [name for name in rows_of(table) if name.split(".")[1] in animals])
-              for table in ENTERIC]
+    """The emission factor of enteric fermentation of the animals that names speak of, or None: those of what
+    takes a factor before its own.
+    """
+    animals = animals_of(said[0] + said[1]) or animals_of(said[2])
+    tables = [usual_of(table, enteric(table, animals)) for table in ENTERIC]
     known = [each for each in tables if each]
-    return Usual(together(known), " and ".join(animals).lower(), MARGIN) if known else None
+    return Usual(together(known), " and ".join(animals).lower(), MARGIN, named=animals) if known else None
+
+
+def enteric(table: str, animals: tuple[str, ...]) -> list[str]:
+    """The factors of animals in a table of enteric fermentation."""
+    return [name for name in rows_of(table) if name.split(".")[1] in animals]
+
+
+def default_of_animals(figure: Number, animals: tuple[str, ...]) -> str | None:
+    """One of some animals of whose enteric fermentation a figure is a default, or None."""
+    found = [name.split(".")[1] for table in ENTERIC for name in enteric(table, animals)
+             if figure in rows_of(table)[name].defaults]
+    return found[0].lower() if found else None

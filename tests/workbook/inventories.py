@@ -7,6 +7,8 @@ has the span SPAN and the potentials of one report in front.
 """
 import pathlib
 
+from tests.workbook.further import FURTHER
+
 FIRST, LAST = 2010, 2020
 YEARS = range(FIRST, LAST + 1)
 HEADER = "act,kind,subject,name,year,value,low,high,unit,note"
@@ -340,10 +342,10 @@ f GRASS.IN 1 1.11
 f GOATS kg/head 5
 f HORSES kg/head 18
 a MEADOWS kha 410 418
-a STOCK.FIRST GgC -43150 -43150
 a GOATS head 98000 103000
 a HORSES head 51000 49500
-""",
+enter,activity,,STOCK.FIRST,2010,-43150,,,GgC,less the stock of 2009
+""" + "".join(f"enter,activity,,STOCK.FIRST,{year},0,,,GgC,\n" for year in range(2011, 2021)),
     "cropland": """
 line 3B2 NOW.FULL Q85 SREF=f:REFERENCE FLU=f:TILLED FMG=f:FULL FI=f:MEDIUM A=a:FULL.NOW
 line 3B2 NOW.LITTLE Q85 SREF=f:REFERENCE FLU=f:TILLED FMG=f:LITTLE FI=f:MEDIUM A=a:LITTLE.NOW
@@ -492,6 +494,7 @@ enter,activity,,EWES,2022,298500,,,head,
 enter,activity,,FIRES,2022,700,660,740,ha,
 correct,activity,,FIRES,2020,214,207,221,ha,
 """,
+    **FURTHER,
 }
 
 
