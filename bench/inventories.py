@@ -65,17 +65,27 @@ def final_activities(number: int) -> dict[int, int]:
     return entered_activities(number) | {corrected_year(number): 3 * number + 5}
 
 
-def fuel_rows(number: int, activities: dict[int, int]) -> str:
-    """The rows of a line with these activities."""
+def fuel_line(number: int) -> str:
+    """The rows of a line without its figures."""
     name = f"{number:05d}"
-    rows = [
-        f"enter,line,{CATEGORIES[number % 10]},L{name},,Q10,,,,\n",
-        f"enter,bind,L{name},FC,,activity,A{name},,,\n",
-        f"enter,bind,L{name},EF,,factor,F{name},,,\n",
-        f"enter,factor,,F{name},{FIRST},{50000 + number},{49000 + number},{51000 + number},kg/TJ,\n",
-    ]
+    return (
+        f"enter,line,{CATEGORIES[number % 10]},L{name},,Q10,,,,\n"
+        f"enter,bind,L{name},FC,,activity,A{name},,,\n"
+        f"enter,bind,L{name},EF,,factor,F{name},,,\n"
+    )
+
+
+def fuel_figures(number: int, activities: dict[int, int]) -> str:
+    """The factor of a line, and these activities."""
+    name = f"{number:05d}"
+    rows = [f"enter,factor,,F{name},{FIRST},{50000 + number},{49000 + number},{51000 + number},kg/TJ,\n"]
     rows += [f"enter,activity,,A{name},{year},{activities[year]},,,TJ,\n" for year in YEARS]
     return "".join(rows)
+
+
+def fuel_rows(number: int, activities: dict[int, int]) -> str:
+    """The rows of a line with these activities."""
+    return fuel_line(number) + fuel_figures(number, activities)
 
 
 def first_rows() -> str:

@@ -93,8 +93,8 @@ unused = LIMIT
 IsEven : ℕ → Type 0
 IsEven n = is_even n ≡ true
 
-EvensAreEven : Type 0
-EvensAreEven = (n : ℕ) → IsEven n
+EvensAreEven : {Number : Type 0} → Type 0
+EvensAreEven {Number} = (n : Number) → (m : ℕ) → IsEven m
 """,
     "crates/top/src/lib.rt": "mod commands;\n",
     "crates/top/src/commands.rt": """\

@@ -13,6 +13,7 @@ use ghg_keeper::FileKeeper;
 use ghg_outer::{InputSource, OutputSink, TcpDoor};
 use ghg_run::run_counted;
 use ghg_session::Status;
+use ghg_workers::OpenGate;
 use std::alloc::{AllocError, Global};
 use std::env::Args;
 use std::hash::RandomState;
@@ -55,7 +56,8 @@ fn main(rt: HostRuntime) -> ExitCode {
     let Ok(hasher) = RandomState::new(&rt) else {
         return ExitCode::from(Status::OutOfMemory.code());
     };
-    let status = run_counted::<_, _, _, _, Brand>(
+    let status = run_counted::<_, _, _, _, _, _, Brand>(
+        &rt,
         alloc,
         hasher,
         &words,
@@ -63,6 +65,7 @@ fn main(rt: HostRuntime) -> ExitCode {
         &mut OutputSink::new(io::writer(&rt)),
         &mut FileKeeper::new(&rt),
         &mut TcpDoor::new(&rt),
+        &OpenGate,
         Blank::new(1),
     );
     ExitCode::from(status)

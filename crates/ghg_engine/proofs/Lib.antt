@@ -8,7 +8,10 @@ pub mod Patched
 pub mod Searched
 pub mod Noting
 pub mod Turns
+pub mod Spans
+pub mod FewNodes
 pub mod Ready
+pub mod Come
 pub mod Keys
 pub mod Done
 pub mod Edited

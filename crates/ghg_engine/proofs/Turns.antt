@@ -4,23 +4,21 @@ use Rattle.std.proofs.lemmas.List.{take_all}
 use Rattle.ghg_units.specs.declared.node.Node.{Node}
 use Rattle.ghg_affected.specs.Counts.{StandOnce}
 use Rattle.ghg_affected.specs.Equalities.{same_node}
-use Rattle.ghg_affected.specs.Patches.{IsInTurn, least_break}
+use Rattle.ghg_affected.specs.Patches.{least_break}
 use Rattle.ghg_affected.proofs.Bools.{true_not_false}
-use Rattle.ghg_affected.proofs.Closed.{inputs_are_nodes}
 use Rattle.ghg_columns.specs.Cells.{found_in, no_outcomes, with_outcome}
 use Rattle.ghg_columns.proofs.Places.{node_itself, node_same}
 use Rattle.ghg_definitions.specs.Compilation.{compilation, sheet_of}
 use Rattle.ghg_definitions.specs.Data.{Data}
 use Rattle.ghg_definitions.specs.Formulas.{Outcome}
 use Rattle.ghg_definitions.specs.Nodes.{least_node, lesser_node}
-use Rattle.ghg_definitions.specs.Sound.{IsWorkbook}
-use Rattle.ghg_definitions.specs.Trials.{IsInput, Outcomes, breaks}
+use Rattle.ghg_definitions.specs.Trials.{Outcomes, breaks}
 use Rattle.ghg_definitions.proofs.Least.{least_found, least_passes, none_found, none_passes}
 use Rattle.ghg_definitions.proofs.Listed.{contained, in_either, listed, listed_left, listed_right}
 use Rattle.ghg_definitions.proofs.NodeOrder.{nodes_same, nodes_total}
 use Rattle.ghg_shifts.specs.declared.evaluated.Evaluated.{Evaluated}
 use Rattle.ghg_shifts.specs.Noted.{IsOutcomeOf}
-use Rattle.ghg_engine.specs.Evaluation.{AreEvaluated, AreInTurn, AreKept, least_with}
+use Rattle.ghg_engine.specs.Evaluation.{AreEvaluated, AreInTurn, AreKept, IsSoFar, least_with}
 
 -- without fresh cells what is kept is found
 pub nothing_fresh : (outcomes : Outcomes) → found_in no_outcomes outcomes ≡ outcomes
@@ -80,15 +78,7 @@ drop_next ns i n is within = begins ∙ ap (λ k. k ∷ drop (i + 1) ns) (sym is
 -- ---- some are evaluated, and the rest is not
 
 module _ (m : Data) where
-  -- what is found at the nodes is right but at the rest, and what is fresh is right at those that are done
-  pub record IsSoFar (done rest : List Node) (found fresh : Outcomes) (least : Option Node) : Type 0 where
-    pub agree : AreKept m rest found
-    pub fresh_are : (n : Node) → Contains done n → fresh n ≡ compilation m n
-    pub no_others : (n : Node) → (Contains done n → ⊥) → fresh n ≡ None
-    pub turn : IsInTurn (sheet_of m) rest
-    pub least_is : least ≡ least_break m done
-
-  pub nothing_so_far : (ns : List Node) → AreInTurn m ns → (found fresh : Outcomes) → AreKept m ns found → fresh ≡ no_outcomes → IsSoFar [] ns found fresh None
+  pub nothing_so_far : (ns : List Node) → AreInTurn m ns → (found fresh : Outcomes) → AreKept m ns found → fresh ≡ no_outcomes → IsSoFar m [] ns found fresh None
   nothing_so_far ns order found fresh agree none = record {
     agree = agree;
     fresh_are = λ n c. absurd (listed [] n c);
@@ -96,10 +86,6 @@ module _ (m : Data) where
     turn = order.turn;
     least_is = refl;
   }
-
-  -- the inputs of the next node are found
-  pub inputs_found : IsWorkbook m → (done : List Node) (n : Node) (rest : List Node) (found fresh : Outcomes) (least : Option Node) → IsSoFar done (n ∷ rest) found fresh least → (k : Node) → IsInput (sheet_of m) k n → found k ≡ compilation m k
-  inputs_found workbook done n rest found fresh least so_far k i = so_far.agree k (inputs_are_nodes m workbook k n i) (so_far.turn.1 k i)
 
   module _ (done : List Node) (n : Node) (x : Outcome) (is : compilation m n ≡ Some x) where
     one_kept : (rest : List Node) (found : Outcomes) → AreKept m (n ∷ rest) found → AreKept m rest (with_outcome found n x)
@@ -130,8 +116,8 @@ module _ (m : Data) where
         by false apart = none k (λ c. off (to_back done n k (contained (n ∷ done) k (inr (listed done k c)))))
 
   pub one_so_far : (done : List Node) (n : Node) (rest : List Node) (found fresh new_found new_fresh : Outcomes) (least : Option Node) (e : Evaluated) →
-      IsSoFar done (n ∷ rest) found fresh least → IsOutcomeOf m n e → new_found ≡ with_outcome found n e.outcome → new_fresh ≡ with_outcome fresh n e.outcome →
-      IsSoFar (done ++ n ∷ []) rest new_found new_fresh (least_with least e.breaks n)
+      IsSoFar m done (n ∷ rest) found fresh least → IsOutcomeOf m n e → new_found ≡ with_outcome found n e.outcome → new_fresh ≡ with_outcome fresh n e.outcome →
+      IsSoFar m (done ++ n ∷ []) rest new_found new_fresh (least_with least e.breaks n)
   one_so_far done n rest found fresh new_found new_fresh least e so_far at is fresh_is = record {
     agree = subst (AreKept m rest) (sym is) (one_kept done n e.outcome at.outcome rest found so_far.agree);
     fresh_are = subst (λ (f : Outcomes). (k : Node) → Contains (done ++ n ∷ []) k → f k ≡ compilation m k) (sym fresh_is) (one_fresh done n e.outcome at.outcome fresh so_far.fresh_are);
@@ -141,16 +127,16 @@ module _ (m : Data) where
   }
 
   -- a node that stands behind those that are done has no fresh cell yet
-  pub none_yet : (done : List Node) (n : Node) (rest : List Node) (found fresh : Outcomes) (least : Option Node) → StandOnce (done ++ n ∷ rest) → IsSoFar done (n ∷ rest) found fresh least → fresh n ≡ None
+  pub none_yet : (done : List Node) (n : Node) (rest : List Node) (found fresh : Outcomes) (least : Option Node) → StandOnce (done ++ n ∷ rest) → IsSoFar m done (n ∷ rest) found fresh least → fresh n ≡ None
   none_yet done n rest found fresh least once so_far = so_far.no_others n (not_before done n rest once)
 
   -- the next of the nodes
-  pub at_next : (ns : List Node) (i : ℕ) (n : Node) → i < length ns → n ≡ get_or ns i n → (found fresh : Outcomes) (least : Option Node) → IsSoFar (take i ns) (drop i ns) found fresh least → IsSoFar (take i ns) (n ∷ drop (i + 1) ns) found fresh least
-  at_next ns i n within is found fresh least so_far = subst (λ rest. IsSoFar (take i ns) rest found fresh least) (drop_next ns i n is within) so_far
+  pub at_next : (ns : List Node) (i : ℕ) (n : Node) → i < length ns → n ≡ get_or ns i n → (found fresh : Outcomes) (least : Option Node) → IsSoFar m (take i ns) (drop i ns) found fresh least → IsSoFar m (take i ns) (n ∷ drop (i + 1) ns) found fresh least
+  at_next ns i n within is found fresh least so_far = subst (λ rest. IsSoFar m (take i ns) rest found fresh least) (drop_next ns i n is within) so_far
 
-  module _ (ns : List Node) (i : ℕ) (over : length ns ≤ i) (found fresh : Outcomes) (least : Option Node) (so_far : IsSoFar (take i ns) (drop i ns) found fresh least) where
-    all_so_far : IsSoFar ns (drop i ns) found fresh least
-    all_so_far = subst (λ done. IsSoFar done (drop i ns) found fresh least) (take_all i ns over) so_far
+  module _ (ns : List Node) (i : ℕ) (over : length ns ≤ i) (found fresh : Outcomes) (least : Option Node) (so_far : IsSoFar m (take i ns) (drop i ns) found fresh least) where
+    all_so_far : IsSoFar m ns (drop i ns) found fresh least
+    all_so_far = subst (λ done. IsSoFar m done (drop i ns) found fresh least) (take_all i ns over) so_far
 
     pub ends_evaluated : (cells : Outcomes) → cells ≡ fresh → least ≡ None → AreEvaluated m ns cells
     ends_evaluated cells is none = subst (AreEvaluated m ns) (sym is) (record {

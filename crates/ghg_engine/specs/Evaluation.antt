@@ -24,6 +24,16 @@ pub record AreInTurn (m : Data) (ns : List Node) : Type 0 where
   pub once : StandOnce ns
   pub turn : IsInTurn (sheet_of m) ns
 
+-- Some nodes are evaluated, and the rest is not: what is found at the nodes is right but at the rest, what is
+-- fresh is right at those that are done, and the least of these that breaks is known.
+pub record IsSoFar (m : Data) (done rest : List Node) (found fresh : Outcomes) (least : Option Node)
+    : Type 0 where
+  pub agree : AreKept m rest found
+  pub fresh_are : (n : Node) → Contains done n → fresh n ≡ compilation m n
+  pub no_others : (n : Node) → (Contains done n → ⊥) → fresh n ≡ None
+  pub turn : IsInTurn (sheet_of m) rest
+  pub least_is : least ≡ least_break m done
+
 -- the fresh cells are those of the nodes in the list, with their outcomes in the compilation, in which none
 -- of them breaks
 pub record AreEvaluated (m : Data) (ns : List Node) (fresh : Outcomes) : Type 0 where

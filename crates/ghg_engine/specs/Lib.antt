@@ -3,3 +3,5 @@ pub mod Compiled
 pub mod Proposals
 pub mod Notes
 pub mod Evaluation
+pub mod Progress
+pub mod Layers

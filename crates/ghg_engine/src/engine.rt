@@ -25,7 +25,7 @@ use crate::notes::Notes;
 use crate::proposal::Proposal;
 use crate::refusal::EngineRefusal;
 use crate::withdrawn::drop_withdrawn;
-use ghg_cell::{Permits, Value, take};
+use ghg_cell::Value;
 use ghg_columns::{Cells, FreshCells};
 use ghg_data::{Book, Edits, PlanRefusal, after};
 use ghg_graph::{CycleRefusal, check_changed};
@@ -33,10 +33,12 @@ use ghg_layers::layers;
 use ghg_search::{Index, affected};
 use ghg_steps::Steps;
 use ghg_units::{Node, Row, Rule};
+use ghg_workers::{Gate, Workers};
 use std::alloc::{AllocError, Global};
 use std::hash::RandomState;
 use std::marker::Model;
 use std::sync::ledger::Ledger;
+use std::thread::Threads;
 
 /// The records of a workbook and their compilation, in which nothing is over. Contracts see what they see of
 /// its book, its cells and its index.
@@ -140,16 +142,21 @@ impl Engine {
 
     /// The compilation of the book with edits that were planned on it as it stands; or the least node that is
     /// beyond the limits, while none of its inputs is. It spends at most one step for each node that the
-    /// edits affect. The book and the outcomes of its nodes stay with every answer; only room is made, and
-    /// the index may name lines for these edits. So nothing has to be undone after a refusal, or where a
-    /// proposal is dropped.
-    pub fn propose<L: Ledger>(
+    /// edits affect. The nodes are evaluated layer by layer, by so many workers, and `gate` is told of each
+    /// before; the answer depends on neither. The book and the outcomes of its nodes stay with every answer;
+    /// only room is made, and the index may name lines for these edits. So nothing has to be undone after a
+    /// refusal, or where a proposal is dropped.
+    pub fn propose<G: Gate, T: Threads + Sync, L: Ledger>(
         &mut self,
+        rt: &T,
         alloc: Global,
         edits: Edits,
+        workers: u32,
+        gate: &G,
         steps: &mut Steps<L>,
     ) -> Result<Proposal, EngineRefusal>
-        requires { IsArranged self.old edits }
+        requires arranged { IsArranged self.old edits }
+        requires workers { (1 ≤ workers) × (workers ≤ 64) }
         ensures kept { self.new.content ≡ self.old.content }
         ensures steps { steps.new ≤ steps.old + affected_count self.old.content edits }
         ensures proposed { MatchResult result (Proposes self.new edits)
@@ -158,8 +165,12 @@ impl Engine {
     {
         let nodes = self.affected(alloc, &edits)?;
         let count = nodes.len() as u64;
-        let permits = take(count, steps);
-        match self.evaluated_with_room(alloc, &edits, nodes, permits) {
+        let workers = Workers {
+            threads: rt,
+            count: workers,
+            gate,
+        };
+        match self.evaluated_with_room(alloc, &workers, &edits, nodes, steps) {
             Ok(fresh) => Ok(Proposal {
                 edits,
                 fresh,
@@ -186,39 +197,43 @@ impl Engine {
     }
 
     // The cells of the nodes that edits affect, with room for them among the others.
-    fn evaluated_with_room(
+    fn evaluated_with_room<G: Gate, T: Threads + Sync, L: Ledger>(
         &mut self,
         alloc: Global,
+        workers: &Workers<'_, T, G>,
         edits: &Edits,
         nodes: Vec<Node>,
-        permits: Permits,
+        steps: &mut Steps<L>,
     ) -> Result<FreshCells, EngineRefusal>
+        requires workers { (1 ≤ workers.now.count) × (workers.now.count ≤ 64) }
         requires arranged { IsArranged self.old edits.now }
         requires nodes { ListsAffected self.old.content (applied self.old.content edits.now) nodes.items }
-        requires paid { permits ≡ length nodes.items }
+        ensures steps { steps.new ≤ steps.old + length nodes.items }
         ensures shelf { shelf_of self.new ≡ shelf_of self.old }
         ensures index { self.new.index ≡ self.old.index }
         ensures fresh { MatchResult result (IsFresh self.old.content (applied self.old.content edits.now))
             (NamesOverflow (applied self.old.content edits.now)) }
         ensures room { IfOk result (HasRoomFor self.new.cells) }
     {
-        let fresh = self.evaluated(alloc, edits, nodes, permits)?;
+        let fresh = self.evaluated(alloc, workers, edits, nodes, steps)?;
         self.cells.make_room(&fresh)?;
         Ok(fresh)
     }
 
     // The cells of the nodes that edits affect, evaluated over the others.
-    fn evaluated(
+    fn evaluated<G: Gate, T: Threads + Sync, L: Ledger>(
         &self,
         alloc: Global,
+        workers: &Workers<'_, T, G>,
         edits: &Edits,
         nodes: Vec<Node>,
-        permits: Permits,
+        steps: &mut Steps<L>,
     ) -> Result<FreshCells, EngineRefusal>
+        requires workers { (1 ≤ workers.now.count) × (workers.now.count ≤ 64) }
         requires arranged { IsArranged self.now edits.now }
         requires nodes { ListsAffected self.now.content (applied self.now.content edits.now) nodes.items }
-        requires paid { permits ≡ length nodes.items }
-        ensures { MatchResult result (IsFresh self.now.content (applied self.now.content edits.now))
+        ensures steps { steps.new ≤ steps.old + length nodes.items }
+        ensures fresh { MatchResult result (IsFresh self.now.content (applied self.now.content edits.now))
             (NamesOverflow (applied self.now.content edits.now)) }
     {
         let records = after(&self.book, edits);
@@ -230,7 +245,7 @@ impl Engine {
         };
         let notes = Notes::of(alloc, &change, &nodes)?;
         let layers = layers(alloc, &records, nodes)?;
-        evaluate_all(alloc, &change, &self.cells, notes, &layers.nodes, permits)
+        evaluate_all(alloc, workers, &change, &self.cells, notes, &layers, steps)
     }
 
     /// Makes the edits of a proposal that was made on this engine as it stands. It takes no memory, and has

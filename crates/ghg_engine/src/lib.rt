@@ -4,8 +4,10 @@
 mod change;
 mod engine;
 mod evaluation;
+mod layer;
 mod nodes;
 mod notes;
+mod progress;
 mod proposal;
 mod refusal;
 mod withdrawn;

@@ -8,7 +8,7 @@ use Rattle.ghg_outer.specs.Tape.{Consumes, Tape}
 use Rattle.ghg_outer.proofs.Tapes.{consumes_more, consumes_nothing, rose_later}
 use Rattle.ghg_http.specs.Decision.{seen, show, submit}
 use Rattle.ghg_http.specs.Head.{HasHead, IsWhole}
-use Rattle.ghg_http.specs.Receive.{CompletesBody, CutsBody, EndsEarly, FollowsHead, Grows, HasShortBody, IsFilled, IsPrompt, Stopped, TakesRequest, max_read}
+use Rattle.ghg_http.specs.Receive.{CompletesBody, CutsBody, EndsEarly, FollowsHead, Grows, HasShortBody, HoldsRequest, IsFilled, IsPrompt, Stopped, TakesRequest, max_read}
 use Rattle.ghg_http.specs.declared.decision.Decision.{Decision}
 use Rattle.ghg_http.specs.declared.decision.Decision.TheVariants as decided
 use Rattle.ghg_http.specs.declared.decision.Refusal.{Refusal}
@@ -28,18 +28,6 @@ stopped_later Kind Late Taken Came a b c text e read known took s = record {
   text = text ++ s.text;
   read = consumes_more a b c text s.text read s.read;
   cause = λ failed. rose_later a b c read.counts (s.cause failed);
-  kind = λ failed. known s.text (s.kind failed);
-  taken = took s.text s.taken;
-}
-
--- the same text is of another kind
-pub stopped_so : (Kind Given Taken Came : List ℕ → Type 0) (a b : Tape) (e : ReceiveError)
-    → ((text : List ℕ) → Given text → Kind text)
-    → ((text : List ℕ) → Came text → Taken text) → Stopped Given Came a b e → Stopped Kind Taken a b e
-stopped_so Kind Given Taken Came a b e known took s = record {
-  text = s.text;
-  read = s.read;
-  cause = s.cause;
   kind = λ failed. known s.text (s.kind failed);
   taken = took s.text s.taken;
 }
@@ -80,17 +68,24 @@ count_came : (b c : Tape) (old new : List ℕ) (n : ℕ) (grows : Grows b c old 
 count_came b c old new n grows count =
     let size = ap length grows.buffer ∙ length-append old grows.got in omega (arith, size, count)
 
--- one read more, while the buffer was shorter than this size
+-- what a read takes while the buffer is shorter than this size
+pub filled_last : (a b : Tape) (old new : List ℕ) (size : ℕ) → Grows a b old new → length new < size
+    → (more : List ℕ) → length more ≤ max_read → IsFilled old (new ++ more) size
+filled_last a b old new size grows room more few =
+    inr (record {
+      front = grows.got;
+      last = more;
+      whole = ap (λ t. t ++ more) grows.buffer;
+      short = subst (λ t. length t < size) grows.buffer room;
+      few = few;
+    })
+
+-- one read more
 pub filled_more : (a b c : Tape) (x y z : List ℕ) (size n : ℕ) → Grows a b x y → length y < size → Grows b c y z
     → length z ≡ length y + n → n ≤ max_read → IsFilled x z size
 filled_more a b c x y z size n p room q count once =
-    inr (record {
-      front = p.got;
-      last = q.got;
-      whole = q.buffer ∙ ap (λ t. t ++ q.got) p.buffer;
-      short = subst (λ t. length t < size) p.buffer room;
-      few = let came = count_came b c y z n q count in omega (arith, came, once);
-    })
+    let came = count_came b c y z n q count in
+    subst (λ t. IsFilled x t size) (sym q.buffer) (filled_last a b x y size p room q.got (omega (arith, came, once)))
 
 -- a buffer that is as before grew by nothing
 none_got : (a b : Tape) (old new : List ℕ) (grows : Grows a b old new) → new ≡ old → grows.got ≡ []
@@ -98,16 +93,22 @@ none_got a b old new grows same =
     let size = ap length grows.buffer ∙ length-append old grows.got in
     let as_before = ap length same in nil_from_length grows.got (omega (arith, size, as_before))
 
--- after a read while the bytes ended early nothing was read behind a request
+-- after a read while the bytes end early nothing is read behind a request
+pub prompt_last : (new : List ℕ) → EndsEarly new → (more : List ℕ) → length more ≤ max_read
+    → IsPrompt (new ++ more)
+prompt_last new early more few = record {
+  front = new;
+  last = more;
+  whole = refl;
+  early = inr early;
+  few = few;
+}
+
 pub prompt_more : (b c : Tape) (old new : List ℕ) (n : ℕ) → EndsEarly old → Grows b c old new → length new ≡ length old + n
     → n ≤ max_read → IsPrompt new
-prompt_more b c old new n early grows count once = record {
-  front = old;
-  last = grows.got;
-  whole = grows.buffer;
-  early = inr early;
-  few = let came = count_came b c old new n grows count in omega (arith, came, once);
-}
+prompt_more b c old new n early grows count once =
+    let came = count_came b c old new n grows count in
+    subst IsPrompt (sym grows.buffer) (prompt_last old early grows.got (omega (arith, came, once)))
 
 -- a read that gave nothing leaves the buffer
 nothing_came : (b c : Tape) (old new : List ℕ) (n : ℕ) → Grows b c old new → length new ≡ length old + n → n ≡ 0 → old ≡ new
@@ -135,29 +136,6 @@ stopped_grown Kind Taken a b c old new e grows h took =
     (λ more none. subst Kind (grows.buffer ∙ sym (ap (λ t. old ++ t) (ap (λ t. grows.got ++ t) none ∙ append-nil grows.got))) h)
     (λ more few. subst Taken (ap (λ t. t ++ more) grows.buffer ∙ append_assoc old grows.got more)
     (took more few))
-
--- what a read takes while the buffer is shorter than this size
-pub filled_last : (a b : Tape) (old new : List ℕ) (size : ℕ) → Grows a b old new → length new < size
-    → (more : List ℕ) → length more ≤ max_read → IsFilled old (new ++ more) size
-filled_last a b old new size grows room more few =
-    inr (record {
-      front = grows.got;
-      last = more;
-      whole = ap (λ t. t ++ more) grows.buffer;
-      short = subst (λ t. length t < size) grows.buffer room;
-      few = few;
-    })
-
--- or while the bytes end early
-pub prompt_last : (new : List ℕ) → EndsEarly new → (more : List ℕ) → length more ≤ max_read
-    → IsPrompt (new ++ more)
-prompt_last new early more few = record {
-  front = new;
-  last = more;
-  whole = refl;
-  early = inr early;
-  few = few;
-}
 
 -- ---- a body
 
@@ -202,44 +180,36 @@ module _ (bytes : List ℕ) (made : Decision) (size : ℕ) (h : IsWhole bytes ma
   still_prompt : IsPrompt bytes → IsPrompt (bytes ++ [])
   still_prompt = subst IsPrompt (sym (append-nil bytes))
 
-  -- the request is refused
+  -- the request is there without a body
+  at_once : (a : Tape) (request : Request) → IsPrompt bytes → HoldsRequest (bytes ++ []) request
+      → FollowsHead a a bytes (Some request)
+  at_once a request prompt holds =
+      record { got = []; read = consumes_nothing a; holds = (holds, still_prompt prompt) }
+
+  -- it is refused
   pub refuses : (a : Tape) (reason : Refusal) → IsPrompt bytes → made ≡ decided.Refuse reason → FollowsHead a a bytes (Some (Refused reason))
-  refuses a reason prompt is = record {
-    got = [];
-    read = consumes_nothing a;
-    holds = (
-      (
-        inr (inr (record {
-          head = h.head;
-          rest = drop size bytes ++ [];
-          has_head = has_head [] (drop size bytes ++ []) refl;
-          decides = sym h.decides ∙ ap seen is;
-        })),
-        no_more,
-      ),
-      still_prompt prompt,
-    );
-  }
+  refuses a reason prompt is = at_once a (Refused reason) prompt (
+    inr (inr (record {
+      head = h.head;
+      rest = drop size bytes ++ [];
+      has_head = has_head [] (drop size bytes ++ []) refl;
+      decides = sym h.decides ∙ ap seen is;
+    })),
+    no_more,
+  )
 
   -- it asks for a table
   pub shows : (a : Tape) (table year : Bor (List ℕ)) (name when : List ℕ) → IsPrompt bytes → made ≡ decided.Show table year
       → name ≡ table.now → when ≡ year.now → FollowsHead a a bytes (Some (Show name when))
-  shows a table year name when prompt is named dated = record {
-    got = [];
-    read = consumes_nothing a;
-    holds = (
-      (
-        record {
-          head = h.head;
-          rest = drop size bytes ++ [];
-          has_head = has_head [] (drop size bytes ++ []) refl;
-          decides = sym h.decides ∙ ap seen is ∙ ap (λ t. show t year.now) (sym named) ∙ ap (show name) (sym dated);
-        },
-        no_more,
-      ),
-      still_prompt prompt,
-    );
-  }
+  shows a table year name when prompt is named dated = at_once a (Show name when) prompt (
+    record {
+      head = h.head;
+      rest = drop size bytes ++ [];
+      has_head = has_head [] (drop size bytes ++ []) refl;
+      decides = sym h.decides ∙ ap seen is ∙ ap (λ t. show t year.now) (sym named) ∙ ap (show name) (sym dated);
+    },
+    no_more,
+  )
 
   -- bytes behind the head that are less than a body
   pub has_short_body : (id : Bor (List ℕ)) (n : ℕ) (got : List ℕ) → made ≡ decided.Submit id n
@@ -278,9 +248,9 @@ module _ (bytes : List ℕ) (made : Decision) (size : ℕ) (h : IsWhole bytes ma
       (λ text. IsFilled (drop size bytes) (drop size bytes ++ text) n) a b e
       → Stopped (λ text. EndsEarly (bytes ++ text)) (λ text. IsPrompt (bytes ++ text)) a b e
   stops_short a b e id n prompt is =
-      stopped_so (λ text. EndsEarly (bytes ++ text)) (λ text. length (drop size bytes ++ text) < n)
+      stopped_later (λ text. EndsEarly (bytes ++ text)) (λ text. length (drop size bytes ++ text) < n)
       (λ text. IsPrompt (bytes ++ text))
-      (λ text. IsFilled (drop size bytes) (drop size bytes ++ text) n) a b e
+      (λ text. IsFilled (drop size bytes) (drop size bytes ++ text) n) a a b [] e (consumes_nothing a)
       (λ text short. inr (has_short_body id n text is short))
       (λ text filled. prompt_body id n text prompt is filled)
 

@@ -2,9 +2,7 @@
 use Rattle.std.proofs.Common.{◌≡◌, ◌≢◌, ℕ, ◌+◌, ◌<◌, ◌≤◌, Bool, true, false, List, [], length, take, Option, Some, None, Result, Ok, refl, sym, ap, subst, ◌∙◌, arith}
 use Rattle.std.specs.Prelude.{if◌then◌else◌}
 use Rattle.std.specs.declared.alloc.AllocError.{AllocError}
-use Rattle.std.specs.Io.KnownBytes as known
 use Rattle.std.proofs.lemmas.Bool.{false≢true}
-use Rattle.std.proofs.KnownBytes.{Appends-kept, Appends-nil, Appends-trans, Consumes-kept}
 use Rattle.ghg_definitions.specs.Compilation.{is_year_of}
 use Rattle.ghg_definitions.specs.Data.{span}
 use Rattle.ghg_outer.specs.Tape.{Appends, Consumes, Tape}
@@ -17,10 +15,11 @@ use Rattle.ghg_tables.specs.declared.table.Table.{Table}
 use Rattle.ghg_tables.specs.Names.{table_in}
 use Rattle.ghg_http.specs.Receive.{EndsEarly, IsPrompt, Stopped, TakesRequest}
 use Rattle.ghg_http.specs.Reply.{HttpReply, reply_bytes}
-use Rattle.ghg_http.specs.Serve.{AnswersRequest, BreaksOff, Exchange, Exchanges, IsUnanswered, Sends, ServesLink, TellsFaults, evaluations_for, shown, snapshot}
+use Rattle.ghg_http.specs.Serve.{AnswersRequest, BreaksOff, Exchange, IsAnswered, IsCaused, IsUnanswered, Passes, Sends, ServesLink, Snapshot, TellsFaults, asks_to_append, evaluations_for, shown, snapshot}
 use Rattle.ghg_http.specs.declared.reply.Message.{Message}
 use Rattle.ghg_http.specs.declared.request.ReceiveError.TheVariants as stopped
 use Rattle.ghg_http.specs.declared.request.Request.{Request}
+use Rattle.ghg_http.specs.declared.request.Request.TheVariants.{Refused, Show, Submit}
 use Rattle.ghg_http.specs.declared.serve.LinkEnd.{LinkEnd}
 use Rattle.ghg_http.specs.declared.serve.LinkEnd.TheVariants.{Served, Cut, LinkFault, Memory}
 
@@ -40,89 +39,63 @@ is_shown s name (Some year) e = by (table_in name) e
     by None e = cc
     by (Some table) e = within (is_year_of (span s.content) year) _ e
 
-no_fault : (due answer : Reply) → due ≢ answered.KeeperFault → Shows due answer → answer ≢ answered.KeeperFault
-no_fault due answered.KeeperFault none h e = none (sym h)
-no_fault due (answered.Accepted seq cells) none h e = cc
-no_fault due (answered.Repeated seq) none h e = cc
-no_fault due (answered.Refused rule) none h e = cc
-no_fault due (answered.Table text) none h e = cc
-no_fault due answered.NoTable none h e = cc
-no_fault due answered.Memory none h e = cc
-
 pub shows_no_fault : (s : State) (name : List ℕ) (year : Option ℕ) (answer : Reply) → Shows (shown s name year) answer
     → answer ≢ answered.KeeperFault
-shows_no_fault s name year answer h = no_fault (shown s name year) answer (is_shown s name year) h
+shows_no_fault s name year answer h e = is_shown s name year (sym (subst (Shows (shown s name year)) e h))
 
 -- ---- faults of the keeper
 
 -- nothing was due, and the keeper is as before
-pub none_due : (stored : Bool) (count : ℕ) → TellsFaults None stored count count
+none_due : (stored : Bool) (count : ℕ) → TellsFaults None stored count count
 none_due stored count = record {
   counted = record { later = omega arith; rose = λ e. absurd (false≢true e) };
   store = λ e. absurd (false≢true e);
 }
 
--- ---- what passed over a link
-
-module _ (a b c : Tape) (text written : List ℕ) (x : Exchange) where
-  -- bytes were read, and then bytes were written
-  exchanged : Consumes a b text → Appends b c written → x.taken ≡ text → x.written ≡ written → Exchanges a c x
-  exchanged read wrote t w = record {
-    left = subst (known.Consumes a.left c.left) (sym t) (Consumes-kept a.left b.left c.left text read.left wrote.left);
-    taken = subst (known.Appends a.taken c.taken) (sym t) (Appends-kept a.taken b.taken c.taken text read.taken wrote.taken);
-    written = subst (known.Appends a.written c.written) (sym w)
-        (Appends-trans a.written b.written c.written [] written
-        (Appends-kept a.written a.written b.written [] (Appends-nil a.written) read.written) wrote.written);
-    counts = omega (arith, read.counts, wrote.counts);
-    grows = wrote.grows ∙ read.grows;
-  }
+-- what `serve_one` shows, where the keeper is the same if no request is to be appended
+abbrev pub Serves : Bool → ℕ → ℕ → Type 0 → Snapshot → Snapshot → LinkEnd → Type 0
+Serves stored count later Same before after end = (due : Option HttpReply)
+    × (served : ServesLink before after due end) × TellsFaults due stored count later
+    × (asks_to_append stored before.state served.exchange.asked ≡ false → Same)
 
 -- ---- without an answer
 
-module _ (s : State) (a b : Tape) (n : ℕ) where
+module _ (stored : Bool) (count : ℕ) (Same : Type 0) (s : State) (a b : Tape) (n : ℕ) (same : Same) where
   abbrev quiet : List ℕ → Exchange
-  quiet text = record { before = s; after = s; taken = text; written = []; evaluations = 0 }
+  quiet text = record { before = s; after = s; asked = None; taken = text; written = [] }
 
   quietly : (text : List ℕ) → IsUnanswered (quiet text)
-  quietly text = record { same = refl; nothing = refl; asks = refl }
+  quietly text = record { same = refl; nothing = refl; none = refl }
 
-  read_only : (text : List ℕ) → Consumes a b text → Exchanges a b (quiet text)
-  read_only text read = exchanged a b b text [] (quiet text) read (appends_nothing b) refl refl
+  -- nothing was written, and the keeper is as before
+  read_only : (end : LinkEnd) (text : List ℕ) → Consumes a b text → Passes (quiet text) None end → IsCaused a b end
+      → Serves stored count count Same (snapshot s a n) (snapshot s b n) end
+  read_only end text read passes cause = (
+    None,
+    record {
+      exchange = quiet text;
+      from = refl;
+      to = refl;
+      link = (b, read, appends_nothing b);
+      passes = passes;
+      cause = cause;
+      spent = omega arith;
+    },
+    none_due stored count,
+    λ _. same,
+  )
 
-  pub cut_off : TakesRequest a b None → ServesLink (snapshot s a n) (snapshot s b n) None Cut
-  cut_off t = record {
-    exchange = quiet t.bytes;
-    from = refl;
-    to = refl;
-    link = read_only t.bytes t.read;
-    passes = record { early = t.holds.1; unanswered = quietly t.bytes };
-    cause = t.holds.0;
-    spent = omega arith;
-  }
+  pub cut_off : TakesRequest a b None → Serves stored count count Same (snapshot s a n) (snapshot s b n) Cut
+  cut_off t = read_only Cut t.bytes t.read (record { early = t.holds.1; unanswered = quietly t.bytes }) t.holds.0
 
   pub link_failed : Stopped EndsEarly IsPrompt a b stopped.Failed
-      → ServesLink (snapshot s a n) (snapshot s b n) None LinkFault
-  link_failed h = record {
-    exchange = quiet h.text;
-    from = refl;
-    to = refl;
-    link = read_only h.text h.read;
-    passes = record { early = h.kind refl; unanswered = quietly h.text };
-    cause = h.cause refl;
-    spent = omega arith;
-  }
+      → Serves stored count count Same (snapshot s a n) (snapshot s b n) LinkFault
+  link_failed h =
+      read_only LinkFault h.text h.read (record { early = h.kind refl; unanswered = quietly h.text }) (h.cause refl)
 
   pub ran_out : Stopped EndsEarly IsPrompt a b stopped.Memory
-      → ServesLink (snapshot s a n) (snapshot s b n) None Memory
-  ran_out h = record {
-    exchange = quiet h.text;
-    from = refl;
-    to = refl;
-    link = read_only h.text h.read;
-    passes = record { prompt = h.taken; unanswered = quietly h.text };
-    cause = tt;
-    spent = omega arith;
-  }
+      → Serves stored count count Same (snapshot s a n) (snapshot s b n) Memory
+  ran_out h = read_only Memory h.text h.read (record { prompt = h.taken; unanswered = quietly h.text }) tt
 
 -- ---- with an answer
 
@@ -131,41 +104,49 @@ reply_some : (due : HttpReply) → 0 < length (reply_bytes due)
 unfolding reply_bytes
 reply_some due = omega arith
 
-module _ (s after : State) (a b : Tape) (n m : ℕ) (request : Request) (due : HttpReply)
-    (t : TakesRequest a b (Some request))
-    (spent : m ≤ n + evaluations_for s request) where
+module _ (stored : Bool) (count later : ℕ) (Same : Type 0) (s after : State) (a b : Tape) (n m : ℕ) (request : Request)
+    (due : HttpReply) (t : TakesRequest a b (Some request)) (spent : m ≤ n + evaluations_for s (Some request))
+    (faults : TellsFaults (Some due) stored count later)
+    (untouched : asks_to_append stored s (Some request) ≡ false → Same) where
   abbrev loud : List ℕ → Exchange
-  loud written = record {
-    before = s;
-    after = after;
-    taken = t.bytes;
-    written = written;
-    evaluations = evaluations_for s request;
-  }
+  loud written = record { before = s; after = after; asked = Some request; taken = t.bytes; written = written }
+
+  -- this was written
+  wrote : (c : Tape) (end : LinkEnd) (written : List ℕ) → Appends b c written → Passes (loud written) (Some due) end
+      → IsCaused a c end → Serves stored count later Same (snapshot s a n) (snapshot after c m) end
+  wrote c end written w passes cause = (
+    Some due,
+    record {
+      exchange = loud written;
+      from = refl;
+      to = refl;
+      link = (b, t.read, w);
+      passes = passes;
+      cause = cause;
+      spent = spent;
+    },
+    faults,
+    untouched,
+  )
+
+  is_answered : (r : Result Message AllocError) → AnswersRequest s request due after r → (written : List ℕ)
+      → IsAnswered (loud written) due
+  is_answered r h written =
+      record { request = request; asked = refl; holds = t.holds.0; prompt = t.holds.1; replies = h.replies }
 
   -- there was no memory for the reply
   pub unwritten : (r : Result Message AllocError) → AnswersRequest s request due after r
-      → ServesLink (snapshot s a n) (snapshot after b m) (Some due) Memory
-  unwritten r h = record {
-    exchange = loud [];
-    from = refl;
-    to = refl;
-    link = exchanged a b b t.bytes [] (loud []) t.read (appends_nothing b) refl refl;
-    passes = record {
-      answered = record { request = request; holds = t.holds.0; prompt = t.holds.1; replies = h.replies; asks = refl };
-      count = 0;
-      short = reply_some due;
-      prefix = refl;
-    };
-    cause = tt;
-    spent = spent;
-  }
+      → Serves stored count later Same (snapshot s a n) (snapshot after b m) Memory
+  unwritten r h = wrote b Memory [] (appends_nothing b)
+      (record { answered = is_answered r h []; count = 0; short = reply_some due; prefix = refl }) tt
 
   module _ (message : Message) (h : AnswersRequest s request due after (Ok message)) (c : Tape) where
-    breaks : (count : ℕ) → count < length message.bytes.items
-        → BreaksOff (loud (take count message.bytes.items)) due
+    abbrev bytes : List ℕ
+    bytes = message.bytes.items
+
+    breaks : (count : ℕ) → count < length bytes → BreaksOff (loud (take count bytes)) due
     breaks count short = record {
-      answered = record { request = request; holds = t.holds.0; prompt = t.holds.1; replies = h.replies; asks = refl };
+      answered = is_answered (Ok message) h (take count bytes);
       count = count;
       short = subst (λ bytes. count < length bytes) h.made.bytes short;
       prefix = ap (take count) h.made.bytes;
@@ -173,36 +154,23 @@ module _ (s after : State) (a b : Tape) (n m : ℕ) (request : Request) (due : H
 
     -- the reply was written, or a part of it
     pub sent : (end : LinkEnd) → Sends b c message end
-        → ServesLink (snapshot s a n) (snapshot after c m) (Some due) end
-    sent (Served code) w = record {
-      exchange = loud message.bytes.items;
-      from = refl;
-      to = refl;
-      link = exchanged a b c t.bytes message.bytes.items (loud message.bytes.items) t.read w.1 refl refl;
-      passes = record {
-        answered = record { request = request; holds = t.holds.0; prompt = t.holds.1; replies = h.replies; asks = refl };
-        code_is = sym h.made.status ∙ sym w.0;
-        whole = h.made.bytes;
-      };
-      cause = tt;
-      spent = spent;
-    }
+        → Serves stored count later Same (snapshot s a n) (snapshot after c m) end
+    sent (Served code) w = wrote c (Served code) bytes w.1
+        (record { answered = is_answered (Ok message) h bytes; code_is = sym h.made.status ∙ sym w.0; whole = h.made.bytes })
+        tt
     sent Cut w = absurd w
-    sent LinkFault w = record {
-      exchange = loud (take w.0.count message.bytes.items);
-      from = refl;
-      to = refl;
-      link = exchanged a b c t.bytes (take w.0.count message.bytes.items) (loud (take w.0.count message.bytes.items)) t.read w.0.wrote refl refl;
-      passes = breaks w.0.count w.0.short;
-      cause = rose_later a b c t.read.counts w.1;
-      spent = spent;
-    }
-    sent Memory w = record {
-      exchange = loud (take w.count message.bytes.items);
-      from = refl;
-      to = refl;
-      link = exchanged a b c t.bytes (take w.count message.bytes.items) (loud (take w.count message.bytes.items)) t.read w.wrote refl refl;
-      passes = breaks w.count w.short;
-      cause = tt;
-      spent = spent;
-    }
+    sent LinkFault w = wrote c LinkFault (take w.0.count bytes) w.0.wrote (breaks w.0.count w.0.short)
+        (rose_later a b c t.read.counts w.1)
+    sent Memory w = wrote c Memory (take w.count bytes) w.wrote (breaks w.count w.short) tt
+
+-- ---- the keeper
+
+not_asked : (stored : Bool) (s : State) (request : Request) → stored ≡ false → asks_to_append stored s (Some request) ≡ false
+not_asked stored s (Submit id body) none = rw none refl
+not_asked stored s (Refused reason) none = refl
+not_asked stored s (Show table year) none = refl
+
+-- where submissions are not stored, none is to be appended
+pub unstored : (stored : Bool) (Same : Type 0) (s after : State) (request : Request) (due : HttpReply) (r : Result Message AllocError)
+    → AnswersRequest s request due after r → (asks_to_append stored s (Some request) ≡ false → Same) → stored ≡ false → Same
+unstored stored Same s after request due r h untouched none = untouched (not_asked stored s request none)

@@ -5,7 +5,7 @@ use Rattle.httparse.specs.Grammar.{EndsInTarget, NeverHasRequest}
 use Rattle.httparse.specs.Spans.{RequestExceeds}
 use Rattle.ghg_office.specs.Office.{State, repeated, submitted}
 use Rattle.ghg_office.specs.declared.reply.Reply.TheVariants.{Repeated}
-use Rattle.ghg_http.specs.Head.{max_fields, max_head}
+use Rattle.ghg_http.specs.declared.head.TheConstants.{MAX_FIELDS, MAX_HEAD}
 use Rattle.ghg_http.specs.Receive.{EndsEarly, HoldsRequest}
 use Rattle.ghg_http.specs.Reply.{HttpReply}
 use Rattle.ghg_http.specs.Route.{Target, is_slash, path_of, submission, table, target_of}
@@ -50,7 +50,7 @@ IsHeadFault request = (request ≡ Refused BadRequest) ⊎ (request ≡ Refused 
 -- have more fields than a head may have.
 abbrev pub HasTwoFaults : List ℕ → Type 0
 HasTwoFaults bytes = NeverHasRequest bytes
-    × ((EndsInTarget bytes × (max_head ≤ length bytes)) ⊎ RequestExceeds max_fields bytes)
+    × ((EndsInTarget bytes × (MAX_HEAD ≤ length bytes)) ⊎ RequestExceeds MAX_FIELDS bytes)
 
 -- Bytes hold one request. Only where a head has two faults may it be refused as malformed and as too large.
 abbrev pub HoldsOneRequest : Type 0
@@ -62,4 +62,4 @@ HoldsOneRequest = (bytes : List ℕ) (x y : Request) → HoldsRequest bytes x �
 abbrev pub HoldsNoneEarly : Type 0
 HoldsNoneEarly = (bytes : List ℕ) (x : Request) → EndsEarly bytes → HoldsRequest bytes x
     → ((x ≡ Refused BadRequest) × NeverHasRequest bytes × EndsInTarget bytes)
-    ⊎ ((x ≡ Refused HeadTooLarge) × RequestExceeds max_fields bytes)
+    ⊎ ((x ≡ Refused HeadTooLarge) × RequestExceeds MAX_FIELDS bytes)

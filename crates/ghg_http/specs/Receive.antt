@@ -3,9 +3,10 @@ use Rattle.std.specs.Prelude.{◌≡◌, ℕ, ◌<◌, ◌≤◌, ◌⊎◌, Lis
 use Rattle.httparse.specs.Grammar.{RequestHead, NeverHasRequest}
 use Rattle.ghg_outer.specs.Tape.{Consumes, IsAtEnd, Rose, Tape}
 use Rattle.ghg_http.specs.Decision.{decision_of, refuse, submit, show}
-use Rattle.ghg_http.specs.Head.{AwaitsHead, HasHead, IsTooLarge, max_head}
+use Rattle.ghg_http.specs.Head.{AwaitsHead, HasHead, IsTooLarge}
 use Rattle.ghg_http.specs.declared.decision.Refusal.{Refusal}
 use Rattle.ghg_http.specs.declared.decision.Refusal.TheVariants.{BadRequest, HeadTooLarge}
+use Rattle.ghg_http.specs.declared.head.TheConstants.{MAX_HEAD}
 use Rattle.ghg_http.specs.declared.request.TheConstants.{MAX_READ}
 use Rattle.ghg_http.specs.declared.request.ReceiveError.{ReceiveError}
 use Rattle.ghg_http.specs.declared.request.ReceiveError.TheVariants.{Failed}
@@ -84,7 +85,7 @@ pub record HoldsSubmission (bytes id body : List ℕ) : Type 0 where
   pub extra : List ℕ
   pub has_head : HasHead bytes head (body ++ extra)
   pub decides : decision_of head ≡ submit id (length body)
-  pub near : (length bytes ≤ max_head) ⊎ (extra ≡ [])
+  pub near : (length bytes ≤ MAX_HEAD) ⊎ (extra ≡ [])
 
 -- The head asks for a table.
 pub record HoldsTableRequest (bytes table year : List ℕ) : Type 0 where
@@ -105,9 +106,9 @@ pub record HasShortBody (bytes : List ℕ) : Type 0 where
 
 -- The bytes hold this request. There are no more of them than the room of a head, or than its body takes.
 abbrev pub HoldsRequest : List ℕ → Request → Type 0
-HoldsRequest bytes (Refused reason) = IsRefusedBy bytes reason × (length bytes ≤ max_head)
+HoldsRequest bytes (Refused reason) = IsRefusedBy bytes reason × (length bytes ≤ MAX_HEAD)
 HoldsRequest bytes (Submit id body) = HoldsSubmission bytes id body
-HoldsRequest bytes (Show name year) = HoldsTableRequest bytes name year × (length bytes ≤ max_head)
+HoldsRequest bytes (Show name year) = HoldsTableRequest bytes name year × (length bytes ≤ MAX_HEAD)
 
 -- The bytes end before a whole request: before the end of a head that has room, or of a body. Bytes that can
 -- begin no head are no such bytes, nor are those that fill the room of a head.

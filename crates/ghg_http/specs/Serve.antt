@@ -2,15 +2,14 @@
 -- written to it.
 use Rattle.std.specs.Prelude.{◌≡◌, ◌≢◌, ◌==◌, ⊤, ℕ, Bool, true, false, ◌+◌, ◌<◌, ◌≤◌, List, [], length, take, Option, Some, None, Result, IfOk, if◌then◌else◌}
 use Rattle.std.specs.declared.alloc.AllocError.{AllocError}
-use Rattle.std.specs.Io.KnownBytes as known
 use Rattle.ghg_units.specs.Decimal.{number_in}
 use Rattle.ghg_outer.specs.Counts.{IsCounted}
-use Rattle.ghg_outer.specs.Tape.{Appends, AppendsProperPrefix, IsAtEnd, Rose, Tape}
+use Rattle.ghg_outer.specs.Tape.{Appends, AppendsProperPrefix, Consumes, IsAtEnd, Rose, Tape}
+use Rattle.ghg_office.specs.Keeping.{is_to_append}
 use Rattle.ghg_office.specs.Office.{IsRead, State, evaluations, requested, submitted}
 use Rattle.ghg_office.specs.Replies.{Answers, Shows, is_accepted}
 use Rattle.ghg_office.specs.declared.reply.Reply.{Reply}
-use Rattle.ghg_office.specs.declared.reply.Reply.TheVariants.{KeeperFault, NoTable}
-use Rattle.ghg_office.specs.declared.reply.Reply.TheVariants.{Memory as OutOfMemory}
+use Rattle.ghg_office.specs.declared.reply.Reply.TheVariants.{KeeperFault, NoTable, Memory as OutOfMemory}
 use Rattle.ghg_http.specs.Receive.{EndsEarly, HoldsRequest, IsPrompt}
 use Rattle.ghg_http.specs.Reply.{HttpReply, IsMessageOf, reply_bytes}
 use Rattle.ghg_http.specs.Statuses.{office_reply, refusal_reply}
@@ -54,30 +53,36 @@ pub record AnswersRequest (s : State) (request : Request) (due : HttpReply) (aft
   pub replies : Replies s request due after
   pub made : IfOk result (IsMessageOf due)
 
--- how many evaluations a request asks for: of a submission those of the nodes that its rows affect
-abbrev pub evaluations_for : State → Request → ℕ
-evaluations_for s (Submit id body) = evaluations s id body
+-- how many evaluations a request asks for, if there is one: of a submission those of the nodes that its rows
+-- affect
+abbrev pub evaluations_for : State → Option Request → ℕ
+evaluations_for s (Some (Submit id body)) = evaluations s id body
 evaluations_for s request = 0
+
+-- whether there is a request, which is a submission that is to be stored and breaks no rule
+abbrev pub asks_to_append : Bool → State → Option Request → Bool
+asks_to_append stored s (Some (Submit id body)) = is_to_append stored (submitted s id body)
+asks_to_append stored s request = false
 
 -- ---- what passes over a link
 
--- The states of the office before and after; what was taken from the link, and what was written to it; and
--- how many evaluations were asked for.
+-- The states of the office before and after; the request that was answered, if one was; what was taken from
+-- the link, and what was written to it.
 pub record Exchange : Type 0 where
   pub before : State
   pub after : State
+  pub asked : Option Request
   pub taken : List ℕ
   pub written : List ℕ
-  pub evaluations : ℕ
 
--- What was taken holds a request, to which this reply is due. Nothing was taken once the whole request had
--- come.
+-- What was taken holds the request that was answered, to which this reply is due. Nothing was taken once the
+-- whole request had come.
 pub record IsAnswered (x : Exchange) (due : HttpReply) : Type 0 where
   pub request : Request
+  pub asked : x.asked ≡ Some request
   pub holds : HoldsRequest x.taken request
   pub prompt : IsPrompt x.taken
   pub replies : Replies x.before request due x.after
-  pub asks : x.evaluations ≡ evaluations_for x.before request
 
 -- The whole reply was written.
 pub record IsReplied (x : Exchange) (due : HttpReply) (code : ℕ) : Type 0 where
@@ -96,7 +101,7 @@ pub record BreaksOff (x : Exchange) (due : HttpReply) : Type 0 where
 pub record IsUnanswered (x : Exchange) : Type 0 where
   pub same : x.after ≡ x.before
   pub nothing : x.written ≡ []
-  pub asks : x.evaluations ≡ 0
+  pub none : x.asked ≡ None
 
 -- What was taken ends before a whole request, and nothing was answered.
 pub record IsCutOff (x : Exchange) : Type 0 where
@@ -120,12 +125,9 @@ Passes x None LinkFault = IsCutOff x
 Passes x None Memory = RunsOut x
 
 -- The bytes that were taken were read from the link, and then those that were written were appended to it.
-pub record Exchanges (before after : Tape) (x : Exchange) : Type 0 where
-  pub left : known.Consumes before.left after.left x.taken
-  pub taken : known.Appends before.taken after.taken x.taken
-  pub written : known.Appends before.written after.written x.written
-  pub counts : before.faults ≤ after.faults
-  pub grows : after.grows ≡ before.grows
+abbrev pub Exchanges : Tape → Tape → Exchange → Type 0
+Exchanges before after x =
+    (between : Tape) × Consumes before between x.taken × Appends between after x.written
 
 -- ---- serving a link
 
@@ -153,7 +155,7 @@ IsCaused before after LinkFault = Rose before after
 IsCaused before after end = ⊤
 
 -- This passed over the link, which ended so, where this reply was due, or none was. No more steps were taken
--- than were asked for.
+-- than the request asks for.
 pub record ServesLink (before after : Snapshot) (due : Option HttpReply) (end : LinkEnd) : Type 0 where
   pub exchange : Exchange
   pub from : exchange.before ≡ before.state
@@ -161,7 +163,7 @@ pub record ServesLink (before after : Snapshot) (due : Option HttpReply) (end : 
   pub link : Exchanges before.link after.link exchange
   pub passes : Passes exchange due end
   pub cause : IsCaused before.link after.link end
-  pub spent : after.steps ≤ before.steps + exchange.evaluations
+  pub spent : after.steps ≤ before.steps + evaluations_for before.state exchange.asked
 
 -- ---- faults of the keeper
 

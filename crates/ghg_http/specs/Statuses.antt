@@ -6,8 +6,9 @@ use Rattle.ghg_office.specs.Replies.{reply_text}
 use Rattle.ghg_office.specs.declared.reply.Reply.{Reply}
 use Rattle.ghg_office.specs.declared.reply.Reply.TheVariants.{Accepted, Repeated, Refused, Table, NoTable, KeeperFault, Memory}
 use Rattle.ghg_http.specs.Decision.{refusal_status, refusal_text}
-use Rattle.ghg_http.specs.Reply.{HttpReply, in_csv, in_json}
+use Rattle.ghg_http.specs.Reply.{HttpReply, in_json}
 use Rattle.ghg_http.specs.declared.decision.Refusal.{Refusal}
+use Rattle.ghg_http.specs.declared.reply.MediaType.TheVariants.{Csv}
 
 -- the reply to a request that is refused before its body is read
 abbrev pub refusal_reply : Refusal → HttpReply
@@ -30,5 +31,5 @@ office_code Memory = 507
 
 -- the reply to a request that reaches the office: a table is its own lines, and all else is one line in JSON
 abbrev pub office_reply : Reply → HttpReply
-office_reply (Table lines) = in_csv 200 lines
+office_reply (Table lines) = record { code = 200; media = Csv; body = lines }
 office_reply answer = in_json (office_code answer) (reply_text answer)

@@ -5,7 +5,7 @@ ghost use Rattle.ghg_office.specs.Keeping.{KeepsAccepted, Lists};
 ghost use Rattle.ghg_office.specs.Replies.{Shows};
 ghost use Rattle.ghg_http.specs.Reply.{HttpReply};
 ghost use Rattle.ghg_http.specs.Route.{routes};
-ghost use Rattle.ghg_http.specs.Serve.{AnswersRequest, Sends, ServesLink, TellsFaults, evaluations_for, shown, snapshot, year_of};
+ghost use Rattle.ghg_http.specs.Serve.{AnswersRequest, Sends, ServesLink, TellsFaults, asks_to_append, evaluations_for, shown, snapshot, year_of};
 
 use crate::reply::Message;
 use crate::request::{ReceiveError, Request, receive_request};
@@ -16,9 +16,11 @@ use ghg_office::{Office, Reply};
 use ghg_outer::{Sink, Source, WriteError, write_all};
 use ghg_steps::Steps;
 use ghg_units::read_number;
+use ghg_workers::{Gate, Workers};
 use matchit::Router;
 use std::alloc::{AllocError, Global};
 use std::sync::ledger::Ledger;
+use std::thread::Threads;
 
 /// How a connection ended.
 #[derive(Clone, Copy, Debug, PartialEq, Eq, Drop)]
@@ -37,22 +39,29 @@ pub enum LinkEnd {
 /// byte is written.
 ///
 /// Where a submission is to be stored, it is kept before it is in force. No more nodes are evaluated than its
-/// rows affect.
-pub fn serve_one<T: Source + Sink, K: Keeper, L: Ledger>(
+/// rows affect, by so many workers; `gate` is told of each before.
+pub fn serve_one<T: Source + Sink, K: Keeper, G: Gate, R: Threads + Sync, L: Ledger>(
+    rt: &R,
     alloc: Global,
     router: &Router<Route>,
     link: &mut T,
     office: &mut Office,
+    workers: u32,
+    gate: &G,
     keeper: &mut K,
     stored: bool,
     steps: &mut Steps<L>,
 ) -> LinkEnd
     requires router { router.now ≡ routes }
+    requires workers { (1 ≤ workers) × (workers ≤ 64) }
     requires same { stored ≡ true → Lists (K.shelf keeper.old) office.old.accepted }
-    // However much of the reply that was due is written, only a fault of the keeper is replied to as one.
-    ensures serves { (due : Option HttpReply) × ServesLink (snapshot office.old (T.tape link.old) steps.old)
-        (snapshot office.new (T.tape link.new) steps.new) due result
-        × TellsFaults due stored (K.shelf keeper.old).faults (K.shelf keeper.new).faults }
+    // However much of the reply that was due is written, only a fault of the keeper is replied to as one. The
+    // keeper is called only for a submission that is to be stored and breaks no rule.
+    ensures serves { (due : Option HttpReply)
+        × (served : ServesLink (snapshot office.old (T.tape link.old) steps.old)
+        (snapshot office.new (T.tape link.new) steps.new) due result)
+        × TellsFaults due stored (K.shelf keeper.old).faults (K.shelf keeper.new).faults
+        × (asks_to_append stored office.old served.exchange.asked ≡ false → keeper.new ≡ keeper.old) }
 
     // However the connection ends, the rows that a keeper tells are the accepted submissions.
     ensures kept { stored ≡ true
@@ -65,33 +74,51 @@ pub fn serve_one<T: Source + Sink, K: Keeper, L: Ledger>(
         Err(ReceiveError::Failed) => return LinkEnd::LinkFault,
         Err(ReceiveError::Memory) => return LinkEnd::Memory,
     };
-    match answer(alloc, &request, office, keeper, stored, steps) {
+    let workers = Workers {
+        threads: rt,
+        count: workers,
+        gate,
+    };
+    match answer(alloc, &workers, &request, office, keeper, stored, steps) {
         Ok(message) => send(link, &message),
         Err(_) => LinkEnd::Memory,
     }
 }
 
 // Answers a request, and makes the whole reply.
-fn answer<K: Keeper, L: Ledger>(
+fn answer<K: Keeper, G: Gate, R: Threads + Sync, L: Ledger>(
     alloc: Global,
+    workers: &Workers<'_, R, G>,
     request: &Request,
     office: &mut Office,
     keeper: &mut K,
     stored: bool,
     steps: &mut Steps<L>,
 ) -> Result<Message, AllocError>
+    requires workers { (1 ≤ workers.now.count) × (workers.now.count ≤ 64) }
     requires same { stored ≡ true → Lists (K.shelf keeper.old) office.old.accepted }
     ensures answers { (due : HttpReply) × AnswersRequest office.old request.now due office.new result
         × TellsFaults (Some due) stored (K.shelf keeper.old).faults (K.shelf keeper.new).faults }
-    ensures steps { steps.new ≤ steps.old + evaluations_for office.old request.now }
+    ensures steps { steps.new ≤ steps.old + evaluations_for office.old (Some request.now) }
     ensures kept { stored ≡ true
         → KeepsAccepted (K.shelf keeper.old) (K.shelf keeper.new) office.new.accepted }
-    ensures untouched { stored ≡ false → keeper.new ≡ keeper.old }
+    ensures untouched { asks_to_append stored office.old (Some request.now) ≡ false
+        → keeper.new ≡ keeper.old }
 {
     match request {
         Request::Refused(reason) => refusal_message(alloc, *reason),
         Request::Submit { id, body } => {
-            let reply = office.submit(alloc, id.as_slice(), body.as_slice(), keeper, stored, steps);
+            let reply = office.submit(
+                workers.threads,
+                alloc,
+                id.as_slice(),
+                body.as_slice(),
+                workers.count,
+                workers.gate,
+                keeper,
+                stored,
+                steps,
+            );
             office_message(alloc, &reply)
         }
         Request::Show { table, year } => {

@@ -15,11 +15,13 @@ use Rattle.sqlite.specs.Clock.{timed}
 use Rattle.sqlite.specs.Listing.{understood}
 use Rattle.sqlite.proofs.Callers.{IsPlain, runs_as, statement_of, command_of}
 use Rattle.ghg_keeper.specs.Accepted.{accepted, accepted_schema, no_schema}
-use Rattle.ghg_keeper.specs.Listed.{AreNumbered, TellsRows, ListsRows, IsSafe, IsAsBeforeOrMade, IsBeforeOrAfter}
+use Rattle.ghg_keeper.specs.Listed.{AreNumbered, TellsRows, ListsRows, IsSafe, IsAsBeforeOrMade, IsBeforeOrAfter, sql_shelf}
+use Rattle.ghg_keeper.specs.Shelf.{StaysTold}
+use Rattle.ghg_keeper.specs.declared.keeper.KeepError.{KeepError}
 use Rattle.ghg_keeper.specs.Texts.{create_text, insert_text, count_text, row_text}
 use Rattle.ghg_keeper.proofs.Meanings.{create_is, create_fresh, create_again, create_plain, create_again_plain, went, same_value}
 use Rattle.ghg_keeper.proofs.Texts.{reads_only}
-use Rattle.ghg_keeper.proofs.Effects.{Leaves, OnlyCommitted, after_refusal, after_read, answered, insert_stays_told, insert_survives, told_survives}
+use Rattle.ghg_keeper.proofs.Effects.{Leaves, OnlyCommitted, after_refusal, after_read, answered, insert_stays_told, insert_survives, told_survives, was_clean}
 
 -- ---- what holds after any call
 
@@ -67,6 +69,7 @@ read_told old new sql params (Err e) P is s h t clean = told_unless {A = Row} ol
 pub read_safe : (old new : State) (sql : List ℕ) (params : Row) (r : Result Row Error) → (sql ≡ count_text) ⊎ (sql ≡ row_text) → Survives old new (CommitsShowing sql params old)
     → (HasCleanDisk new → QueriesRow sql params old new r) → (IsTrue old.is_open → OnlyCommitted old) → (IsTrue new.is_open → OnlyCommitted new) → IsSafe old new r (λ db. db ≡ old.now.trees)
 read_safe old new sql params r is s read before after = record {
+  clean = was_clean s;
   told = λ t clean. read_told old new sql params r _ is s (read clean) t clean;
   crash = λ t clean db left. elim (s.crash clean db left) [
     | inl was ↦ left_as_before old db t (before t.is_open) was
@@ -86,6 +89,7 @@ pub insert_safe : (old new : State) (id body : List ℕ) (r : Result ℕ Error) 
     → (HasCleanDisk new → Executes insert_text (Text id ∷ Blob body ∷ []) old new r) → (IsTrue old.is_open → OnlyCommitted old) → (IsTrue new.is_open → OnlyCommitted new)
     → IsSafe old new r (IsBeforeOrAfter old.now id body)
 insert_safe old new id body r s ran before after = record {
+  clean = was_clean s;
   told = λ t clean. insert_told old new id body r _ s ran t clean;
   crash = λ t clean db left. insert_survives old new id body t (before t.is_open) s clean db left;
   durable = λ t. told_survives new t (after t.is_open);
@@ -160,6 +164,7 @@ create_commits s db t h = elim t.listed [
 pub create_safe : (old new : State) (r : Result ℕ Error) → Survives old new (CommitsBy create_text [] old) → (HasCleanDisk new → Executes create_text [] old new r) → (IsTrue old.is_open → OnlyCommitted old)
     → (IsTrue new.is_open → OnlyCommitted new) → IsSafe old new r (IsAsBeforeOrMade old.now)
 create_safe old new r s ran before after = record {
+  clean = was_clean s;
   told = λ t clean. create_told old new r _ s ran t clean;
   crash = λ t clean db left. elim (s.crash clean db left) [
     | inl was ↦ inl (left_as_before old db t (before t.is_open) was)
@@ -169,3 +174,12 @@ create_safe old new r s ran before after = record {
 }
 
 -- ---- a call of the keeper
+
+-- rows stay told where it has an answer and the store is clean
+pub stays_told : {A : Type 0} {P : Trees → Type 0} (old new : State) (n m : ℕ) (r : Result A KeepError) → IsSafe old new r P
+    → StaysTold (sql_shelf old n) (sql_shelf new m) r
+stays_told old new n m (Err e) s t clean = tt
+stays_told old new n m (Ok answer) s t clean = elim (s.told t clean) [
+  | inl told ↦ told
+  | inr failed ↦ absurd (let e = failed.0 in cc)
+]

@@ -10,7 +10,8 @@ use Rattle.ghg_keeper.specs.Shelf.{Shelf}
 
 -- it tells how many calls failed, and nothing of its rows
 abbrev pub file_shelf : FileKeeper → Shelf
-file_shelf keeper = record { tells = ⊥; rows = []; name = None; faults = keeper.faults }
+file_shelf keeper =
+    record { clean = ⊥; tells = ⊥; sure = λ t. t; rows = []; name = None; faults = keeper.faults }
 
 -- A call is passed to the store in use, and this holds of what that tells. Where no store is in use the call
 -- fails.

@@ -50,7 +50,14 @@ pub record TellsRows (s : State) : Type 0 where
   pub listed : ListsRows s.now
 
 abbrev pub sql_shelf : State → ℕ → Shelf
-sql_shelf s faults = record { tells = TellsRows s; rows = kept_rows s.now; name = None; faults = faults }
+sql_shelf s faults = record {
+  clean = HasCleanDisk s;
+  tells = TellsRows s;
+  sure = λ t. t.clean;
+  rows = kept_rows s.now;
+  name = None;
+  faults = faults;
+}
 
 -- ---- what a statement does
 
@@ -95,6 +102,8 @@ IsAsBeforeOrMade now db = (db ≡ now.trees) ⊎ ((now.schema ≡ no_schema) × 
 -- What is safe after a call of the database. A crash at the end of the call may leave what `Leaves` says.
 pub record IsSafe {A E : Type 0} (old new : State) (result : Result A E) (Leaves : Trees → Type 0)
     : Type 0 where
+  -- no wrong answer of the disk is forgotten
+  pub clean : HasCleanDisk new → HasCleanDisk old
   -- over a clean store the rows stay told, unless the call failed because the disk failed or refused
   pub told : TellsRows old → HasCleanDisk new
       → TellsRows new ⊎ (IsErr result × MoreFaults old.faults new.faults)

@@ -1,6 +1,6 @@
 ghost use Rattle.std.specs.Prelude.{◌≡◌, ◌-◌, ◌≤◌, length, slice_get, Some, IsTrue, IfOk, IfSome, OnOk, OnErr};
 ghost use Rattle.ghg_keeper.specs.Id.{is_id};
-ghost use Rattle.ghg_keeper.specs.Shelf.{Shelf, Adds, CountsFaults, Keeps, KeepsRows};
+ghost use Rattle.ghg_keeper.specs.Shelf.{Shelf, Adds, CountsFaults, Keeps, KeepsRows, StaysTold};
 
 use crate::KeptRow;
 use sqlite::{Error, ErrorCode};
@@ -53,6 +53,7 @@ pub trait Keeper {
     /// Makes the named store the one in use. Its rows are those that were told before the call.
     fn attach(&mut self, name: &str) -> Result<(), KeepError>
         ensures rows { KeepsRows (shelf self.old) (shelf self.new) }
+        ensures told { StaysTold (shelf self.old) (shelf self.new) result }
         ensures ok { OnOk result (IfSome (shelf self.new).name (λ used. used ≡ name.now)) }
         ensures err { OnErr result ((shelf self.new).name ≡ (shelf self.old).name) }
         ensures faults { CountsFaults (shelf self.old) (shelf self.new) result };
@@ -61,6 +62,7 @@ pub trait Keeper {
     fn count(&mut self) -> Result<u64, KeepError>
         ensures count { (shelf self.new).tells → IfOk result (λ n. n ≡ length (shelf self.old).rows) }
         ensures keeps { Keeps (shelf self.old) (shelf self.new) }
+        ensures told { StaysTold (shelf self.old) (shelf self.new) result }
         ensures faults { CountsFaults (shelf self.old) (shelf self.new) result };
 
     /// The row of this number, counted from 1.
@@ -70,6 +72,7 @@ pub trait Keeper {
         ensures row { (shelf self.new).tells
             → IfOk result (λ row. slice_get (shelf self.old).rows (seq - 1) ≡ Some row) }
         ensures keeps { Keeps (shelf self.old) (shelf self.new) }
+        ensures told { StaysTold (shelf self.old) (shelf self.new) result }
         ensures faults { CountsFaults (shelf self.old) (shelf self.new) result };
 
     /// Puts one row behind the others, and answers its number.

@@ -14,7 +14,7 @@ use Rattle.ghg_office.specs.declared.fault.OpenFault.TheVariants.{Kept, KeeperFa
 use Rattle.ghg_office.specs.declared.reply.Reply.{Reply}
 use Rattle.ghg_office.specs.declared.reply.Reply.TheVariants.{Accepted, Repeated, Refused, Table, NoTable}
 use Rattle.ghg_office.specs.declared.reply.Reply.TheVariants as reply
-use Rattle.ghg_office.specs.Keeping.{Lists}
+use Rattle.ghg_office.specs.Keeping.{HadRows, Lists}
 use Rattle.ghg_office.specs.Laws.{IsInForce, state_after_all}
 use Rattle.ghg_office.specs.Office.{Answer, State, evaluations, start, submitted, unchanged}
 use Rattle.ghg_office.specs.Replays.{IsReplay, Takes, keep_fault, replay_evaluations, replayed, replayed_from, taken, then_from}
@@ -97,6 +97,7 @@ evaluations-append s (row ∷ front) back = omega (arith, evaluations-append (su
 -- how far a replay has come: as many rows as the office has accepted led to its state
 pub record HasReplayed (before now : Shelf) (done : ℕ) (s : State) : Type 0 where
   pub keeps : Keeps before now
+  pub tells : before.tells → now.clean → now.tells
   pub faults : before.faults ≤ now.faults
   pub number : length s.accepted ≡ done
   pub reached : replayed s.accepted ≡ Ok s
@@ -104,12 +105,18 @@ pub record HasReplayed (before now : Shelf) (done : ℕ) (s : State) : Type 0 wh
 
 pub keeps_on : (a b c : Shelf) → Keeps a b → Keeps b c → Keeps a c
 keeps_on a b c h k = record {
-  rows = record { told = λ t. h.rows.told (k.rows.told t); same = λ t. k.rows.same t ∙ h.rows.same (k.rows.told t) };
+  rows = record {
+    clean = λ c. h.rows.clean (k.rows.clean c);
+    told = λ t. h.rows.told (k.rows.told t);
+    same = λ t. k.rows.same t ∙ h.rows.same (k.rows.told t);
+  };
   name = k.name ∙ h.name;
 }
 
-pub begins : (before now : Shelf) → Keeps before now → before.faults ≤ now.faults → HasReplayed before now 0 start
-begins before now keeps faults = record { keeps = keeps; faults = faults; number = refl; reached = refl; front = λ _. refl }
+pub begins : (before now : Shelf) → Keeps before now → (before.tells → now.clean → now.tells) → before.faults ≤ now.faults
+    → HasReplayed before now 0 start
+begins before now keeps tells faults =
+    record { keeps = keeps; tells = tells; faults = faults; number = refl; reached = refl; front = λ _. refl }
 
 -- a row behind those that led to a state
 front_more : (rows front : List KeptRow) (done : ℕ) (row : KeptRow) → front ≡ take done rows → slice_get rows done ≡ Some row
@@ -130,12 +137,13 @@ at_place : (rows : List KeptRow) (done : ℕ) (row : KeptRow) → slice_get rows
 at_place rows done row at = let place : done ≡ done + 1 - 1 = omega arith in ap (slice_get rows) place ∙ at
 
 pub one_more : (before now after : Shelf) (done : ℕ) (s t : State) (row : KeptRow) → HasReplayed before now done s → Keeps now after
-    → now.faults ≤ after.faults → (after.tells → slice_get now.rows (done + 1 - 1) ≡ Some row) → taken (done + 1) (submitted s row.id row.body) ≡ Ok t
+    → (now.tells → after.clean → after.tells) → now.faults ≤ after.faults → (after.tells → slice_get now.rows (done + 1 - 1) ≡ Some row) → taken (done + 1) (submitted s row.id row.body) ≡ Ok t
     → HasReplayed before after (done + 1) t
-one_more before now after done s t row h keeps faults at e =
+one_more before now after done s t row h keeps stays faults at e =
     let accepts = taken_accepts (done + 1) s t row e in
     record {
       keeps = keeps_on before now after h.keeps keeps;
+      tells = λ told clean. stays (h.tells told (keeps.rows.clean clean)) clean;
       faults = omega (arith, h.faults, faults);
       number = ap length accepts.1 ∙ length_push s.accepted row ∙ ap (λ n. n + 1) h.number;
       reached = ap replayed accepts.1 ∙ reached_more s t s.accepted row done h.number h.reached e;
@@ -157,8 +165,8 @@ spent_more old spent now front s row reached h k =
 -- ---- how it ends
 
 -- what a call of `reopen` shows
-abbrev pub Shown : Shelf → Result State OpenFault → ℕ → ℕ → Type 0
-Shown after result old spent = (rows : List KeptRow) × Lists after rows × IsReplay (replayed rows) result
+abbrev pub Shown : Shelf → Shelf → Result State OpenFault → ℕ → ℕ → Type 0
+Shown before after result old spent = (rows : List KeptRow) × HadRows before after rows × IsReplay (replayed rows) result
     × (spent ≤ old + replay_evaluations start rows)
 
 pub keep_fault_is_free : (wanted : Result State OpenFault) (error : KeepError) → IsReplay wanted (Err (keep_fault error))
@@ -166,19 +174,23 @@ keep_fault_is_free wanted keep_error.Failed = tt
 keep_fault_is_free wanted keep_error.Memory = tt
 
 -- the rows that were read, with those that were not
-rows_listed : (before after : Shelf) (read : List KeptRow) (done : ℕ) → Keeps before after → (after.tells → read ≡ take done before.rows)
-    → Lists after (read ++ drop done before.rows)
-rows_listed before after read done keeps front told =
-    keeps.rows.same told ∙ sym (take-append-drop done before.rows) ∙ ap (λ xs. xs ++ drop done before.rows) (sym (front told))
+rows_had : (before after : Shelf) (read : List KeptRow) (done : ℕ) → (after.tells → before.tells)
+    → (before.tells → after.clean → read ≡ take done before.rows) → HadRows before after (read ++ drop done before.rows)
+rows_had before after read done told front = record {
+  told = told;
+  same = λ t c. ap (λ xs. xs ++ drop done before.rows) (front t c) ∙ take-append-drop done before.rows;
+}
 
-pub stops_at_count : (before after : Shelf) (old : ℕ) (error : KeepError) → Keeps before after → Shown after (Err (keep_fault error)) old old
-stops_at_count before after old error keeps = (before.rows, keeps.rows.same, keep_fault_is_free _ error, omega arith)
+pub stops_at_count : (before after : Shelf) (old : ℕ) (error : KeepError) → Keeps before after → Shown before after (Err (keep_fault error)) old old
+stops_at_count before after old error keeps =
+    (before.rows, record { told = keeps.rows.told; same = λ _ _. refl }, keep_fault_is_free _ error, omega arith)
 
 pub stops_between : (before now after : Shelf) (done old spent : ℕ) (s : State) (error : KeepError) → HasReplayed before now done s → Keeps now after
-    → spent ≤ old + replay_evaluations start s.accepted → Shown after (Err (keep_fault error)) old spent
+    → spent ≤ old + replay_evaluations start s.accepted → Shown before after (Err (keep_fault error)) old spent
 stops_between before now after done old spent s error h keeps within = (
   s.accepted ++ drop done before.rows,
-  rows_listed before after s.accepted done (keeps_on before now after h.keeps keeps) (λ told. h.front (keeps.rows.told told)),
+  rows_had before after s.accepted done (keeps_on before now after h.keeps keeps).rows.told
+      (λ told clean. h.front (h.tells told (keeps.rows.clean clean))),
   keep_fault_is_free _ error,
   spent_within old spent s.accepted (drop done before.rows) within,
 )
@@ -197,23 +209,34 @@ fault_at s t front back row done KeeperFault number reached e = tt
 fault_at s t front back row done Memory number reached e = tt
 
 pub stops_at_row : (before now after : Shelf) (done old spent last : ℕ) (s t : State) (row : KeptRow) (fault : OpenFault) → HasReplayed before now done s
-    → Keeps now after → (after.tells → slice_get now.rows (done + 1 - 1) ≡ Some row) → Takes (taken (done + 1) (submitted s row.id row.body)) t (Err fault)
-    → spent ≤ old + replay_evaluations start s.accepted → last ≤ spent + evaluations s row.id row.body → Shown after (Err fault) old last
-stops_at_row before now after done old spent last s t row fault h keeps at takes within more =
+    → Keeps now after → (now.tells → after.clean → after.tells) → (after.tells → slice_get now.rows (done + 1 - 1) ≡ Some row)
+    → Takes (taken (done + 1) (submitted s row.id row.body)) t (Err fault)
+    → spent ≤ old + replay_evaluations start s.accepted → last ≤ spent + evaluations s row.id row.body → Shown before after (Err fault) old last
+stops_at_row before now after done old spent last s t row fault h keeps stays at takes within more =
     let read = s.accepted ++ row ∷ [] in (
       read ++ drop (done + 1) before.rows,
-      rows_listed before after read (done + 1) (keeps_on before now after h.keeps keeps)
-          (λ told. front_more before.rows s.accepted done row (h.front (keeps.rows.told told))
-          (ap (λ rows. slice_get rows done) (sym (h.keeps.rows.same (keeps.rows.told told))) ∙ at_place now.rows done row (at told))),
+      rows_had before after read (done + 1) (keeps_on before now after h.keeps keeps).rows.told
+          (λ told clean.
+          let tells = h.tells told (keeps.rows.clean clean) in
+          front_more before.rows s.accepted done row (h.front tells)
+          (ap (λ rows. slice_get rows done) (sym (h.keeps.rows.same tells)) ∙ at_place now.rows done row (at (stays tells clean)))),
       fault_at s t s.accepted (drop (done + 1) before.rows) row done fault h.number h.reached takes,
       spent_within old last read (drop (done + 1) before.rows) (spent_more old spent last s.accepted s row h.reached within more),
     )
 
 -- all rows of the keeper were read
+all_read : (before now : Shelf) (done : ℕ) (s : State) → HasReplayed before now done s → (now.tells → done ≡ length before.rows)
+    → now.tells → s.accepted ≡ before.rows
+all_read before now done s h count told =
+    let few : length before.rows ≤ done = omega (arith, count told) in h.front told ∙ take_all done before.rows few
+
 pub all_listed : (before now : Shelf) (done : ℕ) (s : State) → HasReplayed before now done s → (now.tells → done ≡ length before.rows) → Lists now s.accepted
-all_listed before now done s h count told =
-    let few : length before.rows ≤ done = omega (arith, count told) in
-    h.keeps.rows.same told ∙ sym (take_all done before.rows few) ∙ sym (h.front told)
+all_listed before now done s h count told = h.keeps.rows.same told ∙ sym (all_read before now done s h count told)
+
+pub all_had : (before now : Shelf) (done : ℕ) (s : State) → HasReplayed before now done s → (now.tells → done ≡ length before.rows)
+    → HadRows before now s.accepted
+all_had before now done s h count =
+    record { told = h.keeps.rows.told; same = λ told clean. all_read before now done s h count (h.tells told clean) }
 
 pub replayed_in_force : (s : State) → replayed s.accepted ≡ Ok s → IsInForce s
 replayed_in_force s reached = subst IsInForce (replayed_state 1 start s s.accepted reached) (states_in_force s.accepted)

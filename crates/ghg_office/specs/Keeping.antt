@@ -9,9 +9,16 @@ use Rattle.ghg_office.specs.Replies.{is_accepted}
 abbrev pub Lists : Shelf → List KeptRow → Type 0
 Lists shelf rows = shelf.tells → shelf.rows ≡ rows
 
+-- A keeper had these rows before some calls: those that it told, unless a wrong answer was taken as true. If
+-- it tells its rows after the calls, it told them before.
+pub record HadRows (before after : Shelf) (rows : List KeptRow) : Type 0 where
+  pub told : after.tells → before.tells
+  pub same : before.tells → after.clean → rows ≡ before.rows
+
 -- Rows that are told after the call were told before it, and they are the accepted submissions. The name in
--- use is the same.
+-- use is the same, and no wrong answer is forgotten.
 pub record KeepsAccepted (before after : Shelf) (accepted : List KeptRow) : Type 0 where
+  pub clean : after.clean → before.clean
   pub told : after.tells → before.tells
   pub rows : Lists after accepted
   pub name : after.name ≡ before.name

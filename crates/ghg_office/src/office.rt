@@ -6,7 +6,7 @@ ghost use Rattle.ghg_definitions.specs.Data.{span};
 ghost use Rattle.ghg_outer.specs.Counts.{IsCounted};
 ghost use Rattle.ghg_keeper.specs.Shelf.{Keeps};
 ghost use Rattle.ghg_office.specs.Office.{IsRead, evaluations, requested, start, submitted, unchanged};
-ghost use Rattle.ghg_office.specs.Keeping.{KeepsAccepted, Lists, is_to_append};
+ghost use Rattle.ghg_office.specs.Keeping.{HadRows, KeepsAccepted, Lists, is_to_append};
 ghost use Rattle.ghg_office.specs.Replays.{IsReplay, Takes, replay_evaluations, replayed, taken};
 ghost use Rattle.ghg_office.specs.Replies.{Answers, Shows, is_failure, reply_of};
 ghost use Rattle.ghg_office.specs.Laws.{IsInForce};
@@ -26,10 +26,19 @@ use ghg_keeper::{Keeper, KeptRow};
 use ghg_steps::Steps;
 use ghg_tables::{print, table_named};
 use ghg_units::{Rule, Text};
+use ghg_workers::{Gate, Workers};
 use std::alloc::Global;
 use std::hash::RandomState;
 use std::marker::Model;
 use std::sync::ledger::Ledger;
+use std::thread::Threads;
+
+// A submission whose id is new.
+#[derive(Drop)]
+struct NewSubmission<'a> {
+    id: SubmissionId,
+    body: &'a [u8],
+}
 
 /// The workbook in force and the submissions that were accepted. Contracts see the two.
 #[derive(Drop)]
@@ -63,17 +72,21 @@ impl Office {
     /// The office that the kept rows lead to, submitted again in their order.
     ///
     /// The keeper's rows, and the name in use, are as before with every answer.
-    pub fn reopen<K: Keeper, L: Ledger>(
+    pub fn reopen<K: Keeper, G: Gate, T: Threads + Sync, L: Ledger>(
+        rt: &T,
         alloc: Global,
         hasher: RandomState,
         keeper: &mut K,
+        workers: u32,
+        gate: &G,
         steps: &mut Steps<L>,
     ) -> Result<Office, OpenFault>
+        requires { (1 ≤ workers) × (workers ≤ 64) }
         // The result is that of replaying rows, but where the keeper failed or memory ran out. A keeper that
-        // tells its rows after the call tells these. No more nodes are evaluated than each of these rows
+        // told its rows before the call had these. No more nodes are evaluated than each of these rows
         // affects in its turn.
-        ensures replays { (rows : _) × Lists (K.shelf keeper.new) rows × IsReplay (replayed rows) result
-            × (steps.new ≤ steps.old + replay_evaluations start rows) }
+        ensures replays { (rows : _) × HadRows (K.shelf keeper.old) (K.shelf keeper.new) rows
+            × IsReplay (replayed rows) result × (steps.new ≤ steps.old + replay_evaluations start rows) }
         ensures keeps { Keeps (K.shelf keeper.old) (K.shelf keeper.new) }
         ensures faults { IsCounted (K.shelf keeper.old).faults (K.shelf keeper.new).faults
             (IsErrOf result OpenFault.KeeperFault) }
@@ -83,25 +96,32 @@ impl Office {
     {
         let count = keeper.count()?;
         let mut office = Office::new(alloc, hasher);
+        let workers = Workers {
+            threads: rt,
+            count: workers,
+            gate,
+        };
         for done in 0..count {
             let row = keeper.row(done + 1)?;
-            office.replay(alloc, done + 1, row, steps)?;
+            office.replay(alloc, &workers, done + 1, row, steps)?;
         }
         Ok(office)
     }
 
     // Submits the kept row of this number again.
-    fn replay<L: Ledger>(
+    fn replay<G: Gate, T: Threads + Sync, L: Ledger>(
         &mut self,
         alloc: Global,
+        workers: &Workers<'_, T, G>,
         seq: u64,
         row: KeptRow,
         steps: &mut Steps<L>,
     ) -> Result<(), OpenFault>
+        requires { (1 ≤ workers.now.count) × (workers.now.count ≤ 64) }
         ensures takes { Takes (taken seq (submitted self.old row.id row.body)) self.new result }
         ensures steps { steps.new ≤ steps.old + evaluations self.old row.id row.body }
     {
-        match reply_of(self.submit_row(alloc, row, steps)) {
+        match reply_of(self.submit_row(alloc, workers, row, steps)) {
             Reply::Accepted { .. } => Ok(()),
             Reply::Memory => Err(OpenFault::Memory),
             reply => Err(OpenFault::Kept { seq, reply }),
@@ -110,12 +130,14 @@ impl Office {
 
     // Enters a kept row, and gives its number and how many nodes it affects. With any other reply nothing
     // changes.
-    fn submit_row<L: Ledger>(
+    fn submit_row<G: Gate, T: Threads + Sync, L: Ledger>(
         &mut self,
         alloc: Global,
+        workers: &Workers<'_, T, G>,
         row: KeptRow,
         steps: &mut Steps<L>,
     ) -> Result<Acceptance, Reply>
+        requires { (1 ≤ workers.now.count) × (workers.now.count ≤ 64) }
         ensures answer { Answers (submitted self.old row.id row.body) (reply_of result) self.old self.new }
         ensures keeper { reply_of result ≢ Reply.KeeperFault }
         ensures steps { steps.new ≤ steps.old + evaluations self.old row.id row.body }
@@ -126,6 +148,7 @@ impl Office {
             &mut self.engine,
             &mut self.accepted,
             alloc,
+            workers,
             body.as_slice(),
             steps,
         )?;
@@ -139,15 +162,19 @@ impl Office {
     ///
     /// With any answer but that it is accepted, the data, the accepted submissions and the keeper's rows are
     /// as before.
-    pub fn submit<K: Keeper, L: Ledger>(
+    pub fn submit<K: Keeper, G: Gate, T: Threads + Sync, L: Ledger>(
         &mut self,
+        rt: &T,
         alloc: Global,
         id: &[u8],
         body: &[u8],
+        workers: u32,
+        gate: &G,
         keeper: &mut K,
         stored: bool,
         steps: &mut Steps<L>,
     ) -> Reply
+        requires workers { (1 ≤ workers) × (workers ≤ 64) }
         requires same { stored ≡ true → Lists (K.shelf keeper.old) self.old.accepted }
         ensures answer { Answers (submitted self.old id.now body.now) result self.old self.new }
         // Only a new submission whose body is read takes memory.
@@ -166,8 +193,16 @@ impl Office {
         ensures faults { IsCounted (K.shelf keeper.old).faults (K.shelf keeper.new).faults
             (result ≡ Reply.KeeperFault) }
     {
+        let workers = Workers {
+            threads: rt,
+            count: workers,
+            gate,
+        };
         match self.new_id(id, body) {
-            Ok(id) => reply_of(self.enter(alloc, id, body, keeper, stored, steps)),
+            Ok(id) => {
+                let new = NewSubmission { id, body };
+                reply_of(self.enter(alloc, &workers, new, keeper, stored, steps))
+            }
             Err(reply) => reply,
         }
     }
@@ -200,29 +235,41 @@ impl Office {
     // With any other reply nothing changes: all memory is taken first, then the row is appended, and what
     // follows cannot fail. Where the row is not appended, the proposal is dropped: for it the engine made
     // room, and its data stayed.
-    fn enter<K: Keeper, L: Ledger>(
+    fn enter<K: Keeper, G: Gate, T: Threads + Sync, L: Ledger>(
         &mut self,
         alloc: Global,
-        id: SubmissionId,
-        body: &[u8],
+        workers: &Workers<'_, T, G>,
+        submission: NewSubmission<'_>,
         keeper: &mut K,
         stored: bool,
         steps: &mut Steps<L>,
     ) -> Result<Acceptance, Reply>
-        requires read { IsRead self.old id body.now }
+        requires workers { (1 ≤ workers.now.count) × (workers.now.count ≤ 64) }
+        requires read { IsRead self.old submission.id submission.body.now }
         requires same { stored ≡ true → Lists (K.shelf keeper.old) self.old.accepted }
-        ensures answer { Answers (submitted self.old id body.now) (reply_of result) self.old self.new }
-        ensures steps { steps.new ≤ steps.old + evaluations self.old id body.now }
+        ensures answer { Answers (submitted self.old submission.entry.id submission.entry.body.now)
+            (reply_of result) self.old self.new }
+        ensures steps { steps.new ≤ steps.old
+            + evaluations self.old submission.entry.id submission.entry.body.now }
         ensures kept { stored ≡ true
             → KeepsAccepted (K.shelf keeper.old) (K.shelf keeper.new) self.new.accepted }
-        ensures untouched { is_to_append stored (submitted self.old id body.now) ≡ false
+        ensures untouched { is_to_append stored
+            (submitted self.old submission.entry.id submission.entry.body.now) ≡ false
             → keeper.new ≡ keeper.old }
         ensures fault { reply_of result ≡ Reply.KeeperFault
-            → is_to_append stored (submitted self.old id body.now) ≡ true }
+            → is_to_append stored (submitted self.old submission.entry.id submission.entry.body.now) ≡ true }
         ensures faults { IsCounted (K.shelf keeper.old).faults (K.shelf keeper.new).faults
             (reply_of result ≡ Reply.KeeperFault) }
     {
-        let proposal = prepare(&mut self.engine, &mut self.accepted, alloc, body, steps)?;
+        let NewSubmission { id, body } = submission;
+        let proposal = prepare(
+            &mut self.engine,
+            &mut self.accepted,
+            alloc,
+            workers,
+            body,
+            steps,
+        )?;
         match keep_body(alloc, keeper, stored, &id, body) {
             Ok(kept) => {
                 let cells = proposal.cells();

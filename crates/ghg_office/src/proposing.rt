@@ -17,20 +17,24 @@ use ghg_engine::{Engine, EngineRefusal, Proposal};
 use ghg_import::{Rows, read_rows};
 use ghg_steps::Steps;
 use ghg_units::Rule;
+use ghg_workers::{Gate, Workers};
 use std::alloc::Global;
 use std::sync::ledger::Ledger;
+use std::thread::Threads;
 
 /// The proposal that a body asks for, with room for one more submission, or the first rule that is broken.
 ///
 /// The data and the accepted submissions stay. The proposal, once it is made, takes no memory to accept.
-pub(crate) fn prepare<L: Ledger>(
+pub(crate) fn prepare<G: Gate, T: Threads + Sync, L: Ledger>(
     engine: &mut Engine,
     accepted: &mut Accepted,
     alloc: Global,
+    workers: &Workers<'_, T, G>,
     body: &[u8],
     steps: &mut Steps<L>,
 ) -> Result<Proposal, PlanRefusal>
-    requires { length body.now ≤ max_body }
+    requires workers { (1 ≤ workers.now.count) × (workers.now.count ≤ 64) }
+    requires body { length body.now ≤ max_body }
     ensures content { engine.new.content ≡ engine.old.content }
     ensures list { accepted.new.list ≡ accepted.old.list }
     ensures room { OnOk result (0 < accepted.new.spare) }
@@ -48,19 +52,21 @@ pub(crate) fn prepare<L: Ledger>(
     let rows = read_rows(alloc, body)?;
     let kept_bytes = accepted.kept_bytes() + body.len() as u64;
     accepted.reserve()?;
-    propose(engine, alloc, rows, kept_bytes, steps)
+    propose(engine, alloc, workers, rows, kept_bytes, steps)
 }
 
 // The proposal that the rows of a body ask for, or the first rule that is broken. The records stay.
 #[tactic(auto, unfolding(crate::specs::Office::entered, ghg_definitions::specs::Rules::accepted))]
-fn propose<L: Ledger>(
+fn propose<G: Gate, T: Threads + Sync, L: Ledger>(
     engine: &mut Engine,
     alloc: Global,
+    workers: &Workers<'_, T, G>,
     rows: Rows,
     kept_bytes: u64,
     steps: &mut Steps<L>,
 ) -> Result<Proposal, PlanRefusal>
-    requires { AllByRecursion IsWellFormed rows.rows.items }
+    requires workers { (1 ≤ workers.now.count) × (workers.now.count ≤ 64) }
+    requires rows { AllByRecursion IsWellFormed rows.rows.items }
     ensures kept { engine.new.content ≡ engine.old.content }
     ensures steps { steps.new ≤ steps.old + evaluations_of_rows engine.old.content
         (arranged engine.old.content rows.rows.items rows.rest kept_bytes) }
@@ -72,7 +78,14 @@ fn propose<L: Ledger>(
         (IfRule (λ rule. made ≡ Err rule)) }
 {
     let edits = engine.plan(alloc, &rows.rows, rows.rest, kept_bytes)?;
-    match engine.propose(alloc, edits, steps) {
+    match engine.propose(
+        workers.threads,
+        alloc,
+        edits,
+        workers.count,
+        workers.gate,
+        steps,
+    ) {
         Ok(proposal) => Ok(proposal),
         Err(EngineRefusal::Overflow(node)) => Err(PlanRefusal::Rule(Rule::Overflow(node))),
         Err(EngineRefusal::Memory) => Err(PlanRefusal::Memory),

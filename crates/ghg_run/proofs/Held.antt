@@ -14,24 +14,24 @@ use Rattle.ghg_office.specs.Office.{Answer, State, requested, submitted}
 use Rattle.ghg_office.specs.Replies.{Answers}
 use Rattle.ghg_office.proofs.InForce.{requested_sound, states_stay}
 use Rattle.ghg_session.specs.declared.command.Request.{Request}
-use Rattle.ghg_session.specs.declared.command.Request.TheVariants.{Submit, Show}
-use Rattle.ghg_session.specs.Replies.{reply_of, state_after}
-use Rattle.ghg_run.specs.Bounds.{AreSoundLines}
-use Rattle.ghg_run.specs.Laws.{RepliesAreSound}
+use Rattle.ghg_session.specs.declared.command.Request.TheVariants.{Submit, Query}
+use Rattle.ghg_session.specs.declared.script.TableQuery.{TableQuery}
+use Rattle.ghg_session.specs.Replies.{office_step}
+use Rattle.ghg_run.specs.Run.{AreSoundLines, RepliesAreSound}
 
-stays : (s : State) (asked : Request) → IsInForce s → IsInForce (state_after s asked)
-unfolding state_after
+stays : (s : State) (asked : Request TableQuery) → IsInForce s → IsInForce (office_step s asked).after
+unfolding office_step
 stays s (Submit id body) h = states_stay.later s id body h
-stays s (Show table year) h = h
+stays s (Query show) h = h
 
-sound_lines : (s : State) (asked : Request) → IsInForce s → AreSoundLines s asked (reply_of s asked)
-unfolding reply_of
+sound_lines : (s : State) (asked : Request TableQuery) → IsInForce s → AreSoundLines s asked (office_step s asked).reply
+unfolding office_step
 sound_lines s (Submit id body) h = tt
-sound_lines s (Show name year) h = (requested s name year, refl, requested_sound s h name year)
+sound_lines s (Query show) h = (requested s show.table show.year, refl, requested_sound s h show.table show.year)
 
 pub sound_replies : RepliesAreSound
 sound_replies s h [] = tt
-sound_replies s h (first ∷ rest) = (sound_lines s first h, sound_replies (state_after s first) (stays s first h) rest)
+sound_replies s h (first ∷ rest) = (sound_lines s first h, sound_replies (office_step s first).after (stays s first h) rest)
 
 -- ---- a link
 

@@ -5,6 +5,7 @@ use Rattle.ghg_office.specs.Office.{State}
 use Rattle.ghg_outer.specs.Doors.{Register}
 use Rattle.ghg_outer.specs.Tape.{Rose, Tape}
 use Rattle.ghg_session.specs.declared.command.Request.{Request}
+use Rattle.ghg_session.specs.declared.script.TableQuery.{TableQuery}
 use Rattle.ghg_session.specs.declared.status.Status.{Status}
 use Rattle.ghg_session.specs.declared.status.Status.TheVariants.{Done, BadCommandLine, NoScript, InputFailed, OutputFailed, StoreFailed, DoorFailed, OutOfMemory, RowRefused}
 use Rattle.ghg_session.specs.Replies.{protocol}
@@ -74,7 +75,7 @@ not_opened command (Some name) shelf shelf' output output' steps steps' status e
     by (inr fault) = fails fault.kind
 
 session_ends : (settings : Settings) (status : Status) → (status ≡ StoreFailed → IsSome settings.store) → (now last : State) (left : Tape) (grows : _) (took : List ℕ)
-    (answered : List Request) (part : List ℕ) → EndsBy protocol now last left grows took answered part status
+    (answered : List (Request TableQuery)) (part : List ℕ) → EndsBy protocol now last left grows took answered part status
     → MayEnd (Some (Compile settings)) status
 session_ends settings Done h now last left grows took answered part e = refl
 session_ends settings NoScript h now last left grows took answered part e = refl

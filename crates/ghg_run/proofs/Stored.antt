@@ -2,13 +2,13 @@
 use Rattle.std.proofs.Common.{inr, ◌⊎◌, ◌≡◌, ◌∙◌, ℕ, ◌≤◌, List, Option, Some, None, IfSome, sym, subst, refl}
 use Rattle.ghg_keeper.specs.declared.row.KeptRow.{KeptRow}
 use Rattle.ghg_keeper.specs.Shelf.{KeepsRows, Shelf}
-use Rattle.ghg_office.specs.Keeping.{KeepsAccepted, Lists}
+use Rattle.ghg_office.specs.Keeping.{HadRows, KeepsAccepted}
 use Rattle.ghg_office.specs.Office.{State, start}
 use Rattle.ghg_outer.specs.Tape.{Tape}
 use Rattle.ghg_session.specs.declared.status.Status.{Status}
 use Rattle.ghg_session.specs.declared.status.Status.TheVariants.{StoreFailed, OutputFailed}
 use Rattle.ghg_words.specs.declared.command.Service.{Service}
-use Rattle.ghg_run.specs.Opening.{Begins, BeginsNot, HadRows, IsInUse, IsKeptIn, RunsOffice}
+use Rattle.ghg_run.specs.Opening.{Begins, BeginsNot, IsInUse, IsKeptIn, RunsOffice}
 use Rattle.ghg_outer.specs.Doors.{Register}
 use Rattle.ghg_run.specs.Run.{Compiles, ServesAll}
 use Rattle.ghg_run.specs.Serve.{EndsServing, OfficeAt, Serves, office_at}
@@ -20,11 +20,20 @@ use Rattle.ghg_run.proofs.Links.{serving_since}
 
 pub keeps_rows_more : (a b c : Shelf) → KeepsRows a b → KeepsRows b c → KeepsRows a c
 keeps_rows_more a b c p q =
-    record { told = λ t. p.told (q.told t); same = λ t. q.same t ∙ p.same (q.told t) }
+    record {
+      clean = λ clean. p.clean (q.clean clean);
+      told = λ t. p.told (q.told t);
+      same = λ t. q.same t ∙ p.same (q.told t);
+    }
 
-pub had_rows : (before after : Shelf) (rows : List KeptRow) → KeepsRows before after → Lists after rows
+-- the rows that a store had once it was attached are those that it had before
+pub had_rows : (before mid after : Shelf) (rows : List KeptRow) → KeepsRows before mid
+    → (before.tells → mid.clean → mid.tells) → KeepsRows mid after → HadRows mid after rows
     → HadRows before after rows
-had_rows before after rows keeps lists = λ t. (keeps.told t, sym (lists t) ∙ keeps.same t)
+had_rows before mid after rows keeps stays later had = record {
+  told = λ t. keeps.told (had.told t);
+  same = λ t clean. let told = stays t (later.clean clean) in had.same told clean ∙ keeps.same told;
+}
 
 -- the name in use stayed
 pub stays_in_use : (name : List ℕ) (mid after : Shelf) → after.name ≡ mid.name → IsInUse name mid → IsInUse name after
@@ -39,7 +48,12 @@ stored_run name before mid after steps later first last holds b had kept does = 
   first = first;
   later = later;
   last = last;
-  begins = (b.0, λ t. b.1 (kept.told t), b.2, b.3);
+  begins = (
+    b.0,
+    record { told = λ t. b.1.told (kept.told t); same = λ t clean. b.1.same t (kept.clean clean) },
+    b.2,
+    b.3,
+  );
   does = does;
   kept = (stays_in_use name mid after kept.name had.0, kept.rows);
 }

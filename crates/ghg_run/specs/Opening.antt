@@ -5,19 +5,15 @@ use Rattle.ghg_keeper.specs.declared.row.KeptRow.{KeptRow}
 use Rattle.ghg_keeper.specs.Shelf.{KeepsRows, Shelf}
 use Rattle.ghg_office.specs.declared.fault.OpenFault.TheVariants.{Kept}
 use Rattle.ghg_office.specs.declared.reply.Reply.{Reply}
-use Rattle.ghg_office.specs.Keeping.{Lists}
+use Rattle.ghg_office.specs.Keeping.{HadRows, Lists}
 use Rattle.ghg_office.specs.Office.{State, start}
 use Rattle.ghg_office.specs.Replays.{replay_evaluations, replayed}
 use Rattle.ghg_office.specs.Replies.{reply_text}
 use Rattle.ghg_outer.specs.Tape.{Tape}
 use Rattle.ghg_session.specs.declared.status.Status.{Status}
 use Rattle.ghg_session.specs.declared.status.Status.TheVariants.{OutOfMemory, RowRefused, StoreFailed}
-use Rattle.ghg_session.specs.Session.{line_of}
+use Rattle.ghg_session.specs.Commands.{line_of}
 use Rattle.ghg_session.specs.Writing.{Reports}
-
--- The store had these rows: if the keeper tells its rows in the end, those that it told before.
-abbrev pub HadRows : Shelf → Shelf → List KeptRow → Type 0
-HadRows before after rows = after.tells → before.tells × (rows ≡ before.rows)
 
 -- The store of this name is in use, if the keeper tells which one is.
 abbrev pub IsInUse : List ℕ → Shelf → Type 0

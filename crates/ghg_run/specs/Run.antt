@@ -2,38 +2,61 @@
 use Rattle.std.specs.Prelude.{◌≡◌, ⊤, ◌⊎◌, ℕ, true, false, Bool, List, map, Option, Some, None, IsSome, String, codes}
 use Rattle.std.specs.String.{string_bytes}
 use Rattle.ghg_keeper.specs.Shelf.{Shelf}
+use Rattle.ghg_office.specs.declared.reply.Reply.{Reply}
+use Rattle.ghg_office.specs.Laws.{IsInForce}
+use Rattle.ghg_office.specs.Office.{State}
+use Rattle.ghg_office.specs.Sound.{IsSoundReply}
 use Rattle.ghg_outer.specs.Counts.{IsCounted}
 use Rattle.ghg_outer.specs.Doors.{Register}
 use Rattle.ghg_outer.specs.Tape.{Rose, Tape}
 use Rattle.ghg_session.specs.declared.command.Request.{Request}
+use Rattle.ghg_session.specs.declared.command.Request.TheVariants.{Submit, Query}
+use Rattle.ghg_session.specs.declared.script.TableQuery.{TableQuery}
 use Rattle.ghg_session.specs.declared.status.Status.{Status}
 use Rattle.ghg_session.specs.declared.status.Status.TheVariants.{Done, BadCommandLine, NoScript, InputFailed, OutputFailed, StoreFailed, DoorFailed, OutOfMemory, RowRefused}
-use Rattle.ghg_session.specs.Replies.{protocol}
-use Rattle.ghg_session.specs.Session.{EachReply, Session, line_of}
+use Rattle.ghg_session.specs.Replies.{protocol, table_lines}
+use Rattle.ghg_session.specs.Commands.{line_of}
+use Rattle.ghg_session.specs.Session.{EachReply, Session}
 use Rattle.ghg_session.specs.Status.{status_code}
 use Rattle.ghg_session.specs.Writing.{Reports}
 use Rattle.ghg_words.specs.Command.{command_in}
 use Rattle.ghg_words.specs.declared.command.Command.{Command}
 use Rattle.ghg_words.specs.declared.command.Command.TheVariants.{Compile, Serve}
 use Rattle.ghg_words.specs.declared.command.Service.{Service}
-use Rattle.ghg_run.specs.Bounds.{AreSoundLines}
 use Rattle.ghg_run.specs.Opening.{BeginsNot, RunsOffice}
 use Rattle.ghg_run.specs.Serve.{Serves, office_at}
+
+-- ---- the bounds that a session prints
+
+-- The lines that reply to a request for a table are the office's reply, a table under its heading or that
+-- there is none, and in a table the bounds hold.
+abbrev pub AreSoundLines : State → Request TableQuery → List ℕ → Type 0
+AreSoundLines s (Submit id body) lines = ⊤
+AreSoundLines s (Query show) lines = (reply : Reply)
+    × (lines ≡ table_lines show.table show.year reply) × IsSoundReply s show.table show.year reply
+
+-- In each table among the replies to any requests the bounds hold the exact values of the nodes of the data
+-- then in force, wherever the inputs are within their supplied bounds.
+abbrev pub HasSoundReplies : State → Type 0
+HasSoundReplies s = (requests : List (Request TableQuery)) → EachReply protocol AreSoundLines s requests
+
+-- That holds from each state in force.
+abbrev pub RepliesAreSound : Type 0
+RepliesAreSound = (s : State) → IsInForce s → HasSoundReplies s
 
 -- ---- each command
 
 abbrev pub bad_command_line : List ℕ
 bad_command_line = line_of (codes "bad command line")
 
--- An office answered the script that the input holds, or there was none, and nothing was read. In each table
--- among the replies to any requests the bounds hold the exact values of the nodes of the data then in force,
--- wherever the inputs are within their supplied bounds.
+-- An office answered the script that the input holds, with sound replies, or there was none, and nothing was
+-- read.
 abbrev pub Compiles : Option (List ℕ) → Shelf → Shelf → Tape → Tape → Tape → Tape → ℕ → ℕ → Status → Type 0
 Compiles store shelf shelf' input input' output output' steps steps' status =
     (BeginsNot store shelf shelf' output output' steps steps' status × (input' ≡ input))
     ⊎ RunsOffice store shelf shelf' steps (λ first later last.
     Session protocol first last input input' output output' later steps' status
-    × ((requests : List Request) → EachReply protocol AreSoundLines first requests))
+    × HasSoundReplies first)
 
 -- An office served connections, and wrote nothing to the output, or there was none, and no connection was
 -- taken.
@@ -90,8 +113,8 @@ MayEnd command DoorFailed = opens_door command ≡ true
 MayEnd command OutOfMemory = ⊤
 MayEnd command RowRefused = IsSome (store_in command)
 
--- The status is one of those, and a failure is told only if its count of faults rose. The counts of the keeper
--- and of the door never fall.
+-- The status is one of those, and a failure is told only if its count of faults rose. The counts of the
+-- keeper and of the door never fall.
 pub record IsCaused (command : Option Command) (shelf shelf' : Shelf) (input input' output output' : Tape)
     (door door' : Register Tape) (status : Status) : Type 0 where
   pub known : MayEnd command status

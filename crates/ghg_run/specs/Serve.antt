@@ -65,9 +65,9 @@ register_of tape door = record {
   faults = door.faults;
 }
 
--- How a serving ends, by its status: these links were taken back, and one more perhaps was served and dropped.
--- All connections were taken back, at the port that is asked for. Or fewer, since the door failed, or memory
--- ran out: before the first link was taken, or when a link was handed back.
+-- How a serving ends, by its status: these links were taken back, and one more perhaps was served and
+-- dropped. All connections were taken back, at the port that is asked for. Or fewer, since the door failed,
+-- or memory ran out: before the first link was taken, or when a link was handed back.
 abbrev pub EndsServing : Service → Register Tape → List ServedLink → List ServedLink → Status → Type 0
 EndsServing service door taken dropped Done =
     (length taken ≡ service.connections) × (dropped ≡ [])

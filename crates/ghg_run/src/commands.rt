@@ -11,19 +11,21 @@ use crate::serving::serve_office;
 use ghg_keeper::Keeper;
 use ghg_office::Office;
 use ghg_outer::{Door, Sink, Source};
-use ghg_session::{Status, answer_script, report};
+use ghg_session::{Script, Status, answer_script, report};
 use ghg_steps::Steps;
-use ghg_words::{Command, Service, StoreName, read_command};
+use ghg_words::{Command, Service, Settings, read_command};
+use ghg_workers::{Gate, Workers};
 use std::alloc::Global;
 use std::hash::RandomState;
 use std::sync::ledger::{Blank, Ledger};
+use std::thread::Threads;
 
 /// Does what the words ask for, and answers the status that the program ends with.
 ///
 /// The word `compile` asks it to answer the script that the input holds, and `serve` to serve connections at
 /// a port of loopback. With `--store NAME` the submissions that were kept in that store are replayed first,
 /// and those that are accepted now are kept there. For each submission no more nodes are evaluated than its
-/// rows affect.
+/// rows affect, by as many workers as the words say; the gate is told of each before.
 ///
 /// | Status | Meaning |
 /// |---|---|
@@ -36,7 +38,8 @@ use std::sync::ledger::{Blank, Ledger};
 /// | 7 | the door failed |
 /// | 8 | memory ran out |
 /// | 9 | a kept submission is refused |
-pub fn run<S: Source, W: Sink, K: Keeper, D: Door, L: Ledger>(
+pub fn run<S: Source, W: Sink, K: Keeper, D: Door, G: Gate, T: Threads + Sync, L: Ledger>(
+    rt: &T,
     alloc: Global,
     hasher: RandomState,
     words: &[String],
@@ -44,6 +47,7 @@ pub fn run<S: Source, W: Sink, K: Keeper, D: Door, L: Ledger>(
     out: &mut W,
     keeper: &mut K,
     door: &mut D,
+    gate: &G,
     steps: &mut Steps<L>,
 ) -> u8
     // What was done for the command that the words ask for, with a status that has its cause.
@@ -58,10 +62,15 @@ pub fn run<S: Source, W: Sink, K: Keeper, D: Door, L: Ledger>(
 {
     match read_command(words) {
         Some(Command::Compile(settings)) => {
-            compile(alloc, hasher, &settings.store, input, out, keeper, steps).code()
+            let workers = workers(rt, &settings, gate);
+            compile(
+                alloc, hasher, &workers, &settings, input, out, keeper, steps,
+            )
+            .code()
         }
         Some(Command::Serve(service)) => {
-            serve(alloc, hasher, &service, out, keeper, door, steps).code()
+            let workers = workers(rt, &service.settings, gate);
+            serve(alloc, hasher, &workers, &service, out, keeper, door, steps).code()
         }
         None => report(out, BAD_COMMAND_LINE, Status::BadCommandLine).code(),
     }
@@ -70,7 +79,8 @@ pub fn run<S: Source, W: Sink, K: Keeper, D: Door, L: Ledger>(
 const BAD_COMMAND_LINE: &[u8] = b"bad command line\n";
 
 /// Does what the words ask for, as [`run`] does, and counts the steps in a new ledger, from 0.
-pub fn run_counted<S: Source, W: Sink, K: Keeper, D: Door, L: Ledger>(
+pub fn run_counted<S: Source, W: Sink, K: Keeper, D: Door, G: Gate, T: Threads + Sync, L: Ledger>(
+    rt: &T,
     alloc: Global,
     hasher: RandomState,
     words: &[String],
@@ -78,6 +88,7 @@ pub fn run_counted<S: Source, W: Sink, K: Keeper, D: Door, L: Ledger>(
     out: &mut W,
     keeper: &mut K,
     door: &mut D,
+    gate: &G,
     blank: Blank,
 ) -> u8
     requires name { blank.name ≡ L.name }
@@ -93,51 +104,86 @@ pub fn run_counted<S: Source, W: Sink, K: Keeper, D: Door, L: Ledger>(
     ensures unopened { opens_door (asked_for words.now) ≡ false → door.new ≡ door.old }
 {
     let mut steps = Steps::<L>::new(blank);
-    run(alloc, hasher, words, input, out, keeper, door, &mut steps)
+    run(
+        rt, alloc, hasher, words, input, out, keeper, door, gate, &mut steps,
+    )
+}
+
+// Who evaluates, by the settings.
+fn workers<'a, T, G>(threads: &'a T, settings: &Settings<'_>, gate: &'a G) -> Workers<'a, T, G>
+    ensures { result.count ≡ settings.now.workers }
+{
+    Workers {
+        threads,
+        count: settings.workers,
+        gate,
+    }
 }
 
 // Answers the script that the input holds. With a store, its rows are replayed first.
-fn compile<S: Source, W: Sink, K: Keeper, L: Ledger>(
+fn compile<S: Source, W: Sink, K: Keeper, G: Gate, T: Threads + Sync, L: Ledger>(
     alloc: Global,
     hasher: RandomState,
-    store: &Option<StoreName<'_>>,
+    workers: &Workers<'_, T, G>,
+    settings: &Settings<'_>,
     input: &mut S,
     out: &mut W,
     keeper: &mut K,
     steps: &mut Steps<L>,
 ) -> Status
-    ensures run { Compiles store.now (K.shelf keeper.old) (K.shelf keeper.new) (S.tape input.old)
+    requires { (1 ≤ workers.now.count) × (workers.now.count ≤ 64) }
+    ensures run { Compiles settings.now.store (K.shelf keeper.old) (K.shelf keeper.new) (S.tape input.old)
         (S.tape input.new) (W.tape out.old) (W.tape out.new) steps.old steps.new result }
     ensures input { result ≡ Status.InputFailed → Rose (S.tape input.old) (S.tape input.new) }
     ensures output { result ≡ Status.OutputFailed → Rose (W.tape out.old) (W.tape out.new) }
     ensures counted { IsCounted (K.shelf keeper.old).faults (K.shelf keeper.new).faults
         (result ≡ Status.StoreFailed) }
-    ensures stored { result ≡ Status.StoreFailed → IsSome store.now }
-    ensures unkept { store.now ≡ None → keeper.new ≡ keeper.old }
+    ensures stored { result ≡ Status.StoreFailed → IsSome settings.now.store }
+    ensures unkept { settings.now.store ≡ None → keeper.new ≡ keeper.old }
 {
-    match store {
+    match &settings.store {
         None => {
             let mut office = Office::new(alloc, hasher);
-            answer_script(alloc, input, out, &mut office, keeper, false, steps)
+            answer_script::<Script, S, W, K, G, T, L>(
+                alloc,
+                workers,
+                input,
+                out,
+                &mut office,
+                keeper,
+                false,
+                steps,
+            )
         }
-        Some(name) => match open_store(alloc, hasher, name.as_str(), out, keeper, steps) {
-            Ok(mut office) => { answer_script(alloc, input, out, &mut office, keeper, true, steps) }
+        Some(name) => match open_store(alloc, hasher, workers, name.as_str(), out, keeper, steps) {
+            Ok(mut office) => answer_script::<Script, S, W, K, G, T, L>(
+                alloc,
+                workers,
+                input,
+                out,
+                &mut office,
+                keeper,
+                true,
+                steps,
+            ),
             Err(status) => status,
         },
     }
 }
 
 // Serves as many connections as are asked for. With a store, its rows are replayed first.
-fn serve<W: Sink, K: Keeper, D: Door, L: Ledger>(
+fn serve<W: Sink, K: Keeper, D: Door, G: Gate, T: Threads + Sync, L: Ledger>(
     alloc: Global,
     hasher: RandomState,
+    workers: &Workers<'_, T, G>,
     service: &Service<'_>,
     out: &mut W,
     keeper: &mut K,
     door: &mut D,
     steps: &mut Steps<L>,
 ) -> Status
-    requires { 1 ≤ service.now.connections }
+    requires workers { (1 ≤ workers.now.count) × (workers.now.count ≤ 64) }
+    requires some { 1 ≤ service.now.connections }
     ensures run { ServesAll service.now (K.shelf keeper.old) (K.shelf keeper.new)
         (W.tape out.old) (W.tape out.new) (register_of D.Link.Told.tape (D.register door.old))
         (register_of D.Link.Told.tape (D.register door.new)) steps.old steps.new result }
@@ -152,14 +198,15 @@ fn serve<W: Sink, K: Keeper, D: Door, L: Ledger>(
     match &service.settings.store {
         None => serve_office(
             alloc,
+            workers,
             service,
             Office::new(alloc, hasher),
             keeper,
             door,
             steps,
         ),
-        Some(name) => match open_store(alloc, hasher, name.as_str(), out, keeper, steps) {
-            Ok(office) => serve_office(alloc, service, office, keeper, door, steps),
+        Some(name) => match open_store(alloc, hasher, workers, name.as_str(), out, keeper, steps) {
+            Ok(office) => serve_office(alloc, workers, service, office, keeper, door, steps),
             Err(status) => status,
         },
     }

@@ -1,6 +1,6 @@
 //! The office that a run with a store begins with.
 
-ghost use Rattle.std.specs.Prelude.{◌≡◌, ◌≢◌, ◌⊎◌, ◌+◌, IfErr, IfOk, IsErrOf, IsOk, Some};
+ghost use Rattle.std.specs.Prelude.{◌≡◌, ◌≢◌, ◌≤◌, ◌⊎◌, ◌+◌, IfErr, IfOk, IsErrOf, IsOk, Some};
 ghost use Rattle.ghg_run.specs.Opening.{IsKeptIn, Opens, ReportsRow, kept_line};
 ghost use Rattle.ghg_keeper.specs.Shelf.{Shelf};
 ghost use Rattle.ghg_office.specs.Laws.{IsInForce};
@@ -12,21 +12,25 @@ use ghg_office::{Office, OpenFault, Reply, append_reply};
 use ghg_outer::Sink;
 use ghg_session::{Status, report};
 use ghg_steps::Steps;
+use ghg_workers::{Gate, Workers};
 use std::alloc::{AllocError, Global};
 use std::hash::RandomState;
 use std::sync::ledger::Ledger;
+use std::thread::Threads;
 
 /// Makes the named store the one in use, and replays its rows.
 ///
 /// Where there is no office, the error is the status that the program ends with.
-pub fn open_store<W: Sink, K: Keeper, L: Ledger>(
+pub fn open_store<W: Sink, K: Keeper, G: Gate, T: Threads + Sync, L: Ledger>(
     alloc: Global,
     hasher: RandomState,
+    workers: &Workers<'_, T, G>,
     name: &str,
     out: &mut W,
     keeper: &mut K,
     steps: &mut Steps<L>,
 ) -> Result<Office, Status>
+    requires { (1 ≤ workers.now.count) × (workers.now.count ≤ 64) }
     ensures opened { Opens name.now (K.shelf keeper.old) (K.shelf keeper.new)
         (W.tape out.old) (W.tape out.new) steps.old steps.new result }
     ensures output { IsErrOf result Status.OutputFailed → Rose (W.tape out.old) (W.tape out.new) }
@@ -40,7 +44,15 @@ pub fn open_store<W: Sink, K: Keeper, L: Ledger>(
         Err(KeepError::Failed) => return Err(Status::StoreFailed),
         Err(KeepError::Memory) => return Err(Status::OutOfMemory),
     }
-    match Office::reopen(alloc, hasher, keeper, steps) {
+    match Office::reopen(
+        workers.threads,
+        alloc,
+        hasher,
+        keeper,
+        workers.count,
+        workers.gate,
+        steps,
+    ) {
         Ok(office) => Ok(office),
         Err(OpenFault::Kept { seq, reply }) => Err(refuse_row(alloc, out, seq, &reply)),
         Err(OpenFault::KeeperFault) => Err(Status::StoreFailed),

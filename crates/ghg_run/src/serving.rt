@@ -15,22 +15,26 @@ use ghg_outer::{Door, Failed};
 use ghg_session::Status;
 use ghg_steps::Steps;
 use ghg_words::Service;
+use ghg_workers::{Gate, Workers};
 use matchit::Router;
 use std::alloc::{AllocError, Global};
 use std::sync::ledger::Ledger;
+use std::thread::Threads;
 
 /// Opens the port, and serves as many connections as are asked for, by an office whose data are in force.
 /// However a connection ends, the next one is served.
 ///
 /// The result is the status that the program ends with.
-pub fn serve_office<K: Keeper, D: Door, L: Ledger>(
+pub fn serve_office<K: Keeper, D: Door, G: Gate, T: Threads + Sync, L: Ledger>(
     alloc: Global,
+    workers: &Workers<'_, T, G>,
     service: &Service<'_>,
     mut office: Office,
     keeper: &mut K,
     door: &mut D,
     steps: &mut Steps<L>,
 ) -> Status
+    requires workers { (1 ≤ workers.now.count) × (workers.now.count ≤ 64) }
     requires some { 1 ≤ service.now.connections }
     requires in_force { IsInForce office }
     requires same { IsSome service.now.settings.store → Lists (K.shelf keeper.old) office.accepted }
@@ -46,14 +50,24 @@ pub fn serve_office<K: Keeper, D: Door, L: Ledger>(
         (result ≡ Status.DoorFailed) }
 {
     match routes(alloc) {
-        Ok(router) => serve_links(alloc, &router, service, &mut office, keeper, door, steps),
+        Ok(router) => serve_links(
+            alloc,
+            workers,
+            &router,
+            service,
+            &mut office,
+            keeper,
+            door,
+            steps,
+        ),
         Err(AllocError) => Status::OutOfMemory,
     }
 }
 
 // The same, once there is a router.
-fn serve_links<K: Keeper, D: Door, L: Ledger>(
+fn serve_links<K: Keeper, D: Door, G: Gate, T: Threads + Sync, L: Ledger>(
     alloc: Global,
+    workers: &Workers<'_, T, G>,
     router: &Router<Route>,
     service: &Service<'_>,
     office: &mut Office,
@@ -62,6 +76,7 @@ fn serve_links<K: Keeper, D: Door, L: Ledger>(
     steps: &mut Steps<L>,
 ) -> Status
     requires router { router.now ≡ routes }
+    requires workers { (1 ≤ workers.now.count) × (workers.now.count ≤ 64) }
     requires some { 1 ≤ service.now.connections }
     requires in_force { IsInForce office.old }
     requires same { IsSome service.now.settings.store → Lists (K.shelf keeper.old) office.old.accepted }
@@ -84,7 +99,18 @@ fn serve_links<K: Keeper, D: Door, L: Ledger>(
         let Ok(mut link) = door.next() else {
             return Status::DoorFailed;
         };
-        serve_one(alloc, router, &mut link, office, keeper, stored, steps);
+        serve_one(
+            workers.threads,
+            alloc,
+            router,
+            &mut link,
+            office,
+            workers.count,
+            workers.gate,
+            keeper,
+            stored,
+            steps,
+        );
         if let Err(AllocError) = door.finish(link) {
             return Status::OutOfMemory;
         }

@@ -8,6 +8,7 @@ use ghg_keeper::SteadyKeeper;
 use ghg_office::Office;
 use ghg_outer::MemoryLink;
 use ghg_steps::Steps;
+use ghg_workers::OpenGate;
 use std::alloc::{AllocError, Global};
 use std::hash::RandomState;
 use std::marker::Brand;
@@ -15,8 +16,10 @@ use std::process::Abort;
 use std::random::RandomSource;
 use std::sync::ledger::{Blank, Ledger};
 use std::test::Fail;
+use std::thread::Threads;
 
-fn end_with<L: Ledger>(
+fn end_with<T: Threads + Sync, L: Ledger>(
+    rt: &T,
     alloc: Global,
     hasher: RandomState,
     blank: Blank,
@@ -31,10 +34,13 @@ fn end_with<L: Ledger>(
     let mut keeper = SteadyKeeper::new(alloc);
     let mut steps = Steps::<L>::new(blank);
     Ok(serve_one(
+        rt,
         alloc,
         &router,
         link,
         &mut office,
+        1,
+        &OpenGate,
         &mut keeper,
         false,
         &mut steps,
@@ -42,24 +48,25 @@ fn end_with<L: Ledger>(
 }
 
 fn end_of(
+    rt: &(impl Threads + Sync),
     alloc: Global,
     hasher: RandomState,
     link: &mut MemoryLink,
 ) -> Result<LinkEnd, AllocError> {
-    end_with::<Brand>(alloc, hasher, Blank::new(1), link)
+    end_with::<_, Brand>(rt, alloc, hasher, Blank::new(1), link)
 }
 
 // Serves a link with these bytes, on which the call of this number fails, or none where it is 0, and compares
 // its end.
 fn check(
-    rt: &(impl Abort + AllocGlobal + RandomSource),
+    rt: &(impl Abort + AllocGlobal + RandomSource + Threads + Sync),
     bytes: &str,
     failing: u64,
     end: LinkEnd,
 ) -> Result<(), Fail> {
     let alloc = rt.alloc();
     let mut link = link(alloc, bytes, failing)?;
-    let ended = end_of(alloc, RandomState::new(rt)?, &mut link)?;
+    let ended = end_of(rt, alloc, RandomState::new(rt)?, &mut link)?;
     assert_eq!(rt; ended, end);
     Ok(())
 }

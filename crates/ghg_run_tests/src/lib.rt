@@ -8,8 +8,12 @@ mod ends;
 #[cfg(test)]
 mod full_at_first;
 #[cfg(test)]
+mod meeting;
+#[cfg(test)]
 mod runs;
 #[cfg(test)]
 mod serving;
 #[cfg(test)]
 mod words;
+#[cfg(test)]
+mod workers;

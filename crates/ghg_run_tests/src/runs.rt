@@ -5,6 +5,7 @@ use crate::words::words_of;
 use ghg_keeper::{Keeper, KeptRow, MemoryKeeper};
 use ghg_outer::{MemoryDoor, MemorySink, MemorySource};
 use ghg_run::run_counted;
+use ghg_workers::{Gate, OpenGate};
 use std::alloc::{AllocError, Global};
 use std::hash::RandomState;
 use std::marker::Brand;
@@ -12,13 +13,14 @@ use std::process::Abort;
 use std::random::RandomSource;
 use std::sync::ledger::Blank;
 use std::test::Fail;
+use std::thread::Threads;
 
-// A run over an input, an output and a keeper in memory.
+/// A run over an input, an output and a keeper in memory.
 #[derive(Drop)]
-struct Case {
+pub(crate) struct Case<'a> {
     // The words, with a space between them.
-    words: &'static str,
-    input: &'static str,
+    words: &'a str,
+    input: &'a str,
     // How many rows are kept: `FIRST` under `a`, and then an empty body under `b`.
     kept: usize,
     // The number of the read, the write and the call of the keeper that fails, from 1, or 0 where none does.
@@ -26,7 +28,7 @@ struct Case {
     failing_write: u64,
     failing_keep: u64,
     status: u8,
-    output: &'static str,
+    output: &'a str,
     // How many rows are kept in the end.
     rows: u64,
 }
@@ -44,13 +46,30 @@ const CALM: Case = Case {
     rows: 0,
 };
 
+impl<'a> Case<'a> {
+    /// A run without faults and without a store, to the end of its script.
+    pub(crate) fn calm(words: &'a str, input: &'a str, output: &'a str) -> Case<'a> {
+        Case {
+            words,
+            input,
+            output,
+            ..CALM
+        }
+    }
+}
+
 const FIRST: &str = "act,kind,subject,name,year,value,low,high,unit,note\n";
 
 // `FIRST` under `a`, and a table.
 const SCRIPT: &str =
     "SUBMIT a 52\nact,kind,subject,name,year,value,low,high,unit,note\nSHOW cells 1990\nEND\n";
 
-fn check(rt: &(impl Abort + AllocGlobal + RandomSource), case: &Case) -> Result<(), Fail> {
+/// Runs a case, and compares its status, its output and how many rows are kept.
+pub(crate) fn check<G: Gate>(
+    rt: &(impl Abort + AllocGlobal + RandomSource + Threads + Sync),
+    case: &Case,
+    gate: &G,
+) -> Result<(), Fail> {
     let alloc = rt.alloc();
     let words = words_of(alloc, case.words)?;
     let text = case.input.as_bytes().to_vec(alloc)?;
@@ -59,7 +78,8 @@ fn check(rt: &(impl Abort + AllocGlobal + RandomSource), case: &Case) -> Result<
     let rows = kept_rows(alloc, case.kept)?;
     let mut keeper = MemoryKeeper::new(alloc, rows, [case.failing_keep].to_vec(alloc)?);
     let mut door = MemoryDoor::new(alloc, Vec::new(alloc), Vec::new(alloc));
-    let status = run_counted::<_, _, _, _, Brand>(
+    let status = run_counted::<_, _, _, _, _, _, Brand>(
+        rt,
         alloc,
         RandomState::new(rt)?,
         &words,
@@ -67,6 +87,7 @@ fn check(rt: &(impl Abort + AllocGlobal + RandomSource), case: &Case) -> Result<
         &mut out,
         &mut keeper,
         &mut door,
+        gate,
         Blank::new(1),
     );
     assert_eq!(rt; status, case.status);
@@ -108,7 +129,7 @@ fn words_and_faults(rt: HostRuntime) -> Result<(), Fail> {
         ("serve --port 8000 --connections 2", 1, 1, 7, ""),
         ("compile x", 0, 1, 5, ""),
         ("compile", 2, 0, 4, ""),
-        ("compile --workers=1 --store s", 2, 0, 4, ""),
+        ("compile --workers=64 --store s", 2, 0, 4, ""),
         ("compile", 0, 1, 5, ""),
     ] {
         let case = Case {
@@ -120,7 +141,7 @@ fn words_and_faults(rt: HostRuntime) -> Result<(), Fail> {
             output,
             ..CALM
         };
-        check(&rt, &case)?;
+        check(&rt, &case, &OpenGate)?;
     }
     Ok(())
 }
@@ -141,7 +162,7 @@ fn a_fault_ends_the_session(rt: HostRuntime) -> Result<(), Fail> {
             output,
             ..CALM
         };
-        check(&rt, &case)?;
+        check(&rt, &case, &OpenGate)?;
     }
     Ok(())
 }
@@ -168,7 +189,7 @@ fn a_store_outlives_the_run(rt: HostRuntime) -> Result<(), Fail> {
             rows,
             ..CALM
         };
-        check(&rt, &case)?;
+        check(&rt, &case, &OpenGate)?;
     }
     Ok(())
 }

@@ -8,6 +8,7 @@ use crate::words::words_of;
 use ghg_keeper::{Keeper, SteadyKeeper};
 use ghg_outer::{MemoryDoor, MemoryLink, MemorySink, MemorySource};
 use ghg_run::run_counted;
+use ghg_workers::OpenGate;
 use std::alloc::{AllocError, Global};
 use std::hash::RandomState;
 use std::marker::Brand;
@@ -15,6 +16,7 @@ use std::process::Abort;
 use std::random::RandomSource;
 use std::sync::ledger::Blank;
 use std::test::Fail;
+use std::thread::Threads;
 
 /// A request for a path that is none.
 pub(crate) const NOWHERE: &str = "GET /nothing HTTP/1.1\r\n\r\n";
@@ -41,7 +43,7 @@ pub(crate) fn link(alloc: Global, request: &str, failing: u64) -> Result<MemoryL
 
 // Serves these links, and compares the status and what was written on each link that was taken back.
 fn check<K: Keeper>(
-    rt: &(impl Abort + AllocGlobal + RandomSource),
+    rt: &(impl Abort + AllocGlobal + RandomSource + Threads + Sync),
     words: &str,
     links: Vec<MemoryLink>,
     keeper: &mut K,
@@ -55,7 +57,8 @@ fn check<K: Keeper>(
     let mut input = MemorySource::new(Vec::new(alloc), Vec::new(alloc));
     let mut out = MemorySink::new(alloc, Vec::new(alloc));
     let mut door = MemoryDoor::new(alloc, links, Vec::new(alloc));
-    let ended = run_counted::<_, _, _, _, Brand>(
+    let ended = run_counted::<_, _, _, _, _, _, Brand>(
+        rt,
         alloc,
         RandomState::new(rt)?,
         &words,
@@ -63,6 +66,7 @@ fn check<K: Keeper>(
         &mut out,
         keeper,
         &mut door,
+        &OpenGate,
         Blank::new(1),
     );
     assert_eq!(rt; ended, status);

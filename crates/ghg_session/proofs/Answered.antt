@@ -4,17 +4,15 @@ use Rattle.ghg_outer.specs.Tape.{Appends, Consumes, IsAtEnd, Rose, Tape}
 use Rattle.ghg_outer.proofs.Tapes.{appends_more, appends_nothing, consumes_more, consumes_nothing}
 use Rattle.ghg_session.specs.declared.command.Command.TheVariants as command
 use Rattle.ghg_session.specs.declared.status.Status.{Status}
-use Rattle.ghg_session.specs.declared.status.Status.TheVariants.{Done, NoScript, InputFailed, OutputFailed, OutOfMemory, StoreFailed}
-use Rattle.ghg_session.specs.Protocol.{Protocol}
+use Rattle.ghg_session.specs.declared.status.Status.TheVariants.{Done, NoScript, InputFailed, OutputFailed, OutOfMemory}
 use Rattle.ghg_session.specs.Reader.{Found, Missing, Stopped}
-use Rattle.ghg_session.specs.Script.{Reading, after_requests, most_commands, no_command, reading_of}
-use Rattle.ghg_session.specs.Session.{BreaksOff, EndsBy, Holds, IsDueNext, IsMalformed, IsWithinCommand, Session, replies, state_after, steps_of, wrong_line}
+use Rattle.ghg_session.specs.Session.{BreaksOff, EachReply, EndsBy, Holds, IsDueNext, IsMalformed, IsWithinCommand, MayLeaveUndone, Protocol, Reading, Session, after_requests, most_commands, no_command, reading_of, replies, state_after, steps_of, wrong_line}
 use Rattle.ghg_session.specs.Writing.{Reports, StoppedWriting}
-use Rattle.ghg_session.proofs.Readings.{after_requests_twice, behind_all, behind_end, behind_none, behind_request, reading_behind, replies-append, state_after-append, steps_of-append}
+use Rattle.ghg_session.proofs.Readings.{after_requests_twice, behind_all, behind_end, behind_none, behind_request, each_reply-append, reading_behind, replies-append, state_after-append, steps_of-append}
 
--- So many requests were answered, and the session goes on.
-pub record Answered {S R : Type 0} (p : Protocol S R) (first now : S) (input input' output output' : Tape)
-    (steps steps' done : ℕ) : Type 0 where
+-- So many requests were answered, and the session goes on. If each of them is quiet, the keeper is the same.
+pub record Answered {S R : Type 0} (p : Protocol S R) (quiet : S → R → List ℕ → Type 0) (same : Type 0) (first now : S)
+    (input input' output output' : Tape) (steps steps' done : ℕ) : Type 0 where
   pub took : List ℕ
   pub answered : List R
   pub read : Consumes input input' took
@@ -24,10 +22,18 @@ pub record Answered {S R : Type 0} (p : Protocol S R) (first now : S) (input inp
   pub count : done ≡ length answered
   pub state : now ≡ state_after p first answered
   pub spent : steps' ≤ steps + steps_of p first answered
+  pub repeats : EachReply p quiet first answered → same
 
-pub begins : {S R : Type 0} (p : Protocol S R) (first : S) (input output : Tape) (steps : ℕ)
-    → Answered p first first input input output output steps steps 0
-begins p first input output steps = record {
+-- What a session did, and that the keeper is the same if each request that it read is quiet.
+abbrev pub Acts : {S R : Type 0} → Protocol S R → (S → R → List ℕ → Type 0) → Type 0 → S → S → Tape → Tape → Tape → Tape
+    → ℕ → ℕ → Status → Type 0
+Acts p quiet same first last input input' output output' steps steps' status =
+    (s : Session p first last input input' output output' steps steps' status)
+    × (EachReply p quiet first (reading_of p.commands s.took).requests → same)
+
+pub begins : {S R : Type 0} (p : Protocol S R) (quiet : S → R → List ℕ → Type 0) (same : Type 0) (first : S) (input output : Tape)
+    (steps : ℕ) → same → Answered p quiet same first first input input output output steps steps 0
+begins p quiet same first input output steps is = record {
   took = [];
   answered = [];
   read = consumes_nothing input;
@@ -36,10 +42,12 @@ begins p first input output steps = record {
   count = refl;
   state = refl;
   spent = omega arith;
+  repeats = λ h. is;
 }
 
-module _ {S R : Type 0} (p : Protocol S R) (first now : S) (input mid output out : Tape) (steps spent done : ℕ)
-    (a : Answered p first now input mid output out steps spent done) where
+module _ {S R : Type 0} (p : Protocol S R) (quiet : S → R → List ℕ → Type 0) (same : Type 0) (first now : S)
+    (input mid output out : Tape) (steps spent done : ℕ)
+    (a : Answered p quiet same first now input mid output out steps spent done) where
   -- ---- what was read
 
   -- no command is found, and this is the number of the next
@@ -70,18 +78,25 @@ module _ {S R : Type 0} (p : Protocol S R) (first now : S) (input mid output out
 
   -- ---- the session goes on
 
-  steps_more : (asked : R) (steps' : ℕ) → steps' ≤ spent + p.steps now asked
+  steps_more : (asked : R) (steps' : ℕ) → steps' ≤ spent + (p.step now asked).steps
       → steps' ≤ steps + steps_of p first (a.answered ++ asked ∷ [])
   steps_more asked steps' few =
       let both = steps_of-append p a.answered (asked ∷ []) first in
-      let same = ap (λ s. p.steps s asked) a.state in
+      let same = ap (λ s. (p.step s asked).steps) a.state in
       omega (arith, both, same, a.spent, few)
 
-  pub answers_one : (input' output' : Tape) (later : S) (asked : R) (steps' : ℕ) → done < most_commands
-      → Found p.commands mid input' (command.Request asked) → Appends out output' (p.reply now asked)
-      → later ≡ p.next_state now asked → steps' ≤ spent + p.steps now asked
-      → Answered p first later input input' output output' steps steps' (done + 1)
-  answers_one input' output' later asked steps' h m wrote e few = record {
+  repeats_more : (asked : R) (same' : Type 0) → (same → quiet now asked (p.step now asked).reply → same')
+      → EachReply p quiet first (a.answered ++ asked ∷ []) → same'
+  repeats_more asked same' go h =
+      let both = each_reply-append p quiet a.answered (asked ∷ []) first h in
+      go (a.repeats both.0) (subst (λ s. quiet s asked ((p.step s asked).reply)) (sym a.state) both.1.0)
+
+  pub answers_one : (same' : Type 0) (input' output' : Tape) (later : S) (asked : R) (steps' : ℕ) → done < most_commands
+      → Found p.commands mid input' (command.Request asked) → Appends out output' (p.step now asked).reply
+      → later ≡ (p.step now asked).after → steps' ≤ spent + (p.step now asked).steps
+      → (same → quiet now asked (p.step now asked).reply → same')
+      → Answered p quiet same' first later input input' output output' steps steps' (done + 1)
+  answers_one same' input' output' later asked steps' h m wrote e few go = record {
     took = a.took ++ m.text;
     answered = a.answered ++ asked ∷ [];
     read = consumes_more input mid input' a.took m.text a.read m.read;
@@ -93,27 +108,32 @@ module _ {S R : Type 0} (p : Protocol S R) (first now : S) (input mid output out
         let both = appends_more output out output' _ _ a.wrote wrote in
         rw (replies-append p a.answered (asked ∷ []) first, ← a.state, append-nil) both;
     count = omega (arith, a.count, length-append a.answered (asked ∷ []));
-    state = e ∙ ap (λ s. p.next_state s asked) a.state ∙ sym (state_after-append p a.answered (asked ∷ []) first);
+    state = e ∙ ap (λ s. (p.step s asked).after) a.state ∙ sym (state_after-append p a.answered (asked ∷ []) first);
     spent = steps_more asked steps' few;
+    repeats = repeats_more asked same' go;
   }
 
   -- ---- the session ends
 
   -- with what was read and written since
-  ends : (text part : List ℕ) (requests : List R) (input' output' : Tape) (last : S) (steps' : ℕ) (status : Status)
+  ends : (text part : List ℕ) (requests : List R) (same' : Type 0) (input' output' : Tape) (last : S) (steps' : ℕ) (status : Status)
       → Consumes mid input' text → Appends out output' part
       → (reading_of p.commands (a.took ++ text)).requests ≡ requests → steps' ≤ steps + steps_of p first requests
+      → (EachReply p quiet first requests → same')
       → EndsBy p now last input' output.grows (a.took ++ text) a.answered part status
-      → Session p first last input input' output output' steps steps' status
-  ends text part requests input' output' last steps' status read wrote same few end = record {
-    took = a.took ++ text;
-    read = consumes_more input mid input' a.took text a.read read;
-    answered = a.answered;
-    part = part;
-    wrote = appends_more output out output' _ _ a.wrote wrote;
-    ends = subst (λ (s : S). EndsBy p s last input' output.grows (a.took ++ text) a.answered part status) a.state end;
-    spent = rw same few;
-  }
+      → Acts p quiet same' first last input input' output output' steps steps' status
+  ends text part requests same' input' output' last steps' status read wrote e few go end = (
+    record {
+      took = a.took ++ text;
+      read = consumes_more input mid input' a.took text a.read read;
+      answered = a.answered;
+      part = part;
+      wrote = appends_more output out output' _ _ a.wrote wrote;
+      ends = subst (λ (s : S). EndsBy p s last input' output.grows (a.took ++ text) a.answered part status) a.state end;
+      spent = rw e few;
+    },
+    λ h. go (subst (EachReply p quiet first) e h),
+  )
 
   requests_of : (requests : List R) (wrong : Option ℕ) (bytes rest : List ℕ)
       → reading_of p.commands bytes ≡ record { requests = requests; wrong = wrong; rest = rest }
@@ -122,24 +142,24 @@ module _ {S R : Type 0} (p : Protocol S R) (first now : S) (input mid output out
 
   -- the line of END was read
   pub ends_at_end : (input' : Tape) → done < most_commands → Found p.commands mid input' command.End
-      → Session p first now input input' output out steps spent Done
+      → Acts p quiet same first now input input' output out steps spent Done
   ends_at_end input' h m =
       let whole = ap p.commands.parse (sym (append-nil m.text)) ∙ m.each [] in
       let script : reading_of p.commands (a.took ++ m.text) ≡ record { requests = a.answered; wrong = None; rest = [] } =
       a.each m.text ∙ ap (after_requests a.answered) (behind_end p.commands done m.text [] h whole)
       ∙ ap (λ (l : List R). record { requests = l; wrong = None; rest = [] }) (append-nil a.answered) in
-      ends m.text [] a.answered input' out now spent Done m.read (appends_nothing out) (requests_of _ _ _ _ script) a.spent
-      (script, refl, refl)
+      ends m.text [] a.answered same input' out now spent Done m.read (appends_nothing out) (requests_of _ _ _ _ script) a.spent
+      a.repeats (script, refl, refl)
 
   -- reading stopped
   pub stops_reading : (input' : Tape) (status : Status) → done < most_commands → Stopped p.commands mid input' status
-      → Session p first now input input' output out steps spent status
+      → Acts p quiet same first now input input' output out steps spent status
   stops_reading input' status h m =
       let holds = holds_none m.text (behind_none p.commands done m.text h m.none) in
       let within : IsWithinCommand p.commands (a.took ++ m.text) a.answered =
       record { rest = m.text; holds = holds; near = m.near } in
-      ends m.text [] a.answered input' out now spent status m.read (appends_nothing out) (requests_of _ _ _ _ holds) a.spent
-      (by m.why (rw (← a.count) h, within))
+      ends m.text [] a.answered same input' out now spent status m.read (appends_nothing out) (requests_of _ _ _ _ holds) a.spent
+      a.repeats (by m.why (rw (← a.count) h, within))
     where
       by : ((status ≡ InputFailed) × Rose mid input') ⊎ (status ≡ OutOfMemory)
           → (length a.answered < most_commands) × IsWithinCommand p.commands (a.took ++ m.text) a.answered
@@ -150,23 +170,24 @@ module _ {S R : Type 0} (p : Protocol S R) (first now : S) (input mid output out
           subst (EndsBy p now now input' output.grows (a.took ++ m.text) a.answered []) (sym e) (inl (inl within, refl, refl))
 
   -- one more request was read, and left undone
-  pub stops_undone : (input' : Tape) (asked : R) (steps' : ℕ) (status : Status) → done < most_commands
+  pub stops_undone : (same' : Type 0) (input' : Tape) (asked : R) (steps' : ℕ) (status : Status) → done < most_commands
       → p.commands.parse [] ≡ None → Found p.commands mid input' (command.Request asked)
-      → ((status ≡ OutOfMemory) × (p.takes_memory now asked ≡ true)) ⊎ ((status ≡ StoreFailed) × (p.is_to_keep now asked ≡ true))
-      → steps' ≤ spent + p.steps now asked → Session p first now input input' output out steps steps' status
-  stops_undone input' asked steps' status h nothing m may few =
-      ends m.text [] (a.answered ++ asked ∷ []) input' out now steps' status m.read (appends_nothing out)
-      (requests_of _ _ _ _ holds) (steps_more asked steps' few) (by may)
+      → MayLeaveUndone (p.step now asked) status
+      → steps' ≤ spent + (p.step now asked).steps → (same → quiet now asked (p.step now asked).reply → same')
+      → Acts p quiet same' first now input input' output out steps steps' status
+  stops_undone same' input' asked steps' status h nothing m may few go =
+      ends m.text [] (a.answered ++ asked ∷ []) same' input' out now steps' status m.read (appends_nothing out)
+      (requests_of _ _ _ _ holds) (steps_more asked steps' few) (repeats_more asked same' go) (by may)
     where
       holds : Holds p.commands (a.took ++ m.text) (a.answered ++ asked ∷ []) []
       holds = holds_one m.text asked h nothing m.each
 
-      by : ((status ≡ OutOfMemory) × (p.takes_memory now asked ≡ true)) ⊎ ((status ≡ StoreFailed) × (p.is_to_keep now asked ≡ true))
+      by : MayLeaveUndone (p.step now asked) status
           → EndsBy p now now input' output.grows (a.took ++ m.text) a.answered [] status
       by (inl e) = subst (EndsBy p now now input' output.grows (a.took ++ m.text) a.answered []) (sym e.0)
-          (inl (inr (record { asked = asked; holds = holds; passes = e.1 }), refl, refl))
+          (inl (inr (record { asked = asked; holds = holds; why = inl (refl, e.1) }), refl, refl))
       by (inr e) = subst (EndsBy p now now input' output.grows (a.took ++ m.text) a.answered []) (sym e.0)
-          (record { asked = asked; holds = holds; passes = e.1 }, refl, refl)
+          (record { asked = asked; holds = holds; why = inr (refl, e.1) }, refl, refl)
 
   -- writing stopped
   breaks_off : (input' output' : Tape) (last : S) (took lines : List ℕ) (status : Status)
@@ -183,15 +204,16 @@ module _ {S R : Type 0} (p : Protocol S R) (first now : S) (input mid output out
       by (inr e) = subst (EndsBy p now last input' output.grows took a.answered (take s.wrote.count lines)) (sym e.0)
           (inr (sym a.wrote.grows ∙ e.1, off))
 
-  pub stops_in_reply : (input' output' : Tape) (last : S) (asked : R) (steps' : ℕ) (status : Status) → done < most_commands
+  pub stops_in_reply : (same' : Type 0) (input' output' : Tape) (last : S) (asked : R) (steps' : ℕ) (status : Status) → done < most_commands
       → p.commands.parse [] ≡ None → Found p.commands mid input' (command.Request asked)
-      → StoppedWriting out output' (p.reply now asked) status → last ≡ p.next_state now asked
-      → steps' ≤ spent + p.steps now asked → Session p first last input input' output output' steps steps' status
-  stops_in_reply input' output' last asked steps' status h nothing m s e few =
+      → StoppedWriting out output' (p.step now asked).reply status → last ≡ (p.step now asked).after
+      → steps' ≤ spent + (p.step now asked).steps → (same → quiet now asked (p.step now asked).reply → same')
+      → Acts p quiet same' first last input input' output output' steps steps' status
+  stops_in_reply same' input' output' last asked steps' status h nothing m s e few go =
       let holds = holds_one m.text asked h nothing m.each in
-      ends m.text _ (a.answered ++ asked ∷ []) input' output' last steps' status m.read s.wrote.wrote
-      (requests_of _ _ _ _ holds) (steps_more asked steps' few)
-      (breaks_off input' output' last (a.took ++ m.text) (p.reply now asked) status (inl (asked, holds, refl, e)) s)
+      ends m.text _ (a.answered ++ asked ∷ []) same' input' output' last steps' status m.read s.wrote.wrote
+      (requests_of _ _ _ _ holds) (steps_more asked steps' few) (repeats_more asked same' go)
+      (breaks_off input' output' last (a.took ++ m.text) (p.step now asked).reply status (inl (asked, holds, refl, e)) s)
 
   -- no command follows: none is found, or none more is allowed
   pub malformed : (input' : Tape) → done < most_commands → (m : Missing p.commands mid input')
@@ -217,16 +239,17 @@ module _ {S R : Type 0} (p : Protocol S R) (first now : S) (input mid output out
 
   pub refused : (text : List ℕ) (input' output' : Tape) (status : Status) → Consumes mid input' text
       → IsMalformed p.commands input' (a.took ++ text) a.answered → Reports out output' (wrong_line (done + 1)) NoScript status
-      → Session p first now input input' output output' steps spent status
+      → Acts p quiet same first now input input' output output' steps spent status
   refused text input' output' status read m told = by told
     where
       requests : (reading_of p.commands (a.took ++ text)).requests ≡ a.answered
       requests = requests_of _ _ _ _ m.read.holds
 
-      by : Reports out output' (wrong_line (done + 1)) NoScript status → Session p first now input input' output output' steps spent status
-      by (inl whole) = ends text _ a.answered input' output' now spent status read whole.0 requests a.spent
+      by : Reports out output' (wrong_line (done + 1)) NoScript status
+          → Acts p quiet same first now input input' output output' steps spent status
+      by (inl whole) = ends text _ a.answered same input' output' now spent status read whole.0 requests a.spent a.repeats
           (subst (EndsBy p now now input' output.grows (a.took ++ text) a.answered _) (sym whole.1)
           (m, ap (λ (n : ℕ). wrong_line (n + 1)) a.count, refl))
-      by (inr s) = ends text _ a.answered input' output' now spent status read s.wrote.wrote requests a.spent
+      by (inr s) = ends text _ a.answered same input' output' now spent status read s.wrote.wrote requests a.spent a.repeats
           (breaks_off input' output' now (a.took ++ text) (wrong_line (done + 1)) status
           (inr (m, ap (λ (n : ℕ). wrong_line (n + 1)) a.count, refl)) s)

@@ -5,7 +5,7 @@ use Rattle.ghg_definitions.specs.Data.{Data, span}
 use Rattle.ghg_import.specs.Body.{max_body}
 use Rattle.ghg_office.specs.Keeping.{is_to_append}
 use Rattle.ghg_office.specs.Office.{Answer, IsRead, State, asked, decided, entered_by, refused, requested, submitted}
-use Rattle.ghg_office.specs.Replies.{Answers, Shows}
+use Rattle.ghg_office.specs.Replies.{Answers, Shows, is_accepted}
 use Rattle.ghg_office.specs.declared.reply.Reply.{Reply}
 use Rattle.ghg_office.specs.declared.reply.Reply.TheVariants.{Accepted, Repeated, Refused, Table, NoTable, KeeperFault, Memory}
 use Rattle.ghg_office.proofs.Cases.{submitted_cases, is_other}
@@ -13,16 +13,17 @@ use Rattle.ghg_tables.specs.declared.table.Table.{Table as NamedTable}
 use Rattle.ghg_tables.specs.Names.{table_in}
 use Rattle.ghg_units.specs.declared.rule.Rule.{Rule}
 use Rattle.ghg_units.specs.declared.rule.Rule.TheVariants.{BodyTooLong}
-use Rattle.ghg_session.specs.declared.command.Request.TheVariants.{Submit, Show}
+use Rattle.ghg_session.specs.declared.command.Request.TheVariants.{Submit, Query}
+use Rattle.ghg_session.specs.declared.script.TableQuery.{TableQuery}
 use Rattle.ghg_session.specs.declared.status.Status.{Status}
-use Rattle.ghg_session.specs.Replies.{HasNoLines, MayLeaveUndone, is_to_keep, needs_memory, takes_memory}
+use Rattle.ghg_session.specs.Replies.{HasNoLines, needs_memory, office_step}
+use Rattle.ghg_session.specs.Session.{MayLeaveUndone}
 
 -- ---- a request that is left undone takes memory, or is to be kept
 
 -- what is to be appended is to be kept
 append_kept : (s : State) (id body : List ℕ) (stored : Bool) → is_to_append stored (submitted s id body) ≡ true
-    → is_to_keep s (Submit id body) ≡ true
-unfolding is_to_keep
+    → is_accepted (submitted s id body).reply ≡ true
 append_kept s id body true h = h
 append_kept s id body false h = absurd cc
 
@@ -55,8 +56,8 @@ is_table text seq cells e = cc
 pub submission_undone : (s : State) (id body : List ℕ) (stored : Bool) (reply : Reply) (stop : Status) (new : State)
     → Answers (submitted s id body) reply s new → (reply ≡ Memory → IsRead s id body)
     → (reply ≡ KeeperFault → is_to_append stored (submitted s id body) ≡ true) → HasNoLines reply stop
-    → (new ≡ s) × MayLeaveUndone s (Submit id body) stop
-unfolding takes_memory
+    → (new ≡ s) × MayLeaveUndone (office_step s (Submit id body)) stop
+unfolding office_step
 submission_undone s id body stored KeeperFault stop new h read kept none =
     (h, inr (none.0, append_kept s id body stored (kept refl)))
 submission_undone s id body stored Memory stop new h read kept none = (h, inl (none.0, read_needs s id body (read refl)))
@@ -96,17 +97,17 @@ requested_works s name year = by (table_in name)
     by None e = cc
     by (Some table) e = within (is_year_of (span s.content) year) _ e
 
-pub table_undone : (s : State) (table : List ℕ) (year : ℕ) (reply : Reply) (stop : Status) → Shows (requested s table year) reply
-    → (reply ≡ Memory → requested s table year ≢ NoTable) → HasNoLines reply stop
-    → MayLeaveUndone s (Show table year) stop
-unfolding takes_memory
-table_undone s table year Memory stop h there none = inl (none.0, requested_needs s table year (there refl))
-table_undone s table year KeeperFault stop h there none = absurd (requested_works s table year (sym h))
-table_undone s table year (Accepted seq cells) stop h there none = let long = none.1 in absurd cc
-table_undone s table year (Repeated seq) stop h there none = let long = none.1 in absurd cc
-table_undone s table year (Refused rule) stop h there none = inl (none.0, ap needs_memory (sym h))
-table_undone s table year (Table text) stop h there none = inl (none.0, ap needs_memory (sym h))
-table_undone s table year NoTable stop h there none = let long = none.1 in absurd cc
+pub table_undone : (s : State) (show : TableQuery) (reply : Reply) (stop : Status) → Shows (requested s show.table show.year) reply
+    → (reply ≡ Memory → requested s show.table show.year ≢ NoTable) → HasNoLines reply stop
+    → MayLeaveUndone (office_step s (Query show)) stop
+unfolding office_step
+table_undone s show Memory stop h there none = inl (none.0, requested_needs s show.table show.year (there refl))
+table_undone s show KeeperFault stop h there none = absurd (requested_works s show.table show.year (sym h))
+table_undone s show (Accepted seq cells) stop h there none = let long = none.1 in absurd cc
+table_undone s show (Repeated seq) stop h there none = let long = none.1 in absurd cc
+table_undone s show (Refused rule) stop h there none = inl (none.0, ap needs_memory (sym h))
+table_undone s show (Table text) stop h there none = inl (none.0, ap needs_memory (sym h))
+table_undone s show NoTable stop h there none = let long = none.1 in absurd cc
 
 -- of a result that is an error
 pub map_if_err : {T E : Type 0} (r : Result T E) (P Q : E → Type 0) → ((e : E) → P e → Q e) → IfErr r P → IfErr r Q

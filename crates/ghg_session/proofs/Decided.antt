@@ -8,10 +8,8 @@ use Rattle.ghg_session.specs.declared.command.Command.{Command}
 use Rattle.ghg_session.specs.declared.command.Command.TheVariants as command
 use Rattle.ghg_session.specs.declared.status.Status.{Status}
 use Rattle.ghg_session.specs.declared.status.Status.TheVariants.{Done, BadCommandLine, NoScript, InputFailed, OutputFailed, StoreFailed, DoorFailed, OutOfMemory, RowRefused}
-use Rattle.ghg_session.specs.Due.{IsDecided, due, last_line, last_status}
-use Rattle.ghg_session.specs.Protocol.{Grammar, Protocol}
-use Rattle.ghg_session.specs.Script.{Reading, after_requests, most_commands, reading, reading_of, with_more}
-use Rattle.ghg_session.specs.Session.{BreaksOff, EndsBy, Holds, IsDueNext, IsMalformed, Session, replies, state_after}
+use Rattle.ghg_session.specs.Commands.{Grammar}
+use Rattle.ghg_session.specs.Session.{BreaksOff, EndsBy, Holds, IsDecided, IsDueNext, IsMalformed, Protocol, Reading, Session, after_requests, due, last_line, last_status, most_commands, reading, reading_of, replies, state_after, with_more}
 use Rattle.ghg_session.proofs.Readings.{reading_end, reading_none, reading_request, reading_spent, replies-append}
 
 -- what follows a command changes nothing of it
@@ -136,7 +134,7 @@ module _ {S R : Type 0} (p : Protocol S R) (local : ParsesLocally p.commands) (f
       by : IsDueNext p now last input' took answered off.lines → AppendsProperPrefix output output' (due p first (took ++ rest))
       by (inl reply) =
           let later = due_more (reply.0 ∷ []) (ap (λ (r : Reading R). r.requests) reply.1) in
-          let same = append-nil (p.reply now reply.0) ∙ sym reply.2 in
+          let same = append-nil ((p.step now reply.0).reply) ∙ sym reply.2 in
           short off.lines later.0 off.count (later.1 ∙ ap (λ (l : List ℕ). replies p first answered ++ (l ++ later.0)) same) off.short off.prefix
       by (inr line) =
           let none = none_follows line.0 in

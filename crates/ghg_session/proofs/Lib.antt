@@ -1,11 +1,11 @@
 mod Answered
 mod Answering
-mod Bodies
 mod Commands
 mod Decided
+mod Forms
 pub mod Keeping
-mod Lines
-mod Local
+mod Pieces
 mod Readings
-mod Texts
+mod Scripts
+mod Splits
 mod Writings

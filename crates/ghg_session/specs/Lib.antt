@@ -1,11 +1,7 @@
 pub mod Commands
-pub mod Due
-pub mod Laws
-pub mod Protocol
 pub mod Reader
 pub mod Replies
 pub mod Script
 pub mod Session
 pub mod Status
-pub mod Texts
 pub mod Writing

@@ -1,10 +1,9 @@
 -- What calls that read from a source take of it.
-use Rattle.std.specs.Prelude.{◌≡◌, ℕ, ◌≤◌, ◌<◌, ◌⊎◌, List, [], ◌++◌, length, take, Option, Some, None, Result, MatchResult, MatchOption}
+use Rattle.std.specs.Prelude.{◌≡◌, ℕ, ◌≤◌, ◌⊎◌, List, ◌++◌, length, Option, Some, None, Result, MatchResult, MatchOption}
 use Rattle.ghg_outer.specs.Tape.{Consumes, IsAtEnd, Rose, Tape}
 use Rattle.ghg_session.specs.declared.status.Status.{Status}
 use Rattle.ghg_session.specs.declared.status.Status.TheVariants.{InputFailed, OutOfMemory}
-use Rattle.ghg_session.specs.Commands.{most_kept}
-use Rattle.ghg_session.specs.Protocol.{Grammar}
+use Rattle.ghg_session.specs.Commands.{Grammar}
 
 -- what was read is the text of this value, whatever follows it
 pub record Found {T : Type 0} (g : Grammar T) (before after : Tape) (value : T) : Type 0 where
@@ -33,29 +32,3 @@ abbrev pub Parses : {T : Type 0} → Grammar T → Tape → Tape → Result (Opt
 Parses g before after result =
     MatchResult result (λ found. MatchOption found (Missing g before after) (Found g before after))
     (Stopped g before after)
-
--- the source failed, where its count rose, and nothing was read
-pub record StoppedAtOnce (before after : Tape) (stop : Status) : Type 0 where
-  pub read : Consumes before after []
-  pub cause : Rose before after
-  pub fault : stop ≡ InputFailed
-
--- so many bytes of a body were read, and of them the prefix was kept
-pub record TookBody (before after : Tape) (count : ℕ) (kept : List ℕ) : Type 0 where
-  pub text : List ℕ
-  pub read : Consumes before after text
-  pub whole : length text ≡ count
-  pub prefix : kept ≡ take most_kept text
-
--- fewer bytes were read
-pub record TookFewer (before after : Tape) (count : ℕ) : Type 0 where
-  pub text : List ℕ
-  pub read : Consumes before after text
-  pub few : length text < count
-
--- The source failed, where its count rose, or memory ran out, before so many bytes were read.
-pub record StoppedInBody (before after : Tape) (count : ℕ) (stop : Status) : Type 0 where
-  pub text : List ℕ
-  pub read : Consumes before after text
-  pub few : length text < count
-  pub why : ((stop ≡ InputFailed) × Rose before after) ⊎ (stop ≡ OutOfMemory)

@@ -1,49 +1,62 @@
--- What a whole script asks for, over any requests.
-use Rattle.std.specs.Prelude.{ℕ, zero, suc, ◌+◌, List, [], ◌∷◌, ◌++◌, Option, Some, None}
+-- The lines of a script of `compile`.
+use Rattle.std.specs.Prelude.{◌≡◌, ◌↔◌, ℕ, Bool, true, ◌&&◌, List, ◌++◌, length, take, drop, Option, Some, None, ◌==◌, nat_le, if◌then◌else◌, codes, option_and_then}
 use Rattle.std.specs.Option.{option_map_or}
-use Rattle.ghg_session.specs.declared.command.Command.{Command}
-use Rattle.ghg_session.specs.declared.command.Command.TheVariants as command
-use Rattle.ghg_session.specs.declared.session.TheConstants.{MOST_COMMANDS}
-use Rattle.ghg_session.specs.Protocol.{Grammar}
+use Rattle.std.specs.List.{list_all}
+use Rattle.std.specs.Str.{bytes_eq}
+use Rattle.ghg_units.specs.Decimal.{number_in}
+use Rattle.ghg_units.specs.Steps.{◌>>=◌}
+use Rattle.ghg_session.specs.declared.command.Line.{Line}
+use Rattle.ghg_session.specs.declared.command.Line.TheVariants as line
+use Rattle.ghg_session.specs.declared.script.TableQuery.{TableQuery}
+use Rattle.ghg_session.specs.declared.script.TheConstants.{LENGTH_DIGITS, LONGEST_TABLE, YEAR_DIGITS}
+use Rattle.ghg_session.specs.declared.word.TheConstants.{LONGEST_ID}
+use Rattle.ghg_session.specs.Commands.{Forms, lacks, split_at}
 
--- what a script asks for, in order; the number of the command that is none, where the bytes are no script;
--- and the bytes that stand behind END, or where that command should
-pub record Reading (Request : Type 0) : Type 0 where
-  pub requests : List Request
-  pub wrong : Option ℕ
-  pub rest : List ℕ
+-- what follows a word that bytes begin with
+abbrev pub after_word : List ℕ → List ℕ → Option (List ℕ)
+after_word word bytes =
+    if bytes_eq (take (length word) bytes) word then Some (drop (length word) bytes) else None
 
--- the script has its end
-abbrev pub ended : {Request : Type 0} → List ℕ → Reading Request
-ended rest = record { requests = []; wrong = None; rest = rest }
+abbrev pub has_length : ℕ → ℕ → List ℕ → Bool
+has_length fewest most bytes = nat_le fewest (length bytes) && nat_le (length bytes) most
 
--- the command of this number is none
-abbrev pub no_command : {Request : Type 0} → ℕ → List ℕ → Reading Request
-no_command number rest = record { requests = []; wrong = Some number; rest = rest }
+abbrev pub is_lower : ℕ → Bool
+is_lower b = nat_le 97 b && nat_le b 122
 
--- requests, and then those of the rest
-abbrev pub after_requests : {Request : Type 0} → List Request → Reading Request → Reading Request
-after_requests requests reading = record reading { requests = requests ++ reading.requests }
+-- 1 to 60 bytes, and the number that 1 to 8 digits write
+abbrev pub submit_form : List ℕ → Option (Line TableQuery)
+submit_form bytes = do
+  parts ← split_at 32 bytes
+  count ← number_in LENGTH_DIGITS parts.1
+  if has_length 1 LONGEST_ID parts.0 then Some (line.Submit parts.0 count) else None
 
--- more bytes behind
-abbrev pub with_more : {Request : Type 0} → List ℕ → Reading Request → Reading Request
-with_more more reading = record reading { rest = reading.rest ++ more }
+-- 1 to 16 lower-case letters, and four digits
+abbrev pub show_form : List ℕ → Option (Line TableQuery)
+show_form bytes = do
+  parts ← split_at 32 bytes
+  year ← number_in YEAR_DIGITS parts.1
+  if has_length 1 LONGEST_TABLE parts.0 && list_all is_lower parts.0 && (length parts.1 == YEAR_DIGITS)
+      then Some (line.Query (record { table = parts.0; year = year })) else None
 
-abbrev pub read_on : {Request : Type 0} → (List ℕ → Reading Request) → Command Request → List ℕ
-    → Reading Request
-read_on later (command.Request asked) rest = after_requests (asked ∷ []) (later rest)
-read_on later command.End rest = ended rest
+-- what a line says that begins a command
+unfoldable pub script_forms : Forms TableQuery
+script_forms bytes =
+    if bytes_eq bytes (codes "END") then Some line.End
+    else option_map_or submit_form (after_word (codes "SUBMIT ") bytes)
+    (option_and_then show_form (after_word (codes "SHOW ") bytes))
 
--- what bytes read as, where at most so many commands may come and the next has this number
-unfoldable pub reading : {Request : Type 0} → Grammar (Command Request) → ℕ → ℕ → List ℕ → Reading Request
-reading g zero number bytes = no_command number bytes
-reading g (suc n) number bytes =
-    option_map_or (λ found. read_on (λ rest. reading g n (number + 1) rest) found.0 found.1) (g.parse bytes)
-    (no_command number bytes)
+-- ---- the same, as a reader says it
 
--- a script has at most so many commands, END included
-abbrev pub most_commands : ℕ
-most_commands = MOST_COMMANDS
+-- SUBMIT, an id of 1 to 60 bytes, none of which is a space, and the length of the body in 1 to 8 digits;
+-- SHOW, the name of a table of 1 to 16 lower-case letters, and a year of four digits; or END.
+abbrev pub IsFormOf : Line TableQuery → List ℕ → Type 0
+IsFormOf (line.Submit id n) text = (digits : List ℕ)
+    × (text ≡ codes "SUBMIT " ++ (id ++ (codes " " ++ digits))) × (has_length 1 60 id ≡ true) × (lacks 32 id ≡ true) × (number_in 8 digits ≡ Some n)
+IsFormOf (line.Query show) text = (digits : List ℕ)
+    × (text ≡ codes "SHOW " ++ (show.table ++ (codes " " ++ digits))) × (has_length 1 16 show.table ≡ true)
+    × (list_all is_lower show.table ≡ true) × (length digits ≡ 4) × (number_in 4 digits ≡ Some show.year)
+IsFormOf line.End text = text ≡ codes "END"
 
-abbrev pub reading_of : {Request : Type 0} → Grammar (Command Request) → List ℕ → Reading Request
-reading_of g bytes = reading g most_commands 1 bytes
+-- A line says exactly what it is the form of.
+abbrev pub SaysForms : Type 0
+SaysForms = (text : List ℕ) (form : Line TableQuery) → (script_forms text ≡ Some form) ↔ IsFormOf form text

@@ -1,36 +1,117 @@
 -- What a session does, over any requests: what it reads, the replies that it writes, and how it ends.
-use Rattle.std.specs.Prelude.{◌≡◌, ⊤, ℕ, ◌+◌, ◌≤◌, ◌<◌, ◌⊎◌, Bool, true, List, [], ◌∷◌, ◌++◌, length, take, Some, None, codes}
+use Rattle.std.specs.Prelude.{◌≡◌, ⊤, ℕ, zero, suc, ◌+◌, ◌≤◌, ◌<◌, ◌⊎◌, Bool, true, false, ◌&&◌, List, [], ◌∷◌, ◌++◌, length, take, Option, Some, None, codes}
 use Rattle.std.specs.Fmt.{decimal}
-use Rattle.ghg_outer.specs.Tape.{Appends, Consumes, IsAtEnd, Tape}
+use Rattle.std.specs.Option.{option_map_or}
+use Rattle.ghg_outer.specs.Tape.{Appends, AppendsPrefix, AppendsProperPrefix, Consumes, IsAtEnd, Tape}
 use Rattle.ghg_session.specs.declared.command.Command.{Command}
+use Rattle.ghg_session.specs.declared.command.Command.TheVariants as command
+use Rattle.ghg_session.specs.declared.command.Request.{Request}
+use Rattle.ghg_session.specs.declared.reply.Lines.{Lines}
+use Rattle.ghg_session.specs.declared.reply.Lines.TheVariants.{Short, Long}
+use Rattle.ghg_session.specs.declared.session.TheConstants.{MOST_COMMANDS}
 use Rattle.ghg_session.specs.declared.status.Status.{Status}
 use Rattle.ghg_session.specs.declared.status.Status.TheVariants.{Done, NoScript, InputFailed, OutputFailed, StoreFailed, OutOfMemory}
-use Rattle.ghg_session.specs.Protocol.{Grammar, Protocol}
-use Rattle.ghg_session.specs.Script.{most_commands, reading_of}
+use Rattle.ghg_session.specs.Commands.{Forms, Grammar, commands_of, line_of}
+
+-- ---- a request
+
+-- the bytes of lines
+abbrev pub bytes_of : Lines → List ℕ
+bytes_of (Short line) = line.items
+bytes_of (Long first below) = first.items ++ below
+
+-- What a request comes to: the lines that reply to it, and the state after it; whether it takes memory to
+-- answer it; whether it changes the state, and so has to be kept; and the most steps that it may take.
+pub record Step (State : Type 0) : Type 0 where
+  pub reply : List ℕ
+  pub after : State
+  pub takes_memory : Bool
+  pub is_kept : Bool
+  pub steps : ℕ
+
+-- Why a request is left undone: memory ran out, and it takes memory to answer it; or the keeper failed, and
+-- it has to be kept.
+abbrev pub MayLeaveUndone : {State : Type 0} → Step State → Status → Type 0
+MayLeaveUndone step status = ((status ≡ OutOfMemory) × (step.takes_memory ≡ true))
+    ⊎ ((status ≡ StoreFailed) × (step.is_kept ≡ true))
+
+-- how the requests of a session are written, and what they come to
+pub record Protocol (State Request : Type 0) : Type 0 where
+  pub commands : Grammar (Command Request)
+  pub step : State → Request → Step State
+
+-- that of a dialect and a desk
+abbrev pub protocol_of : {State Q : Type 0} → Forms Q → (State → Request Q → Step State)
+    → Protocol State (Request Q)
+protocol_of forms step = record { commands = commands_of forms; step = step }
+
+-- ---- a script
+
+-- what a script asks for, in order; the number of the command that is none, where the bytes are no script;
+-- and the bytes that stand behind END, or where that command should
+pub record Reading (Request : Type 0) : Type 0 where
+  pub requests : List Request
+  pub wrong : Option ℕ
+  pub rest : List ℕ
+
+-- the script has its end
+abbrev pub ended : {Request : Type 0} → List ℕ → Reading Request
+ended rest = record { requests = []; wrong = None; rest = rest }
+
+-- the command of this number is none
+abbrev pub no_command : {Request : Type 0} → ℕ → List ℕ → Reading Request
+no_command number rest = record { requests = []; wrong = Some number; rest = rest }
+
+-- requests, and then those of the rest
+abbrev pub after_requests : {Request : Type 0} → List Request → Reading Request → Reading Request
+after_requests requests reading = record reading { requests = requests ++ reading.requests }
+
+-- more bytes behind
+abbrev pub with_more : {Request : Type 0} → List ℕ → Reading Request → Reading Request
+with_more more reading = record reading { rest = reading.rest ++ more }
+
+abbrev pub read_on : {Request : Type 0} → (List ℕ → Reading Request) → Command Request → List ℕ
+    → Reading Request
+read_on later (command.Request asked) rest = after_requests (asked ∷ []) (later rest)
+read_on later command.End rest = ended rest
+
+-- what bytes read as, where at most so many commands may come and the next has this number
+unfoldable pub reading : {Request : Type 0} → Grammar (Command Request) → ℕ → ℕ → List ℕ → Reading Request
+reading g zero number bytes = no_command number bytes
+reading g (suc n) number bytes =
+    option_map_or (λ found. read_on (λ rest. reading g n (number + 1) rest) found.0 found.1) (g.parse bytes)
+    (no_command number bytes)
+
+-- a script has at most so many commands, END included
+abbrev pub most_commands : ℕ
+most_commands = MOST_COMMANDS
+
+abbrev pub reading_of : {Request : Type 0} → Grammar (Command Request) → List ℕ → Reading Request
+reading_of g bytes = reading g most_commands 1 bytes
 
 -- ---- requests, one after the other
 
 -- the replies
 abbrev pub replies : {State Request : Type 0} → Protocol State Request → State → List Request → List ℕ
 replies p s [] = []
-replies p s (asked ∷ rest) = p.reply s asked ++ replies p (p.next_state s asked) rest
+replies p s (asked ∷ rest) = (p.step s asked).reply ++ replies p (p.step s asked).after rest
 
 -- `holds` is true of the state before each request, the request, and the lines that reply to it.
 abbrev pub EachReply : {State Request : Type 0} → Protocol State Request
     → (State → Request → List ℕ → Type 0) → State → List Request → Type 0
 EachReply p holds s [] = ⊤
 EachReply p holds s (asked ∷ rest) =
-    holds s asked (p.reply s asked) × EachReply p holds (p.next_state s asked) rest
+    holds s asked (p.step s asked).reply × EachReply p holds (p.step s asked).after rest
 
 -- the state after them
 abbrev pub state_after : {State Request : Type 0} → Protocol State Request → State → List Request → State
 state_after p s [] = s
-state_after p s (asked ∷ rest) = state_after p (p.next_state s asked) rest
+state_after p s (asked ∷ rest) = state_after p (p.step s asked).after rest
 
 -- the most steps that they may take
 abbrev pub steps_of : {State Request : Type 0} → Protocol State Request → State → List Request → ℕ
 steps_of p s [] = 0
-steps_of p s (asked ∷ rest) = p.steps s asked + steps_of p (p.next_state s asked) rest
+steps_of p s (asked ∷ rest) = (p.step s asked).steps + steps_of p (p.step s asked).after rest
 
 -- ---- what was read
 
@@ -59,28 +140,24 @@ pub record IsMalformed {Request : Type 0} (g : Grammar (Command Request)) (left 
 
 -- ---- how a session ends
 
--- a text, and the line feed that ends it
-abbrev pub line_of : List ℕ → List ℕ
-line_of text = text ++ 10 ∷ []
-
 -- the line that names the command that is none
 abbrev pub wrong_line : ℕ → List ℕ
 wrong_line number = line_of (codes "not a script: command " ++ decimal number)
 
--- One more request was read, which passes the test, and left undone. After it nothing was read.
-pub record LeavesUndone {State Request : Type 0} (p : Protocol State Request) (test : State → Request → Bool)
-    (now : State) (took : List ℕ) (answered : List Request) : Type 0 where
+-- One more request was read, and left undone with this status. After it nothing was read.
+pub record LeavesUndone {State Request : Type 0} (p : Protocol State Request) (now : State) (took : List ℕ)
+    (answered : List Request) (status : Status) : Type 0 where
   pub asked : Request
   pub holds : Holds p.commands took (answered ++ asked ∷ []) []
-  pub passes : test now asked ≡ true
+  pub why : MayLeaveUndone (p.step now asked) status
 
 -- These lines are due next, and then this is the state. They are the reply to one more request, after which
 -- nothing was read, or the line that names the command that is none.
 abbrev pub IsDueNext : {State Request : Type 0} → Protocol State Request → State → State → Tape → List ℕ
     → List Request → List ℕ → Type 0
 IsDueNext p now last left took answered lines =
-    ((asked : _) × Holds p.commands took (answered ++ asked ∷ []) [] × (lines ≡ p.reply now asked)
-    × (last ≡ p.next_state now asked))
+    ((asked : _) × Holds p.commands took (answered ++ asked ∷ []) [] × (lines ≡ (p.step now asked).reply)
+    × (last ≡ (p.step now asked).after))
     ⊎ (IsMalformed p.commands left took answered × (lines ≡ wrong_line (length answered + 1)) × (last ≡ now))
 
 -- Of the lines that are due next a proper prefix was written.
@@ -106,10 +183,10 @@ EndsBy p now last left grows took answered part InputFailed =
     (length answered < most_commands) × IsWithinCommand p.commands took answered × (part ≡ []) × (last ≡ now)
 EndsBy p now last left grows took answered part OutputFailed = BreaksOff p now last left took answered part
 EndsBy p now last left grows took answered part StoreFailed =
-    LeavesUndone p p.is_to_keep now took answered × (part ≡ []) × (last ≡ now)
+    LeavesUndone p now took answered StoreFailed × (part ≡ []) × (last ≡ now)
 EndsBy p now last left grows took answered part OutOfMemory =
     ((((length answered < most_commands) × IsWithinCommand p.commands took answered)
-    ⊎ LeavesUndone p p.takes_memory now took answered) × (part ≡ []) × (last ≡ now))
+    ⊎ LeavesUndone p now took answered OutOfMemory) × (part ≡ []) × (last ≡ now))
     ⊎ ((grows ≡ true) × BreaksOff p now last left took answered part)
 EndsBy p now last left grows took answered part _ = ⊥
 
@@ -126,3 +203,55 @@ pub record Session {State Request : Type 0} (p : Protocol State Request) (first 
   pub ends : EndsBy p (state_after p first answered) last input' output.grows took answered part status
   -- no more steps than the requests ask for that it read
   pub spent : steps' ≤ steps + steps_of p first (reading_of p.commands took).requests
+
+-- none of the requests that these bytes begin with is to be kept, where requests are kept
+abbrev pub KeepsNone : {State Request : Type 0} → Protocol State Request → Bool → State → List ℕ → Type 0
+KeepsNone p stored s took = EachReply p (λ now asked lines. (stored && (p.step now asked).is_kept) ≡ false) s
+    (reading_of p.commands took).requests
+
+-- ---- what is due of the bytes that are left to be read
+
+-- what follows the replies, and the status then
+abbrev pub last_line : Option ℕ → List ℕ
+last_line None = []
+last_line (Some number) = wrong_line number
+
+abbrev pub last_status : Option ℕ → Status
+last_status None = Done
+last_status (Some number) = NoScript
+
+-- the output that is due of bytes: the replies, and the line that names the command that is none
+abbrev pub due : {State Request : Type 0} → Protocol State Request → State → List ℕ → List ℕ
+due p s bytes =
+    replies p s (reading_of p.commands bytes).requests ++ last_line (reading_of p.commands bytes).wrong
+
+-- What a session did of the bytes that were left to be read.
+pub record IsDecided {State Request : Type 0} (p : Protocol State Request) (s : State) (bytes : List ℕ)
+    (input' output output' : Tape) (status : Status) : Type 0 where
+  -- With every status a prefix of what is due was written, and if the output failed a proper one.
+  pub begun : AppendsPrefix output output' (due p s bytes)
+  pub short : status ≡ OutputFailed → AppendsProperPrefix output output' (due p s bytes)
+  -- At the end all of it was written, and the bytes decide the status.
+  pub done : (status ≡ Done) ⊎ (status ≡ NoScript) → Appends output output' (due p s bytes)
+      × (status ≡ last_status (reading_of p.commands bytes).wrong)
+  -- What stands after END is left.
+  pub behind : status ≡ Done → input'.left ≡ Some (reading_of p.commands bytes).rest
+
+-- ---- what holds of every script, and of every session
+
+-- What follows the line of END changes nothing.
+abbrev pub ReadsLocally : {Q : Type 0} → Forms Q → Type 0
+ReadsLocally forms = (bytes more : List ℕ) → (reading_of (commands_of forms) bytes).wrong ≡ None
+    → reading_of (commands_of forms) (bytes ++ more) ≡ with_more more (reading_of (commands_of forms) bytes)
+
+-- The same bytes begin with one script at most.
+abbrev pub ReadsOnce : {Q : Type 0} → Forms Q → Type 0
+ReadsOnce {Q} forms = (a b behind_a behind_b : List ℕ) (xs ys : List (Request Q))
+    → IsScriptOf (commands_of forms) a xs → IsScriptOf (commands_of forms) b ys
+    → a ++ behind_a ≡ b ++ behind_b → (a ≡ b) × (xs ≡ ys)
+
+-- If the input tells what is left, that decides what a session writes.
+abbrev pub WhatIsLeftDecides : {State Request : Type 0} → Protocol State Request → Type 0
+WhatIsLeftDecides {State} p = (first last : State) (input input' output output' : Tape) (steps steps' : ℕ)
+    (status : Status) → Session p first last input input' output output' steps steps' status
+    → (bytes : List ℕ) → input.left ≡ Some bytes → IsDecided p first bytes input' output output' status

@@ -12,20 +12,22 @@ pub enum Command<R> {
     End,
 }
 
-/// What the office is asked for.
+/// What a script asks for, where `Q` are the requests that one line holds.
 #[derive(Drop)]
-pub enum Request {
+pub enum Request<Q> {
     /// To take a submission: its id, and its body up to the first byte that is too many.
     Submit { id: Word, body: Text },
-    /// To show a table of a year.
-    Show { table: Word, year: u32 },
+    /// What one line asks for.
+    Query(Q),
 }
 
-/// The line that a command begins with.
+/// What a line says that begins a command.
 #[derive(Drop)]
-pub enum Line {
+pub enum Line<Q> {
     /// An id, and how many bytes of body follow the line.
     Submit { id: Word, length: u32 },
-    Show { table: Word, year: u32 },
+    /// A request that has no body.
+    Query(Q),
+    /// The end of the script.
     End,
 }

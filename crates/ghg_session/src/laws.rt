@@ -1,26 +1,28 @@
 //! Laws of scripts.
 
-ghost use Rattle.ghg_session.specs.Laws.{ReadsLocally, ReadsOnce, WhatIsLeftDecides};
-ghost use Rattle.ghg_session.specs.Texts.{ParsesTexts};
+ghost use Rattle.ghg_session.specs.Commands.{ParsesTexts};
+ghost use Rattle.ghg_session.specs.Replies.{protocol};
+ghost use Rattle.ghg_session.specs.Script.{SaysForms, script_forms};
+ghost use Rattle.ghg_session.specs.Session.{ReadsLocally, ReadsOnce, WhatIsLeftDecides};
 
-/// Bytes begin with a command exactly where its text is a prefix of them.
+/// Bytes begin with a command exactly where its text is a prefix of them, and this is what each line says.
 pub fn parses_texts()
-    ensures { ParsesTexts }
+    ensures texts { ParsesTexts script_forms }
+    ensures forms { SaysForms }
 {}
 
 /// What stands behind the line of END changes nothing of what bytes read as.
-#[tactic(auto, using(crate::proofs::Local::reads_locally))]
 pub fn reads_locally()
-    ensures { ReadsLocally }
+    ensures { ReadsLocally script_forms }
 {}
 
 /// No bytes begin with two scripts.
 pub fn reads_once()
-    ensures { ReadsOnce }
+    ensures { ReadsOnce script_forms }
 {}
 
 /// If the input tells what is left to be read, that decides what a session writes, and how a session ends
 /// that comes to its end.
 pub fn what_is_left_decides()
-    ensures { WhatIsLeftDecides }
+    ensures { WhatIsLeftDecides protocol }
 {}

@@ -1,8 +1,8 @@
 //! Sessions: a script of submissions and requests for tables is read from a source, and answered to a sink.
 //!
-//! What a session is, is defined over any requests, their grammar and their answers (`Protocol`), from any
-//! state of the office. [`answer_script`] answers a script for one office. Its contract says what was read,
-//! what was written and how the office stands, with every result:
+//! What a session is, is defined over any forms of lines and any steps that requests come to.
+//! [`answer_script`] answers a script in any [`Dialect`], as [`Script`], for one office. Its contract says
+//! what was read, what was written and how the office stands, with every result:
 //!
 //! - Where the session ends, its whole output was written. After END nothing was read, and of a malformed
 //!   command no more than it takes to find that out.
@@ -10,23 +10,30 @@
 //!   read, and at most a proper prefix of the next reply, or of the line that gives the malformed command. So
 //!   a failure of the output never follows a complete output.
 //! - Where submissions are stored, the rows that the keeper tells are the accepted submissions. A submission
-//!   that the keeper fails to keep is left undone.
+//!   that the keeper fails to keep is left undone. A session that has none to keep does not touch the keeper.
 //! - A failure of the input, the output or the keeper comes only where its count of faults rose.
 //!
 //! [`parses_texts`] says how the commands are written.
 #![tactic(auto)]
 
 mod command;
+mod dialect;
 mod laws;
-mod line;
+mod office;
 mod reading;
 mod reply;
+mod script;
 mod session;
 mod status;
 mod word;
 mod writing;
 
+pub use command::{Command, Line, Request};
+pub use dialect::Dialect;
 pub use laws::{parses_texts, reads_locally, reads_once, what_is_left_decides};
+pub use reply::Lines;
+pub use script::{Script, TableQuery};
 pub use session::answer_script;
 pub use status::Status;
+pub use word::Word;
 pub use writing::report;

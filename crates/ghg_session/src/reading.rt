@@ -2,12 +2,12 @@
 
 ghost use Rattle.std.specs.Prelude.{◌≡◌, ◌+◌, ◌-◌, ◌≤◌, [], ◌∷◌, ◌++◌, length, take, MatchOption, MatchResult};
 ghost use Rattle.std.specs.Vec.{vec_capacity};
-ghost use Rattle.ghg_outer.specs.Tape.{Consumes, IsAtEnd};
-ghost use Rattle.ghg_session.specs.Commands.{commands, lines, most_kept};
-ghost use Rattle.ghg_session.specs.Reader.{Found, Missing, Parses, Stopped, StoppedAtOnce, StoppedInBody, TookBody, TookFewer};
+ghost use Rattle.ghg_outer.specs.Tape.{Consumes, IsAtEnd, Rose};
+ghost use Rattle.ghg_session.specs.Commands.{bodies, commands_of, lines, most_kept};
+ghost use Rattle.ghg_session.specs.Reader.{Found, Missing, Parses, Stopped};
 
 use crate::command::{Command, Line, Request};
-use crate::line::read_form;
+use crate::dialect::Dialect;
 use crate::status::Status;
 use arrayvec::ArrayVec;
 use ghg_import::MAX_BODY;
@@ -17,21 +17,19 @@ use std::alloc::Global;
 
 /// The next command, or nothing where what is left begins with none. Memory is taken for a body alone, and
 /// before its last byte is read.
-pub fn next_command<S: Source>(
+pub fn next_command<Q: Drop, D: Dialect<Q>, S: Source>(
     alloc: Global,
     source: &mut S,
-) -> Result<Option<Command<Request>>, Status>
-    ensures { Parses commands (S.tape source.old) (S.tape source.new) result }
+) -> Result<Option<Command<Request<Q>>>, Status>
+    ensures { Parses (commands_of D.forms) (S.tape source.old) (S.tape source.new) result }
 {
     let Some(text) = read_line(source)? else {
         return Ok(None);
     };
-    match read_form(text.as_slice()) {
+    match D::read_form(text.as_slice()) {
         None => Ok(None),
         Some(Line::End) => Ok(Some(Command::End)),
-        Some(Line::Show { table, year }) => {
-            Ok(Some(Command::Request(Request::Show { table, year })))
-        }
+        Some(Line::Query(query)) => Ok(Some(Command::Request(Request::Query(query)))),
         Some(Line::Submit { id, length }) => match read_body(alloc, source, length as usize)? {
             None => Ok(None),
             Some(body) => {
@@ -72,7 +70,8 @@ fn next_byte<S: Source>(source: &mut S) -> Result<Option<u8>, Status>
         (λ next. MatchOption next
         (IsAtEnd (S.tape source.new) × Consumes (S.tape source.old) (S.tape source.new) [])
         (λ b. Consumes (S.tape source.old) (S.tape source.new) (b ∷ [])))
-        (StoppedAtOnce (S.tape source.old) (S.tape source.new)) }
+        (λ stop. Consumes (S.tape source.old) (S.tape source.new) []
+        × Rose (S.tape source.old) (S.tape source.new) × (stop ≡ Status.InputFailed)) }
 {
     let mut byte = [0];
     match source.read(&mut byte) {
@@ -93,10 +92,9 @@ fn read_body<S: Source>(
     count: usize,
 ) -> Result<Option<Vec<u8>>, Status>
     ensures { MatchResult result
-        (λ found. MatchOption found
-        (IsAtEnd (S.tape source.new) × TookFewer (S.tape source.old) (S.tape source.new) count)
-        (λ body. TookBody (S.tape source.old) (S.tape source.new) count body.items))
-        (StoppedInBody (S.tape source.old) (S.tape source.new) count) }
+        (λ found. MatchOption found (Missing (bodies count) (S.tape source.old) (S.tape source.new))
+        (λ body. Found (bodies count) (S.tape source.old) (S.tape source.new) body.items))
+        (Stopped (bodies count) (S.tape source.old) (S.tape source.new)) }
 {
     let mut body = Vec::new(alloc);
     let mut block = [0; BLOCK];

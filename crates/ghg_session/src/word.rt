@@ -2,7 +2,9 @@
 
 ghost use Rattle.std.specs.Prelude.{◌≡◌, ◌≤◌, length};
 
-use crate::line::LONGEST_ID;
+/// The most bytes of an id.
+pub const LONGEST_ID: usize = 60;
+
 use arrayvec::ArrayVec;
 use std::marker::Model;
 

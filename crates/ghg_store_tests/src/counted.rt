@@ -6,6 +6,7 @@ ghost use Rattle.std.specs.Prelude.{◌≡◌, ℕ, ◌≤◌, ◌<◌};
 use ghg_keeper::{Keeper, SteadyKeeper};
 use ghg_office::{Office, Reply};
 use ghg_steps::Steps;
+use ghg_workers::OpenGate;
 use std::alloc::{AllocError, Global};
 use std::hash::RandomState;
 use std::marker::Brand;
@@ -13,6 +14,9 @@ use std::process::Abort;
 use std::random::RandomSource;
 use std::sync::ledger::{Blank, Ledger};
 use std::test::Fail;
+use std::thread::Threads;
+
+const WORKERS: u32 = 2;
 
 const HEAD: &[u8] = b"act,kind,subject,name,year,value,low,high,unit,note\n";
 
@@ -229,7 +233,8 @@ fn body_of(alloc: Global, rows: &str, lines: usize) -> Result<Vec<u8>, AllocErro
 }
 
 // How many nodes a body affects, which has this number for an id; nothing where it is not accepted.
-fn submit<K: Keeper, L: Ledger>(
+fn submit<K: Keeper, T: Threads + Sync, L: Ledger>(
+    rt: &T,
     alloc: Global,
     office: &mut Office,
     keeper: &mut K,
@@ -240,14 +245,25 @@ fn submit<K: Keeper, L: Ledger>(
     let Ok(id) = format!(in alloc; "{number}") else {
         return None;
     };
-    match office.submit(alloc, id.as_bytes(), body, keeper, false, steps) {
+    match office.submit(
+        rt,
+        alloc,
+        id.as_bytes(),
+        body,
+        WORKERS,
+        &OpenGate,
+        keeper,
+        false,
+        steps,
+    ) {
         Reply::Accepted { cells, .. } => Some(cells),
         _ => None,
     }
 }
 
 // The same, of rows and lines.
-fn enter<K: Keeper, L: Ledger>(
+fn enter<K: Keeper, T: Threads + Sync, L: Ledger>(
+    rt: &T,
     alloc: Global,
     office: &mut Office,
     keeper: &mut K,
@@ -257,13 +273,14 @@ fn enter<K: Keeper, L: Ledger>(
     lines: usize,
 ) -> Option<u64> {
     match body_of(alloc, rows, lines) {
-        Ok(body) => submit(alloc, office, keeper, steps, number, &body),
+        Ok(body) => submit(rt, alloc, office, keeper, steps, number, &body),
         Err(AllocError) => None,
     }
 }
 
 // Whether the submissions before a case are accepted.
-fn begins<K: Keeper, L: Ledger>(
+fn begins<K: Keeper, T: Threads + Sync, L: Ledger>(
+    rt: &T,
     alloc: Global,
     office: &mut Office,
     keeper: &mut K,
@@ -272,7 +289,7 @@ fn begins<K: Keeper, L: Ledger>(
 ) -> bool {
     for (number, rows) in case.earlier.iter().enumerate() {
         let lines = if number == 0 { case.lines } else { 0 };
-        if enter(alloc, office, keeper, steps, number, rows, lines).is_none() {
+        if enter(rt, alloc, office, keeper, steps, number, rows, lines).is_none() {
             return false;
         }
     }
@@ -280,7 +297,8 @@ fn begins<K: Keeper, L: Ledger>(
 }
 
 // Whether a submission is accepted after the earlier ones, with this count.
-fn counts<K: Keeper, L: Ledger>(
+fn counts<K: Keeper, T: Threads + Sync, L: Ledger>(
+    rt: &T,
     alloc: Global,
     office: &mut Office,
     keeper: &mut K,
@@ -288,23 +306,24 @@ fn counts<K: Keeper, L: Ledger>(
     case: &Case,
 ) -> bool {
     let number = case.earlier.len();
-    begins(alloc, office, keeper, steps, case)
-        && enter(alloc, office, keeper, steps, number, case.rows, 0) == Some(case.count)
+    begins(rt, alloc, office, keeper, steps, case)
+        && enter(rt, alloc, office, keeper, steps, number, case.rows, 0) == Some(case.count)
 }
 
 // Fails the test where the case does not hold, and shows its rows.
 fn check<K: Keeper>(
-    rt: &(impl Abort + AllocGlobal + RandomSource),
+    rt: &(impl Abort + AllocGlobal + RandomSource + Threads + Sync),
     keeper: &mut K,
     case: &Case,
 ) -> Result<(), Fail> {
     let hasher = RandomState::new(rt)?;
-    let holds = check_with::<K, Brand>(rt.alloc(), hasher, Blank::new(1), keeper, case);
+    let holds = check_with::<K, _, Brand>(rt, rt.alloc(), hasher, Blank::new(1), keeper, case);
     assert!(rt; holds, "{}", case.rows);
     Ok(())
 }
 
-fn check_with<K: Keeper, L: Ledger>(
+fn check_with<K: Keeper, T: Threads + Sync, L: Ledger>(
+    rt: &T,
     alloc: Global,
     hasher: RandomState,
     blank: Blank,
@@ -317,7 +336,7 @@ fn check_with<K: Keeper, L: Ledger>(
 {
     let mut office = Office::new(alloc, hasher);
     let mut steps = Steps::<L>::new(blank);
-    counts(alloc, &mut office, keeper, &mut steps, case)
+    counts(rt, alloc, &mut office, keeper, &mut steps, case)
 }
 
 #[test]
@@ -330,7 +349,8 @@ fn affected_nodes_are_counted(rt: HostRuntime) -> Result<(), Fail> {
 }
 
 // The reply to a submission. Where it repeats another, no step is spent.
-fn repeat<K: Keeper, L: Ledger>(
+fn repeat<K: Keeper, T: Threads + Sync, L: Ledger>(
+    rt: &T,
     alloc: Global,
     office: &mut Office,
     keeper: &mut K,
@@ -340,11 +360,14 @@ fn repeat<K: Keeper, L: Ledger>(
 ) -> Reply
     ensures { (seq : ℕ) → result ≡ Reply.Repeated seq → steps.new ≤ steps.old }
 {
-    office.submit(alloc, id, body, keeper, false, steps)
+    office.submit(
+        rt, alloc, id, body, WORKERS, &OpenGate, keeper, false, steps,
+    )
 }
 
 // Whether a submission is accepted, and then repeated. The contract of `repeat` says that no step is spent.
-fn is_repeated<K: Keeper, L: Ledger>(
+fn is_repeated<K: Keeper, T: Threads + Sync, L: Ledger>(
+    rt: &T,
     alloc: Global,
     hasher: RandomState,
     blank: Blank,
@@ -359,10 +382,10 @@ fn is_repeated<K: Keeper, L: Ledger>(
     let Ok(body) = body_of(alloc, SHARED, 1) else {
         return false;
     };
-    if submit(alloc, &mut office, keeper, &mut steps, 4, &body).is_none() {
+    if submit(rt, alloc, &mut office, keeper, &mut steps, 4, &body).is_none() {
         return false;
     }
-    let reply = repeat(alloc, &mut office, keeper, &mut steps, b"4", &body);
+    let reply = repeat(rt, alloc, &mut office, keeper, &mut steps, b"4", &body);
     matches!(reply, Reply::Repeated { seq: 1 })
 }
 
@@ -370,7 +393,13 @@ fn is_repeated<K: Keeper, L: Ledger>(
 fn a_repeat_spends_no_step(rt: HostRuntime) -> Result<(), Fail> {
     let mut keeper = SteadyKeeper::new(rt.alloc());
     let hasher = RandomState::new(&rt)?;
-    let holds = is_repeated::<SteadyKeeper, Brand>(rt.alloc(), hasher, Blank::new(1), &mut keeper);
+    let holds = is_repeated::<SteadyKeeper, _, Brand>(
+        &rt,
+        rt.alloc(),
+        hasher,
+        Blank::new(1),
+        &mut keeper,
+    );
     assert!(rt; holds);
     Ok(())
 }

@@ -8,6 +8,7 @@ ghost use Rattle.std.specs.Prelude.{◌≡◌, ◌<◌};
 use ghg_keeper::{Keeper, MemoryKeeper, SqlKeeper, SteadyKeeper};
 use ghg_office::{Office, Reply};
 use ghg_steps::Steps;
+use ghg_workers::OpenGate;
 use sqlite::{Connection, MemStore};
 use std::alloc::{AllocError, Global};
 use std::hash::RandomState;
@@ -16,6 +17,9 @@ use std::process::Abort;
 use std::random::RandomSource;
 use std::sync::ledger::{Blank, Ledger};
 use std::test::Fail;
+use std::thread::Threads;
+
+const WORKERS: u32 = 2;
 
 // A line of burnt gas.
 const PLANT: &[u8] = b"act,kind,subject,name,year,value,low,high,unit,note\n\
@@ -24,21 +28,25 @@ const PLANT: &[u8] = b"act,kind,subject,name,year,value,low,high,unit,note\n\
     enter,activity,,GAS.TJ,1990,1000,,,TJ,\nenter,factor,,GAS.EF,1990,56100,54300,58300,kg/TJ,\n";
 
 // The reply to the plant, from the office that the keeper's rows lead to.
-fn submit<K: Keeper, L: Ledger>(
+fn submit<K: Keeper, T: Threads + Sync, L: Ledger>(
+    rt: &T,
     alloc: Global,
     hasher: RandomState,
     keeper: &mut K,
     steps: &mut Steps<L>,
 ) -> Option<Reply> {
-    match Office::reopen(alloc, hasher, keeper, steps) {
-        Ok(mut office) => Some(office.submit(alloc, b"plant", PLANT, keeper, true, steps)),
+    match Office::reopen(rt, alloc, hasher, keeper, WORKERS, &OpenGate, steps) {
+        Ok(mut office) => Some(office.submit(
+            rt, alloc, b"plant", PLANT, WORKERS, &OpenGate, keeper, true, steps,
+        )),
         Err(_) => None,
     }
 }
 
 // Whether the plant is accepted under the first number, then repeated under it, and is the only row at the
 // end.
-fn keeps_the_plant<K: Keeper, L: Ledger>(
+fn keeps_the_plant<K: Keeper, T: Threads + Sync, L: Ledger>(
+    rt: &T,
     alloc: Global,
     hasher: RandomState,
     keeper: &mut K,
@@ -47,8 +55,8 @@ fn keeps_the_plant<K: Keeper, L: Ledger>(
     if keeper.attach("s").is_err() {
         return false;
     }
-    let first = submit(alloc, hasher, keeper, steps);
-    let again = submit(alloc, hasher, keeper, steps);
+    let first = submit(rt, alloc, hasher, keeper, steps);
+    let again = submit(rt, alloc, hasher, keeper, steps);
     matches!(first, Some(Reply::Accepted { seq: 1, cells: 158 }))
         && matches!(again, Some(Reply::Repeated { seq: 1 }))
         && keeper.count() == Ok(1)
@@ -56,17 +64,18 @@ fn keeps_the_plant<K: Keeper, L: Ledger>(
 
 // Fails the test where the plant is not kept, and says over which keeper.
 fn check<K: Keeper>(
-    rt: &(impl Abort + AllocGlobal + RandomSource),
+    rt: &(impl Abort + AllocGlobal + RandomSource + Threads + Sync),
     keeper: &mut K,
     form: &str,
 ) -> Result<(), Fail> {
     let hasher = RandomState::new(rt)?;
-    let kept = check_with::<K, Brand>(rt.alloc(), hasher, Blank::new(1), keeper);
+    let kept = check_with::<K, _, Brand>(rt, rt.alloc(), hasher, Blank::new(1), keeper);
     assert!(rt; kept, "{form}");
     Ok(())
 }
 
-fn check_with<K: Keeper, L: Ledger>(
+fn check_with<K: Keeper, T: Threads + Sync, L: Ledger>(
+    rt: &T,
     alloc: Global,
     hasher: RandomState,
     blank: Blank,
@@ -77,7 +86,7 @@ fn check_with<K: Keeper, L: Ledger>(
     requires some { 0 < blank.parts }
 {
     let mut steps = Steps::<L>::new(blank);
-    keeps_the_plant(alloc, hasher, keeper, &mut steps)
+    keeps_the_plant(rt, alloc, hasher, keeper, &mut steps)
 }
 
 // A keeper over a database in memory.

@@ -8,6 +8,7 @@ ghost use Rattle.std.specs.Prelude.{◌≡◌, ◌<◌};
 use ghg_keeper::{Keeper, MemoryKeeper};
 use ghg_office::{Office, Reply};
 use ghg_steps::Steps;
+use ghg_workers::OpenGate;
 use std::alloc::Global;
 use std::hash::RandomState;
 use std::marker::Brand;
@@ -15,6 +16,9 @@ use std::process::Abort;
 use std::random::RandomSource;
 use std::sync::ledger::{Blank, Ledger};
 use std::test::Fail;
+use std::thread::Threads;
+
+const WORKERS: u32 = 2;
 
 // A line of burnt gas.
 const PLANT: &[u8] = b"act,kind,subject,name,year,value,low,high,unit,note\n\
@@ -36,20 +40,31 @@ const FUEL: &[u8] = b"act,kind,subject,name,year,value,low,high,unit,note\n\
     correct,activity,,FUEL.T,1990,2000,,,t,\n";
 
 // Whether the replies to these submissions are as they should be, and whether the rows are kept.
-fn comes_again<K: Keeper, L: Ledger>(
+fn comes_again<K: Keeper, T: Threads + Sync, L: Ledger>(
+    rt: &T,
     alloc: Global,
     hasher: RandomState,
     keeper: &mut K,
     steps: &mut Steps<L>,
 ) -> bool {
-    let Ok(mut office) = Office::reopen(alloc, hasher, keeper, steps) else {
+    let Ok(mut office) = Office::reopen(rt, alloc, hasher, keeper, WORKERS, &OpenGate, steps) else {
         return false;
     };
-    let plant = office.submit(alloc, b"plant", PLANT, keeper, true, steps);
-    let failed = office.submit(alloc, b"boiler", BOILER, keeper, true, steps);
-    let boiler = office.submit(alloc, b"boiler", BOILER, keeper, true, steps);
-    let factor = office.submit(alloc, b"factor", FACTOR, keeper, true, steps);
-    let fuel = office.submit(alloc, b"fuel", FUEL, keeper, true, steps);
+    let plant = office.submit(
+        rt, alloc, b"plant", PLANT, WORKERS, &OpenGate, keeper, true, steps,
+    );
+    let failed = office.submit(
+        rt, alloc, b"boiler", BOILER, WORKERS, &OpenGate, keeper, true, steps,
+    );
+    let boiler = office.submit(
+        rt, alloc, b"boiler", BOILER, WORKERS, &OpenGate, keeper, true, steps,
+    );
+    let factor = office.submit(
+        rt, alloc, b"factor", FACTOR, WORKERS, &OpenGate, keeper, true, steps,
+    );
+    let fuel = office.submit(
+        rt, alloc, b"fuel", FUEL, WORKERS, &OpenGate, keeper, true, steps,
+    );
     // In each of two years 76 categories, the gross total, a line and its equivalent.
     matches!(plant, Reply::Accepted { seq: 1, cells: 158 })
         && matches!(failed, Reply::KeeperFault)
@@ -63,7 +78,8 @@ fn comes_again<K: Keeper, L: Ledger>(
         && keeper.count() == Ok(4)
 }
 
-fn check_with<K: Keeper, L: Ledger>(
+fn check_with<K: Keeper, T: Threads + Sync, L: Ledger>(
+    rt: &T,
     alloc: Global,
     hasher: RandomState,
     blank: Blank,
@@ -74,15 +90,15 @@ fn check_with<K: Keeper, L: Ledger>(
     requires some { 0 < blank.parts }
 {
     let mut steps = Steps::<L>::new(blank);
-    comes_again(alloc, hasher, keeper, &mut steps)
+    comes_again(rt, alloc, hasher, keeper, &mut steps)
 }
 
 fn check<K: Keeper>(
-    rt: &(impl Abort + AllocGlobal + RandomSource),
+    rt: &(impl Abort + AllocGlobal + RandomSource + Threads + Sync),
     keeper: &mut K,
 ) -> Result<(), Fail> {
     let hasher = RandomState::new(rt)?;
-    let holds = check_with::<K, Brand>(rt.alloc(), hasher, Blank::new(1), keeper);
+    let holds = check_with::<K, _, Brand>(rt, rt.alloc(), hasher, Blank::new(1), keeper);
     assert!(rt; holds);
     Ok(())
 }

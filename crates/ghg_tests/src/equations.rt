@@ -5,7 +5,7 @@ ghost use Rattle.ghg_cell.specs.Values.{equation_value};
 ghost use Rattle.ghg_equations.specs.Table.{parameters};
 
 use crate::cases::{check, input};
-use crate::values::permits;
+use crate::values::ticket;
 use ghg_cell::{Input, Ticket, Value};
 use ghg_data::params_of;
 use ghg_equations::{Dim, EqId, Gas, Output, Sector, each_code_names_itself, eq_named, equation};
@@ -245,10 +245,9 @@ fn quantities(rt: &impl Abort, alloc: Global, text: &str) -> Vec<Input> {
 
 #[test]
 fn equations_have_their_values(rt: HostRuntime) {
-    let mut permits = permits(CASES.len() as u64);
     for (code, want, given) in CASES {
         let id = eq_named(code.as_bytes()).expect(&rt, "a code");
-        let ticket = permits.ticket().expect(&rt, "a step");
+        let ticket = ticket(&rt, rt.alloc());
         let inputs = quantities(&rt, rt.alloc(), given);
         check(&rt, evaluated(id, ticket, &inputs) == input(want), code);
     }

@@ -8,6 +8,8 @@
 #[cfg(test)]
 mod analyses;
 #[cfg(test)]
+mod boards;
+#[cfg(test)]
 mod cases;
 #[cfg(test)]
 mod categories;
@@ -17,6 +19,8 @@ mod doors;
 mod equations;
 #[cfg(test)]
 mod intervals;
+#[cfg(test)]
+mod layers;
 #[cfg(test)]
 mod streams;
 #[cfg(test)]

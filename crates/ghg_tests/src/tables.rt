@@ -12,6 +12,7 @@ use ghg_graph::Cells;
 use ghg_tables::{Table, print};
 use std::alloc::Global;
 use std::process::Abort;
+use std::thread::Threads;
 
 // Two years, and a fuel of which each TJ emits 1 Gg of CO2.
 const YEARS: &str = "enter,span,,,1990,1991,1990,,,\nenter,factor,,GWP.CO2,1990,1,,,1,\n\
@@ -226,7 +227,12 @@ fn prints(alloc: Global, engine: &Engine, table: Table, year: u32, want: &str) -
 }
 
 // Submits lines and activities, and looks at a table.
-fn check_table(rt: &impl Abort, alloc: Global, engine: &mut Engine, case: &Case) {
+fn check_table(
+    rt: &(impl Abort + Threads + Sync),
+    alloc: Global,
+    engine: &mut Engine,
+    case: &Case,
+) {
     let (lines, activities, table, year, want) = *case;
     enter(rt, alloc, engine, YEARS);
     enter(rt, alloc, engine, activities);

@@ -3,10 +3,12 @@
 ghost use Rattle.std.specs.Prelude.{◌≡◌, ◌<◌};
 
 use crate::cases::{check, input};
-use ghg_cell::{Figures, Input, Permits, Ticket, equiv, sum, take, total};
+use ghg_cell::{Board, Figures, Input, Permits, Ticket, equiv, sum, take, total};
 use ghg_interval::Over;
 use ghg_steps::Steps;
+use std::alloc::Global;
 use std::marker::Brand;
+use std::process::Abort;
 use std::sync::ledger::{Blank, Ledger};
 
 fn permits_of<L: Ledger>(blank: Blank, count: u64) -> Permits
@@ -23,6 +25,13 @@ pub fn permits(count: u64) -> Permits
     ensures { result ≡ count }
 {
     permits_of::<Brand>(Blank::new(1), count)
+}
+
+/// A ticket, from a board of one place.
+pub fn ticket(rt: &impl Abort, alloc: Global) -> Ticket {
+    let (board, mut pass) = Board::new(alloc, permits(1)).ok().expect(rt, "memory");
+    let (_place, ticket) = board.claim(&mut pass).expect(rt, "a place");
+    ticket
 }
 
 // Whether figures are these; where there are none, a bound is beyond the limit.
@@ -85,9 +94,8 @@ fn equivalent(ticket: Ticket, line: &str, potential: &str) -> Option<Input> {
 
 #[test]
 fn equivalents_weigh_lines(rt: HostRuntime) {
-    let mut permits = permits(EQUIVALENTS.len() as u64);
     for (line, potential, want) in EQUIVALENTS {
-        let ticket = permits.ticket().expect(&rt, "a step");
+        let ticket = ticket(&rt, rt.alloc());
         check(
             &rt,
             equivalent(ticket, line, potential) == input(want),
@@ -123,9 +131,8 @@ fn totalled(ticket: Ticket, parts: &[Input; 3]) -> Option<Input> {
 
 #[test]
 fn totals_and_sums_have_their_limits_at_their_end(rt: HostRuntime) {
-    let mut permits = permits(SUMS.len() as u64);
     for (texts, of_total, of_sum) in SUMS {
-        let ticket = permits.ticket().expect(&rt, "a step");
+        let ticket = ticket(&rt, rt.alloc());
         let parts = parts(texts).expect(&rt, "three parts");
         check(&rt, totalled(ticket, &parts) == input(of_total), of_total);
         check(&rt, sum(&parts).ok() == input(of_sum), of_sum);

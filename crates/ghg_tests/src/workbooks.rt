@@ -18,11 +18,13 @@ use ghg_graph::{
 use ghg_import::{Rows, is_too_long, read_rows};
 use ghg_steps::Steps;
 use ghg_units::{Binding, Name, Node, ParamName, Row, append_rule};
+use ghg_workers::OpenGate;
 use std::alloc::{AllocError, Global};
 use std::marker::Brand;
 use std::process::Abort;
 use std::random::RandomSource;
 use std::sync::ledger::{Blank, Ledger};
+use std::thread::Threads;
 
 fn name(rt: &impl Abort, text: &str) -> Name {
     Name::new(text.as_bytes()).expect(rt, "a name")
@@ -334,9 +336,10 @@ fn totals_take_equivalents_which_weigh_lines(rt: HostRuntime) {
     );
 }
 
-// Plans and proposes rows, with steps of a new ledger, and accepts or drops the proposal: how many nodes they
-// affect. An error has the node that is over, if any.
-fn settle_with<L: Ledger>(
+// Plans and proposes rows, by two workers and with steps of a new ledger, and accepts or drops the proposal:
+// how many nodes they affect. An error has the node that is over, if any.
+fn settle_with<T: Threads + Sync, L: Ledger>(
+    rt: &T,
     blank: Blank,
     alloc: Global,
     engine: &mut Engine,
@@ -351,7 +354,7 @@ fn settle_with<L: Ledger>(
     let Ok(edits) = engine.plan(alloc, rows, None, 0) else {
         return Err(None);
     };
-    match engine.propose(alloc, edits, &mut Steps::<L>::new(blank)) {
+    match engine.propose(rt, alloc, edits, 2, &OpenGate, &mut Steps::<L>::new(blank)) {
         Ok(proposal) => {
             let cells = proposal.cells();
             if accepted {
@@ -367,6 +370,7 @@ fn settle_with<L: Ledger>(
 }
 
 fn settle(
+    rt: &(impl Threads + Sync),
     alloc: Global,
     engine: &mut Engine,
     rows: &[Row],
@@ -374,13 +378,22 @@ fn settle(
 ) -> Result<u64, Option<Node>>
     requires { AllByRecursion IsWellFormed rows.now }
 {
-    settle_with::<Brand>(Blank::new(1), alloc, engine, rows, accepted)
+    settle_with::<_, Brand>(rt, Blank::new(1), alloc, engine, rows, accepted)
 }
 
 /// Submits rows that break no rule.
-pub(crate) fn enter(rt: &impl Abort, alloc: Global, engine: &mut Engine, rows: &str) {
+pub(crate) fn enter(
+    rt: &(impl Abort + Threads + Sync),
+    alloc: Global,
+    engine: &mut Engine,
+    rows: &str,
+) {
     let read = read(rt, alloc, rows);
-    check(rt, settle(alloc, engine, &read.rows, true).is_ok(), rows);
+    check(
+        rt,
+        settle(rt, alloc, engine, &read.rows, true).is_ok(),
+        rows,
+    );
 }
 
 // A kind of node.
@@ -476,10 +489,15 @@ const CASES: &[(&[Submission], &[NodeValue])] = &[
 ];
 
 // Whether the rows come to what they should.
-fn submits(rt: &impl Abort, alloc: Global, engine: &mut Engine, submission: &Submission) -> bool {
+fn submits(
+    rt: &(impl Abort + Threads + Sync),
+    alloc: Global,
+    engine: &mut Engine,
+    submission: &Submission,
+) -> bool {
     let (rows, over) = *submission;
     let read = read(rt, alloc, rows);
-    let answer = settle(alloc, engine, &read.rows, true);
+    let answer = settle(rt, alloc, engine, &read.rows, true);
     match over {
         Some((kind, of, year)) => answer == Err(node(kind, of, year)),
         None => answer.is_ok(),
@@ -487,7 +505,7 @@ fn submits(rt: &impl Abort, alloc: Global, engine: &mut Engine, submission: &Sub
 }
 
 fn check_values(
-    rt: &impl Abort,
+    rt: &(impl Abort + Threads + Sync),
     alloc: Global,
     engine: &mut Engine,
     submissions: &[Submission],
@@ -549,10 +567,10 @@ const PROPOSED: &[NodeValue] = &[
     (Kind::Line, "ELEC.GAS", 1990, "56"),
 ];
 
-fn check_proposals(rt: &impl Abort, alloc: Global, engine: &mut Engine) {
+fn check_proposals(rt: &(impl Abort + Threads + Sync), alloc: Global, engine: &mut Engine) {
     for (rows, accepted, count) in PROPOSALS {
         let read = read(rt, alloc, rows);
-        let cells = settle(alloc, engine, &read.rows, *accepted);
+        let cells = settle(rt, alloc, engine, &read.rows, *accepted);
         check(rt, cells == Ok(*count), rows);
     }
     for value in PROPOSED {
@@ -634,7 +652,12 @@ fn planned(rt: &impl Abort, alloc: Global, engine: &mut Engine, rows: &[Row]) ->
     text
 }
 
-fn check_withdrawal(rt: &impl Abort, alloc: Global, engine: &mut Engine, withdrawal: &Withdrawal) {
+fn check_withdrawal(
+    rt: &(impl Abort + Threads + Sync),
+    alloc: Global,
+    engine: &mut Engine,
+    withdrawal: &Withdrawal,
+) {
     let (pieces, want) = *withdrawal;
     let read = read_all(rt, alloc, pieces);
     let refusal = planned(rt, alloc, engine, &read.rows);
@@ -642,15 +665,19 @@ fn check_withdrawal(rt: &impl Abort, alloc: Global, engine: &mut Engine, withdra
     if want.is_empty() {
         check(
             rt,
-            settle(alloc, engine, &read.rows, true).is_ok(),
+            settle(rt, alloc, engine, &read.rows, true).is_ok(),
             "a withdrawal",
         );
     }
 }
 
-fn check_withdrawals(rt: &impl Abort, alloc: Global, engine: &mut Engine) {
+fn check_withdrawals(rt: &(impl Abort + Threads + Sync), alloc: Global, engine: &mut Engine) {
     let read = read_all(rt, alloc, &[HUB, TAKERS]);
-    check(rt, settle(alloc, engine, &read.rows, true).is_ok(), "lines");
+    check(
+        rt,
+        settle(rt, alloc, engine, &read.rows, true).is_ok(),
+        "lines",
+    );
     for withdrawal in WITHDRAWALS {
         check_withdrawal(rt, alloc, engine, withdrawal);
     }

@@ -1,5 +1,5 @@
 -- The command that the words after the program's name ask for.
-use Rattle.std.specs.Prelude.{⊤, ℕ, ◌≤◌, List, [], ◌∷◌, if◌then◌else◌, Option, Some, None, option_map, option_and_then, codes}
+use Rattle.std.specs.Prelude.{ℕ, ◌≤◌, List, [], ◌∷◌, if◌then◌else◌, Option, Some, None, option_map, option_and_then, codes}
 use Rattle.std.specs.Str.{bytes_eq}
 use Rattle.ghg_words.specs.declared.command.Command.{Command}
 use Rattle.ghg_words.specs.declared.command.Command.TheVariants.{Compile, Serve}
@@ -58,7 +58,10 @@ unfoldable pub command_in : List (List ℕ) → Option Command
 command_in [] = None
 command_in (word ∷ words) = option_and_then (command_named word) (options_in words)
 
--- a command serves one connection at least
-abbrev pub ServesSome : Command → Type 0
-ServesSome (Compile settings) = ⊤
-ServesSome (Serve service) = 1 ≤ service.connections
+abbrev pub HasWorkers : Settings → Type 0
+HasWorkers settings = (1 ≤ settings.workers) × (settings.workers ≤ MOST_WORKERS)
+
+-- a command has 1 to 64 workers, and serves one connection at least
+abbrev pub IsBounded : Command → Type 0
+IsBounded (Compile settings) = HasWorkers settings
+IsBounded (Serve service) = HasWorkers service.settings × (1 ≤ service.connections)

@@ -2,7 +2,7 @@
 
 ghost use Rattle.std.specs.Prelude.{◌≡◌, ◌≤◌, IfSome, map, option_map, option_and_then};
 ghost use Rattle.std.specs.String.{string_bytes};
-ghost use Rattle.ghg_words.specs.Command.{ServesSome, command_in, compile_of, number_from, options_of_compile, options_of_serve, serve_of, settings_of};
+ghost use Rattle.ghg_words.specs.Command.{HasWorkers, IsBounded, command_in, compile_of, number_from, options_of_compile, options_of_serve, serve_of, settings_of};
 ghost use Rattle.ghg_words.specs.Options.{seen};
 
 use crate::options::{Options, read_options};
@@ -20,7 +20,7 @@ pub enum Command<'a> {
 /// What every command takes.
 #[derive(Debug, Drop)]
 pub struct Settings<'a> {
-    /// The number of workers.
+    /// The number of workers, from 1 to 64.
     pub workers: u32,
     /// The store that keeps the accepted submissions, where one is named.
     pub store: Option<StoreName<'a>>,
@@ -40,7 +40,7 @@ pub struct Service<'a> {
 #[tactic(auto, unfolding(crate::specs::Command::command_in))]
 pub fn read_command(words: &[String]) -> Option<Command<'_>>
     ensures command { result ≡ command_in (map string_bytes words.now) }
-    ensures some { IfSome result ServesSome }
+    ensures bounds { IfSome result IsBounded }
 {
     let (word, rest) = words.split_first()?;
     let options = read_options(rest)?;
@@ -69,14 +69,14 @@ fn options_of_serve(options: Options<'_>) -> Option<Options<'_>>
 
 fn compile_with(options: Options<'_>) -> Option<Command<'_>>
     ensures command { result ≡ compile_of (seen options.entry) }
-    ensures some { IfSome result ServesSome }
+    ensures bounds { IfSome result IsBounded }
 {
     Some(Command::Compile(settings_from(options)?))
 }
 
 fn serve_with(options: Options<'_>) -> Option<Command<'_>>
     ensures command { result ≡ serve_of (seen options.entry) }
-    ensures some { IfSome result ServesSome }
+    ensures bounds { IfSome result IsBounded }
 {
     Some(Command::Serve(Service {
         settings: settings_from(options)?,
@@ -97,7 +97,8 @@ fn number_from(options: Options<'_>, name: &str, low: u32, high: u32) -> Option<
 
 // The settings that the options give.
 fn settings_from(options: Options<'_>) -> Option<Settings<'_>>
-    ensures { result ≡ settings_of (seen options.entry) }
+    ensures value { result ≡ settings_of (seen options.entry) }
+    ensures bounds { IfSome result HasWorkers }
 {
     let workers = match options.value_of("workers") {
         None => 1,
@@ -110,5 +111,5 @@ fn settings_from(options: Options<'_>) -> Option<Settings<'_>>
     Some(Settings { workers, store })
 }
 
-// The most workers of a command. There is one.
-const MOST_WORKERS: u32 = 1;
+/// The most workers of a command.
+const MOST_WORKERS: u32 = 64;

@@ -20,11 +20,12 @@ fn words_of(alloc: Global, line: &str) -> Result<Vec<String>, AllocError> {
     Ok(words)
 }
 
-// The store, and the port and the number of connections.
-fn parts<'c>(command: &'c Command) -> (Option<&'c str>, Option<(u16, u32)>) {
+// The number of workers, the store, and the port and the number of connections.
+fn parts<'c>(command: &'c Command) -> (u32, Option<&'c str>, Option<(u16, u32)>) {
     match command {
-        Command::Compile(settings) => (store_of(settings), None),
+        Command::Compile(settings) => (settings.workers, store_of(settings), None),
         Command::Serve(service) => (
+            service.settings.workers,
             store_of(&service.settings),
             Some((service.port, service.connections)),
         ),
@@ -36,19 +37,27 @@ fn store_of<'c>(settings: &'c Settings) -> Option<&'c str> {
 }
 
 // Command lines, with what they name.
-const COMMANDS: &[(&str, Option<&str>, Option<(u16, u32)>)] = &[
-    ("compile", None, None),
-    ("compile --store s", Some("s"), None),
-    ("compile --workers=1", None, None),
-    ("compile --store=help", Some("help"), None),
-    ("serve --port 8000 --connections 2", None, Some((8000, 2))),
+const COMMANDS: &[(&str, u32, Option<&str>, Option<(u16, u32)>)] = &[
+    ("compile", 1, None, None),
+    ("compile --store s", 1, Some("s"), None),
+    ("compile --workers=7", 7, None, None),
+    ("compile --workers 64 --store s", 64, Some("s"), None),
+    ("compile --store=help", 1, Some("help"), None),
+    (
+        "serve --port 8000 --connections 2",
+        1,
+        None,
+        Some((8000, 2)),
+    ),
     (
         "serve --connections=2 --store s --port=8000",
+        1,
         Some("s"),
         Some((8000, 2)),
     ),
     (
         "serve --port 65535 --workers 0000000001 --connections 1000000",
+        1,
         None,
         Some((65_535, 1_000_000)),
     ),
@@ -56,10 +65,10 @@ const COMMANDS: &[(&str, Option<&str>, Option<(u16, u32)>)] = &[
 
 #[test]
 fn options_may_stand_in_any_order(rt: HostRuntime) -> Result<(), Fail> {
-    for (line, store, service) in COMMANDS {
+    for (line, workers, store, service) in COMMANDS {
         let words = words_of(rt.alloc(), line)?;
         match read_command(&words) {
-            Some(command) => check(&rt, parts(&command) == (*store, *service), line),
+            Some(command) => check(&rt, parts(&command) == (*workers, *store, *service), line),
             None => check(&rt, false, line),
         }
     }
@@ -74,6 +83,7 @@ const NO_COMMANDS: &[&str] = &[
     "compile --help",
     "compile --workers 65",
     "compile --workers 0",
+    "compile --workers x",
     "compile --store",
     "compile --store s --store s",
     "compile --store .x",
@@ -145,7 +155,8 @@ const DEFAULT_WORKERS: u32 = 1;
 const COMPARED: &[(&str, Option<u32>)] = &[
     ("compile", None),
     ("compile --store s", None),
-    ("compile --workers=1", Some(1)),
+    ("compile --workers=7", Some(7)),
+    ("compile --workers 64", Some(64)),
     ("serve --port 8000 --connections 2", None),
     ("serve --workers 1 --port 8000 --connections 2", Some(1)),
     ("serve --connections=2 --store s --port=8000", None),

@@ -2,4 +2,4 @@ use Rattle.ghg.proofs.main.Given as goal
 
 -- the ledger that the blank one opens
 abbrev pub ghosts-run_counted : goal.ghosts-run_counted
-ghosts-run_counted a = record { name = a.blank.name; parts = a.blank.parts }
+ghosts-run_counted g a = record { name = a.blank.name; parts = a.blank.parts }

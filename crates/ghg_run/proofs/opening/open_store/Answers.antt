@@ -7,7 +7,7 @@ use Rattle.ghg_run.proofs.opening.open_store.Goals as goal
 pub returns-in-Err-Failed-clause-opened : goal.returns-in-Err-Failed-clause-opened
 returns-in-Err-Failed-clause-opened g c = record {
   rows = (g.K.Keeper.shelf c.args.keeper.now).rows;
-  had = λ t. (c.attach.ensures.rows.told t, refl);
+  had = record { told = c.attach.ensures.rows.told; same = λ _ _. refl };
   why = inr (record { kind = inl refl; nothing = refl; used = inl c.in-Err-Failed.ensures.err });
   kept = c.attach.ensures.rows;
   spent = omega arith;
@@ -16,7 +16,7 @@ returns-in-Err-Failed-clause-opened g c = record {
 pub returns-in-Err-Memory-clause-opened : goal.returns-in-Err-Memory-clause-opened
 returns-in-Err-Memory-clause-opened g c = record {
   rows = (g.K.Keeper.shelf c.args.keeper.now).rows;
-  had = λ t. (c.attach.ensures.rows.told t, refl);
+  had = record { told = c.attach.ensures.rows.told; same = λ _ _. refl };
   why = inr (record { kind = inr refl; nothing = refl; used = inl c.in-Err-Memory.ensures.err });
   kept = c.attach.ensures.rows;
   spent = omega arith;
@@ -27,8 +27,8 @@ returns-in-Err-Memory-clause-opened g c = record {
 pub returns-in-Ok-reopen-clause-opened : goal.returns-in-Ok-reopen-clause-opened
 returns-in-Ok-reopen-clause-opened g c =
     let replays = c.in-Ok-reopen.ensures.replays in
-    let keeps = keeps_rows_more _ _ _ c.attach.ensures.rows c.reopen.ensures.keeps.rows in
-    ((replays.0, had_rows _ _ replays.0 keeps replays.1, replays.2, replays.3), refl)
+    let had = had_rows _ _ _ replays.0 c.attach.ensures.rows c.in-Ok.ensures.told c.reopen.ensures.keeps.rows replays.1 in
+    ((replays.0, had, replays.2, replays.3), refl)
 
 pub returns-in-Ok-reopen-clause-kept : goal.returns-in-Ok-reopen-clause-kept
 returns-in-Ok-reopen-clause-kept g c = (
@@ -42,7 +42,7 @@ returns-in-Err-Kept-clause-opened g c =
     let keeps = keeps_rows_more _ _ _ c.attach.ensures.rows c.reopen.ensures.keeps.rows in
     record {
       rows = replays.0;
-      had = had_rows _ _ replays.0 keeps replays.1;
+      had = had_rows _ _ _ replays.0 c.attach.ensures.rows c.in-Ok.ensures.told c.reopen.ensures.keeps.rows replays.1;
       why = inl (record {
         seq = c.in-Err-Kept.seq;
         reply = c.in-Err-Kept.reply;
@@ -51,5 +51,29 @@ returns-in-Err-Kept-clause-opened g c =
         used = stays_in_use c.args.name.now (g.K.Keeper.shelf c.attach.new.self) (g.K.Keeper.shelf c.reopen.new.keeper) c.reopen.ensures.keeps.name c.in-Ok.ensures.ok;
       });
       kept = keeps;
+      spent = replays.3;
+    }
+
+pub returns-in-Err-KeeperFault-clause-opened : goal.returns-in-Err-KeeperFault-clause-opened
+returns-in-Err-KeeperFault-clause-opened g c =
+    let replays = c.in-Err-KeeperFault.ensures.replays in
+    let used = stays_in_use c.args.name.now (g.K.Keeper.shelf c.attach.new.self) (g.K.Keeper.shelf c.reopen.new.keeper) c.reopen.ensures.keeps.name c.in-Ok.ensures.ok in
+    record {
+      rows = replays.0;
+      had = had_rows _ _ _ replays.0 c.attach.ensures.rows c.in-Ok.ensures.told c.reopen.ensures.keeps.rows replays.1;
+      why = inr (record { kind = inl refl; nothing = refl; used = inr used });
+      kept = keeps_rows_more _ _ _ c.attach.ensures.rows c.reopen.ensures.keeps.rows;
+      spent = replays.3;
+    }
+
+pub returns-in-Err-Memory-reopen-clause-opened : goal.returns-in-Err-Memory-reopen-clause-opened
+returns-in-Err-Memory-reopen-clause-opened g c =
+    let replays = c.in-Err-Memory-reopen.ensures.replays in
+    let used = stays_in_use c.args.name.now (g.K.Keeper.shelf c.attach.new.self) (g.K.Keeper.shelf c.reopen.new.keeper) c.reopen.ensures.keeps.name c.in-Ok.ensures.ok in
+    record {
+      rows = replays.0;
+      had = had_rows _ _ _ replays.0 c.attach.ensures.rows c.in-Ok.ensures.told c.reopen.ensures.keeps.rows replays.1;
+      why = inr (record { kind = inr refl; nothing = refl; used = inr used });
+      kept = keeps_rows_more _ _ _ c.attach.ensures.rows c.reopen.ensures.keeps.rows;
       spent = replays.3;
     }

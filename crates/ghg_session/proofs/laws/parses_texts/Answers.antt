@@ -1,5 +1,10 @@
-use Rattle.ghg_session.proofs.Texts.{parses_texts}
+use Rattle.ghg_session.specs.Script.{script_forms}
+use Rattle.ghg_session.proofs.Commands as commands
+use Rattle.ghg_session.proofs.Forms.{says_forms}
 use Rattle.ghg_session.proofs.laws.parses_texts.Goals as goal
 
-pub returns : goal.returns
-returns c = parses_texts
+pub returns-clause-texts : goal.returns-clause-texts
+returns-clause-texts c = commands.parses_texts script_forms
+
+pub returns-clause-forms : goal.returns-clause-forms
+returns-clause-forms c = says_forms

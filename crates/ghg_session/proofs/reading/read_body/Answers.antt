@@ -1,7 +1,7 @@
 use Rattle.std.proofs.Common.{◌<◌, drop, length-take, refl, sym, arith}
 use Rattle.std.proofs.lemmas.Result.{err_from_is_err_and}
 use Rattle.std.proofs.lemmas.List.{take-append-le}
-use Rattle.ghg_session.proofs.Bodies.{kept_is_short, body_grows, body_ends, body_fails, body_stops}
+use Rattle.ghg_session.proofs.Pieces.{kept_is_short, body_grows, body_found, body_ends, body_fails, body_stops}
 use Rattle.ghg_session.proofs.reading.read_body.Goals as goal
 
 pub returns-in-Ok-eq0 : goal.returns-in-Ok-eq0
@@ -9,7 +9,7 @@ returns-in-Ok-eq0 g c =
     let none = c.in-Ok-eq0.field-0-test in
     let short : c.pieces.at < c.args.count = omega arith in
     let read = rw none at c.in-Ok-eq0.ensures.read in
-    (c.in-Ok-eq0.ensures.end none, body_ends _ _ _ _ _ _ c.pieces.invariant.took read short)
+    body_ends _ _ _ _ _ _ c.pieces.invariant.took read short (c.in-Ok-eq0.ensures.end none)
 
 pub returns-in-Err : goal.returns-in-Err
 returns-in-Err g c =
@@ -34,3 +34,6 @@ returns-in_err-reserve g c =
     let short : c.pieces.at < c.args.count = omega arith in
     let p = err_from_is_err_and c.from_residual.result c.from_residual.ensures.1 in
     rw (p.1, p.2) (body_stops _ _ _ _ _ c.pieces.invariant.took short)
+
+pub returns : goal.returns
+returns g c = body_found _ _ _ _ _ c.pieces.invariant.took (omega arith)

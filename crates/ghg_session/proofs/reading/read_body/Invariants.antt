@@ -1,10 +1,10 @@
 use Rattle.std.proofs.Common.{◌-◌, ◌≤◌}
-use Rattle.ghg_session.specs.Reader.{TookBody}
+use Rattle.ghg_session.proofs.Pieces.{TookPart}
 use Rattle.ghg_session.proofs.reading.read_body.Given as goal
 
 abbrev pub invariant-pieces : goal.invariant-pieces
 invariant-pieces g l = record {
-  took : TookBody (g.S.Told.tape l.fn.source) (g.S.Told.tape l.source) l.at l.body.items;
+  took : TookPart (g.S.Told.tape l.fn.source) (g.S.Told.tape l.source) l.at l.body.items;
   within : l.at ≤ l.count;
 }
 

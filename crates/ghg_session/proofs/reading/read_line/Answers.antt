@@ -1,15 +1,15 @@
-use Rattle.std.proofs.Common.{rules, ◌≡◌, ◌≤◌, length, nat_eq, false, arith}
+use Rattle.std.proofs.Common.{rules, ◌≡◌, ◌≤◌, length, not, ◌==◌, true, refl, arith}
 use Rattle.std.proofs.lemmas.Grind.{common_steps}
 use Rattle.std.proofs.lemmas.Result.{err_from_is_err_and}
 use Rattle.ghg_outer.proofs.Tapes.{consumes_more, consumes_nothing}
 use Rattle.ghg_session.specs.Commands.{longest_line}
-use Rattle.ghg_session.proofs.Lines.{found_line, line_begins, line_grows, missing_feed, missing_short_line, stopped_in_line}
+use Rattle.ghg_session.proofs.Pieces.{found_line, line_grows, missing_feed, missing_short_line, stopped_in_line}
 use Rattle.ghg_session.proofs.reading.read_line.Goals as goal
 
 pub bytes-init : goal.bytes-init
 bytes-init g c = rw c.new-line.ensures record {
   read = consumes_nothing _;
-  plain = line_begins;
+  plain = refl;
   short = omega arith;
 }
 
@@ -32,7 +32,7 @@ returns-in-Some-eq10 g c =
 pub bytes-preserved : goal.bytes-preserved
 bytes-preserved g c =
     let byte = rw c.in-Some.is at c.in_ok-next_byte.ensures in
-    let other : nat_eq c.in-Some.byte 10 ≡ false = search rules in
+    let other : not (c.in-Some.byte == 10) ≡ true = search rules in
     rw c.push.ensures.items record {
       read = consumes_more _ _ _ _ _ c.bytes.invariant.read byte;
       plain = line_grows c.in-Some.byte c.bytes.line.items other c.bytes.invariant.plain;

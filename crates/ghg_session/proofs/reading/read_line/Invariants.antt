@@ -1,13 +1,12 @@
-use Rattle.std.proofs.Common.{◌+◌, ◌-◌, ◌≤◌, length}
+use Rattle.std.proofs.Common.{◌≡◌, ◌+◌, ◌-◌, ◌≤◌, length, true}
 use Rattle.ghg_outer.specs.Tape.{Consumes}
-use Rattle.ghg_session.specs.Commands.{longest_line}
-use Rattle.ghg_session.proofs.Lines.{HasNoFeed}
+use Rattle.ghg_session.specs.Commands.{lacks, longest_line}
 use Rattle.ghg_session.proofs.reading.read_line.Given as goal
 
 abbrev pub invariant-bytes : goal.invariant-bytes
 invariant-bytes g l = record {
   read : Consumes (g.S.Told.tape l.fn.source) (g.S.Told.tape l.source) l.line.items;
-  plain : HasNoFeed l.line.items;
+  plain : lacks 10 l.line.items ≡ true;
   short : length l.line.items ≤ longest_line + 1;
 }
 

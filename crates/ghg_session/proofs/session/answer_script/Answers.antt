@@ -1,62 +1,58 @@
-use Rattle.std.proofs.Common.{◌≡◌, ◌≤◌, ◌+◌, ◌∙◌, [], None, arith, refl}
-use Rattle.ghg_session.specs.Commands.{command_at}
-use Rattle.ghg_session.specs.Replies.{protocol}
-use Rattle.ghg_session.specs.Script.{most_commands}
+use Rattle.std.proofs.Common.{◌≡◌, ◌≤◌, ◌+◌, ◌∙◌, [], arith, refl}
+use Rattle.ghg_session.specs.Session.{most_commands}
 use Rattle.ghg_outer.proofs.Tapes.{consumes_nothing}
 use Rattle.ghg_session.proofs.Answered.{answers_one, begins, ends_at_end, malformed, refused, spent_all, stops_in_reply, stops_reading, stops_undone}
-use Rattle.ghg_session.proofs.Commands.{no_line}
+use Rattle.ghg_session.proofs.Commands.{no_text}
 use Rattle.ghg_session.proofs.Keeping.{keeps_listed, keeps_more}
 use Rattle.ghg_session.proofs.session.answer_script.Goals as goal
 
--- no command has an empty text
-no_text : command_at [] ≡ None
-no_text = no_line [] refl
-
 pub commands-init : goal.commands-init
 commands-init g c = record {
-  session = begins protocol _ _ _ _;
-  kept = λ stored. keeps_listed _ _ (c.requires stored);
+  session = begins _ _ _ _ _ _ _ refl;
+  kept = λ stored. keeps_listed _ _ (c.requires.same stored);
   untouched = λ _. refl;
   counts = omega arith;
 }
 
 pub returns-in-Err-clause-session : goal.returns-in-Err-clause-session
 returns-in-Err-clause-session g c =
-    stops_reading protocol _ _ _ _ _ _ _ _ _ c.commands.invariant.session _ _ c.commands-test.true c.in-Err.ensures
+    stops_reading _ _ _ _ _ _ _ _ _ _ _ _ c.commands.invariant.session _ _ c.commands-test.true c.in-Err.ensures
 
 pub returns-in-Ok-None-clause-session : goal.returns-in-Ok-None-clause-session
 returns-in-Ok-None-clause-session g c =
     let missing = rw c.in-Ok-None.field-0-is at c.in-Ok-None.ensures in
-    refused protocol _ _ _ _ _ _ _ _ _ c.commands.invariant.session missing.text _ _ _ missing.read
-    (malformed protocol _ _ _ _ _ _ _ _ _ c.commands.invariant.session _ c.commands-test.true missing) c.refuse.ensures
+    refused _ _ _ _ _ _ _ _ _ _ _ _ c.commands.invariant.session missing.text _ _ _ missing.read
+    (malformed _ _ _ _ _ _ _ _ _ _ _ _ c.commands.invariant.session _ c.commands-test.true missing) c.refuse.ensures
 
 pub returns-in-Ok-Some-End-clause-session : goal.returns-in-Ok-Some-End-clause-session
 returns-in-Ok-Some-End-clause-session g c =
     let found = rw (c.in-Ok-Some-End.field-0-is, c.in-Ok-Some-End.field-0-0-is) at c.in-Ok-Some-End.ensures in
-    ends_at_end protocol _ _ _ _ _ _ _ _ _ c.commands.invariant.session _ c.commands-test.true found
+    ends_at_end _ _ _ _ _ _ _ _ _ _ _ _ c.commands.invariant.session _ c.commands-test.true found
 
 pub returns-in-Err-answer-clause-session : goal.returns-in-Err-answer-clause-session
 returns-in-Err-answer-clause-session g c =
     let found = rw (c.in-Ok-Some-Request.field-0-is, c.in-Ok-Some-Request.field-0-0-is) at c.in-Ok-Some-Request.ensures in
     let left = c.in-Err-answer.ensures in
-    rw left.undone (stops_undone protocol _ _ _ _ _ _ _ _ _ c.commands.invariant.session _ _ _ _ c.commands-test.true no_text found left.cause c.answer.ensures.steps)
+    rw left.undone (stops_undone _ _ _ _ _ _ _ _ _ _ _ _ c.commands.invariant.session _ _ _ _ _ c.commands-test.true (no_text _) found left.cause c.answer.ensures.steps
+    (λ same quiet. c.answer.ensures.repeats quiet ∙ same))
 
 pub returns-in-Err-write_lines-clause-session : goal.returns-in-Err-write_lines-clause-session
 returns-in-Err-write_lines-clause-session g c =
     let found = rw (c.in-Ok-Some-Request.field-0-is, c.in-Ok-Some-Request.field-0-0-is) at c.in-Ok-Some-Request.ensures in
     let answer = c.in-Ok.ensures in
-    stops_in_reply protocol _ _ _ _ _ _ _ _ _ c.commands.invariant.session _ _ _ _ _ _ c.commands-test.true no_text found
-    (rw answer.lines at c.in-Err-write_lines.ensures) answer.after c.answer.ensures.steps
+    stops_in_reply _ _ _ _ _ _ _ _ _ _ _ _ c.commands.invariant.session _ _ _ _ _ _ _ c.commands-test.true (no_text _) found
+    (rw answer.lines at c.in-Err-write_lines.ensures) answer.after c.answer.ensures.steps (λ same quiet. c.answer.ensures.repeats quiet ∙ same)
 
 pub commands-preserved : goal.commands-preserved
 commands-preserved g c =
     let found = rw (c.in-Ok-Some-Request.field-0-is, c.in-Ok-Some-Request.field-0-0-is) at c.in-Ok-Some-Request.ensures in
     let answer = c.in-Ok.ensures in
     record {
-      session = answers_one protocol _ _ _ _ _ _ _ _ _ c.commands.invariant.session _ _ _ _ _ c.commands-test.true found
-          (rw answer.lines at c.in_default.ensures) answer.after c.answer.ensures.steps;
+      session = answers_one _ _ _ _ _ _ _ _ _ _ _ _ c.commands.invariant.session _ _ _ _ _ _ c.commands-test.true found
+          (rw answer.lines at c.in_default.ensures) answer.after c.answer.ensures.steps
+          (λ same quiet. c.answer.ensures.repeats quiet ∙ same);
       kept = λ stored. keeps_more _ _ _ _ _ (c.commands.invariant.kept stored) (c.answer.ensures.kept stored);
-      untouched = λ stored. c.answer.ensures.untouched stored ∙ c.commands.invariant.untouched stored;
+      untouched = λ stored. c.answer.ensures.repeats (rw stored refl) ∙ c.commands.invariant.untouched stored;
       counts = omega (arith, c.commands.invariant.counts, c.answer.ensures.counted.later);
     }
 
@@ -64,5 +60,5 @@ pub returns-clause-session : goal.returns-clause-session
 returns-clause-session g c =
     let spent : most_commands ≤ c.commands.done = omega arith in
     let all : c.commands.done + 1 ≡ most_commands + 1 = omega arith in
-    refused protocol _ _ _ _ _ _ _ _ _ c.commands.invariant.session [] _ _ _ (consumes_nothing _)
-    (spent_all protocol _ _ _ _ _ _ _ _ _ c.commands.invariant.session spent) (rw all c.refuse-2.ensures)
+    refused _ _ _ _ _ _ _ _ _ _ _ _ c.commands.invariant.session [] _ _ _ (consumes_nothing _)
+    (spent_all _ _ _ _ _ _ _ _ _ _ _ _ c.commands.invariant.session spent) (rw all c.refuse-2.ensures)

@@ -11,17 +11,13 @@ pub returns-in-Ok-clause-steps : goal.returns-in-Ok-clause-steps
 returns-in-Ok-clause-steps g c =
     let old = c.args.self.now.content in
     let all : length c.in_ok-nodes.nodes.items ≡ length (affected_nodes old (applied old c.args.edits)) = all_affected old (applied old c.args.edits) c.in_ok-nodes.nodes.items c.in_ok-nodes.ensures.nodes in
-    let len = c.len-count.ensures in
-    let spent = c.take-permits.ensures.spent in
-    grind (arith, all, len, spent, c.in_ok-nodes.nodes.ok)
+    omega (arith, all, c.in-Ok.ensures.steps)
 
 pub returns-in-Err-clause-steps : goal.returns-in-Err-clause-steps
 returns-in-Err-clause-steps g c =
     let old = c.args.self.now.content in
     let all : length c.in_ok-nodes.nodes.items ≡ length (affected_nodes old (applied old c.args.edits)) = all_affected old (applied old c.args.edits) c.in_ok-nodes.nodes.items c.in_ok-nodes.ensures.nodes in
-    let len = c.len-count.ensures in
-    let spent = c.take-permits.ensures.spent in
-    grind (arith, all, len, spent, c.in_ok-nodes.nodes.ok)
+    omega (arith, all, c.in-Err.ensures.steps)
 
 pub returns-in-Ok-clause-proposed : goal.returns-in-Ok-clause-proposed
 returns-in-Ok-clause-proposed g c =
@@ -34,5 +30,5 @@ returns-in-Ok-clause-proposed g c =
       edits_are = refl;
       count_is = count ∙ ap (λ (s : Shelf). affected_count s.content c.args.edits) (sym (c.in-Ok.ensures.shelf ∙ c.in_ok-nodes.ensures.shelf));
       made = made_on old c.affected.new.self c.evaluated_with_room.new.self (record { edits = c.args.edits; fresh = c.in-Ok.fresh; cells = c.len-count.result })
-          c.in_ok-nodes.ensures.shelf c.in-Ok.ensures.shelf c.in-Ok.ensures.index c.requires.planned c.in_ok-nodes.ensures.users c.in-Ok.ensures.fresh c.in-Ok.ensures.room;
+          c.in_ok-nodes.ensures.shelf c.in-Ok.ensures.shelf c.in-Ok.ensures.index c.requires.arranged.planned c.in_ok-nodes.ensures.users c.in-Ok.ensures.fresh c.in-Ok.ensures.room;
     }

@@ -5,6 +5,7 @@ use Rattle.ghg_keeper.proofs.file.FileKeeperKeeper.TheImpl.Goals as goal
 pub attach-tells : goal.attach-tells
 attach-tells g c = record {
   rows = tells_none c.args.self.now c.new.self.now;
+  told = λ h. absurd h;
   ok = on_ok c.result tt;
   err = on_err c.result refl;
   faults = c.ensures.faults;
@@ -13,6 +14,7 @@ attach-tells g c = record {
 pub count-tells : goal.count-tells
 count-tells g c = record {
   count = λ h. absurd h;
+  told = λ h. absurd h;
   keeps = keeps_none c.args.self.now c.new.self.now;
   faults = c.ensures.faults;
 }
@@ -20,6 +22,7 @@ count-tells g c = record {
 pub row-tells : goal.row-tells
 row-tells g c = record {
   row = λ h. absurd h;
+  told = λ h. absurd h;
   keeps = keeps_none c.args.self.now c.new.self.now;
   faults = c.ensures.faults;
 }

@@ -12,7 +12,7 @@ use Rattle.ghg_office.proofs.office.Office.enter.Goals as goal
 pub returns-in_err-proposal-clause-answer : goal.returns-in_err-proposal-clause-answer
 returns-in_err-proposal-clause-answer g c =
     let p = err_from_is_err_and c.from_residual.result c.from_residual.ensures.1 in
-    rw (p.1, p.2) (planned_answers _ c.args.self.now _ c.args.id c.args.body.now c.in_err-proposal.field-0.0 c.self.view_is c.requires.read
+    rw (p.1, p.2) (planned_answers _ c.args.self.now _ c.args.submission.id c.args.submission.body.now c.in_err-proposal.field-0.0 c.self.view_is c.requires.read
     c.in_err-proposal.ensures.entered
     (ap₂ (λ (m : Data) (l : List KeptRow). record { content = m; accepted = l }) c.prepare.ensures.content c.prepare.ensures.list))
 
@@ -33,31 +33,31 @@ returns-in-Err-clause-faults g c = record { later = c.in-Err.ensures.faults.late
 
 pub returns-in-Err-clause-fault : goal.returns-in-Err-clause-fault
 returns-in-Err-clause-fault g c =
-    let made = ap (λ s. entered_by s c.args.body.now) (sym c.self.view_is) ∙ c.in_ok-proposal.ensures.entered in
-    λ e. is_appended c.args.stored (submitted c.args.self.now c.args.id c.args.body.now) (c.in-Err.ensures.stored (ap Err e))
-    (accepted_reply c.args.self.now c.args.id c.args.body.now _ c.requires.read made)
+    let made = ap (λ s. entered_by s c.args.submission.body.now) (sym c.self.view_is) ∙ c.in_ok-proposal.ensures.entered in
+    λ e. is_appended c.args.stored (submitted c.args.self.now c.args.submission.id c.args.submission.body.now) (c.in-Err.ensures.stored (ap Err e))
+    (accepted_reply c.args.self.now c.args.submission.id c.args.submission.body.now _ c.requires.read made)
 
 pub returns-in-Err-clause-untouched : goal.returns-in-Err-clause-untouched
 returns-in-Err-clause-untouched g c =
-    let made = ap (λ s. entered_by s c.args.body.now) (sym c.self.view_is) ∙ c.in_ok-proposal.ensures.entered in
-    λ none. c.in-Err.ensures.untouched (unstored c.args.stored (submitted c.args.self.now c.args.id c.args.body.now)
-    (accepted_reply c.args.self.now c.args.id c.args.body.now _ c.requires.read made) none)
+    let made = ap (λ s. entered_by s c.args.submission.body.now) (sym c.self.view_is) ∙ c.in_ok-proposal.ensures.entered in
+    λ none. c.in-Err.ensures.untouched (unstored c.args.stored (submitted c.args.self.now c.args.submission.id c.args.submission.body.now)
+    (accepted_reply c.args.self.now c.args.submission.id c.args.submission.body.now _ c.requires.read made) none)
 
 pub returns-in-Ok-clause-answer : goal.returns-in-Ok-clause-answer
 returns-in-Ok-clause-answer g c =
-    let made = ap (λ s. entered_by s c.args.body.now) (sym c.self.view_is) ∙ c.in_ok-proposal.ensures.entered in
+    let made = ap (λ s. entered_by s c.args.submission.body.now) (sym c.self.view_is) ∙ c.in_ok-proposal.ensures.entered in
     let list = c.prepare.ensures.list ∙ ap (λ s. s.accepted) c.self.view_is in
-    accepted_answers c.args.self.now c.args.id c.args.body.now _ _ _ _ _ c.requires.read made
+    accepted_answers c.args.self.now c.args.submission.id c.args.submission.body.now _ _ _ _ _ c.requires.read made
     (c.accept.ensures.made ∙ ap (λ m. applied m c.in_ok-proposal.proposal.edits) c.prepare.ensures.content)
     (c.push-seq.ensures.seq ∙ ap (λ l. length l + 1) list)
     (counted _ _ _ _ _ c.prepare.ensures.content (ap (λ s. s.content) c.self.view_is) (c.cells-cells.ensures ∙ c.in_ok-proposal.ensures.proposed.count_is))
-    (c.push-seq.ensures.list ∙ ap₂ (λ l b. l ++ (record { id = c.args.id; body = b } ∷ [])) list c.in-Ok.ensures.copy)
+    (c.push-seq.ensures.list ∙ ap₂ (λ l b. l ++ (record { id = c.args.submission.id; body = b } ∷ [])) list c.in-Ok.ensures.copy)
 
 pub returns-in-Ok-clause-steps : goal.returns-in-Ok-clause-steps
 returns-in-Ok-clause-steps g c = spent_reading _ _ _ _ _ _ c.self.view_is c.requires.read c.prepare.ensures.steps
 
 pub returns-in-Ok-clause-untouched : goal.returns-in-Ok-clause-untouched
 returns-in-Ok-clause-untouched g c =
-    let made = ap (λ s. entered_by s c.args.body.now) (sym c.self.view_is) ∙ c.in_ok-proposal.ensures.entered in
-    λ none. c.in-Ok.ensures.untouched (unstored c.args.stored (submitted c.args.self.now c.args.id c.args.body.now)
-    (accepted_reply c.args.self.now c.args.id c.args.body.now _ c.requires.read made) none)
+    let made = ap (λ s. entered_by s c.args.submission.body.now) (sym c.self.view_is) ∙ c.in_ok-proposal.ensures.entered in
+    λ none. c.in-Ok.ensures.untouched (unstored c.args.stored (submitted c.args.self.now c.args.submission.id c.args.submission.body.now)
+    (accepted_reply c.args.self.now c.args.submission.id c.args.submission.body.now _ c.requires.read made) none)

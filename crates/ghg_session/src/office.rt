@@ -1,0 +1,69 @@
+//! What the office answers to the requests of a script.
+
+ghost use Rattle.std.specs.Prelude.{◌≡◌, ◌≤◌, ◌+◌, ◌&&◌, true, false, IfErr, IfOk, IsErrOf, OnErr, OnOk};
+ghost use Rattle.ghg_office.specs.Keeping.{KeepsAccepted, Lists};
+ghost use Rattle.ghg_outer.specs.Counts.{IsCounted};
+ghost use Rattle.ghg_session.specs.Replies.{office_step};
+ghost use Rattle.ghg_session.specs.Session.{MayLeaveUndone, bytes_of};
+
+use crate::command::Request;
+use crate::reply::{Lines, one_line, table_lines};
+use crate::script::TableQuery;
+use crate::status::Status;
+use ghg_keeper::Keeper;
+use ghg_office::Office;
+use ghg_steps::Steps;
+use ghg_workers::{Gate, Workers};
+use std::alloc::Global;
+use std::sync::ledger::Ledger;
+use std::thread::Threads;
+
+/// The lines that reply to a request. It is left undone for want of memory only where it takes memory, and
+/// for a fault of the keeper only where it is to be kept.
+#[tactic(auto, unfolding(crate::specs::Replies::office_step))]
+pub(crate) fn answer<K: Keeper, G: Gate, T: Threads + Sync, L: Ledger>(
+    office: &mut Office,
+    alloc: Global,
+    workers: &Workers<'_, T, G>,
+    request: &Request<TableQuery>,
+    keeper: &mut K,
+    stored: bool,
+    steps: &mut Steps<L>,
+) -> Result<Lines, Status>
+    requires workers { (1 ≤ workers.now.count) × (workers.now.count ≤ 64) }
+    requires same { stored ≡ true → Lists (K.shelf keeper.old) office.old.accepted }
+    ensures lines { IfOk result (λ lines. bytes_of lines ≡ (office_step office.old request.now).reply) }
+    ensures after { OnOk result (office.new ≡ (office_step office.old request.now).after) }
+    ensures undone { OnErr result (office.new ≡ office.old) }
+    ensures cause { IfErr result (MayLeaveUndone (office_step office.old request.now)) }
+    ensures steps { steps.new ≤ steps.old + (office_step office.old request.now).steps }
+    // The keeper's rows are the accepted submissions, and it is called only for a request to be kept.
+    ensures kept { stored ≡ true
+        → KeepsAccepted (K.shelf keeper.old) (K.shelf keeper.new) office.new.accepted }
+    ensures repeats { (stored && (office_step office.old request.now).is_kept) ≡ false
+        → keeper.new ≡ keeper.old }
+    ensures stored { IsErrOf result Status.StoreFailed → stored ≡ true }
+    ensures counted { IsCounted (K.shelf keeper.old).faults (K.shelf keeper.new).faults
+        (IsErrOf result Status.StoreFailed) }
+{
+    match request {
+        Request::Submit { id, body } => {
+            let reply = office.submit(
+                workers.threads,
+                alloc,
+                id.as_slice(),
+                body.as_slice(),
+                workers.count,
+                workers.gate,
+                keeper,
+                stored,
+                steps,
+            );
+            one_line(alloc, &reply)
+        }
+        Request::Query(show) => {
+            let reply = office.show(alloc, show.table.as_slice(), show.year);
+            table_lines(alloc, show.table.as_slice(), show.year, reply)
+        }
+    }
+}
