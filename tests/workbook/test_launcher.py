@@ -18,7 +18,7 @@ class Launcher(unittest.TestCase):
         for words, page in (
             (["--help"], "ghg"), (["-h"], "ghg"), (["help"], "ghg"),
             (["help", "compile"], "compile"), (["compile", "--help"], "compile"),
-            (["help", "serve"], "serve"), (["serve", "-h"], "serve"),
+            (["help", "serve"], "serve"), (["serve", "-h"], "serve"), (["generate", "--help"], "generate"),
         ):
             run = ghg(*words)
             self.assertEqual((run.returncode, run.stderr), (0, ""), words)

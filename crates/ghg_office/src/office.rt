@@ -1,10 +1,11 @@
 //! The office.
 
 ghost use Rattle.std.specs.Prelude.{◌≡◌, ◌≢◌, ◌≤◌, ◌+◌, true, false, IsErrOf, IfOk, IfErr};
-ghost use Rattle.ghg_definitions.specs.Compilation.{is_year_of};
+ghost use Rattle.ghg_definitions.specs.Compilation.{compilation, is_year_of};
 ghost use Rattle.ghg_definitions.specs.Data.{span};
 ghost use Rattle.ghg_outer.specs.Counts.{IsCounted};
 ghost use Rattle.ghg_keeper.specs.Shelf.{Keeps};
+ghost use Rattle.ghg_tables.specs.Sums.{shown};
 ghost use Rattle.ghg_office.specs.Office.{IsRead, evaluations, requested, start, submitted, unchanged};
 ghost use Rattle.ghg_office.specs.Keeping.{HadRows, KeepsAccepted, Lists, is_to_append};
 ghost use Rattle.ghg_office.specs.Replays.{IsReplay, Takes, replay_evaluations, replayed, taken};
@@ -18,14 +19,15 @@ use crate::id::SubmissionId;
 use crate::keeping::keep_body;
 use crate::proposing::prepare;
 use crate::reply::{Acceptance, Reply};
+use ghg_cell::Input;
 use ghg_data::{Book, Records};
 use ghg_engine::Engine;
 use ghg_graph::Cells;
 use ghg_import::is_too_long;
 use ghg_keeper::{Keeper, KeptRow};
 use ghg_steps::Steps;
-use ghg_tables::{print, table_named};
-use ghg_units::{Rule, Text};
+use ghg_tables::{print, shown, table_named};
+use ghg_units::{Node, Rule, Text};
 use ghg_workers::{Gate, Workers};
 use std::alloc::Global;
 use std::hash::RandomState;
@@ -300,6 +302,13 @@ impl Office {
             Ok(text) => Reply::Table(text),
             Err(_) => Reply::Memory,
         }
+    }
+
+    /// What tables print of a node: its value by the data in force, and a blank where it is no node.
+    pub fn shown(&self, node: &Node) -> Input
+        ensures { result ≡ shown (compilation self.now.content) node.now }
+    {
+        shown(&self.engine, node)
     }
 }
 

@@ -12,11 +12,12 @@ use Rattle.ghg_session.specs.Replies.{protocol}
 use Rattle.ghg_session.specs.Session.{EndsBy}
 use Rattle.ghg_session.specs.Writing.{Reports, StoppedWriting}
 use Rattle.ghg_words.specs.declared.command.Command.{Command}
-use Rattle.ghg_words.specs.declared.command.Command.TheVariants.{Compile, Serve}
+use Rattle.ghg_words.specs.declared.command.Command.TheVariants.{Compile, Generate, Serve}
+use Rattle.ghg_words.specs.declared.command.Sample.{Sample}
 use Rattle.ghg_words.specs.declared.command.Service.{Service}
 use Rattle.ghg_words.specs.declared.command.Settings.{Settings}
-use Rattle.ghg_run.specs.Opening.{BeginsNot, FailsAtOnce, RefusesRow, ReportsRow}
-use Rattle.ghg_run.specs.Run.{MayEnd, Runs, bad_command_line, store_in}
+use Rattle.ghg_run.specs.Opening.{BeginsNot, FailsAtOnce, RefusesRow, ReportsMade}
+use Rattle.ghg_run.specs.Run.{Generates, MayEnd, Runs, bad_command_line, store_in}
 use Rattle.ghg_run.specs.Serve.{EndsServing, ServedLink}
 
 -- ---- a line that is due
@@ -52,11 +53,11 @@ report_other before after line due status other told due_other output memory =
 
 -- ---- each command
 
-row_as : (before after : Tape) (seq : ℕ) (reply : _) (status : Status) (holds : Status → Type 0)
-    → ReportsRow before after seq reply status → holds RowRefused → holds OutputFailed → holds OutOfMemory → holds status
-row_as before after seq reply status holds (inl told) h output memory =
-    reported_as before after _ RowRefused status holds told h output memory
-row_as before after seq reply status holds (inr left) h output memory = subst holds (sym left.1) memory
+made_as : (before after : Tape) (text : List ℕ) (due status : Status) (holds : Status → Type 0)
+    → ReportsMade before after text due status → holds due → holds OutputFailed → holds OutOfMemory → holds status
+made_as before after text due status holds (inl told) h output memory =
+    reported_as before after text due status holds told h output memory
+made_as before after text due status holds (inr left) h output memory = subst holds (sym left.1) memory
 
 not_opened : (command : Option Command) (store : Option (List ℕ)) (shelf shelf' : Shelf) (output output' : Tape) (steps steps' : ℕ)
     (status : Status) → store_in command ≡ store
@@ -71,7 +72,7 @@ not_opened command (Some name) shelf shelf' output output' steps steps' status e
     by : RefusesRow name none.rows shelf' output output' status ⊎ FailsAtOnce name shelf shelf' output output' status
         → MayEnd command status
     by (inl refused) =
-        row_as output output' refused.seq refused.reply status (MayEnd command) refused.told (rw e refl) tt tt
+        made_as output output' _ RowRefused status (MayEnd command) refused.told (rw e refl) tt tt
     by (inr fault) = fails fault.kind
 
 session_ends : (settings : Settings) (status : Status) → (status ≡ StoreFailed → IsSome settings.store) → (now last : State) (left : Tape) (grows : _) (took : List ℕ)
@@ -99,6 +100,11 @@ serving_ends service StoreFailed door taken dropped e = absurd e
 serving_ends service BadCommandLine door taken dropped e = absurd e
 serving_ends service RowRefused door taken dropped e = absurd e
 
+pub sample_ends : (sample : Sample) (output output' : Tape) (steps steps' : ℕ) (status : Status)
+    → Generates sample output output' steps steps' status → MayEnd (Some (Generate sample)) status
+sample_ends sample output output' steps steps' status done =
+    made_as output output' _ Done status (MayEnd (Some (Generate sample))) done.0 refl tt tt
+
 pub may_end : (command : Option Command) (shelf shelf' : Shelf) (input input' output output' : Tape) (door door' : Register Tape)
     (steps steps' : ℕ) (status : Status) → (status ≡ StoreFailed → IsSome (store_in command))
     → Runs command shelf shelf' input input' output output' door door' steps steps' status → MayEnd command status
@@ -112,6 +118,8 @@ may_end (Some (Serve service)) shelf shelf' input input' output output' door doo
     not_opened (Some (Serve service)) service.settings.store shelf shelf' output output' steps steps' status refl none.0
 may_end (Some (Serve service)) shelf shelf' input input' output output' door door' steps steps' status h (inr office) =
     serving_ends service status door' _ _ office.does.0.ends
+may_end (Some (Generate sample)) shelf shelf' input input' output output' door door' steps steps' status h done =
+    sample_ends sample output output' steps steps' status done
 
 -- a script is not answered by the door, and no connection by the input
 pub no_door : (settings : Settings) (status : Status) → MayEnd (Some (Compile settings)) status → status ≡ DoorFailed → ⊥
@@ -119,3 +127,14 @@ no_door settings status may is = let none = subst (MayEnd (Some (Compile setting
 
 pub no_input : (service : Service) (status : Status) → MayEnd (Some (Serve service)) status → status ≡ InputFailed → ⊥
 no_input service status may is = let none = subst (MayEnd (Some (Serve service))) is may in cc
+
+-- and generated submissions by none of them
+module _ (sample : Sample) (status : Status) (may : MayEnd (Some (Generate sample)) status) where
+  pub no_input_for_sample : status ≡ InputFailed → ⊥
+  no_input_for_sample is = let none = subst (MayEnd (Some (Generate sample))) is may in cc
+
+  pub no_store_for_sample : status ≡ StoreFailed → ⊥
+  no_store_for_sample is = let none = subst (MayEnd (Some (Generate sample))) is may in cc
+
+  pub no_door_for_sample : status ≡ DoorFailed → ⊥
+  no_door_for_sample is = let none = subst (MayEnd (Some (Generate sample))) is may in cc

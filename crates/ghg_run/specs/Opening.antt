@@ -38,10 +38,14 @@ IsKeptIn (Some name) shelf accepted = IsInUse name shelf × Lists shelf accepted
 abbrev pub kept_line : ℕ → Reply → List ℕ
 kept_line seq reply = line_of (codes "kept row " ++ decimal seq ++ codes " " ++ reply_text reply)
 
--- The line of a row that is refused is due. Or memory ran out before it was made, and nothing was written.
+-- A text is due, and a status after it. Or memory ran out before it was made, and nothing was written.
+abbrev pub ReportsMade : Tape → Tape → List ℕ → Status → Status → Type 0
+ReportsMade before after text due status =
+    Reports before after text due status ⊎ ((after ≡ before) × (status ≡ OutOfMemory))
+
+-- The line of a row that is refused is due.
 abbrev pub ReportsRow : Tape → Tape → ℕ → Reply → Status → Type 0
-ReportsRow before after seq reply status =
-    Reports before after (kept_line seq reply) RowRefused status ⊎ ((after ≡ before) × (status ≡ OutOfMemory))
+ReportsRow before after seq reply status = ReportsMade before after (kept_line seq reply) RowRefused status
 
 -- Of these rows one is refused, which is reported, and the store is in use.
 pub record RefusesRow (name : List ℕ) (rows : List KeptRow) (shelf' : Shelf) (output output' : Tape)

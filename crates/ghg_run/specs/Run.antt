@@ -1,10 +1,12 @@
 -- What the program owes for its words.
-use Rattle.std.specs.Prelude.{◌≡◌, ⊤, ◌⊎◌, ℕ, true, false, Bool, List, map, Option, Some, None, IsSome, String, codes}
+use Rattle.std.specs.Prelude.{◌≡◌, ⊤, ◌⊎◌, ℕ, ◌+◌, ◌≤◌, true, false, Bool, List, map, Option, Some, None, IsSome, String, codes}
 use Rattle.std.specs.String.{string_bytes}
+use Rattle.ghg_generator.specs.Summary.{submissions, summary}
 use Rattle.ghg_keeper.specs.Shelf.{Shelf}
 use Rattle.ghg_office.specs.declared.reply.Reply.{Reply}
 use Rattle.ghg_office.specs.Laws.{IsInForce}
-use Rattle.ghg_office.specs.Office.{State}
+use Rattle.ghg_office.specs.Office.{State, start}
+use Rattle.ghg_office.specs.Replays.{replay_evaluations}
 use Rattle.ghg_office.specs.Sound.{IsSoundReply}
 use Rattle.ghg_outer.specs.Counts.{IsCounted}
 use Rattle.ghg_outer.specs.Doors.{Register}
@@ -21,9 +23,10 @@ use Rattle.ghg_session.specs.Status.{status_code}
 use Rattle.ghg_session.specs.Writing.{Reports}
 use Rattle.ghg_words.specs.Command.{command_in}
 use Rattle.ghg_words.specs.declared.command.Command.{Command}
-use Rattle.ghg_words.specs.declared.command.Command.TheVariants.{Compile, Serve}
+use Rattle.ghg_words.specs.declared.command.Command.TheVariants.{Compile, Generate, Serve}
+use Rattle.ghg_words.specs.declared.command.Sample.{Sample}
 use Rattle.ghg_words.specs.declared.command.Service.{Service}
-use Rattle.ghg_run.specs.Opening.{BeginsNot, RunsOffice}
+use Rattle.ghg_run.specs.Opening.{BeginsNot, ReportsMade, RunsOffice}
 use Rattle.ghg_run.specs.Serve.{Serves, office_at}
 
 -- ---- the bounds that a session prints
@@ -69,6 +72,12 @@ ServesAll service shelf shelf' output output' door door' steps steps' status =
     status
     × (output' ≡ output))
 
+-- The summary of the generated submissions was due, for no more steps than these ask for.
+abbrev pub Generates : Sample → Tape → Tape → ℕ → ℕ → Status → Type 0
+Generates sample output output' steps steps' status =
+    ReportsMade output output' (summary sample.seed sample.lines) Done status
+    × (steps' ≤ steps + replay_evaluations start (submissions sample.seed sample.lines))
+
 -- ---- any words
 
 -- the command that the words ask for
@@ -80,6 +89,7 @@ abbrev pub store_in : Option Command → Option (List ℕ)
 store_in None = None
 store_in (Some (Compile settings)) = settings.store
 store_in (Some (Serve service)) = service.settings.store
+store_in (Some (Generate sample)) = None
 
 -- whether a command reads the input
 abbrev pub reads_input : Option Command → Bool
@@ -100,6 +110,8 @@ Runs (Some (Compile settings)) shelf shelf' input input' output output' door doo
     Compiles settings.store shelf shelf' input input' output output' steps steps' status
 Runs (Some (Serve service)) shelf shelf' input input' output output' door door' steps steps' status =
     ServesAll service shelf shelf' output output' door door' steps steps' status
+Runs (Some (Generate sample)) shelf shelf' input input' output output' door door' steps steps' status =
+    Generates sample output output' steps steps' status
 
 -- the statuses that a run for this command may end with
 abbrev pub MayEnd : Option Command → Status → Type 0

@@ -1,7 +1,7 @@
 //! All that the program does.
 
 ghost use Rattle.std.specs.Prelude.{◌≡◌, ◌≤◌, ◌<◌, false, None, IsSome};
-ghost use Rattle.ghg_run.specs.Run.{Compiles, IsRun, ServesAll, asked_for, opens_door, reads_input, store_in};
+ghost use Rattle.ghg_run.specs.Run.{Compiles, Generates, IsRun, ServesAll, asked_for, opens_door, reads_input, store_in};
 ghost use Rattle.ghg_run.specs.Serve.{register_of};
 ghost use Rattle.ghg_outer.specs.Counts.{IsCounted};
 ghost use Rattle.ghg_outer.specs.Tape.{Rose};
@@ -13,23 +13,24 @@ use ghg_office::Office;
 use ghg_outer::{Door, Sink, Source};
 use ghg_session::{Script, Status, answer_script, report};
 use ghg_steps::Steps;
-use ghg_words::{Command, Service, Settings, read_command};
+use ghg_words::{Command, Sample, Service, Settings, read_command};
 use ghg_workers::{Gate, Workers};
-use std::alloc::Global;
+use std::alloc::{AllocError, Global};
 use std::hash::RandomState;
 use std::sync::ledger::{Blank, Ledger};
 use std::thread::Threads;
 
 /// Does what the words ask for, and answers the status that the program ends with.
 ///
-/// The word `compile` asks it to answer the script that the input holds, and `serve` to serve connections at
-/// a port of loopback. With `--store NAME` the submissions that were kept in that store are replayed first,
-/// and those that are accepted now are kept there. For each submission no more nodes are evaluated than its
-/// rows affect, by as many workers as the words say; the gate is told of each before.
+/// The word `compile` asks it to answer the script that the input holds, `serve` to serve connections at a
+/// port of loopback, and `generate` to write the summary of a run of generated submissions. With
+/// `--store NAME` the submissions that were kept in that store are replayed first, and those that are
+/// accepted now are kept there. For each submission no more nodes are evaluated than its rows affect, by as
+/// many workers as the words say; the gate is told of each before.
 ///
 /// | Status | Meaning |
 /// |---|---|
-/// | 0 | the script was answered to its end, or all connections were served |
+/// | 0 | the script was answered to its end, all connections were served, or the summary was written |
 /// | 2 | the words are no command |
 /// | 3 | the input is no script |
 /// | 4 | the input failed |
@@ -62,15 +63,19 @@ pub fn run<S: Source, W: Sink, K: Keeper, D: Door, G: Gate, T: Threads + Sync, L
 {
     match read_command(words) {
         Some(Command::Compile(settings)) => {
-            let workers = workers(rt, &settings, gate);
+            let workers = workers(rt, settings.workers, gate);
             compile(
                 alloc, hasher, &workers, &settings, input, out, keeper, steps,
             )
             .code()
         }
         Some(Command::Serve(service)) => {
-            let workers = workers(rt, &service.settings, gate);
+            let workers = workers(rt, service.settings.workers, gate);
             serve(alloc, hasher, &workers, &service, out, keeper, door, steps).code()
+        }
+        Some(Command::Generate(sample)) => {
+            let workers = workers(rt, sample.workers, gate);
+            generate(alloc, hasher, &workers, &sample, out, steps).code()
         }
         None => report(out, BAD_COMMAND_LINE, Status::BadCommandLine).code(),
     }
@@ -109,13 +114,13 @@ pub fn run_counted<S: Source, W: Sink, K: Keeper, D: Door, G: Gate, T: Threads +
     )
 }
 
-// Who evaluates, by the settings.
-fn workers<'a, T, G>(threads: &'a T, settings: &Settings<'_>, gate: &'a G) -> Workers<'a, T, G>
-    ensures { result.count ≡ settings.now.workers }
+// Who evaluates.
+fn workers<'a, T, G>(threads: &'a T, count: u32, gate: &'a G) -> Workers<'a, T, G>
+    ensures { result.count ≡ count }
 {
     Workers {
         threads,
-        count: settings.workers,
+        count,
         gate,
     }
 }
@@ -209,5 +214,24 @@ fn serve<W: Sink, K: Keeper, D: Door, G: Gate, T: Threads + Sync, L: Ledger>(
             Ok(office) => serve_office(alloc, workers, service, office, keeper, door, steps),
             Err(status) => status,
         },
+    }
+}
+
+// Runs the generated submissions, and writes the summary.
+fn generate<W: Sink, G: Gate, T: Threads + Sync, L: Ledger>(
+    alloc: Global,
+    hasher: RandomState,
+    workers: &Workers<'_, T, G>,
+    sample: &Sample,
+    out: &mut W,
+    steps: &mut Steps<L>,
+) -> Status
+    requires { (1 ≤ workers.now.count) × (workers.now.count ≤ 64) }
+    ensures run { Generates sample.now (W.tape out.old) (W.tape out.new) steps.old steps.new result }
+    ensures output { result ≡ Status.OutputFailed → Rose (W.tape out.old) (W.tape out.new) }
+{
+    match ghg_generator::generate(alloc, hasher, workers, sample.seed, sample.lines, steps) {
+        Ok(summary) => report(out, &summary, Status::Done),
+        Err(AllocError) => Status::OutOfMemory,
     }
 }

@@ -105,6 +105,9 @@ fn kept_rows(alloc: Global, count: usize) -> Result<Vec<KeptRow>, AllocError> {
     Ok(rows)
 }
 
+// The opening submission has 31 years of 77 nodes, and the line 31 of 8.
+const SUMMARY: &str = "seed 1\nlines 1\naccepted 2\ncells 2635\ngross 2020 4.048 3.958 4.139\n";
+
 // Words that are no command, and the read or the write that fails.
 #[test]
 fn words_and_faults(rt: HostRuntime) -> Result<(), Fail> {
@@ -118,6 +121,7 @@ fn words_and_faults(rt: HostRuntime) -> Result<(), Fail> {
         ("compile --workers 0", 0, 0, 2, "bad command line\n"),
         ("compile --workers 65", 0, 0, 2, "bad command line\n"),
         ("serve --port 8000", 0, 0, 2, "bad command line\n"),
+        ("generate --seed 0 --lines 0", 0, 0, 2, "bad command line\n"),
         (
             "serve --port 8000 --connections 0",
             0,
@@ -131,6 +135,9 @@ fn words_and_faults(rt: HostRuntime) -> Result<(), Fail> {
         ("compile", 2, 0, 4, ""),
         ("compile --workers=64 --store s", 2, 0, 4, ""),
         ("compile", 0, 1, 5, ""),
+        ("generate --seed 1 --lines 1", 1, 0, 0, SUMMARY),
+        ("generate --seed 1 --lines 1 --workers 7", 0, 0, 0, SUMMARY),
+        ("generate --seed 1 --lines 1", 0, 1, 5, ""),
     ] {
         let case = Case {
             words,

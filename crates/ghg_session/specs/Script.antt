@@ -51,7 +51,8 @@ script_forms bytes =
 -- SHOW, the name of a table of 1 to 16 lower-case letters, and a year of four digits; or END.
 abbrev pub IsFormOf : Line TableQuery → List ℕ → Type 0
 IsFormOf (line.Submit id n) text = (digits : List ℕ)
-    × (text ≡ codes "SUBMIT " ++ (id ++ (codes " " ++ digits))) × (has_length 1 60 id ≡ true) × (lacks 32 id ≡ true) × (number_in 8 digits ≡ Some n)
+    × (text ≡ codes "SUBMIT " ++ (id ++ (codes " " ++ digits))) × (has_length 1 60 id ≡ true)
+    × (lacks 32 id ≡ true) × (number_in 8 digits ≡ Some n)
 IsFormOf (line.Query show) text = (digits : List ℕ)
     × (text ≡ codes "SHOW " ++ (show.table ++ (codes " " ++ digits))) × (has_length 1 16 show.table ≡ true)
     × (list_all is_lower show.table ≡ true) × (length digits ≡ 4) × (number_in 4 digits ≡ Some show.year)

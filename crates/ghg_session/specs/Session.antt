@@ -40,7 +40,7 @@ pub record Protocol (State Request : Type 0) : Type 0 where
   pub commands : Grammar (Command Request)
   pub step : State → Request → Step State
 
--- that of a dialect and a desk
+-- that of a dialect, and of the steps that requests come to
 abbrev pub protocol_of : {State Q : Type 0} → Forms Q → (State → Request Q → Step State)
     → Protocol State (Request Q)
 protocol_of forms step = record { commands = commands_of forms; step = step }

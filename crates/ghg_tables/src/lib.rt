@@ -15,7 +15,7 @@ mod rows;
 mod sums;
 mod table;
 
-pub use figures::reported;
+pub use figures::{append_figures, reported};
 pub use laws::{
     bounds_hold, burnt_fuel_prints, near_is_nearest, pairs_stand_in_order, power_plant_prints,
     smallest_prints,
@@ -23,4 +23,5 @@ pub use laws::{
 pub use precision::{Precision, precision_for};
 pub use printing::print;
 pub use rounding::near;
+pub use sums::shown;
 pub use table::{Table, table_named};

@@ -25,7 +25,7 @@ use ghg_graph::Cells;
 use ghg_units::{Name, Node};
 
 /// What is known of a node; nothing where it is no node.
-pub(crate) fn shown<C: Cells>(cells: &C, node: &Node) -> Input
+pub fn shown<C: Cells>(cells: &C, node: &Node) -> Input
     ensures value { result ≡ shown (compilation (C.content cells.now)) node.now }
     ensures compiled { IsCompilation (sheet_of (C.content cells.now)) (compilation (C.content cells.now)) }
 {

@@ -2,7 +2,7 @@
 use Rattle.std.specs.Prelude.{ℕ, ◌≤◌, List, [], ◌∷◌, if◌then◌else◌, Option, Some, None, option_map, option_and_then, codes}
 use Rattle.std.specs.Str.{bytes_eq}
 use Rattle.ghg_words.specs.declared.command.Command.{Command}
-use Rattle.ghg_words.specs.declared.command.Command.TheVariants.{Compile, Serve}
+use Rattle.ghg_words.specs.declared.command.Command.TheVariants.{Compile, Generate, Serve}
 use Rattle.ghg_words.specs.declared.command.Settings.{Settings}
 use Rattle.ghg_words.specs.declared.command.TheConstants.{MOST_WORKERS}
 use Rattle.ghg_words.specs.Options.{Options, only, options_in, value_of}
@@ -40,6 +40,15 @@ serve_of o =
     (number_from (codes "port") 1 65535 o))
     (settings_of o)
 
+abbrev pub generate_of : Options → Option Command
+generate_of o =
+    option_and_then (λ workers.
+    option_and_then (λ seed.
+    option_map (λ lines. Generate (record { workers = workers; seed = seed; lines = lines }))
+    (number_from (codes "lines") 1 1000 o))
+    (number_from (codes "seed") 0 2147483647 o))
+    (workers_of (value_of (codes "workers") o))
+
 -- the options, if the command takes them
 unfoldable pub options_of_compile : Options → Option Options
 options_of_compile = only (codes "workers" ∷ codes "store" ∷ [])
@@ -47,21 +56,26 @@ options_of_compile = only (codes "workers" ∷ codes "store" ∷ [])
 unfoldable pub options_of_serve : Options → Option Options
 options_of_serve = only (codes "workers" ∷ codes "store" ∷ codes "port" ∷ codes "connections" ∷ [])
 
+unfoldable pub options_of_generate : Options → Option Options
+options_of_generate = only (codes "seed" ∷ codes "lines" ∷ codes "workers" ∷ [])
+
 -- the command of that name, with these options
 abbrev pub command_named : List ℕ → Options → Option Command
 command_named word o =
     if bytes_eq word (codes "compile") then option_and_then compile_of (options_of_compile o) else (
-    if bytes_eq word (codes "serve") then option_and_then serve_of (options_of_serve o) else None)
+    if bytes_eq word (codes "serve") then option_and_then serve_of (options_of_serve o) else (
+    if bytes_eq word (codes "generate") then option_and_then generate_of (options_of_generate o) else None))
 
 -- the command that the words are
 unfoldable pub command_in : List (List ℕ) → Option Command
 command_in [] = None
 command_in (word ∷ words) = option_and_then (command_named word) (options_in words)
 
-abbrev pub HasWorkers : Settings → Type 0
-HasWorkers settings = (1 ≤ settings.workers) × (settings.workers ≤ MOST_WORKERS)
+abbrev pub AreWorkers : ℕ → Type 0
+AreWorkers workers = (1 ≤ workers) × (workers ≤ MOST_WORKERS)
 
 -- a command has 1 to 64 workers, and serves one connection at least
 abbrev pub IsBounded : Command → Type 0
-IsBounded (Compile settings) = HasWorkers settings
-IsBounded (Serve service) = HasWorkers service.settings × (1 ≤ service.connections)
+IsBounded (Compile settings) = AreWorkers settings.workers
+IsBounded (Serve service) = AreWorkers service.settings.workers × (1 ≤ service.connections)
+IsBounded (Generate sample) = AreWorkers sample.workers

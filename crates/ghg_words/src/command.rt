@@ -1,9 +1,9 @@
 //! Commands, and the words that ask for them.
 
-ghost use Rattle.std.specs.Prelude.{◌≡◌, ◌≤◌, IfSome, map, option_map, option_and_then};
+ghost use Rattle.std.specs.Prelude.{◌≡◌, ◌≤◌, IfSome, codes, map, option_map, option_and_then};
 ghost use Rattle.std.specs.String.{string_bytes};
-ghost use Rattle.ghg_words.specs.Command.{HasWorkers, IsBounded, command_in, compile_of, number_from, options_of_compile, options_of_serve, serve_of, settings_of};
-ghost use Rattle.ghg_words.specs.Options.{seen};
+ghost use Rattle.ghg_words.specs.Command.{AreWorkers, IsBounded, command_in, compile_of, generate_of, number_from, options_of_compile, options_of_generate, options_of_serve, serve_of, settings_of, workers_of};
+ghost use Rattle.ghg_words.specs.Options.{seen, value_of};
 
 use crate::options::{Options, read_options};
 use crate::values::{StoreName, number_within};
@@ -15,9 +15,11 @@ pub enum Command<'a> {
     Compile(Settings<'a>),
     /// To serve connections.
     Serve(Service<'a>),
+    /// To run the submissions that a seed decides.
+    Generate(Sample),
 }
 
-/// What every command takes.
+/// What `compile` and `serve` take.
 #[derive(Debug, Drop)]
 pub struct Settings<'a> {
     /// The number of workers, from 1 to 64.
@@ -36,6 +38,17 @@ pub struct Service<'a> {
     pub connections: u32,
 }
 
+/// The submissions that are generated.
+#[derive(Debug, Drop)]
+pub struct Sample {
+    /// The number of workers, from 1 to 64.
+    pub workers: u32,
+    /// The seed of the draws, at most 2,147,483,647.
+    pub seed: u32,
+    /// How many lines there are, from 1 to 1,000.
+    pub lines: u32,
+}
+
 /// Reads the words after the program's name. `None` where they are no command.
 #[tactic(auto, unfolding(crate::specs::Command::command_in))]
 pub fn read_command(words: &[String]) -> Option<Command<'_>>
@@ -47,6 +60,7 @@ pub fn read_command(words: &[String]) -> Option<Command<'_>>
     match word.as_str() {
         "compile" => compile_with(options_of_compile(options)?),
         "serve" => serve_with(options_of_serve(options)?),
+        "generate" => generate_with(options_of_generate(options)?),
         _ => None,
     }
 }
@@ -67,6 +81,14 @@ fn options_of_serve(options: Options<'_>) -> Option<Options<'_>>
     options.only(&["workers", "store", "port", "connections"])
 }
 
+// The options, if `generate` takes them.
+#[tactic(auto, unfolding(crate::specs::Command::options_of_generate))]
+fn options_of_generate(options: Options<'_>) -> Option<Options<'_>>
+    ensures { option_map seen result ≡ options_of_generate (seen options.entry) }
+{
+    options.only(&["seed", "lines", "workers"])
+}
+
 fn compile_with(options: Options<'_>) -> Option<Command<'_>>
     ensures command { result ≡ compile_of (seen options.entry) }
     ensures bounds { IfSome result IsBounded }
@@ -85,6 +107,17 @@ fn serve_with(options: Options<'_>) -> Option<Command<'_>>
     }))
 }
 
+fn generate_with<'a>(options: Options<'_>) -> Option<Command<'a>>
+    ensures command { result ≡ generate_of (seen options.entry) }
+    ensures bounds { IfSome result IsBounded }
+{
+    Some(Command::Generate(Sample {
+        workers: workers_from(options)?,
+        seed: number_from(options, "seed", 0, 2_147_483_647)?,
+        lines: number_from(options, "lines", 1, 1_000)?,
+    }))
+}
+
 // The number that an option gives, between two bounds.
 #[tactic(auto, unfolding(crate::specs::Command::number_from))]
 fn number_from(options: Options<'_>, name: &str, low: u32, high: u32) -> Option<u32>
@@ -98,17 +131,25 @@ fn number_from(options: Options<'_>, name: &str, low: u32, high: u32) -> Option<
 // The settings that the options give.
 fn settings_from(options: Options<'_>) -> Option<Settings<'_>>
     ensures value { result ≡ settings_of (seen options.entry) }
-    ensures bounds { IfSome result HasWorkers }
+    ensures bounds { IfSome result (λ settings. AreWorkers settings.workers) }
 {
-    let workers = match options.value_of("workers") {
-        None => 1,
-        Some(text) => number_within(1, MOST_WORKERS, text)?,
-    };
+    let workers = workers_from(options)?;
     let store = match options.value_of("store") {
         None => None,
         Some(text) => Some(StoreName::new(text)?),
     };
     Some(Settings { workers, store })
+}
+
+// The number of workers that the options give.
+fn workers_from(options: Options<'_>) -> Option<u32>
+    ensures value { result ≡ workers_of (value_of (codes "workers") (seen options.entry)) }
+    ensures bounds { IfSome result AreWorkers }
+{
+    match options.value_of("workers") {
+        None => Some(1),
+        Some(text) => number_within(1, MOST_WORKERS, text),
+    }
 }
 
 /// The most workers of a command.

@@ -11,6 +11,6 @@ mod laws;
 mod options;
 mod values;
 
-pub use command::{Command, Service, Settings, read_command};
+pub use command::{Command, Sample, Service, Settings, read_command};
 pub use laws::options_stand_in_any_order;
 pub use values::StoreName;

@@ -20,15 +20,16 @@ fn words_of(alloc: Global, line: &str) -> Result<Vec<String>, AllocError> {
     Ok(words)
 }
 
-// The number of workers, the store, and the port and the number of connections.
-fn parts<'c>(command: &'c Command) -> (u32, Option<&'c str>, Option<(u16, u32)>) {
+// The number of workers, the store, and the numbers that are required.
+fn parts<'c>(command: &'c Command) -> (u32, Option<&'c str>, Option<(u32, u32)>) {
     match command {
         Command::Compile(settings) => (settings.workers, store_of(settings), None),
         Command::Serve(service) => (
             service.settings.workers,
             store_of(&service.settings),
-            Some((service.port, service.connections)),
+            Some((u32::from(service.port), service.connections)),
         ),
+        Command::Generate(sample) => (sample.workers, None, Some((sample.seed, sample.lines))),
     }
 }
 
@@ -37,7 +38,7 @@ fn store_of<'c>(settings: &'c Settings) -> Option<&'c str> {
 }
 
 // Command lines, with what they name.
-const COMMANDS: &[(&str, u32, Option<&str>, Option<(u16, u32)>)] = &[
+const COMMANDS: &[(&str, u32, Option<&str>, Option<(u32, u32)>)] = &[
     ("compile", 1, None, None),
     ("compile --store s", 1, Some("s"), None),
     ("compile --workers=7", 7, None, None),
@@ -60,6 +61,13 @@ const COMMANDS: &[(&str, u32, Option<&str>, Option<(u16, u32)>)] = &[
         1,
         None,
         Some((65_535, 1_000_000)),
+    ),
+    ("generate --seed 0 --lines 1", 1, None, Some((0, 1))),
+    (
+        "generate --lines=1000 --workers=64 --seed 2147483647",
+        64,
+        None,
+        Some((2_147_483_647, 1_000)),
     ),
 ];
 
@@ -94,6 +102,14 @@ const NO_COMMANDS: &[&str] = &[
     "serve --port 65536 --connections 1",
     "serve --port 8000 --connections 1000001",
     "serve --port 00000008000 --connections 1",
+    "generate --seed 1",
+    "generate --lines 1",
+    "generate --seed 1 --lines 1 --seed 1",
+    "generate --seed 1 --lines 1 --store s",
+    "generate --seed 1 --lines 1 --workers 65",
+    "generate --seed 0 --lines 0",
+    "generate --seed 0 --lines 1001",
+    "generate --seed 2147483648 --lines 1",
 ];
 
 #[test]
@@ -121,9 +137,14 @@ fn read_by_clap<'a>(alloc: Global, words: &'a [&'a str]) -> Result<ArgMatches<'a
         .arg(option(alloc, "store"))?
         .arg(option(alloc, "port"))?
         .arg(option(alloc, "connections"))?;
+    let generate = clap::Command::new(alloc, "generate")
+        .arg(option(alloc, "workers"))?
+        .arg(option(alloc, "seed"))?
+        .arg(option(alloc, "lines"))?;
     clap::Command::new(alloc, "ghg")
         .subcommand(compile)?
         .subcommand(serve)?
+        .subcommand(generate)?
         .try_get_matches_from(words)
 }
 
@@ -138,15 +159,23 @@ fn agrees(matches: &ArgMatches, command: &Command, workers: Option<u32>) -> bool
                 && options.get_one::<u16>("port") == Some(service.port)
                 && options.get_one::<u32>("connections") == Some(service.connections)
         }
+        (Some(("generate", options)), Command::Generate(sample)) => {
+            agrees_on_workers(options, sample.workers, workers)
+                && options.get_one::<u32>("seed") == Some(sample.seed)
+                && options.get_one::<u32>("lines") == Some(sample.lines)
+        }
         _ => false,
     }
 }
 
-// Where the line does not give it, `clap` reads none, and the reader the default.
 fn agrees_on_settings(options: &ArgMatches, settings: &Settings, workers: Option<u32>) -> bool {
     options.get_str("store") == store_of(settings)
-        && options.get_one::<u32>("workers") == workers
-        && settings.workers == workers.unwrap_or(DEFAULT_WORKERS)
+        && agrees_on_workers(options, settings.workers, workers)
+}
+
+// Where the line does not give it, `clap` reads none, and the reader the default.
+fn agrees_on_workers(options: &ArgMatches, read: u32, workers: Option<u32>) -> bool {
+    options.get_one::<u32>("workers") == workers && read == workers.unwrap_or(DEFAULT_WORKERS)
 }
 
 const DEFAULT_WORKERS: u32 = 1;
@@ -160,6 +189,8 @@ const COMPARED: &[(&str, Option<u32>)] = &[
     ("serve --port 8000 --connections 2", None),
     ("serve --workers 1 --port 8000 --connections 2", Some(1)),
     ("serve --connections=2 --store s --port=8000", None),
+    ("generate --seed 1 --lines=300", None),
+    ("generate --workers=7 --lines 1 --seed 0", Some(7)),
 ];
 
 #[test]

@@ -1,7 +1,7 @@
 use Rattle.std.proofs.Common.{◌≡◌, ◌∙◌, ap, sym, refl, Some, None, arith}
 use Rattle.ghg_session.specs.declared.status.Status.TheVariants.{DoorFailed, InputFailed, StoreFailed}
 use Rattle.ghg_run.specs.Serve.{register_of}
-use Rattle.ghg_run.proofs.Known.{may_end, no_door, no_input, report_other, report_output}
+use Rattle.ghg_run.proofs.Known.{may_end, no_door, no_door_for_sample, no_input, no_input_for_sample, no_store_for_sample, report_other, report_output, sample_ends}
 use Rattle.ghg_run.proofs.commands.run.Goals as goal
 
 pub returns-in-None-clause-run : goal.returns-in-None-clause-run
@@ -62,5 +62,22 @@ returns-in-Some-Serve-clause-run g c =
         output_rose = c.serve.ensures.output;
         keeper_rose = c.serve.ensures.counted;
         door_rose = c.serve.ensures.door;
+      },
+    )
+
+pub returns-in-Some-Generate-clause-run : goal.returns-in-Some-Generate-clause-run
+returns-in-Some-Generate-clause-run g c =
+    let command = sym c.read_command.ensures.command ∙ c.in-Some-Generate.is ∙ ap Some c.in-Some-Generate.field-0-is in
+    let known = sample_ends _ _ _ _ _ _ c.generate.ensures.run in
+    rw command (
+      c.generate.result,
+      c.code-in-Some-Generate.ensures,
+      c.generate.ensures.run,
+      record {
+        known = known;
+        input_rose = λ is. absurd (no_input_for_sample _ _ known is);
+        output_rose = c.generate.ensures.output;
+        keeper_rose = record { later = omega arith; rose = λ is. absurd (no_store_for_sample _ _ known is) };
+        door_rose = record { later = omega arith; rose = λ is. absurd (no_door_for_sample _ _ known is) };
       },
     )
