@@ -130,7 +130,7 @@ def is_other(word: str) -> bool:
     """Tells whether a word is no unit and no number, and may change the figure or not."""
     is_known = said_by(word) or units.unit_of(word.removesuffix("^-1")) or units.multiple_of(word)
     glued, of = units.without_what_it_is_of(word)
-    return not is_known and not glued and of not in HARMLESS and bool(re.search("[A-Za-z]", word))
+    return not is_known and not glued and of not in HARMLESS and bool(re.search(r"[^\W\d_]", word))
 
 
 def is_unit(word: str) -> bool:

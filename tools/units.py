@@ -230,7 +230,7 @@ def without_what_it_is_of(word: str) -> tuple[str | None, str]:
 def is_of_something(what: str) -> bool:
     """Tells whether a word after a unit says what it is of, and changes no figure."""
     plain = what.casefold().replace(".", "")
-    return plain not in OTHER_FIGURES and bool(re.fullmatch("[a-z][a-z0-9-]*", plain))
+    return plain not in OTHER_FIGURES and bool(re.fullmatch(r"[^\W\d_][\w-]*", plain))
 
 
 def multiple_of(word: str) -> Exact | None:

@@ -2,7 +2,7 @@
 import fractions
 import unittest
 
-from tools import units, vocabulary
+from tools import unit_bases, units, vocabulary
 
 SAME = "the same number"
 # Each text with the unit of the table that it means, and how to come to it.
@@ -82,6 +82,16 @@ class Units(unittest.TestCase):
     def test_upside_down(self) -> None:
         for text, measures, word in UPSIDE_DOWN:
             self.assertEqual(units.upside_down(text, measures), word, text)
+
+    def test_words_of_other_alphabets_are_kept(self) -> None:
+        heat = "\u0442\u0435\u043f\u043b\u043e\u0442\u0430"
+        for text, others in (("TJ (ciep\u0142o spalania)", ["ciep\u0142o", "spalania"]),
+                             ("TJ (h\u00f8yere brennverdi)", ["h\u00f8yere", "brennverdi"]), (f"TJ {heat}", [heat])):
+            with self.subTest(text):
+                said = unit_bases.words_of(text)
+                self.assertEqual(said.others, others)
+                meant = units.meant(said.bare)
+                self.assertTrue(meant and meant.word == "TJ" and meant.times == 1)
 
     def test_none(self) -> None:
         for text in NONE:
