@@ -1,14 +1,15 @@
-ghost use Rattle.std.specs.Prelude.{◌≡◌, ◌≤◌, ◌≤ℤ◌, pos, SomeIff, OkIff, IfOk, IsTrue, ◌↔◌};
+ghost use Rattle.std.specs.Prelude.{◌≡◌, ◌≤◌, ◌≤ℤ◌, pos, SomeIff, OkIff, IfOk, IsErrOf, IsTrue, ◌↔◌};
 ghost use Rattle.ghg_interval.specs.Fractions as fraction;
-ghost use Rattle.ghg_interval.specs.Bounds.{IsBounded, AreBounded, IsInterval, IsWithin, Inside, unit_scale, between, exactly, point, sum, difference, product, scaled, hull_of};
+ghost use Rattle.ghg_interval.specs.Bounds.{IsBounded, AreBounded, IsInterval, HoldsZero, IsWithin, Inside, unit_scale, between, exactly, point, sum, difference, product, quotient, scaled, hull_of};
 ghost use Rattle.ghg_interval.specs.Corners.{IsProduct, corner, quotients, side};
 ghost use Rattle.ghg_interval.specs.Containment.{Holds, HoldsBy, HoldsScaled, in_units};
-ghost use Rattle.ghg_interval.specs.Operations.{exact_in, whole_in, sum_in, difference_in, product_in, scaled_in};
+ghost use Rattle.ghg_interval.specs.Operations.{exact_in, whole_in, sum_in, difference_in, product_in, quotient_in, scaled_in};
 
 use crate::rounding::{
-    bounded_product, ceil, ceil_after, ceil_scaled_beside, floor, floor_scaled, is_bounded,
+    bounded_product, ceil, ceil_after, ceil_quotient, ceil_scaled_beside, floor, floor_quotient,
+    floor_scaled, greatest, is_bounded, least,
 };
-use crate::{Over, SCALE};
+use crate::{DivRefusal, Over, SCALE};
 use std::marker::Model;
 
 /// All numbers from a lower to an upper bound. The bounds are whole numbers of parts of a unit ([`SCALE`])
@@ -194,6 +195,52 @@ impl Interval {
             }
             None => Err(Over),
         }
+    }
+
+    /// The quotients of the numbers of both, rounded outward. Series are spliced by such ratios (2006 IPCC
+    /// Guidelines, Volume 1, Chapter 5).
+    pub fn div(&self, other: &Interval) -> Result<Interval, DivRefusal>
+        ensures zero { IsErrOf result DivRefusal.Zero ↔ HoldsZero other.now }
+        ensures value { let b = quotient self.now other.now in
+            (HoldsZero other.now → ⊥) → OkIff result (AreBounded b) b }
+        ensures gives { result ≡ quotient_in self.now other.now }
+        ensures holds { IfOk result (HoldsBy fraction.quotient self.now other.now) }
+    {
+        if other.holds_zero() {
+            Err(DivRefusal::Zero)
+        } else {
+            match self.quotient(other) {
+                Ok(quotient) => Ok(quotient),
+                Err(Over) => Err(DivRefusal::Over),
+            }
+        }
+    }
+
+    // Whether zero is between the bounds.
+    fn holds_zero(&self) -> bool
+        ensures { IsTrue result ↔ HoldsZero self.now }
+    {
+        self.lo <= 0 && 0 <= self.hi
+    }
+
+    // The quotients at all four corners, where the divisor does not hold zero.
+    fn quotient(&self, other: &Interval) -> Result<Interval, Over>
+        requires { HoldsZero other.now → ⊥ }
+        ensures { let b = quotient self.now other.now in OkIff result (AreBounded b) b }
+    {
+        let lo = least(
+            floor_quotient(self.lo, other.lo),
+            floor_quotient(self.lo, other.hi),
+            floor_quotient(self.hi, other.lo),
+            floor_quotient(self.hi, other.hi),
+        );
+        let hi = greatest(
+            ceil_quotient(self.lo, other.lo),
+            ceil_quotient(self.lo, other.hi),
+            ceil_quotient(self.hi, other.lo),
+            ceil_quotient(self.hi, other.hi),
+        );
+        Interval::limited(lo, hi)
     }
 
     /// Each number times p over q, rounded outward.
