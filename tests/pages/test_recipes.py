@@ -23,8 +23,8 @@ PLACES = [
     ("ghg_energy/src/combustion.rt", "use ghg_interval::Over;\n",
      "\n/// Mass of fuel sold: half of `FM` in t (Volume 2, Equation 9.9).\n"
      "pub fn q110(ticket: Ticket, fm: &Input)\n"),
-    ("ghg_units/specs/Refusals.antt", 'refusal_text (rules.Cycle line) = worded (codes "12 Cycle ") line\n',
-     'refusal_text (rules.Late row) = numbered (codes "14 Late row ") row\n'),
+    ("ghg_units/specs/Refusals.antt", 'refusal_text (rules.Cycle line) = codes "12 Cycle " ++ line\n',
+     'refusal_text (rules.Late row) = codes "14 Late row " ++ decimal row\n'),
     ("tools/words/rules.csv", "", "14,the row is late\n"),
     ("ghg_units/src/names.rt", "const MOST_NAMES: usize = 40", "1; // before: "),
 ]

@@ -3,8 +3,8 @@
 use ghg_units::Span;
 use std::alloc::{AllocError, Global};
 
-/// A column for each activity and factor, one after the other, with a slot of four bytes for each year. A slot
-/// says where the record of the year may stand: who reads it looks whether it does.
+/// A column for each activity and factor, one after the other, with a slot of four bytes for each year. A
+/// slot says where the record of the year may stand: who reads it looks whether it does.
 #[derive(Drop)]
 pub(crate) struct Slots {
     first: u32,

@@ -24,7 +24,8 @@ use Rattle.ghg_units.specs.declared.rule.Column.TheVariants as columns
 use Rattle.ghg_units.specs.declared.rule.Rule.{Rule}
 use Rattle.ghg_units.specs.declared.unit.Unit.{Unit as UnitWord}
 use Rattle.ghg_units.specs.Decimal.{decimal_in, number_in, number_of}
-use Rattle.ghg_units.specs.HalfLife.{half_life_in, is_half_life, longest_half_life}
+use Rattle.ghg_units.specs.HalfLife.{half_life_in, is_half_life}
+use Rattle.ghg_units.specs.declared.half_life.TheConstants.{LONGEST_HALF_LIFE}
 use Rattle.ghg_units.specs.Name.{factor_name_in, is_digit, is_name, is_potential_name, name_in, plain_name_in}
 use Rattle.ghg_units.specs.Parameter.{is_parameter, parameter_in}
 use Rattle.ghg_units.specs.Uncertainty.{uncertainty_in}
@@ -176,8 +177,8 @@ half_life_formed text years e = by (number_in 2 text) e
     by None e = absurd (cc)
     by (Some y) e =
         let parts = chosen (is_half_life y) y years e in
-        let from = (and_parts (nat_le 1 y) (nat_le y longest_half_life) parts.0).0 in
-        let to = (and_parts (nat_le 1 y) (nat_le y longest_half_life) parts.0).1 in
+        let from = (and_parts (nat_le 1 y) (nat_le y LONGEST_HALF_LIFE) parts.0).0 in
+        let to = (and_parts (nat_le 1 y) (nat_le y LONGEST_HALF_LIFE) parts.0).1 in
         subst IsHalfLife parts.1 (leb-true _ _ from, leb-true _ _ to)
 
 abbrev pub says_years : Manner → Bool

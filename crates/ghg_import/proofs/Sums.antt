@@ -9,7 +9,8 @@ use Rattle.std.proofs.lemmas.Bool.{leb-true, le-leb, lt-leb}
 use Rattle.std.proofs.lemmas.List.Splits.{length-slice_split}
 use Rattle.std.proofs.lemmas.Map.Made.{distinct_count-le}
 use Rattle.ghg_units.specs.Name.{plain_name_in}
-use Rattle.ghg_units.specs.WellFormed.{IsPlainName, IsSum, are_different, is_among, most_parts}
+use Rattle.ghg_units.specs.WellFormed.{IsPlainName, IsSum, are_different, is_among}
+use Rattle.ghg_units.specs.declared.names.TheConstants.{MOST_NAMES}
 use Rattle.ghg_import.specs.Forms.{is_sum, names_in, parts_of}
 
 -- ---- names that stand once
@@ -62,26 +63,26 @@ all_four true false c d e = absurd (cc)
 all_four false b c d e = absurd (cc)
 
 -- of more texts than a sum may have one too many is looked at
-more_left : (n m : ℕ) → n ≡ min (most_parts + 1) m → most_parts < n → nat_le m most_parts ≡ false
-more_left n m e many = lt-leb m most_parts (omega (arith, e, many))
+more_left : (n m : ℕ) → n ≡ min (MOST_NAMES + 1) m → MOST_NAMES < n → nat_le m MOST_NAMES ≡ false
+more_left n m e many = lt-leb m MOST_NAMES (omega (arith, e, many))
 
-all_left : (n m : ℕ) → n ≡ min (most_parts + 1) m → n ≤ most_parts → m ≤ (most_parts + 1)
+all_left : (n m : ℕ) → n ≡ min (MOST_NAMES + 1) m → n ≤ MOST_NAMES → m ≤ (MOST_NAMES + 1)
 all_left n m e few = omega (arith, e, few)
 
-pub too_many : (xs ps : List (List ℕ)) → ps ≡ take (most_parts + 1) xs → most_parts < length ps → is_sum xs ≡ false
-too_many xs ps first many = long (nat_le 1 (length xs)) _ (list_all (λ name. is_some (plain_name_in name)) xs) (are_different xs) (more_left (length ps) (length xs) (ap length first ∙ length-take (most_parts + 1) xs) many)
+pub too_many : (xs ps : List (List ℕ)) → ps ≡ take (MOST_NAMES + 1) xs → MOST_NAMES < length ps → is_sum xs ≡ false
+too_many xs ps first many = long (nat_le 1 (length xs)) _ (list_all (λ name. is_some (plain_name_in name)) xs) (are_different xs) (more_left (length ps) (length xs) (ap length first ∙ length-take (MOST_NAMES + 1) xs) many)
 
 -- and of others all
-pub all_parts : (xs ps : List (List ℕ)) → ps ≡ take (most_parts + 1) xs → length ps ≤ most_parts → ps ≡ xs
-all_parts xs ps first few = first ∙ take_all (most_parts + 1) xs (all_left (length ps) (length xs) (ap length first ∙ length-take (most_parts + 1) xs) few)
+pub all_parts : (xs ps : List (List ℕ)) → ps ≡ take (MOST_NAMES + 1) xs → length ps ≤ MOST_NAMES → ps ≡ xs
+all_parts xs ps first few = first ∙ take_all (MOST_NAMES + 1) xs (all_left (length ps) (length xs) (ap length first ∙ length-take (MOST_NAMES + 1) xs) few)
 
 pub strange_name : (xs : List (List ℕ)) → list_all (λ name. is_some (plain_name_in name)) xs ≡ false → is_sum xs ≡ false
-strange_name xs e = strange (nat_le 1 (length xs)) (nat_le (length xs) most_parts) _ (are_different xs) e
+strange_name xs e = strange (nat_le 1 (length xs)) (nat_le (length xs) MOST_NAMES) _ (are_different xs) e
 
 pub repeated_name : (xs : List (List ℕ)) → are_different xs ≡ false → is_sum xs ≡ false
-repeated_name xs e = repeated (nat_le 1 (length xs)) (nat_le (length xs) most_parts) (list_all (λ name. is_some (plain_name_in name)) xs) _ e
+repeated_name xs e = repeated (nat_le 1 (length xs)) (nat_le (length xs) MOST_NAMES) (list_all (λ name. is_some (plain_name_in name)) xs) _ e
 
-pub sum_of : (text : List ℕ) → length (parts_of text) ≤ most_parts → list_all (λ name. is_some (plain_name_in name)) (parts_of text) ≡ true → are_different (parts_of text) ≡ true → is_sum (parts_of text) ≡ true
+pub sum_of : (text : List ℕ) → length (parts_of text) ≤ MOST_NAMES → list_all (λ name. is_some (plain_name_in name)) (parts_of text) ≡ true → are_different (parts_of text) ≡ true → is_sum (parts_of text) ≡ true
 sum_of text few plain different = rw (le-leb _ _ one, le-leb _ _ few, plain, different) refl
   where
     one : 1 ≤ length (parts_of text)
@@ -107,7 +108,7 @@ all_plain (name ∷ names) e = (own_name _ _ name (both.0), all_plain names both
 
 -- what passes the test is a sum
 pub sum_formed : (names : List (List ℕ)) → is_sum names ≡ true → IsSum names
-sum_formed names e = let all = all_four (nat_le 1 (length names)) (nat_le (length names) most_parts) (list_all (λ name. is_some (plain_name_in name)) names) (are_different names) e in (leb-true _ _ all.0, leb-true _ _ all.1, all_plain names all.2, all.3)
+sum_formed names e = let all = all_four (nat_le 1 (length names)) (nat_le (length names) MOST_NAMES) (list_all (λ name. is_some (plain_name_in name)) names) (are_different names) e in (leb-true _ _ all.0, leb-true _ _ all.1, all_plain names all.2, all.3)
 
 -- ---- what is read
 
@@ -131,8 +132,8 @@ some_named f true ps (Some y) x e is = let same : y ≡ x = cc in (refl, ap f (s
 some_named f false ps (Some y) x e is = absurd (cc)
 
 -- few texts, each a plain name and none of them twice, are the names that the text says
-pub named : (text : List ℕ) (ps names : List (List ℕ)) → ps ≡ parts_of text → length ps ≤ most_parts → list_all (λ name. is_some (plain_name_in name)) ps ≡ true → names ≡ ps → are_different names ≡ true → Some names ≡ names_in text
+pub named : (text : List ℕ) (ps names : List (List ℕ)) → ps ≡ parts_of text → length ps ≤ MOST_NAMES → list_all (λ name. is_some (plain_name_in name)) ps ≡ true → names ≡ ps → are_different names ≡ true → Some names ≡ names_in text
 named text ps names whole few plain same different =
     let all : names ≡ parts_of text = same ∙ whole in
     ap Some all
-    ∙ these_names text (sum_of text (subst (λ (xs : List (List ℕ)). length xs ≤ most_parts) whole few) (ap (list_all (λ name. is_some (plain_name_in name))) (sym whole) ∙ plain) (ap are_different (sym all) ∙ different))
+    ∙ these_names text (sum_of text (subst (λ (xs : List (List ℕ)). length xs ≤ MOST_NAMES) whole few) (ap (list_all (λ name. is_some (plain_name_in name))) (sym whole) ∙ plain) (ap are_different (sym all) ∙ different))

@@ -13,7 +13,8 @@ use Rattle.ghg_units.specs.Decimal.{decimal_in}
 use Rattle.ghg_units.specs.Name.{plain_name_in}
 use Rattle.ghg_units.specs.Units.{interval_in}
 use Rattle.ghg_units.specs.Steps.{◌>>=◌}
-use Rattle.ghg_units.specs.WellFormed.{are_different, most_parts}
+use Rattle.ghg_units.specs.WellFormed.{are_different}
+use Rattle.ghg_units.specs.declared.names.TheConstants.{MOST_NAMES}
 use Rattle.ghg_units.specs.Words.{key_in}
 use Rattle.ghg_import.specs.declared.kind.BindingForm.{BindingForm}
 use Rattle.ghg_import.specs.declared.kind.BindingForm.TheVariants as targets
@@ -32,7 +33,7 @@ quantity_in u text =
 -- different plain names, as many as a sum may have
 abbrev pub is_sum : List (List ℕ) → Bool
 is_sum names =
-    nat_le 1 (length names) && nat_le (length names) most_parts
+    nat_le 1 (length names) && nat_le (length names) MOST_NAMES
     && list_all (λ name. is_some (plain_name_in name)) names && are_different names
 
 -- the texts between the spaces of a text: with exactly one space between two names, none of them is empty

@@ -11,5 +11,5 @@ mod rows;
 mod sum;
 mod table;
 
-pub use laws::rows_are_well_formed;
+pub use laws::{limit_is_number, rows_are_well_formed};
 pub use rows::{MAX_BODY, Rows, is_too_long, read_rows};

@@ -4,7 +4,8 @@ ghost use Rattle.std.specs.Prelude.{◌≡◌, ◌+◌, ◌==◌, map, take, Som
 ghost use Rattle.std.specs.List.{list_all};
 ghost use Rattle.std.specs.Option.{option_map};
 ghost use Rattle.ghg_units.specs.Name.{plain_name_in};
-ghost use Rattle.ghg_units.specs.WellFormed.{are_different, most_parts};
+ghost use Rattle.ghg_units.specs.WellFormed.{are_different};
+ghost use Rattle.ghg_units.specs.declared.names.TheConstants.{MOST_NAMES};
 ghost use Rattle.ghg_import.specs.Forms.{names_in, parts_of};
 
 use ghg_units::{MOST_NAMES, Name, Names};
@@ -31,7 +32,7 @@ pub(crate) fn names_named(alloc: Global, text: &[u8]) -> Result<Option<Names>, A
 
 // The texts between the spaces of a text, and of more than a sum may have one too many.
 fn first_parts(alloc: Global, text: &[u8]) -> Result<Vec<&[u8]>, AllocError>
-    ensures { IfOk result (λ parts. map (λ part. part.now) parts.items ≡ take (most_parts + 1)
+    ensures { IfOk result (λ parts. map (λ part. part.now) parts.items ≡ take (MOST_NAMES + 1)
         (parts_of text.now)) }
 {
     text.split(|b| *b == b' ')

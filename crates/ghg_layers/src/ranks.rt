@@ -140,8 +140,8 @@ impl Ranks {
 
     // ---- totals
 
-    // The greatest rank of given equivalents of lines at the categories whose lines the total adds. The rank is
-    // compared first, since most are 0 and the test of a category takes longer.
+    // The greatest rank of given equivalents of lines at the categories whose lines the total adds. The rank
+    // is compared first, since most are 0 and the test of a category takes longer.
     fn sum_rank(&self, scope: &Scope, year: u32) -> usize
         requires ranks { IsRanking self.now }
         requires year { self.now.first ≤ year }

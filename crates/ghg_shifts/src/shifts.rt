@@ -122,8 +122,8 @@ impl Shifts {
         Ok(())
     }
 
-    // What went from all leaves that a total counts, and what came to them. It visits only the leaves at which
-    // something is noted in the year, from the first category of the tree to the last.
+    // What went from all leaves that a total counts, and what came to them. It visits only the leaves at
+    // which something is noted in the year, from the first category of the tree to the last.
     fn counted(&self, top: Option<Category>, year: u32) -> Counted
         ensures { IsCounted most_joined (shifts_in self.now year top) result }
     {

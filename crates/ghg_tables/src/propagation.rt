@@ -7,7 +7,7 @@ ghost use Rattle.ghg_categories.specs.Tree.{stands_under};
 ghost use Rattle.ghg_categories.specs.declared.category.Category.TheVariants.{National};
 ghost use Rattle.ghg_definitions.specs.Compilation.{compilation};
 ghost use Rattle.ghg_definitions.specs.Rules.{most_lines};
-ghost use Rattle.ghg_units.specs.Uncertainty.{greatest_uncertainty};
+ghost use Rattle.ghg_units.specs.declared.uncertainty.TheConstants.{GREATEST_UNCERTAINTY};
 ghost use Rattle.ghg_uncertainty.specs.Brackets.{largest_bound};
 ghost use Rattle.ghg_uncertainty.specs.Totals.{IsShare, amount_limit, net};
 ghost use Rattle.ghg_definitions.specs.Data.{line_names, uncertainty};
@@ -124,7 +124,7 @@ fn append_emitter<C: Cells>(
 // The percentages of a line's activity and factor, in hundredths; `None` exactly where it has no record.
 fn uncertainty<R: Records>(records: &R, line: &Name) -> Option<(u32, u32)>
     ensures value { result ≡ uncertainty (R.content records.now) line.now }
-    ensures small { IfSome result (λ p. (p.0 ≤ greatest_uncertainty) × (p.1 ≤ greatest_uncertainty)) }
+    ensures small { IfSome result (λ p. (p.0 ≤ GREATEST_UNCERTAINTY) × (p.1 ≤ GREATEST_UNCERTAINTY)) }
 {
     match records.get(&RecordKey::Uncert(*line)) {
         Some(Record::Uncert(activity, factor)) => Some((*activity, *factor)),
@@ -140,7 +140,7 @@ fn append_uncertainty(
     value: &Input,
     percentages: Option<(u32, u32)>,
 ) -> Result<(), AllocError>
-    requires { IfSome percentages (λ p. (p.0 ≤ greatest_uncertainty) × (p.1 ≤ greatest_uncertainty)) }
+    requires { IfSome percentages (λ p. (p.0 ≤ GREATEST_UNCERTAINTY) × (p.1 ≤ GREATEST_UNCERTAINTY)) }
     ensures { OnOk result (out.new.items ≡ out.old.items ++
         uncertainty_row name.now pair value.now percentages) }
 {
@@ -181,7 +181,7 @@ fn append_uncertainties(
     out: &mut Vec<u8>,
     percentages: Option<(u32, u32)>,
 ) -> Result<(), AllocError>
-    requires { IfSome percentages (λ p. (p.0 ≤ greatest_uncertainty) × (p.1 ≤ greatest_uncertainty)) }
+    requires { IfSome percentages (λ p. (p.0 ≤ GREATEST_UNCERTAINTY) × (p.1 ≤ GREATEST_UNCERTAINTY)) }
     ensures { OnOk result (out.new.items ≡ out.old.items ++ uncertainties_text percentages) }
 {
     match percentages {
@@ -192,8 +192,8 @@ fn append_uncertainties(
 
 #[tactic(auto, unfolding(crate::specs::Analyses::record_text))]
 fn append_record(out: &mut Vec<u8>, activity: u32, factor: u32) -> Result<(), AllocError>
-    requires activity_in { activity ≤ greatest_uncertainty }
-    requires factor_in { factor ≤ greatest_uncertainty }
+    requires activity_in { activity ≤ GREATEST_UNCERTAINTY }
+    requires factor_in { factor ≤ GREATEST_UNCERTAINTY }
     ensures { OnOk result (out.new.items ≡ out.old.items ++ record_text activity factor) }
 {
     let (low, high) = combined(activity, factor);

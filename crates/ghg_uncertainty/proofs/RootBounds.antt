@@ -8,7 +8,7 @@ use Rattle.std.proofs.lemmas.List.Elements.{All-weaker}
 use Rattle.std.proofs.lemmas.List.Sums.{sum_by-le}
 use Rattle.ghg_cell.specs.declared.totals.TheConstants.{MOST_PARTS}
 use Rattle.ghg_roots.specs.Roots.{IsRootBracket}
-use Rattle.ghg_units.specs.Uncertainty.{greatest_uncertainty}
+use Rattle.ghg_units.specs.declared.uncertainty.TheConstants.{GREATEST_UNCERTAINTY}
 use Rattle.ghg_uncertainty.specs.declared.Share.{Share}
 use Rattle.ghg_uncertainty.specs.declared.TotalUncertainty.TheVariants.{Bracket, Undefined}
 use Rattle.ghg_uncertainty.specs.Brackets.{BracketsAreRoots, TotalsAreSmall, high_root, low_root, root_up_to}
@@ -93,8 +93,8 @@ roots_are n low high bracket =
 
 small_variance : (s : Share) → IsShare s → variance s ≤ largest_variance
 small_variance s is =
-    let activity : square s.activity ≤ square greatest_uncertainty = squares_rise s.activity greatest_uncertainty is.activity in
-    let factor : square s.factor ≤ square greatest_uncertainty = squares_rise s.factor greatest_uncertainty is.factor in
+    let activity : square s.activity ≤ square GREATEST_UNCERTAINTY = squares_rise s.activity GREATEST_UNCERTAINTY is.activity in
+    let factor : square s.factor ≤ square GREATEST_UNCERTAINTY = squares_rise s.factor GREATEST_UNCERTAINTY is.factor in
     let tonnes : square (unsigned_abs s.tonnes) ≤ square amount_limit = squares_rise (unsigned_abs s.tonnes) amount_limit is.tonnes in
     let sum : square_sum s.activity s.factor ≤ largest_square_sum = omega (arith, activity, factor) in
     let all : variance s ≤ largest_square_sum * square amount_limit = mul-le-mul sum tonnes in

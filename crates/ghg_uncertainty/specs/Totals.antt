@@ -4,7 +4,7 @@ use Rattle.std.specs.Prelude.{ℕ, ◌≡◌, ◌≢◌, ◌+◌, ◌*◌, ◌�
 use Rattle.std.specs.List.{fold, sum_by}
 use Rattle.ghg_interval.specs.Rounding.{floor_by, ceil_by}
 use Rattle.ghg_roots.specs.Roots.{IsRootBracket}
-use Rattle.ghg_units.specs.Uncertainty.{greatest_uncertainty}
+use Rattle.ghg_units.specs.declared.uncertainty.TheConstants.{GREATEST_UNCERTAINTY}
 use Rattle.ghg_uncertainty.specs.declared.Share.{Share}
 use Rattle.ghg_uncertainty.specs.declared.TotalUncertainty.{TotalUncertainty}
 use Rattle.ghg_uncertainty.specs.declared.TotalUncertainty.TheVariants.{Bracket, Undefined}
@@ -15,8 +15,8 @@ amount_limit = 1_000_000_000_000
 
 pub record IsShare (s : Share) : Type 0 where
   pub tonnes : unsigned_abs s.tonnes ≤ amount_limit
-  pub activity : s.activity ≤ greatest_uncertainty
-  pub factor : s.factor ≤ greatest_uncertainty
+  pub activity : s.activity ≤ GREATEST_UNCERTAINTY
+  pub factor : s.factor ≤ GREATEST_UNCERTAINTY
 
 abbrev pub square : ℕ → ℕ
 square n = n * n

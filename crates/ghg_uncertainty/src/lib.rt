@@ -9,7 +9,7 @@ mod laws;
 ghost use Rattle.std.specs.Prelude.{◌≡◌, ◌≤◌, All, length};
 ghost use Rattle.ghg_cell.specs.declared.totals.TheConstants.{MOST_PARTS};
 ghost use Rattle.ghg_roots.specs.Roots.{IsRootBracket};
-ghost use Rattle.ghg_units.specs.Uncertainty.{greatest_uncertainty};
+ghost use Rattle.ghg_units.specs.declared.uncertainty.TheConstants.{GREATEST_UNCERTAINTY};
 ghost use Rattle.ghg_uncertainty.specs.Totals.{HoldsTotal, IsShare, IsTotal, largest_square_sum, largest_variance, net, spread, square_sum, variance};
 
 use ghg_roots::sqrt_bracket;
@@ -38,8 +38,8 @@ pub enum TotalUncertainty {
 /// The uncertainty of the product of activity data and emission factor (Equation 3.1): the root of the sum of
 /// both squares. All are in hundredths of a percent.
 pub fn combined(activity: u32, factor: u32) -> (u32, u32)
-    requires activity_in { activity ≤ greatest_uncertainty }
-    requires factor_in { factor ≤ greatest_uncertainty }
+    requires activity_in { activity ≤ GREATEST_UNCERTAINTY }
+    requires factor_in { factor ≤ GREATEST_UNCERTAINTY }
     ensures { IsRootBracket (square_sum activity factor) result.0 result.1 }
 {
     let (low, high) = sqrt_bracket(square_sum(activity, factor));
@@ -106,8 +106,8 @@ impl Share {
 }
 
 fn square_sum(activity: u32, factor: u32) -> u128
-    requires activity_in { activity ≤ greatest_uncertainty }
-    requires factor_in { factor ≤ greatest_uncertainty }
+    requires activity_in { activity ≤ GREATEST_UNCERTAINTY }
+    requires factor_in { factor ≤ GREATEST_UNCERTAINTY }
     ensures value { result ≡ square_sum activity factor }
     ensures small { result ≤ largest_square_sum }
 {

@@ -11,7 +11,7 @@ use Rattle.std.proofs.lemmas.Str.Ascii.{IsAscii-nil, IsAscii-cons}
 use Rattle.ghg_categories.specs.Tree.{code_of}
 use Rattle.ghg_units.specs.Name.{is_name, is_name_byte}
 use Rattle.ghg_units.specs.Parameter.{is_parameter, is_parameter_byte, stands_for_parameter, uncertainty_word}
-use Rattle.ghg_units.specs.Refusals.{Spells, SpellsNode, column_word, dated, limit_word, node_text, numbered, paired, placed, refusal_text, worded}
+use Rattle.ghg_units.specs.Refusals.{Spells, SpellsNode, column_word, limit_word, node_text, refusal_text}
 use Rattle.ghg_units.specs.declared.node.Node.{Node}
 use Rattle.ghg_units.specs.declared.node.Node.TheVariants as node
 use Rattle.ghg_units.specs.declared.rule.Column.{Column}
@@ -88,26 +88,18 @@ module _ (words : List ℕ) (low : list_all is_low words ≡ true) where
   before : (text : List ℕ) → IsUtf8 text → IsUtf8 (words ++ text)
   before text h = IsUtf8-append words text (seen words low) h
 
-  numbered_utf8 : (n : ℕ) → n < 2 ^ 64 → IsUtf8 (numbered words n)
-  unfolding numbered
+  numbered_utf8 : (n : ℕ) → n < 2 ^ 64 → IsUtf8 (words ++ decimal n)
   numbered_utf8 n small = before (decimal n) (decimal_utf8 n small)
 
-  placed_utf8 : (row : ℕ) (column : Column) → row < 2 ^ 64 → IsUtf8 (placed words row column)
-  unfolding placed
+  placed_utf8 : (row : ℕ) (column : Column) → row < 2 ^ 64 → IsUtf8 (words ++ decimal row ++ codes " column " ++ column_word column)
   placed_utf8 row column small =
       behind (words ++ decimal row) (codes " column ") (column_word column) (before (decimal row) (decimal_utf8 row small))
       refl (column_utf8 column)
 
-  worded_utf8 : (text : List ℕ) → IsUtf8 text → IsUtf8 (worded words text)
-  unfolding worded
-  worded_utf8 text h = before text h
-
-  paired_utf8 : (line parameter : List ℕ) → IsUtf8 line → IsUtf8 parameter → IsUtf8 (paired words line parameter)
-  unfolding paired
+  paired_utf8 : (line parameter : List ℕ) → IsUtf8 line → IsUtf8 parameter → IsUtf8 (words ++ line ++ codes " " ++ parameter)
   paired_utf8 line parameter l p = behind (words ++ line) (codes " ") parameter (before line l) refl p
 
-  dated_utf8 : (name : List ℕ) (year : ℕ) → IsUtf8 name → year < 2 ^ 64 → IsUtf8 (dated words name year)
-  unfolding dated
+  dated_utf8 : (name : List ℕ) (year : ℕ) → IsUtf8 name → year < 2 ^ 64 → IsUtf8 (words ++ name ++ codes ":" ++ decimal year)
   dated_utf8 name year h small =
       behind (words ++ name) (codes ":") (decimal year) (before name h) refl (decimal_utf8 year small)
 
@@ -115,27 +107,27 @@ module _ (words : List ℕ) (low : list_all is_low words ≡ true) where
 
 node_utf8 : (n : Node) → SpellsNode n → IsUtf8 (node_text n)
 unfolding node_text
-node_utf8 (node.Line name year) h = dated_utf8 _ refl name year (name_utf8 name h.0) h.1
-node_utf8 (node.Equiv name year) h = dated_utf8 _ refl name year (name_utf8 name h.0) h.1
-node_utf8 (node.Total category year) h = dated_utf8 _ refl (code_of category) year h.0 h.1
+node_utf8 (node.Line name year) h = dated_utf8 (codes "line:") refl name year (name_utf8 name h.0) h.1
+node_utf8 (node.Equiv name year) h = dated_utf8 (codes "equiv:") refl name year (name_utf8 name h.0) h.1
+node_utf8 (node.Total category year) h = dated_utf8 (codes "total:") refl (code_of category) year h.0 h.1
 node_utf8 (node.Gross year) h = before (codes "gross:") refl (decimal year) (decimal_utf8 year h)
 
 refusal_utf8 : (rule : Rule) → Spells rule → IsUtf8 (refusal_text rule)
 refusal_utf8 rules.BadId h = seen _ refl
-refusal_utf8 (rules.IdReused seq) h = numbered_utf8 _ refl seq h
+refusal_utf8 (rules.IdReused seq) h = numbered_utf8 (codes "2 IdReused ") refl seq h
 refusal_utf8 rules.BodyTooLong h = seen _ refl
-refusal_utf8 (rules.BadShape row) h = numbered_utf8 _ refl row h
-refusal_utf8 (rules.UnknownWord row column) h = placed_utf8 _ refl row column h
-refusal_utf8 (rules.BadNumber row column) h = placed_utf8 _ refl row column h
-refusal_utf8 (rules.BoundsDisorder row) h = numbered_utf8 _ refl row h
-refusal_utf8 (rules.WrongUnit row) h = numbered_utf8 _ refl row h
-refusal_utf8 (rules.Exists row) h = numbered_utf8 _ refl row h
-refusal_utf8 (rules.Absent row) h = numbered_utf8 _ refl row h
+refusal_utf8 (rules.BadShape row) h = numbered_utf8 (codes "4 BadShape row ") refl row h
+refusal_utf8 (rules.UnknownWord row column) h = placed_utf8 (codes "5 UnknownWord row ") refl row column h
+refusal_utf8 (rules.BadNumber row column) h = placed_utf8 (codes "6 BadNumber row ") refl row column h
+refusal_utf8 (rules.BoundsDisorder row) h = numbered_utf8 (codes "7 BoundsDisorder row ") refl row h
+refusal_utf8 (rules.WrongUnit row) h = numbered_utf8 (codes "8 WrongUnit row ") refl row h
+refusal_utf8 (rules.Exists row) h = numbered_utf8 (codes "9 Exists row ") refl row h
+refusal_utf8 (rules.Absent row) h = numbered_utf8 (codes "9 Absent row ") refl row h
 refusal_utf8 (rules.BadBinding line parameter) h =
-    paired_utf8 _ refl line parameter (name_utf8 line h.0) (parameter_utf8 parameter h.1)
-refusal_utf8 (rules.TooMany limit) h = worded_utf8 _ refl (limit_word limit) (limit_utf8 limit)
-refusal_utf8 (rules.Cycle line) h = worded_utf8 _ refl line (name_utf8 line h)
-refusal_utf8 (rules.Overflow n) h = worded_utf8 _ refl (node_text n) (node_utf8 n h)
+    paired_utf8 (codes "10 BadBinding ") refl line parameter (name_utf8 line h.0) (parameter_utf8 parameter h.1)
+refusal_utf8 (rules.TooMany limit) h = before (codes "11 TooMany ") refl (limit_word limit) (limit_utf8 limit)
+refusal_utf8 (rules.Cycle line) h = before (codes "12 Cycle ") refl line (name_utf8 line h)
+refusal_utf8 (rules.Overflow n) h = before (codes "13 Overflow ") refl (node_text n) (node_utf8 n h)
 
 pub appended_utf8 : {A E : Type 0} (rule : Rule) (r : Result A E) → OnOk r (Spells rule) → OnOk r (IsUtf8 (refusal_text rule))
 appended_utf8 rule (Ok v) h = refusal_utf8 rule h

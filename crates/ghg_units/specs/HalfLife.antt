@@ -4,12 +4,8 @@ use Rattle.ghg_units.specs.declared.half_life.TheConstants.{LONGEST_HALF_LIFE}
 use Rattle.ghg_units.specs.Decimal.{number_in}
 use Rattle.ghg_units.specs.Steps.{◌>>=◌}
 
--- in years
-abbrev pub longest_half_life : ℕ
-longest_half_life = LONGEST_HALF_LIFE
-
 abbrev pub is_half_life : ℕ → Bool
-is_half_life years = nat_le 1 years && nat_le years longest_half_life
+is_half_life years = nat_le 1 years && nat_le years LONGEST_HALF_LIFE
 
 -- the half-life that one or two digits write
 abbrev pub half_life_in : List ℕ → Option ℕ

@@ -1,7 +1,7 @@
 //! Percentages of uncertainty records.
 
 ghost use Rattle.std.specs.Prelude.{◌≡◌, IfSome};
-ghost use Rattle.ghg_units.specs.Uncertainty.{is_percentage, places_in, uncertainty_in};
+ghost use Rattle.ghg_units.specs.Uncertainty.{decimal_places, is_percentage, uncertainty_in};
 ghost use Rattle.ghg_units.specs.WellFormed.{IsUncertainty};
 
 use crate::decimal::{Decimal, point_in, read_decimal};
@@ -21,16 +21,16 @@ pub fn read_uncertainty(text: &[u8]) -> Option<u32>
     ensures keeps { IfSome result IsUncertainty }
 {
     let decimal = read_decimal(text)?;
-    if places(text) > 2 || !is_percentage(decimal) {
+    if decimal_places(text) > 2 || !is_percentage(decimal) {
         return None;
     }
     Some((decimal.scaled / HUNDREDTH) as u32)
 }
 
 // How many digits stand behind the first point.
-#[tactic(auto, unfolding(crate::specs::Uncertainty::places_in))]
-fn places(text: &[u8]) -> usize
-    ensures { result ≡ places_in text.now }
+#[tactic(auto, unfolding(crate::specs::Uncertainty::decimal_places))]
+fn decimal_places(text: &[u8]) -> usize
+    ensures { result ≡ decimal_places text.now }
 {
     match point_in(text) {
         None => 0,

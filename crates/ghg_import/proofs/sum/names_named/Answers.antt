@@ -2,7 +2,8 @@ use Rattle.std.proofs.Common.{◌≡◌, ◌∙◌, ◌+◌, ◌<◌, ◌≤◌,
 use Rattle.std.specs.List.{list_all}
 use Rattle.std.proofs.lemmas.List.{length-map}
 use Rattle.ghg_units.specs.Name.{plain_name_in}
-use Rattle.ghg_units.specs.WellFormed.{are_different, most_parts}
+use Rattle.ghg_units.specs.WellFormed.{are_different}
+use Rattle.ghg_units.specs.declared.names.TheConstants.{MOST_NAMES}
 use Rattle.ghg_import.specs.Forms.{parts_of}
 use Rattle.ghg_import.proofs.Sums.{all_parts, named, no_names, none_named, repeated_name, some_named, strange_name, too_many}
 use Rattle.ghg_import.proofs.sum.names_named.Goals as goal
@@ -13,14 +14,14 @@ texts_of parts = map (λ (part : Bor (List ℕ)). part.now) parts
 as_many : (parts : List (Bor (List ℕ))) (n : ℕ) → n ≡ length parts → n ≡ length (texts_of parts)
 as_many parts n e = e ∙ sym (length-map parts (λ (part : Bor (List ℕ)). part.now))
 
-whole : (text : List ℕ) (parts seen : List (Bor (List ℕ))) (n : ℕ) → texts_of parts ≡ take (most_parts + 1) (parts_of text) → n ≡ length parts → n ≤ most_parts → seen ≡ parts → (texts_of seen ≡ parts_of text) × (length (texts_of seen) ≤ most_parts)
+whole : (text : List ℕ) (parts seen : List (Bor (List ℕ))) (n : ℕ) → texts_of parts ≡ take (MOST_NAMES + 1) (parts_of text) → n ≡ length parts → n ≤ MOST_NAMES → seen ≡ parts → (texts_of seen ≡ parts_of text) × (length (texts_of seen) ≤ MOST_NAMES)
 whole text parts seen n first len few same =
-    let small : length (texts_of parts) ≤ most_parts = rw (← as_many parts n len) few in
+    let small : length (texts_of parts) ≤ MOST_NAMES = rw (← as_many parts n len) few in
     (ap texts_of same ∙ all_parts (parts_of text) (texts_of parts) first small, rw same small)
 
 pub returns-then-len-gt-MOST_NAMES : goal.returns-then-len-gt-MOST_NAMES
 returns-then-len-gt-MOST_NAMES c =
-    let many : most_parts < length (texts_of c.in_ok-parts.parts.items) = rw (← as_many c.in_ok-parts.parts.items c.len.result (c.len.ensures ∙ c.in_ok-parts.parts.ok.0)) c.if-len-gt-MOST_NAMES.true in
+    let many : MOST_NAMES < length (texts_of c.in_ok-parts.parts.items) = rw (← as_many c.in_ok-parts.parts.items c.len.result (c.len.ensures ∙ c.in_ok-parts.parts.ok.0)) c.if-len-gt-MOST_NAMES.true in
     no_names c.args.text.now (too_many (parts_of c.args.text.now) _ c.in_ok-parts.ensures many)
 
 pub returns-in_default : goal.returns-in_default
