@@ -40,6 +40,8 @@ NO_TABLE = reply("404 Not Found", "no table")
 NO_MEMORY = reply("507 Insufficient Storage", "memory")
 ACCEPTED, REPEATED = reply("201 Created", "accepted 1"), reply("200 OK", "repeated 1")
 LONGEST, HEAD, FIELDS = limit("body"), limit("head"), limit("fields")
+# How many seconds all reads and writes of a connection wait for its client.
+DEADLINE = 120
 # What makes `close` reset a connection.
 RESET = struct.pack("ii", 1, 0)
 
@@ -262,6 +264,16 @@ class Links(unittest.TestCase):
             self.assertFalse(sender.is_alive())
             self.assertEqual(service.status(), 0)
 
+    def test_a_client_that_sends_a_byte_now_and_then(self) -> None:
+        with Service(2) as service, service.connect() as link, service.connect() as other:
+            other.sendall(post("a", GAS))
+            other.settimeout(DEADLINE + SECONDS)
+            began = time.monotonic()
+            threading.Thread(target=send_slowly, args=[link, 10], daemon=True).start()
+            self.assertEqual(read_to_the_end(other), ACCEPTED)
+            self.assertGreater(time.monotonic() - began, DEADLINE - 1)
+            self.assertEqual(service.status(), 0)
+
     @unittest.skipUnless(sys.platform == "linux", "127.0.0.2 may be no address of this machine")
     def test_no_other_address_of_loopback_is_served(self) -> None:
         with Service(1) as service:
@@ -279,18 +291,24 @@ class Links(unittest.TestCase):
             self.assertEqual(service.status(), 0)
 
     @unittest.skipUnless(hasattr(resource, "prlimit"), "no limit can be set from outside")
-    def test_a_door_that_gives_no_further_link(self) -> None:
-        with Service(10) as service:
+    def test_a_shortage_of_descriptors_passes(self) -> None:
+        with Service(3) as service:
             self.assertEqual(service.exchange(post("a", GAS)), ACCEPTED)
-            resource.prlimit(service.process.pid, resource.RLIMIT_NOFILE, (1, 1))
+            process = service.process.pid
+            before, most = resource.prlimit(process, resource.RLIMIT_NOFILE)
+            resource.prlimit(process, resource.RLIMIT_NOFILE, (1, most))
             # The program may have asked for one more link before its limit was set.
-            until = time.monotonic() + SECONDS
-            replies = []
-            while service.process.poll() is None and time.monotonic() < until:
-                with contextlib.suppress(OSError):
-                    replies.append(service.exchange(post("a", GAS)))
-            self.assertIn(replies, ([], [b""], [REPEATED], [REPEATED, b""]))
-            self.assertEqual(service.status(), 7)
+            with service.connect() as first, service.connect() as second:
+                for link in (first, second):
+                    link.sendall(post("a", GAS))
+                    link.shutdown(socket.SHUT_WR)
+                second.settimeout(1)
+                with self.assertRaises(TimeoutError):
+                    second.recv(1)
+                resource.prlimit(process, resource.RLIMIT_NOFILE, (before, most))
+                second.settimeout(SECONDS)
+                self.assertEqual([read_to_the_end(first), read_to_the_end(second)], [REPEATED, REPEATED])
+            self.assertEqual(service.status(), 0)
 
     def test_a_client_that_closes_while_its_reply_is_written(self) -> None:
         rows = [HEADER, b"enter,span,,,1990,1990,1990,,,\nenter,activity,,A,1990,1,,,TJ,\n"
@@ -321,12 +339,12 @@ class Links(unittest.TestCase):
             self.assertEqual(service.status(), 0)
 
 
-def send_slowly(link: socket.socket) -> None:
+def send_slowly(link: socket.socket, pause: float = 0.01) -> None:
     """Sends byte after byte until the other side refuses one."""
     with contextlib.suppress(OSError):
         while True:
             link.sendall(b"x")
-            time.sleep(0.01)
+            time.sleep(pause)
 
 
 def without_room() -> None:

@@ -1,6 +1,7 @@
 // Forms in memory whose calls fail by a list.
 ghost use Rattle.std.specs.Prelude.{◌≡◌, ◌↔◌, ◌<◌, ◌≤◌, [], length, IfOk, IsTrue, IsErr, IsErrOf};
 ghost use Rattle.std.specs.Io.{ReadsAtMost};
+ghost use Rattle.ghg_outer.specs.Counts.{StaysUnless};
 ghost use Rattle.ghg_outer.specs.Plans.{planned, planned_sink_tape, planned_source_tape, fails_next, after_call};
 ghost use Rattle.ghg_outer.specs.Tape.{IsAtEnd, Reads, Rose, Writes};
 
@@ -47,6 +48,8 @@ impl Source for MemorySource {
         ensures read { Reads (planned_source_tape self.old) (planned_source_tape self.new) result buf.new }
         ensures end { IfOk result (λ n. n ≡ 0 → IsAtEnd (planned_source_tape self.new)) }
         ensures failed { IsErr result → Rose (planned_source_tape self.old) (planned_source_tape self.new) }
+        ensures stays { StaysUnless (planned_source_tape self.old).faults (planned_source_tape self.new).faults
+            (IsErr result) }
         ensures fails { IsErr result ↔ IsTrue (fails_next self.old.plan) }
         ensures plan { self.new.plan ≡ after_call self.old.plan }
     {
@@ -105,6 +108,8 @@ impl Sink for MemorySink {
         ensures wrote { Writes (planned_sink_tape self.old) (planned_sink_tape self.new) result piece.now }
         ensures failed { IsErrOf result WriteError.Failed
             → Rose (planned_sink_tape self.old) (planned_sink_tape self.new) }
+        ensures stays { StaysUnless (planned_sink_tape self.old).faults (planned_sink_tape self.new).faults
+            (IsErrOf result WriteError.Failed) }
         ensures fails { IsErrOf result WriteError.Failed ↔ IsTrue (fails_next self.old.plan) }
         ensures plan { self.new.plan ≡ after_call self.old.plan }
     {

@@ -3,7 +3,7 @@ ghost use Rattle.std.specs.Prelude.{◌≡◌, ◌≢◌, ◌<◌, ◌≤◌, fa
 ghost use Rattle.std.specs.Io.{ReadsAtMost, WritesAtMost};
 ghost use Rattle.std.specs.Io.KnownBytes.{ReadConsumes, WriteAppends};
 ghost use Rattle.std.specs.IoError.{error_kind};
-ghost use Rattle.ghg_outer.specs.Counts.{raised};
+ghost use Rattle.ghg_outer.specs.Counts.{StaysUnless, raised};
 ghost use Rattle.ghg_outer.specs.Tape.{Rose, Writes};
 
 use crate::{Failed, Sink, Source, Told, WriteError};
@@ -119,6 +119,8 @@ impl<W: Write + Drop> Sink for OutputSink<W> {
             (⟦<OutputSink<W> as Told>⟧.tape self.new) result piece.now }
         ensures failed { IsErr result → Rose (⟦<OutputSink<W> as Told>⟧.tape self.old)
             (⟦<OutputSink<W> as Told>⟧.tape self.new) }
+        ensures stays { StaysUnless (⟦<OutputSink<W> as Told>⟧.tape self.old).faults
+            (⟦<OutputSink<W> as Told>⟧.tape self.new).faults (IsErr result) }
         ensures only { IfErr result (λ error. error ≡ WriteError.Failed) }
     {
         match write_again(&mut self.writer, piece) {
