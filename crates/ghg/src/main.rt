@@ -12,7 +12,7 @@ ghost use Rattle.std.specs.Vec.Iter.{into_iter_items};
 use ghg_keeper::FileKeeper;
 use ghg_outer::{InputSource, OutputSink, TcpDoor};
 use ghg_run::run_counted;
-use ghg_session::Status;
+use ghg_words::Status;
 use ghg_workers::OpenGate;
 use std::alloc::{AllocError, Global};
 use std::env::Args;

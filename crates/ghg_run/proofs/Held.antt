@@ -1,5 +1,5 @@
 -- The bounds that are printed hold, since the data stay in force.
-use Rattle.std.proofs.Common.{Option, Some, None, [], ◌∷◌, refl, sym, subst}
+use Rattle.std.proofs.Common.{Bool, Option, Some, None, [], ◌∷◌, refl, sym, subst}
 use Rattle.ghg_http.specs.declared.request.Request.{Request as LinkRequest}
 use Rattle.ghg_http.specs.declared.request.Request.TheVariants as on_link
 use Rattle.ghg_http.specs.declared.serve.LinkEnd.{LinkEnd}
@@ -13,25 +13,26 @@ use Rattle.ghg_office.specs.Laws.{IsInForce}
 use Rattle.ghg_office.specs.Office.{Answer, State, requested, submitted}
 use Rattle.ghg_office.specs.Replies.{Answers}
 use Rattle.ghg_office.proofs.InForce.{requested_sound, states_stay}
-use Rattle.ghg_session.specs.declared.command.Request.{Request}
-use Rattle.ghg_session.specs.declared.command.Request.TheVariants.{Submit, Query}
-use Rattle.ghg_session.specs.declared.script.TableQuery.{TableQuery}
+use Rattle.ghg_script.specs.declared.command.Request.{Request}
+use Rattle.ghg_script.specs.declared.command.Request.TheVariants.{Submit, Query}
+use Rattle.ghg_script.specs.declared.script.TableQuery.{TableQuery}
 use Rattle.ghg_session.specs.Replies.{office_step}
 use Rattle.ghg_run.specs.Run.{AreSoundLines, RepliesAreSound}
 
-stays : (s : State) (asked : Request TableQuery) → IsInForce s → IsInForce (office_step s asked).after
+stays : (stored : Bool) (s : State) (asked : Request TableQuery) → IsInForce s → IsInForce (office_step stored s asked).after
 unfolding office_step
-stays s (Submit id body) h = states_stay.later s id body h
-stays s (Query show) h = h
+stays stored s (Submit id body) h = states_stay.later s id body h
+stays stored s (Query show) h = h
 
-sound_lines : (s : State) (asked : Request TableQuery) → IsInForce s → AreSoundLines s asked (office_step s asked).reply
+sound_lines : (stored : Bool) (s : State) (asked : Request TableQuery) → IsInForce s → AreSoundLines s asked (office_step stored s asked).reply
 unfolding office_step
-sound_lines s (Submit id body) h = tt
-sound_lines s (Query show) h = (requested s show.table show.year, refl, requested_sound s h show.table show.year)
+sound_lines stored s (Submit id body) h = tt
+sound_lines stored s (Query show) h = (requested s show.table show.year, refl, requested_sound s h show.table show.year)
 
 pub sound_replies : RepliesAreSound
-sound_replies s h [] = tt
-sound_replies s h (first ∷ rest) = (sound_lines s first h, sound_replies (office_step s first).after (stays s first h) rest)
+sound_replies stored s h [] = tt
+sound_replies stored s h (first ∷ rest) =
+    (sound_lines stored s first h, sound_replies stored (office_step stored s first).after (stays stored s first h) rest)
 
 -- ---- a link
 

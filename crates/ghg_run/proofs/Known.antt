@@ -1,24 +1,20 @@
--- The statuses of runs, and their causes.
-use Rattle.std.proofs.Common.{◌≡◌, ◌∙◌, ◌⊎◌, inl, inr, ℕ, true, List, Option, Some, None, IsSome, refl, sym, subst}
+-- The statuses that runs end with.
+use Rattle.std.proofs.Common.{◌≡◌, ◌∙◌, ◌⊎◌, inl, inr, ℕ, true, List, Option, Some, None, refl, sym, subst}
 use Rattle.ghg_keeper.specs.Shelf.{Shelf}
-use Rattle.ghg_office.specs.Office.{State}
-use Rattle.ghg_outer.specs.Doors.{Register}
 use Rattle.ghg_outer.specs.Tape.{Rose, Tape}
-use Rattle.ghg_session.specs.declared.command.Request.{Request}
-use Rattle.ghg_session.specs.declared.script.TableQuery.{TableQuery}
-use Rattle.ghg_session.specs.declared.status.Status.{Status}
-use Rattle.ghg_session.specs.declared.status.Status.TheVariants.{Done, BadCommandLine, NoScript, InputFailed, OutputFailed, StoreFailed, DoorFailed, OutOfMemory, RowRefused}
-use Rattle.ghg_session.specs.Replies.{protocol}
-use Rattle.ghg_session.specs.Session.{EndsBy}
+use Rattle.ghg_words.specs.declared.status.Status.{Status}
+use Rattle.ghg_words.specs.declared.status.Status.TheVariants.{Done, DoorFailed, InputFailed, OutputFailed, OutOfMemory, RowRefused, SpliceRefused, StoreFailed}
 use Rattle.ghg_session.specs.Writing.{Reports, StoppedWriting}
-use Rattle.ghg_words.specs.declared.command.Command.{Command}
-use Rattle.ghg_words.specs.declared.command.Command.TheVariants.{Compile, Generate, Serve}
-use Rattle.ghg_words.specs.declared.command.Sample.{Sample}
+use Rattle.ghg_outer.specs.Doors.{Register}
+use Rattle.ghg_session.specs.Session.{EndsBy, Protocol, Session, state_after}
+use Rattle.ghg_splice.specs.declared.splicing.Spliced.{Spliced}
+use Rattle.ghg_splice.specs.declared.splicing.Spliced.TheVariants.{Body, Refused}
+use Rattle.ghg_splice.specs.Splice.{splice_of}
 use Rattle.ghg_words.specs.declared.command.Service.{Service}
-use Rattle.ghg_words.specs.declared.command.Settings.{Settings}
-use Rattle.ghg_run.specs.Opening.{BeginsNot, FailsAtOnce, RefusesRow, ReportsMade}
-use Rattle.ghg_run.specs.Run.{Generates, MayEnd, Runs, bad_command_line, store_in}
-use Rattle.ghg_run.specs.Serve.{EndsServing, ServedLink}
+use Rattle.ghg_words.specs.declared.command.Splicing.{Splicing}
+use Rattle.ghg_run.specs.Serve.{EndsServing, OfficeAt, Serves}
+use Rattle.ghg_run.specs.Splicing.{ReportsSpliced, Splices, StopsInSeries, refusal_line}
+use Rattle.ghg_run.specs.Opening.{BeginsNot, FailsBeforeOffice, RefusesRow, ReportsMade}
 
 -- ---- a line that is due
 
@@ -31,10 +27,16 @@ stopped_as before after line status holds s output memory = by s.why
     by (inl e) = subst holds (sym e.0) output
     by (inr e) = subst holds (sym e.0) memory
 
-reported_as : (before after : Tape) (line : List ℕ) (due status : Status) (holds : Status → Type 0)
+pub reported_as : (before after : Tape) (line : List ℕ) (due status : Status) (holds : Status → Type 0)
     → Reports before after line due status → holds due → holds OutputFailed → holds OutOfMemory → holds status
 reported_as before after line due status holds (inl told) h output memory = subst holds (sym told.1) h
 reported_as before after line due status holds (inr s) h output memory = stopped_as before after line status holds s output memory
+
+pub made_as : (before after : Tape) (text : List ℕ) (due status : Status) (holds : Status → Type 0)
+    → ReportsMade before after text due status → holds due → holds OutputFailed → holds OutOfMemory → holds status
+made_as before after text due status holds (inl told) h output memory =
+    reported_as before after text due status holds told h output memory
+made_as before after text due status holds (inr left) h output memory = subst holds (sym left.1) memory
 
 pub report_output : (before after : Tape) (line : List ℕ) (due status : Status) → Reports before after line due status
     → (due ≡ OutputFailed → ⊥) → status ≡ OutputFailed → Rose before after
@@ -45,96 +47,100 @@ report_output before after line due status (inr s) wrong is = by s.why
     by (inl e) = e.1
     by (inr e) = absurd (let same : OutOfMemory ≡ OutputFailed = sym e.0 ∙ is in cc)
 
--- and with no other status
-pub report_other : (before after : Tape) (line : List ℕ) (due status other : Status) → Reports before after line due status
-    → (due ≡ other → ⊥) → (OutputFailed ≡ other → ⊥) → (OutOfMemory ≡ other → ⊥) → status ≡ other → ⊥
-report_other before after line due status other told due_other output memory =
-    reported_as before after line due status (λ s. s ≡ other → ⊥) told due_other output memory
+-- ---- no office
 
--- ---- each command
-
-made_as : (before after : Tape) (text : List ℕ) (due status : Status) (holds : Status → Type 0)
-    → ReportsMade before after text due status → holds due → holds OutputFailed → holds OutOfMemory → holds status
-made_as before after text due status holds (inl told) h output memory =
-    reported_as before after text due status holds told h output memory
-made_as before after text due status holds (inr left) h output memory = subst holds (sym left.1) memory
-
-not_opened : (command : Option Command) (store : Option (List ℕ)) (shelf shelf' : Shelf) (output output' : Tape) (steps steps' : ℕ)
-    (status : Status) → store_in command ≡ store
-    → BeginsNot store shelf shelf' output output' steps steps' status → MayEnd command status
-not_opened command None shelf shelf' output output' steps steps' status e none = absurd none
-not_opened command (Some name) shelf shelf' output output' steps steps' status e none = by none.why
+pub not_opened_as : (store : Option (List ℕ)) (shelf shelf' : Shelf) (output output' : Tape) (steps steps' : ℕ) (status : Status)
+    (holds : Status → Type 0) → BeginsNot store shelf shelf' output output' steps steps' status
+    → holds StoreFailed → holds RowRefused → holds OutputFailed → holds OutOfMemory → holds status
+not_opened_as None shelf shelf' output output' steps steps' status holds none failed refused wrote memory = absurd none
+not_opened_as (Some name) shelf shelf' output output' steps steps' status holds none failed refused wrote memory = by none.why
   where
-    fails : (status ≡ StoreFailed) ⊎ (status ≡ OutOfMemory) → MayEnd command status
-    fails (inl is) = subst (MayEnd command) (sym is) (rw e refl)
-    fails (inr is) = subst (MayEnd command) (sym is) tt
+    fails : (status ≡ StoreFailed) ⊎ (status ≡ OutOfMemory) → holds status
+    fails (inl is) = subst holds (sym is) failed
+    fails (inr is) = subst holds (sym is) memory
 
-    by : RefusesRow name none.rows shelf' output output' status ⊎ FailsAtOnce name shelf shelf' output output' status
-        → MayEnd command status
-    by (inl refused) =
-        made_as output output' _ RowRefused status (MayEnd command) refused.told (rw e refl) tt tt
+    by : RefusesRow name none.rows shelf' output output' status ⊎ FailsBeforeOffice name shelf shelf' output output' status
+        → holds status
+    by (inl row) = made_as output output' _ RowRefused status holds row.told refused wrote memory
     by (inr fault) = fails fault.kind
 
-session_ends : (settings : Settings) (status : Status) → (status ≡ StoreFailed → IsSome settings.store) → (now last : State) (left : Tape) (grows : _) (took : List ℕ)
-    (answered : List (Request TableQuery)) (part : List ℕ) → EndsBy protocol now last left grows took answered part status
-    → MayEnd (Some (Compile settings)) status
-session_ends settings Done h now last left grows took answered part e = refl
-session_ends settings NoScript h now last left grows took answered part e = refl
-session_ends settings InputFailed h now last left grows took answered part e = refl
-session_ends settings OutputFailed h now last left grows took answered part e = tt
-session_ends settings StoreFailed h now last left grows took answered part e = h refl
-session_ends settings OutOfMemory h now last left grows took answered part e = tt
-session_ends settings BadCommandLine h now last left grows took answered part e = absurd e
-session_ends settings DoorFailed h now last left grows took answered part e = absurd e
-session_ends settings RowRefused h now last left grows took answered part e = absurd e
+-- ---- statuses that are not the door's
 
-serving_ends : (service : Service) (status : Status) (door : Register Tape) (taken dropped : List ServedLink)
-    → EndsServing service door taken dropped status → MayEnd (Some (Serve service)) status
-serving_ends service Done door taken dropped e = refl
-serving_ends service DoorFailed door taken dropped e = refl
-serving_ends service OutOfMemory door taken dropped e = tt
-serving_ends service NoScript door taken dropped e = absurd e
-serving_ends service InputFailed door taken dropped e = absurd e
-serving_ends service OutputFailed door taken dropped e = absurd e
-serving_ends service StoreFailed door taken dropped e = absurd e
-serving_ends service BadCommandLine door taken dropped e = absurd e
-serving_ends service RowRefused door taken dropped e = absurd e
+pub memory_no_door : OutOfMemory ≡ DoorFailed → ⊥
+memory_no_door e = cc
 
-pub sample_ends : (sample : Sample) (output output' : Tape) (steps steps' : ℕ) (status : Status)
-    → Generates sample output output' steps steps' status → MayEnd (Some (Generate sample)) status
-sample_ends sample output output' steps steps' status done =
-    made_as output output' _ Done status (MayEnd (Some (Generate sample))) done.0 refl tt tt
+pub done_no_door : Done ≡ DoorFailed → ⊥
+done_no_door e = cc
 
-pub may_end : (command : Option Command) (shelf shelf' : Shelf) (input input' output output' : Tape) (door door' : Register Tape)
-    (steps steps' : ℕ) (status : Status) → (status ≡ StoreFailed → IsSome (store_in command))
-    → Runs command shelf shelf' input input' output output' door door' steps steps' status → MayEnd command status
-may_end None shelf shelf' input input' output output' door door' steps steps' status h done =
-    reported_as output output' bad_command_line BadCommandLine status (MayEnd None) done.0 refl tt tt
-may_end (Some (Compile settings)) shelf shelf' input input' output output' door door' steps steps' status h (inl none) =
-    not_opened (Some (Compile settings)) settings.store shelf shelf' output output' steps steps' status refl none.0
-may_end (Some (Compile settings)) shelf shelf' input input' output output' door door' steps steps' status h (inr office) =
-    session_ends settings status h _ _ _ _ _ _ _ office.does.0.ends
-may_end (Some (Serve service)) shelf shelf' input input' output output' door door' steps steps' status h (inl none) =
-    not_opened (Some (Serve service)) service.settings.store shelf shelf' output output' steps steps' status refl none.0
-may_end (Some (Serve service)) shelf shelf' input input' output output' door door' steps steps' status h (inr office) =
-    serving_ends service status door' _ _ office.does.0.ends
-may_end (Some (Generate sample)) shelf shelf' input input' output output' door door' steps steps' status h done =
-    sample_ends sample output output' steps steps' status done
+-- a session does not end at the door
+pub session_no_door : {S R : Type 0} (p : Protocol S R) (first last : S) (input input' output output' : Tape) (steps steps' : ℕ)
+    (status : Status) → Session p first last input input' output output' steps steps' status → status ≡ DoorFailed → ⊥
+session_no_door p first last input input' output output' steps steps' status s is =
+    absurd (subst (EndsBy p (state_after p first s.answered) last input' output.grows s.took s.answered s.part) is s.ends)
 
--- a script is not answered by the door, and no connection by the input
-pub no_door : (settings : Settings) (status : Status) → MayEnd (Some (Compile settings)) status → status ≡ DoorFailed → ⊥
-no_door settings status may is = let none = subst (MayEnd (Some (Compile settings))) is may in cc
+-- and a serving not at the input, the output or the keeper
+module _ {service : Service} {before after : OfficeAt} {faults faults' : ℕ} {door door' : Register Tape} {status : Status}
+    (s : Serves service before after faults faults' door door' status) where
+  pub no_input : status ≡ InputFailed → ⊥
+  no_input is = absurd (subst (EndsServing service door'.port s.taken s.dropped) is s.ends)
 
-pub no_input : (service : Service) (status : Status) → MayEnd (Some (Serve service)) status → status ≡ InputFailed → ⊥
-no_input service status may is = let none = subst (MayEnd (Some (Serve service))) is may in cc
+  pub no_output : status ≡ OutputFailed → ⊥
+  no_output is = absurd (subst (EndsServing service door'.port s.taken s.dropped) is s.ends)
 
--- and generated submissions by none of them
-module _ (sample : Sample) (status : Status) (may : MayEnd (Some (Generate sample)) status) where
-  pub no_input_for_sample : status ≡ InputFailed → ⊥
-  no_input_for_sample is = let none = subst (MayEnd (Some (Generate sample))) is may in cc
+  pub no_keeper : status ≡ StoreFailed → ⊥
+  no_keeper is = absurd (subst (EndsServing service door'.port s.taken s.dropped) is s.ends)
 
-  pub no_store_for_sample : status ≡ StoreFailed → ⊥
-  no_store_for_sample is = let none = subst (MayEnd (Some (Generate sample))) is may in cc
+-- ---- splicing
 
-  pub no_door_for_sample : status ≡ DoorFailed → ⊥
-  no_door_for_sample is = let none = subst (MayEnd (Some (Generate sample))) is may in cc
+made_output : (before after : Tape) (text : List ℕ) (due status : Status) → ReportsMade before after text due status
+    → (due ≡ OutputFailed → ⊥) → status ≡ OutputFailed → Rose before after
+made_output before after text due status (inl told) wrong is = report_output before after text due status told wrong is
+made_output before after text due status (inr left) wrong is = absurd (let same : OutOfMemory ≡ OutputFailed = sym left.1 ∙ is in cc)
+
+spliced_as : (s : Spliced) (before after : Tape) (status : Status) (holds : Status → Type 0) → ReportsSpliced s before after status
+    → holds Done → holds SpliceRefused → holds OutputFailed → holds OutOfMemory → holds status
+spliced_as (Body text) before after status holds h done refused wrote memory = made_as before after text Done status holds h done wrote memory
+spliced_as (Refused refusal) before after status holds h done refused wrote memory =
+    made_as before after (refusal_line refusal) SpliceRefused status holds h refused wrote memory
+
+pub spliced_output : (s : Spliced) (before after : Tape) (status : Status) → ReportsSpliced s before after status
+    → status ≡ OutputFailed → Rose before after
+spliced_output (Body text) before after status h = made_output before after text Done status h (λ e. cc)
+spliced_output (Refused refusal) before after status h =
+    made_output before after (refusal_line refusal) SpliceRefused status h (λ e. cc)
+
+pub spliced_input : (s : Spliced) (before after : Tape) (status : Status) → ReportsSpliced s before after status
+    → status ≡ InputFailed → ⊥
+spliced_input s before after status h =
+    spliced_as s before after status (λ t. t ≡ InputFailed → ⊥) h (λ e. cc) (λ e. cc) (λ e. cc) (λ e. cc)
+
+pub spliced_nothing : (s : Spliced) (output : Tape) → ReportsSpliced s output output OutOfMemory
+spliced_nothing (Body text) output = inr (refl, refl)
+spliced_nothing (Refused refusal) output = inr (refl, refl)
+
+module _ (before after : Tape) (status : Status) (s : StopsInSeries before after status) where
+  pub stops_input : status ≡ InputFailed → Rose before after
+  stops_input is = by s.why
+    where
+      by : ((status ≡ InputFailed) × Rose before after) ⊎ (status ≡ OutOfMemory) → Rose before after
+      by (inl e) = e.1
+      by (inr e) = absurd (let same : OutOfMemory ≡ InputFailed = sym e ∙ is in cc)
+
+  pub stops_as : (holds : Status → Type 0) → holds InputFailed → holds OutOfMemory → holds status
+  stops_as holds failed memory = by s.why
+    where
+      by : ((status ≡ InputFailed) × Rose before after) ⊎ (status ≡ OutOfMemory) → holds status
+      by (inl e) = subst holds (sym e.0) failed
+      by (inr e) = subst holds (sym e) memory
+
+pub stops_no_output : (before after : Tape) (status : Status) → StopsInSeries before after status → status ≡ OutputFailed → ⊥
+stops_no_output before after status s =
+    stops_as before after status s (λ t. t ≡ OutputFailed → ⊥) (λ e. cc) (λ e. cc)
+
+pub splices_as : (splicing : Splicing) (input input' output output' : Tape) (status : Status) (holds : Status → Type 0)
+    → Splices splicing input input' output output' status → holds Done → holds SpliceRefused → holds InputFailed
+    → holds OutputFailed → holds OutOfMemory → holds status
+splices_as splicing input input' output output' status holds (inl read) done refused failed wrote memory =
+    spliced_as (splice_of splicing.method splicing.name splicing.unit read.0) output output' status holds read.2 done refused wrote memory
+splices_as splicing input input' output output' status holds (inr stopped) done refused failed wrote memory =
+    stops_as input input' status stopped.0 holds failed memory

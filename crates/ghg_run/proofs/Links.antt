@@ -9,8 +9,8 @@ use Rattle.ghg_outer.specs.Counts.{IsCounted}
 use Rattle.ghg_outer.specs.Doors.{GivesLink, IsKept, Opens, Register, TakesBack}
 use Rattle.ghg_outer.specs.Tape.{Tape}
 use Rattle.ghg_words.specs.declared.command.Service.{Service}
-use Rattle.ghg_session.specs.declared.status.Status.{Status}
-use Rattle.ghg_session.specs.declared.status.Status.TheVariants.{OutOfMemory}
+use Rattle.ghg_words.specs.declared.status.Status.{Status}
+use Rattle.ghg_words.specs.declared.status.Status.TheVariants.{OutOfMemory}
 use Rattle.ghg_run.specs.Serve.{EndsServing, IsServing, OfficeAt, ServedLink, Serves, ServesNew, raised_by, register_of, unavailable_count}
 
 -- what a serving acts on: the office, the count of the keeper's faults and what the door tells
@@ -197,7 +197,7 @@ module _ (stored : Bool) (a b c : Station) (number : ℕ) (one : ServedLink) (so
 
 pub serving_ends : (stored : Bool) (service : Service) (a b : Station) (number : ℕ) (status : Status) → ServedSoFar stored a b number
     → stored ≡ is_some service.settings.store
-    → ((links : List ServedLink) → length links ≡ number → EndsServing service b.door links [] status)
+    → ((links : List ServedLink) → length links ≡ number → EndsServing service b.door.port links [] status)
     → Serves service a.office b.office a.faults b.faults a.door b.door status
 serving_ends stored service a b number status so_far store ends =
     let same : so_far.links ++ [] ≡ so_far.links = append-nil so_far.links in

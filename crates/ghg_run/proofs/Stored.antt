@@ -1,22 +1,22 @@
--- Runs that begin with a store.
-use Rattle.std.proofs.Common.{inr, ◌⊎◌, ◌≡◌, ◌∙◌, ℕ, ◌≤◌, List, Option, Some, None, IfSome, sym, subst, refl}
+-- Runs that begin with an office.
+use Rattle.std.proofs.Common.{inr, ◌≡◌, ◌∙◌, ℕ, ◌≤◌, Bool, true, List, Option, Some, None, IfSome, sym, subst, refl}
+use Rattle.std.specs.Option.{is_some}
 use Rattle.ghg_keeper.specs.declared.row.KeptRow.{KeptRow}
 use Rattle.ghg_keeper.specs.Shelf.{KeepsRows, Shelf}
 use Rattle.ghg_office.specs.Keeping.{HadRows, KeepsAccepted}
-use Rattle.ghg_office.specs.Office.{State, start}
-use Rattle.ghg_outer.specs.Tape.{Tape}
-use Rattle.ghg_session.specs.declared.status.Status.{Status}
-use Rattle.ghg_session.specs.declared.status.Status.TheVariants.{StoreFailed, OutputFailed}
-use Rattle.ghg_words.specs.declared.command.Service.{Service}
-use Rattle.ghg_run.specs.Opening.{Begins, BeginsNot, IsInUse, IsKeptIn, RunsOffice}
+use Rattle.ghg_office.specs.Office.{State}
 use Rattle.ghg_outer.specs.Doors.{Register}
-use Rattle.ghg_run.specs.Run.{Compiles, ServesAll}
-use Rattle.ghg_run.specs.Serve.{EndsServing, OfficeAt, Serves, office_at}
+use Rattle.ghg_outer.specs.Tape.{Tape}
 use Rattle.ghg_office.specs.Laws.{IsInForce}
 use Rattle.ghg_session.specs.Replies.{protocol}
 use Rattle.ghg_session.specs.Session.{Session}
+use Rattle.ghg_words.specs.declared.command.Service.{Service}
+use Rattle.ghg_words.specs.declared.status.Status.{Status}
+use Rattle.ghg_run.specs.Run.{Compiles, ServesAll}
+use Rattle.ghg_run.specs.Serve.{Serves, office_at}
 use Rattle.ghg_run.proofs.Held.{sound_replies}
 use Rattle.ghg_run.proofs.Links.{serving_since}
+use Rattle.ghg_run.specs.Opening.{Begins, IsInUse, IsKeptIn, RunsOffice}
 
 pub keeps_rows_more : (a b c : Shelf) → KeepsRows a b → KeepsRows b c → KeepsRows a c
 keeps_rows_more a b c p q =
@@ -39,69 +39,51 @@ had_rows before mid after rows keeps stays later had = record {
 pub stays_in_use : (name : List ℕ) (mid after : Shelf) → after.name ≡ mid.name → IsInUse name mid → IsInUse name after
 stays_in_use name mid after e h = subst (λ (n : Option (List ℕ)). IfSome n (λ used. used ≡ name)) (sym e) h
 
--- the run goes on with the office that the rows give
-pub stored_run : (name : List ℕ) (before mid after : Shelf) (steps later : ℕ) (first last : State)
-    (holds : State → ℕ → State → Type 0) → Begins (Some name) before mid steps first later
-    → IsKeptIn (Some name) mid first.accepted → KeepsAccepted mid after last.accepted → holds first later last
-    → RunsOffice (Some name) before after steps holds
-stored_run name before mid after steps later first last holds b had kept does = record {
-  first = first;
-  later = later;
-  last = last;
-  begins = (
-    b.0,
-    record { told = λ t. b.1.told (kept.told t); same = λ t clean. b.1.same t (kept.clean clean) },
-    b.2,
-    b.3,
-  );
-  does = does;
-  kept = (stays_in_use name mid after kept.name had.0, kept.rows);
-}
+-- the run goes on with the office that was opened
+pub runs_office : (store : Option (List ℕ)) (before mid after : Shelf) (steps opened_steps : ℕ) (first last : State)
+    (holds : State → ℕ → State → Type 0) → Begins store before mid steps first opened_steps
+    → IsKeptIn store mid first.accepted → (is_some store ≡ true → KeepsAccepted mid after last.accepted)
+    → holds first opened_steps last → RunsOffice store before after steps holds
+runs_office None before mid after steps opened_steps first last holds b had keeps does =
+    record { first = first; opened_steps = opened_steps; last = last; begins = b; does = does; kept = tt }
+runs_office (Some name) before mid after steps opened_steps first last holds b had keeps does =
+    let kept = keeps refl in
+    record {
+      first = first;
+      opened_steps = opened_steps;
+      last = last;
+      begins = (
+        b.0,
+        record { told = λ t. b.1.told (kept.told t); same = λ t clean. b.1.same t (kept.clean clean) },
+        b.2,
+        b.3,
+      );
+      does = does;
+      kept = (stays_in_use name mid after kept.name had.0, kept.rows);
+    }
 
--- or with an office that accepted nothing
-pub plain_run : (before after : Shelf) (steps : ℕ) (last : State) (holds : State → ℕ → State → Type 0)
-    → holds start steps last → RunsOffice None before after steps holds
-plain_run before after steps last holds does =
-    record { first = start; later = steps; last = last; begins = (refl, refl); does = does; kept = tt }
+-- ---- with a store or without
 
--- a serving does not stop at the output or the keeper
-module _ {service : Service} {before after : OfficeAt} {faults faults' : ℕ} {door door' : Register Tape} {status : Status}
-    (s : Serves service before after faults faults' door door' status) where
-  pub no_keeper : status ≡ StoreFailed → ⊥
-  no_keeper is = absurd (subst (EndsServing service door' s.taken s.dropped) is s.ends)
+pub compiled : (store : Option (List ℕ)) (stored : Bool) (before mid after : Shelf) (steps opened_steps steps' : ℕ) (first last : State)
+    (input input' output between output' : Tape) (status : Status) → stored ≡ is_some store
+    → Begins store before mid steps first opened_steps × (between ≡ output) → IsKeptIn store mid first.accepted
+    → (stored ≡ true → KeepsAccepted mid after last.accepted) → IsInForce first
+    → Session (protocol stored) first last input input' between output' opened_steps steps' status
+    → Compiles store before after input input' output output' steps steps' status
+compiled store stored before mid after steps opened_steps steps' first last input input' output between output' status e opened had keeps h session =
+    let same = subst (λ (b : Bool). Session (protocol b) first last input input' between output' opened_steps steps' status) e session in
+    let begun = subst (λ (o : Tape). Session (protocol (is_some store)) first last input input' o output' opened_steps steps' status) opened.1 same in
+    inr (runs_office store before mid after steps opened_steps first last _ opened.0 had (λ some. keeps (e ∙ some))
+    (begun, sound_replies (is_some store) first h))
 
-  pub no_output : status ≡ OutputFailed → ⊥
-  no_output is = absurd (subst (EndsServing service door' s.taken s.dropped) is s.ends)
-
-pub stored_script : (name : List ℕ) (before mid after : Shelf) (steps later steps' : ℕ) (first last : State)
-    (input input' output between output' : Tape) (status : Status)
-    → Begins (Some name) before mid steps first later × (between ≡ output) → IsKeptIn (Some name) mid first.accepted
-    → KeepsAccepted mid after last.accepted → IsInForce first
-    → Session protocol first last input input' between output' later steps' status
-    → Compiles (Some name) before after input input' output output' steps steps' status
-stored_script name before mid after steps later steps' first last input input' output between output' status opened had kept h session =
-    let begun = subst (λ (o : Tape). Session protocol first last input input' o output' later steps' status) opened.1 session in
-    inr (stored_run name before mid after steps later first last _ opened.0 had kept (begun, sound_replies first h))
-
--- the store of a service is this one
-pub serves_with : (store : Option (List ℕ)) (service : Service) (before after : Shelf) (steps steps' : ℕ) (output output' : Tape)
-    (door door' : Register Tape) (status : Status) → service.settings.store ≡ store
-    → (BeginsNot store before after output output' steps steps' status × (door' ≡ door))
-    ⊎ RunsOffice store before after steps (λ first later last.
-    Serves service (office_at first later) (office_at last steps') before.faults after.faults door door' status × (output' ≡ output))
-    → ServesAll service before after output output' door door' steps steps' status
-serves_with store service before after steps steps' output output' door door' status e does =
-    subst (λ (s : Option (List ℕ)). (BeginsNot s before after output output' steps steps' status × (door' ≡ door))
-    ⊎ RunsOffice s before after steps (λ first later last.
-    Serves service (office_at first later) (office_at last steps') before.faults after.faults door door' status × (output' ≡ output))) (sym e) does
-
-pub stored_serving : (name : List ℕ) (service : Service) (before mid after : Shelf) (steps later steps' : ℕ) (first last : State)
-    (output between : Tape) (door door' : Register Tape) (status : Status) → service.settings.store ≡ Some name
-    → Begins (Some name) before mid steps first later × (between ≡ output) → IsKeptIn (Some name) mid first.accepted
-    → KeepsAccepted mid after last.accepted → before.faults ≤ mid.faults
-    → Serves service (office_at first later) (office_at last steps') mid.faults after.faults door door' status
+pub served : (service : Service) (stored : Bool) (before mid after : Shelf) (steps opened_steps steps' : ℕ) (first last : State)
+    (output between : Tape) (door door' : Register Tape) (status : Status) → stored ≡ is_some service.settings.store
+    → Begins service.settings.store before mid steps first opened_steps × (between ≡ output)
+    → IsKeptIn service.settings.store mid first.accepted → (stored ≡ true → KeepsAccepted mid after last.accepted)
+    → before.faults ≤ mid.faults
+    → Serves service (office_at first opened_steps) (office_at last steps') mid.faults after.faults door door' status
     → ServesAll service before after output between door door' steps steps' status
-stored_serving name service before mid after steps later steps' first last output between door door' status store opened had kept counts links =
-    let since = serving_since service (office_at first later) (office_at last steps') before.faults mid.faults after.faults door door' status counts links in
-    serves_with (Some name) service before after steps steps' output between door door' status store
-    (inr (stored_run name before mid after steps later first last _ opened.0 had kept (since, opened.1)))
+served service stored before mid after steps opened_steps steps' first last output between door door' status e opened had keeps counts links =
+    let since = serving_since service (office_at first opened_steps) (office_at last steps') before.faults mid.faults after.faults door door' status counts links in
+    inr (runs_office service.settings.store before mid after steps opened_steps first last _ opened.0 had (λ some. keeps (e ∙ some))
+    (since, opened.1))

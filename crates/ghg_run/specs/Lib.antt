@@ -1,3 +1,4 @@
 pub mod Opening
 pub mod Run
 pub mod Serve
+pub mod Splicing

@@ -10,22 +10,22 @@ use Rattle.ghg_office.specs.Office.{State, start}
 use Rattle.ghg_office.specs.Replays.{replay_evaluations, replayed}
 use Rattle.ghg_office.specs.Replies.{reply_text}
 use Rattle.ghg_outer.specs.Tape.{Tape}
-use Rattle.ghg_session.specs.declared.status.Status.{Status}
-use Rattle.ghg_session.specs.declared.status.Status.TheVariants.{OutOfMemory, RowRefused, StoreFailed}
-use Rattle.ghg_session.specs.Commands.{line_of}
+use Rattle.ghg_words.specs.declared.status.Status.{Status}
+use Rattle.ghg_words.specs.declared.status.Status.TheVariants.{OutOfMemory, RowRefused, StoreFailed}
+use Rattle.ghg_script.specs.Commands.{line_of}
 use Rattle.ghg_session.specs.Writing.{Reports}
 
 -- The store of this name is in use, if the keeper tells which one is.
 abbrev pub IsInUse : List ℕ → Shelf → Type 0
 IsInUse name shelf = IfSome shelf.name (λ used. used ≡ name)
 
--- The run begins with this office, after these steps. Without a store it accepted nothing so far. If one is
+-- The run begins with this office, when so many steps were taken. Without a store it accepted nothing so far. If one is
 -- named, it accepted the rows that the store had, for no more steps than these ask for.
 abbrev pub Begins : Option (List ℕ) → Shelf → Shelf → ℕ → State → ℕ → Type 0
-Begins None before after steps first later = (first ≡ start) × (later ≡ steps)
-Begins (Some name) before after steps first later =
+Begins None before after steps first opened_steps = (first ≡ start) × (opened_steps ≡ steps)
+Begins (Some name) before after steps first opened_steps =
     (rows : List KeptRow) × HadRows before after rows × (replayed rows ≡ Ok first)
-    × (later ≤ steps + replay_evaluations start rows)
+    × (opened_steps ≤ steps + replay_evaluations start rows)
 
 -- If a store is named, it is in use, and the rows that the keeper tells are these submissions.
 abbrev pub IsKeptIn : Option (List ℕ) → Shelf → List KeptRow → Type 0
@@ -43,22 +43,18 @@ abbrev pub ReportsMade : Tape → Tape → List ℕ → Status → Status → Ty
 ReportsMade before after text due status =
     Reports before after text due status ⊎ ((after ≡ before) × (status ≡ OutOfMemory))
 
--- The line of a row that is refused is due.
-abbrev pub ReportsRow : Tape → Tape → ℕ → Reply → Status → Type 0
-ReportsRow before after seq reply status = ReportsMade before after (kept_line seq reply) RowRefused status
-
 -- Of these rows one is refused, which is reported, and the store is in use.
 pub record RefusesRow (name : List ℕ) (rows : List KeptRow) (shelf' : Shelf) (output output' : Tape)
     (status : Status) : Type 0 where
   pub seq : ℕ
   pub reply : Reply
   pub refused : replayed rows ≡ Err (Kept seq reply)
-  pub told : ReportsRow output output' seq reply status
+  pub told : ReportsMade output output' (kept_line seq reply) RowRefused status
   pub used : IsInUse name shelf'
 
 -- The keeper failed or memory ran out, and nothing was written. The store in use is the one that was, or the
 -- one of this name.
-pub record FailsAtOnce (name : List ℕ) (shelf shelf' : Shelf) (output output' : Tape) (status : Status)
+pub record FailsBeforeOffice (name : List ℕ) (shelf shelf' : Shelf) (output output' : Tape) (status : Status)
     : Type 0 where
   pub kind : (status ≡ StoreFailed) ⊎ (status ≡ OutOfMemory)
   pub nothing : output' ≡ output
@@ -70,7 +66,7 @@ pub record OpensNone (name : List ℕ) (shelf shelf' : Shelf) (output output' : 
   pub rows : List KeptRow
   pub had : HadRows shelf shelf' rows
   pub why : RefusesRow name rows shelf' output output' status
-      ⊎ FailsAtOnce name shelf shelf' output output' status
+      ⊎ FailsBeforeOffice name shelf shelf' output output' status
   pub kept : KeepsRows shelf shelf'
   pub spent : steps' ≤ steps + replay_evaluations start rows
 
@@ -82,21 +78,21 @@ BeginsNot (Some name) shelf shelf' output output' steps steps' status =
 
 -- ---- with a store or without
 
--- The run begins with an office, of which this holds, by its first state, the steps before it and its last
--- state. If a store is named, the accepted submissions are kept in it in the end, whatever the status.
+-- The run begins with an office, of which this holds, by its first state, the steps when it was opened and its
+-- last state. If a store is named, the accepted submissions are kept in it in the end, whatever the status.
 pub record RunsOffice (store : Option (List ℕ)) (shelf shelf' : Shelf) (steps : ℕ)
     (holds : State → ℕ → State → Type 0) : Type 0 where
   pub first : State
-  pub later : ℕ
+  pub opened_steps : ℕ
   pub last : State
-  pub begins : Begins store shelf shelf' steps first later
-  pub does : holds first later last
+  pub begins : Begins store shelf shelf' steps first opened_steps
+  pub does : holds first opened_steps last
   pub kept : IsKeptIn store shelf' last.accepted
 
--- ---- opening a store
+-- ---- opening the office
 
--- the store of this name was opened: there is an office, or a status to end with
-abbrev pub Opens : List ℕ → Shelf → Shelf → Tape → Tape → ℕ → ℕ → Result State Status → Type 0
-Opens name shelf shelf' output output' steps steps' result = MatchResult result
-    (λ office. Begins (Some name) shelf shelf' steps office steps' × (output' ≡ output))
-    (OpensNone name shelf shelf' output output' steps steps')
+-- there is an office, and nothing was written; or there is none
+abbrev pub Opens : Option (List ℕ) → Shelf → Shelf → Tape → Tape → ℕ → ℕ → Result State Status → Type 0
+Opens store shelf shelf' output output' steps steps' result = MatchResult result
+    (λ office. Begins store shelf shelf' steps office steps' × (output' ≡ output))
+    (BeginsNot store shelf shelf' output output' steps steps')

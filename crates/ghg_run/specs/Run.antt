@@ -1,5 +1,6 @@
 -- What the program owes for its words.
-use Rattle.std.specs.Prelude.{◌≡◌, ⊤, ◌⊎◌, ℕ, ◌+◌, ◌≤◌, true, false, Bool, List, map, Option, Some, None, IsSome, String, codes}
+use Rattle.std.specs.Prelude.{◌≡◌, ⊤, ◌⊎◌, ℕ, ◌+◌, ◌≤◌, true, false, Bool, List, map, Option, Some, None, String, codes}
+use Rattle.std.specs.Option.{is_some}
 use Rattle.std.specs.String.{string_bytes}
 use Rattle.ghg_generator.specs.Summary.{submissions, summary}
 use Rattle.ghg_keeper.specs.Shelf.{Shelf}
@@ -11,23 +12,24 @@ use Rattle.ghg_office.specs.Sound.{IsSoundReply}
 use Rattle.ghg_outer.specs.Counts.{IsCounted}
 use Rattle.ghg_outer.specs.Doors.{Register}
 use Rattle.ghg_outer.specs.Tape.{Rose, Tape}
-use Rattle.ghg_session.specs.declared.command.Request.{Request}
-use Rattle.ghg_session.specs.declared.command.Request.TheVariants.{Submit, Query}
-use Rattle.ghg_session.specs.declared.script.TableQuery.{TableQuery}
-use Rattle.ghg_session.specs.declared.status.Status.{Status}
-use Rattle.ghg_session.specs.declared.status.Status.TheVariants.{Done, BadCommandLine, NoScript, InputFailed, OutputFailed, StoreFailed, DoorFailed, OutOfMemory, RowRefused}
+use Rattle.ghg_script.specs.declared.command.Request.{Request}
+use Rattle.ghg_script.specs.declared.command.Request.TheVariants.{Submit, Query}
+use Rattle.ghg_script.specs.declared.script.TableQuery.{TableQuery}
+use Rattle.ghg_words.specs.declared.status.Status.{Status}
+use Rattle.ghg_words.specs.declared.status.Status.TheVariants.{Done, BadCommandLine, InputFailed, OutputFailed, StoreFailed, DoorFailed}
 use Rattle.ghg_session.specs.Replies.{protocol, table_lines}
-use Rattle.ghg_session.specs.Commands.{line_of}
+use Rattle.ghg_script.specs.Commands.{line_of}
 use Rattle.ghg_session.specs.Session.{EachReply, Session}
-use Rattle.ghg_session.specs.Status.{status_code}
+use Rattle.ghg_words.specs.Status.{status_code}
 use Rattle.ghg_session.specs.Writing.{Reports}
 use Rattle.ghg_words.specs.Command.{command_in}
 use Rattle.ghg_words.specs.declared.command.Command.{Command}
-use Rattle.ghg_words.specs.declared.command.Command.TheVariants.{Compile, Generate, Serve}
+use Rattle.ghg_words.specs.declared.command.Command.TheVariants.{Compile, Generate, Serve, Splice}
 use Rattle.ghg_words.specs.declared.command.Sample.{Sample}
 use Rattle.ghg_words.specs.declared.command.Service.{Service}
 use Rattle.ghg_run.specs.Opening.{BeginsNot, ReportsMade, RunsOffice}
 use Rattle.ghg_run.specs.Serve.{Serves, office_at}
+use Rattle.ghg_run.specs.Splicing.{Splices}
 
 -- ---- the bounds that a session prints
 
@@ -40,12 +42,13 @@ AreSoundLines s (Query show) lines = (reply : Reply)
 
 -- In each table among the replies to any requests the bounds hold the exact values of the nodes of the data
 -- then in force, wherever the inputs are within their supplied bounds.
-abbrev pub HasSoundReplies : State → Type 0
-HasSoundReplies s = (requests : List (Request TableQuery)) → EachReply protocol AreSoundLines s requests
+abbrev pub HasSoundReplies : Bool → State → Type 0
+HasSoundReplies stored s =
+    (requests : List (Request TableQuery)) → EachReply (protocol stored) AreSoundLines s requests
 
 -- That holds from each state in force.
 abbrev pub RepliesAreSound : Type 0
-RepliesAreSound = (s : State) → IsInForce s → HasSoundReplies s
+RepliesAreSound = (stored : Bool) (s : State) → IsInForce s → HasSoundReplies stored s
 
 -- ---- each command
 
@@ -57,9 +60,9 @@ bad_command_line = line_of (codes "bad command line")
 abbrev pub Compiles : Option (List ℕ) → Shelf → Shelf → Tape → Tape → Tape → Tape → ℕ → ℕ → Status → Type 0
 Compiles store shelf shelf' input input' output output' steps steps' status =
     (BeginsNot store shelf shelf' output output' steps steps' status × (input' ≡ input))
-    ⊎ RunsOffice store shelf shelf' steps (λ first later last.
-    Session protocol first last input input' output output' later steps' status
-    × HasSoundReplies first)
+    ⊎ RunsOffice store shelf shelf' steps (λ first opened_steps last.
+    Session (protocol (is_some store)) first last input input' output output' opened_steps steps' status
+    × HasSoundReplies (is_some store) first)
 
 -- An office served connections, and wrote nothing to the output, or there was none, and no connection was
 -- taken.
@@ -67,8 +70,8 @@ abbrev pub ServesAll : Service → Shelf → Shelf → Tape → Tape → Registe
     → Status → Type 0
 ServesAll service shelf shelf' output output' door door' steps steps' status =
     (BeginsNot service.settings.store shelf shelf' output output' steps steps' status × (door' ≡ door))
-    ⊎ RunsOffice service.settings.store shelf shelf' steps (λ first later last.
-    Serves service (office_at first later) (office_at last steps') shelf.faults shelf'.faults door door'
+    ⊎ RunsOffice service.settings.store shelf shelf' steps (λ first opened_steps last.
+    Serves service (office_at first opened_steps) (office_at last steps') shelf.faults shelf'.faults door door'
     status
     × (output' ≡ output))
 
@@ -90,10 +93,12 @@ store_in None = None
 store_in (Some (Compile settings)) = settings.store
 store_in (Some (Serve service)) = service.settings.store
 store_in (Some (Generate sample)) = None
+store_in (Some (Splice splicing)) = None
 
 -- whether a command reads the input
 abbrev pub reads_input : Option Command → Bool
 reads_input (Some (Compile settings)) = true
+reads_input (Some (Splice splicing)) = true
 reads_input _ = false
 
 -- whether a command opens the door
@@ -112,24 +117,12 @@ Runs (Some (Serve service)) shelf shelf' input input' output output' door door' 
     ServesAll service shelf shelf' output output' door door' steps steps' status
 Runs (Some (Generate sample)) shelf shelf' input input' output output' door door' steps steps' status =
     Generates sample output output' steps steps' status
+Runs (Some (Splice splicing)) shelf shelf' input input' output output' door door' steps steps' status =
+    Splices splicing input input' output output' status × (steps' ≡ steps)
 
--- the statuses that a run for this command may end with
-abbrev pub MayEnd : Option Command → Status → Type 0
-MayEnd command Done = IsSome command
-MayEnd command BadCommandLine = command ≡ None
-MayEnd command NoScript = reads_input command ≡ true
-MayEnd command InputFailed = reads_input command ≡ true
-MayEnd command OutputFailed = ⊤
-MayEnd command StoreFailed = IsSome (store_in command)
-MayEnd command DoorFailed = opens_door command ≡ true
-MayEnd command OutOfMemory = ⊤
-MayEnd command RowRefused = IsSome (store_in command)
-
--- The status is one of those, and a failure is told only if its count of faults rose. The counts of the
--- keeper and of the door never fall.
-pub record IsCaused (command : Option Command) (shelf shelf' : Shelf) (input input' output output' : Tape)
-    (door door' : Register Tape) (status : Status) : Type 0 where
-  pub known : MayEnd command status
+-- A failure is told only if its count of faults rose. The counts of the keeper and of the door never fall.
+pub record IsCaused (shelf shelf' : Shelf) (input input' output output' : Tape) (door door' : Register Tape)
+    (status : Status) : Type 0 where
   pub input_rose : status ≡ InputFailed → Rose input input'
   pub output_rose : status ≡ OutputFailed → Rose output output'
   pub keeper_rose : IsCounted shelf.faults shelf'.faults (status ≡ StoreFailed)
@@ -141,4 +134,4 @@ abbrev pub IsRun : Option Command → Shelf → Shelf → Tape → Tape → Tape
 IsRun command shelf shelf' input input' output output' door door' steps steps' code =
     (status : Status) × (code ≡ status_code status)
     × Runs command shelf shelf' input input' output output' door door' steps steps' status
-    × IsCaused command shelf shelf' input input' output output' door door' status
+    × IsCaused shelf shelf' input input' output output' door door' status

@@ -9,8 +9,8 @@ use Rattle.ghg_office.specs.Sound.{IsSoundReply}
 use Rattle.ghg_outer.specs.Doors.{Register}
 use Rattle.ghg_outer.specs.Links.{IsFresh}
 use Rattle.ghg_outer.specs.Tape.{Tape}
-use Rattle.ghg_session.specs.declared.status.Status.{Status}
-use Rattle.ghg_session.specs.declared.status.Status.TheVariants.{Done, DoorFailed, OutOfMemory}
+use Rattle.ghg_words.specs.declared.status.Status.{Status}
+use Rattle.ghg_words.specs.declared.status.Status.TheVariants.{Done, DoorFailed, OutOfMemory}
 use Rattle.ghg_words.specs.declared.command.Service.{Service}
 
 -- ---- links, one after the other
@@ -68,14 +68,14 @@ register_of tape door = record {
 -- How a serving ends, by its status: these links were taken back, and one more perhaps was served and
 -- dropped. All connections were taken back, at the port that is asked for. Or fewer, since the door failed,
 -- or memory ran out: before the first link was taken, or when a link was handed back.
-abbrev pub EndsServing : Service → Register Tape → List ServedLink → List ServedLink → Status → Type 0
-EndsServing service door taken dropped Done =
+abbrev pub EndsServing : Service → Option ℕ → List ServedLink → List ServedLink → Status → Type 0
+EndsServing service port taken dropped Done =
     (length taken ≡ service.connections) × (dropped ≡ [])
-    × IfSome door.port (λ open_port. open_port ≡ service.port)
-EndsServing service door taken dropped DoorFailed = (length taken < service.connections) × (dropped ≡ [])
-EndsServing service door taken dropped OutOfMemory =
+    × IfSome port (λ open_port. open_port ≡ service.port)
+EndsServing service port taken dropped DoorFailed = (length taken < service.connections) × (dropped ≡ [])
+EndsServing service port taken dropped OutOfMemory =
     (length taken < service.connections) × ((length dropped ≡ 1) ⊎ ((taken ≡ []) × (dropped ≡ [])))
-EndsServing service door taken dropped _ = ⊥
+EndsServing service port taken dropped _ = ⊥
 
 -- An office served links. The counts are those of the keeper's faults.
 pub record Serves (service : Service) (before after : OfficeAt) (faults faults' : ℕ)
@@ -86,7 +86,7 @@ pub record Serves (service : Service) (before after : OfficeAt) (faults faults' 
   pub serving : IsServing before (taken ++ dropped) after
   pub finished : door'.finished ≡ option_map (λ links. links ++ map (λ s. s.link) taken) door.finished
   pub given : door'.given ≡ option_map (λ n. n + length (taken ++ dropped)) door.given
-  pub ends : EndsServing service door' taken dropped status
+  pub ends : EndsServing service door'.port taken dropped status
   -- The keeper failed at least as often as the reply that was due has status 503, however much of it was
   -- written. Without a store no such reply was due.
   pub unavailable : raised_by (unavailable_count (taken ++ dropped)) faults ≤ faults'

@@ -1,19 +1,20 @@
 //! All that the program does.
 
-ghost use Rattle.std.specs.Prelude.{◌≡◌, ◌≤◌, ◌<◌, false, None, IsSome};
-ghost use Rattle.ghg_run.specs.Run.{Compiles, Generates, IsRun, ServesAll, asked_for, opens_door, reads_input, store_in};
+ghost use Rattle.std.specs.Prelude.{◌≡◌, ◌≤◌, ◌<◌, false, None};
+ghost use Rattle.std.specs.Option.{is_some};
+ghost use Rattle.ghg_run.specs.Run.{Generates, IsRun, asked_for, opens_door, reads_input, store_in};
 ghost use Rattle.ghg_run.specs.Serve.{register_of};
-ghost use Rattle.ghg_outer.specs.Counts.{IsCounted};
 ghost use Rattle.ghg_outer.specs.Tape.{Rose};
 
-use crate::opening::open_store;
+use crate::opening::open_office;
 use crate::serving::serve_office;
+use crate::splicing::splice;
 use ghg_keeper::Keeper;
-use ghg_office::Office;
 use ghg_outer::{Door, Sink, Source};
-use ghg_session::{Script, Status, answer_script, report};
+use ghg_script::Script;
+use ghg_session::{Environment, answer_script, report};
 use ghg_steps::Steps;
-use ghg_words::{Command, Sample, Service, Settings, read_command};
+use ghg_words::{Command, Sample, Settings, Status, read_command};
 use ghg_workers::{Gate, Workers};
 use std::alloc::{AllocError, Global};
 use std::hash::RandomState;
@@ -23,14 +24,14 @@ use std::thread::Threads;
 /// Does what the words ask for, and answers the status that the program ends with.
 ///
 /// The word `compile` asks it to answer the script that the input holds, `serve` to serve connections at a
-/// port of loopback, and `generate` to write the summary of a run of generated submissions. With
-/// `--store NAME` the submissions that were kept in that store are replayed first, and those that are
-/// accepted now are kept there. For each submission no more nodes are evaluated than its rows affect, by as
-/// many workers as the words say; the gate is told of each before.
+/// port of loopback, `generate` to write the summary of a run of generated submissions, and `splice` to write
+/// a submission that fills a series. With `--store NAME` the submissions that were kept in that store are
+/// replayed first, and those that are accepted now are kept there. For each submission no more nodes are
+/// evaluated than its rows affect.
 ///
 /// | Status | Meaning |
 /// |---|---|
-/// | 0 | the script was answered to its end, all connections were served, or the summary was written |
+/// | 0 | the script was answered to its end, all connections were served, or what is due was written |
 /// | 2 | the words are no command |
 /// | 3 | the input is no script |
 /// | 4 | the input failed |
@@ -39,6 +40,7 @@ use std::thread::Threads;
 /// | 7 | the door failed |
 /// | 8 | memory ran out |
 /// | 9 | a kept submission is refused |
+/// | 10 | the series is not spliced |
 pub fn run<S: Source, W: Sink, K: Keeper, D: Door, G: Gate, T: Threads + Sync, L: Ledger>(
     rt: &T,
     alloc: Global,
@@ -63,20 +65,38 @@ pub fn run<S: Source, W: Sink, K: Keeper, D: Door, G: Gate, T: Threads + Sync, L
 {
     match read_command(words) {
         Some(Command::Compile(settings)) => {
-            let workers = workers(rt, settings.workers, gate);
-            compile(
-                alloc, hasher, &workers, &settings, input, out, keeper, steps,
-            )
-            .code()
+            let environment = environment(rt, alloc, &settings, gate);
+            match open_office(hasher, &environment, &settings.store, out, keeper, steps) {
+                Ok(mut office) => answer_script::<Script, S, W, K, G, T, L>(
+                    &environment,
+                    input,
+                    out,
+                    &mut office,
+                    keeper,
+                    steps,
+                ).code(),
+                Err(status) => status.code(),
+            }
         }
         Some(Command::Serve(service)) => {
-            let workers = workers(rt, service.settings.workers, gate);
-            serve(alloc, hasher, &workers, &service, out, keeper, door, steps).code()
+            let settings = &service.settings;
+            let environment = environment(rt, alloc, settings, gate);
+            match open_office(hasher, &environment, &settings.store, out, keeper, steps) {
+                Ok(office) => {
+                    serve_office(&environment, &service, office, keeper, door, steps).code()
+                }
+                Err(status) => status.code(),
+            }
         }
         Some(Command::Generate(sample)) => {
-            let workers = workers(rt, sample.workers, gate);
+            let workers = Workers {
+                threads: rt,
+                count: sample.workers,
+                gate,
+            };
             generate(alloc, hasher, &workers, &sample, out, steps).code()
         }
+        Some(Command::Splice(splicing)) => splice(alloc, &splicing, input, out).code(),
         None => report(out, BAD_COMMAND_LINE, Status::BadCommandLine).code(),
     }
 }
@@ -114,106 +134,24 @@ pub fn run_counted<S: Source, W: Sink, K: Keeper, D: Door, G: Gate, T: Threads +
     )
 }
 
-// Who evaluates.
-fn workers<'a, T, G>(threads: &'a T, count: u32, gate: &'a G) -> Workers<'a, T, G>
-    ensures { result.count ≡ count }
-{
-    Workers {
-        threads,
-        count,
-        gate,
-    }
-}
-
-// Answers the script that the input holds. With a store, its rows are replayed first.
-fn compile<S: Source, W: Sink, K: Keeper, G: Gate, T: Threads + Sync, L: Ledger>(
+// What a command with these settings works with.
+fn environment<'a, T, G>(
+    threads: &'a T,
     alloc: Global,
-    hasher: RandomState,
-    workers: &Workers<'_, T, G>,
     settings: &Settings<'_>,
-    input: &mut S,
-    out: &mut W,
-    keeper: &mut K,
-    steps: &mut Steps<L>,
-) -> Status
-    requires { (1 ≤ workers.now.count) × (workers.now.count ≤ 64) }
-    ensures run { Compiles settings.now.store (K.shelf keeper.old) (K.shelf keeper.new) (S.tape input.old)
-        (S.tape input.new) (W.tape out.old) (W.tape out.new) steps.old steps.new result }
-    ensures input { result ≡ Status.InputFailed → Rose (S.tape input.old) (S.tape input.new) }
-    ensures output { result ≡ Status.OutputFailed → Rose (W.tape out.old) (W.tape out.new) }
-    ensures counted { IsCounted (K.shelf keeper.old).faults (K.shelf keeper.new).faults
-        (result ≡ Status.StoreFailed) }
-    ensures stored { result ≡ Status.StoreFailed → IsSome settings.now.store }
-    ensures unkept { settings.now.store ≡ None → keeper.new ≡ keeper.old }
+    gate: &'a G,
+) -> Environment<'a, T, G>
+    ensures workers { result.workers.count ≡ settings.now.workers }
+    ensures stored { result.stored ≡ is_some settings.now.store }
 {
-    match &settings.store {
-        None => {
-            let mut office = Office::new(alloc, hasher);
-            answer_script::<Script, S, W, K, G, T, L>(
-                alloc,
-                workers,
-                input,
-                out,
-                &mut office,
-                keeper,
-                false,
-                steps,
-            )
-        }
-        Some(name) => match open_store(alloc, hasher, workers, name.as_str(), out, keeper, steps) {
-            Ok(mut office) => answer_script::<Script, S, W, K, G, T, L>(
-                alloc,
-                workers,
-                input,
-                out,
-                &mut office,
-                keeper,
-                true,
-                steps,
-            ),
-            Err(status) => status,
+    Environment {
+        alloc,
+        workers: Workers {
+            threads,
+            count: settings.workers,
+            gate,
         },
-    }
-}
-
-// Serves as many connections as are asked for. With a store, its rows are replayed first.
-fn serve<W: Sink, K: Keeper, D: Door, G: Gate, T: Threads + Sync, L: Ledger>(
-    alloc: Global,
-    hasher: RandomState,
-    workers: &Workers<'_, T, G>,
-    service: &Service<'_>,
-    out: &mut W,
-    keeper: &mut K,
-    door: &mut D,
-    steps: &mut Steps<L>,
-) -> Status
-    requires workers { (1 ≤ workers.now.count) × (workers.now.count ≤ 64) }
-    requires some { 1 ≤ service.now.connections }
-    ensures run { ServesAll service.now (K.shelf keeper.old) (K.shelf keeper.new)
-        (W.tape out.old) (W.tape out.new) (register_of D.Link.Told.tape (D.register door.old))
-        (register_of D.Link.Told.tape (D.register door.new)) steps.old steps.new result }
-    ensures output { result ≡ Status.OutputFailed → Rose (W.tape out.old) (W.tape out.new) }
-    ensures counted { IsCounted (K.shelf keeper.old).faults (K.shelf keeper.new).faults
-        (result ≡ Status.StoreFailed) }
-    ensures door { IsCounted (D.register door.old).faults (D.register door.new).faults
-        (result ≡ Status.DoorFailed) }
-    ensures stored { result ≡ Status.StoreFailed → IsSome service.now.settings.store }
-    ensures unkept { service.now.settings.store ≡ None → keeper.new ≡ keeper.old }
-{
-    match &service.settings.store {
-        None => serve_office(
-            alloc,
-            workers,
-            service,
-            Office::new(alloc, hasher),
-            keeper,
-            door,
-            steps,
-        ),
-        Some(name) => match open_store(alloc, hasher, workers, name.as_str(), out, keeper, steps) {
-            Ok(office) => serve_office(alloc, workers, service, office, keeper, door, steps),
-            Err(status) => status,
-        },
+        stored: settings.store.is_some(),
     }
 }
 

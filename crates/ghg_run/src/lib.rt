@@ -8,6 +8,7 @@ mod commands;
 mod laws;
 mod opening;
 mod serving;
+mod splicing;
 
 pub use commands::{run, run_counted};
 pub use laws::replies_are_sound;

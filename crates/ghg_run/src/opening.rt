@@ -1,8 +1,7 @@
-//! The office that a run with a store begins with.
+//! The office that a run begins with.
 
-ghost use Rattle.std.specs.Prelude.{◌≡◌, ◌≢◌, ◌≤◌, ◌⊎◌, ◌+◌, IfErr, IfOk, IsErrOf, IsOk, Some};
-ghost use Rattle.ghg_run.specs.Opening.{IsKeptIn, Opens, ReportsRow, kept_line};
-ghost use Rattle.ghg_keeper.specs.Shelf.{Shelf};
+ghost use Rattle.std.specs.Prelude.{◌≡◌, ◌≤◌, IfOk, IsErrOf, None};
+ghost use Rattle.ghg_run.specs.Opening.{IsKeptIn, Opens, ReportsMade, kept_line};
 ghost use Rattle.ghg_office.specs.Laws.{IsInForce};
 ghost use Rattle.ghg_outer.specs.Counts.{IsCounted};
 ghost use Rattle.ghg_outer.specs.Tape.{Rose};
@@ -10,43 +9,49 @@ ghost use Rattle.ghg_outer.specs.Tape.{Rose};
 use ghg_keeper::{KeepError, Keeper};
 use ghg_office::{Office, OpenFault, Reply, append_reply};
 use ghg_outer::Sink;
-use ghg_session::{Status, report};
+use ghg_session::{Environment, report};
 use ghg_steps::Steps;
-use ghg_workers::{Gate, Workers};
+use ghg_words::{Status, StoreName};
+use ghg_workers::Gate;
 use std::alloc::{AllocError, Global};
 use std::hash::RandomState;
 use std::sync::ledger::Ledger;
 use std::thread::Threads;
 
-/// Makes the named store the one in use, and replays its rows.
+/// Opens the office that a run begins with: a new one, or that of the store of this name, whose rows are
+/// replayed. The store becomes the one in use.
 ///
 /// Where there is no office, the error is the status that the program ends with.
-pub fn open_store<W: Sink, K: Keeper, G: Gate, T: Threads + Sync, L: Ledger>(
-    alloc: Global,
+pub fn open_office<W: Sink, K: Keeper, G: Gate, T: Threads + Sync, L: Ledger>(
     hasher: RandomState,
-    workers: &Workers<'_, T, G>,
-    name: &str,
+    environment: &Environment<'_, T, G>,
+    store: &Option<StoreName<'_>>,
     out: &mut W,
     keeper: &mut K,
     steps: &mut Steps<L>,
 ) -> Result<Office, Status>
-    requires { (1 ≤ workers.now.count) × (workers.now.count ≤ 64) }
-    ensures opened { Opens name.now (K.shelf keeper.old) (K.shelf keeper.new)
+    requires { (1 ≤ environment.now.workers.count) × (environment.now.workers.count ≤ 64) }
+    ensures opened { Opens store.now (K.shelf keeper.old) (K.shelf keeper.new)
         (W.tape out.old) (W.tape out.new) steps.old steps.new result }
     ensures output { IsErrOf result Status.OutputFailed → Rose (W.tape out.old) (W.tape out.new) }
     ensures counted { IsCounted (K.shelf keeper.old).faults (K.shelf keeper.new).faults
         (IsErrOf result Status.StoreFailed) }
     ensures in_force { IfOk result IsInForce }
-    ensures kept { IfOk result (λ office. IsKeptIn (Some name.now) (K.shelf keeper.new) office.accepted) }
+    ensures kept { IfOk result (λ office. IsKeptIn store.now (K.shelf keeper.new) office.accepted) }
+    ensures unkept { store.now ≡ None → keeper.new ≡ keeper.old }
 {
-    match keeper.attach(name) {
+    let Environment { alloc, workers, .. } = environment;
+    let Some(name) = store else {
+        return Ok(Office::new(*alloc, hasher));
+    };
+    match keeper.attach(name.as_str()) {
         Ok(()) => {}
         Err(KeepError::Failed) => return Err(Status::StoreFailed),
         Err(KeepError::Memory) => return Err(Status::OutOfMemory),
     }
     match Office::reopen(
         workers.threads,
-        alloc,
+        *alloc,
         hasher,
         keeper,
         workers.count,
@@ -54,7 +59,7 @@ pub fn open_store<W: Sink, K: Keeper, G: Gate, T: Threads + Sync, L: Ledger>(
         steps,
     ) {
         Ok(office) => Ok(office),
-        Err(OpenFault::Kept { seq, reply }) => Err(refuse_row(alloc, out, seq, &reply)),
+        Err(OpenFault::Kept { seq, reply }) => Err(refuse_row(*alloc, out, seq, &reply)),
         Err(OpenFault::KeeperFault) => Err(Status::StoreFailed),
         Err(OpenFault::Memory) => Err(Status::OutOfMemory),
     }
@@ -62,7 +67,7 @@ pub fn open_store<W: Sink, K: Keeper, G: Gate, T: Threads + Sync, L: Ledger>(
 
 // Reports the kept row of this number as refused, with the reply to it.
 fn refuse_row<W: Sink>(alloc: Global, out: &mut W, seq: u64, reply: &Reply) -> Status
-    ensures { ReportsRow (W.tape out.old) (W.tape out.new) seq reply.now result }
+    ensures { ReportsMade (W.tape out.old) (W.tape out.new) (kept_line seq reply.now) Status.RowRefused result }
 {
     let Ok(line) = kept_line(alloc, seq, reply) else {
         return Status::OutOfMemory;

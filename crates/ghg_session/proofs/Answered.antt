@@ -2,13 +2,15 @@
 use Rattle.std.proofs.Common.{◌≡◌, ℕ, ◌+◌, ◌≤◌, ◌<◌, ◌⊎◌, inl, inr, Bool, true, false, nat_lt, List, [], ◌∷◌, ◌++◌, length, take, append_assoc, append-nil, length-append, refl, sym, ap, subst, ◌∙◌, arith, None, Some, Option}
 use Rattle.ghg_outer.specs.Tape.{Appends, Consumes, IsAtEnd, Rose, Tape}
 use Rattle.ghg_outer.proofs.Tapes.{appends_more, appends_nothing, consumes_more, consumes_nothing}
-use Rattle.ghg_session.specs.declared.command.Command.TheVariants as command
-use Rattle.ghg_session.specs.declared.status.Status.{Status}
-use Rattle.ghg_session.specs.declared.status.Status.TheVariants.{Done, NoScript, InputFailed, OutputFailed, OutOfMemory}
-use Rattle.ghg_session.specs.Reader.{Found, Missing, Stopped}
-use Rattle.ghg_session.specs.Session.{BreaksOff, EachReply, EndsBy, Holds, IsDueNext, IsMalformed, IsWithinCommand, MayLeaveUndone, Protocol, Reading, Session, after_requests, most_commands, no_command, reading_of, replies, state_after, steps_of, wrong_line}
+use Rattle.ghg_script.specs.declared.command.Command.TheVariants as command
+use Rattle.ghg_words.specs.declared.status.Status.{Status}
+use Rattle.ghg_words.specs.declared.status.Status.TheVariants.{Done, NoScript, InputFailed, OutputFailed, OutOfMemory}
+use Rattle.ghg_script.specs.Reader.{Found, Missing, Stopped}
+use Rattle.ghg_script.specs.Reading.{ReadsAs, IsMalformed, IsBeforeNextCommand, Reading, after_requests, most_commands, no_command, reading_of}
+use Rattle.ghg_session.specs.Session.{BreaksOff, EachReply, EndsBy, IsDueNext, MayLeaveUndone, Protocol, Session, StopsReading, replies, state_after, steps_of, wrong_line}
 use Rattle.ghg_session.specs.Writing.{Reports, StoppedWriting}
-use Rattle.ghg_session.proofs.Readings.{after_requests_twice, behind_all, behind_end, behind_none, behind_request, each_reply-append, reading_behind, replies-append, state_after-append, steps_of-append}
+use Rattle.ghg_session.proofs.Replied.{each_reply-append, replies-append, state_after-append, steps_of-append}
+use Rattle.ghg_script.proofs.Readings.{after_requests_twice, behind_all, behind_end, behind_none, behind_request, reading_behind}
 
 -- So many requests were answered, and the session goes on. If each of them is quiet, the keeper is the same.
 pub record Answered {S R : Type 0} (p : Protocol S R) (quiet : S → R → List ℕ → Type 0) (same : Type 0) (first now : S)
@@ -52,7 +54,7 @@ module _ {S R : Type 0} (p : Protocol S R) (quiet : S → R → List ℕ → Typ
 
   -- no command is found, and this is the number of the next
   holds_none : (text : List ℕ) → reading_behind p.commands done text ≡ no_command (done + 1) text
-      → Holds p.commands (a.took ++ text) a.answered text
+      → ReadsAs p.commands (a.took ++ text) a.answered text
   holds_none text none =
       a.each text ∙ ap (after_requests a.answered) none
       ∙ ap (λ (l : List R). record { requests = l; wrong = Some (done + 1); rest = text }) (append-nil a.answered)
@@ -60,7 +62,7 @@ module _ {S R : Type 0} (p : Protocol S R) (quiet : S → R → List ℕ → Typ
 
   holds_one : (text : List ℕ) (asked : R) → done < most_commands → p.commands.parse [] ≡ None
       → ((rest : List ℕ) → p.commands.parse (text ++ rest) ≡ Some (command.Request asked, rest))
-      → Holds p.commands (a.took ++ text) (a.answered ++ asked ∷ []) []
+      → ReadsAs p.commands (a.took ++ text) (a.answered ++ asked ∷ []) []
   holds_one text asked h nothing each =
       let whole = ap p.commands.parse (sym (append-nil text)) ∙ each [] in
       let next : reading_behind p.commands done text ≡ after_requests (asked ∷ []) (no_command (done + 1 + 1) []) =
@@ -156,16 +158,16 @@ module _ {S R : Type 0} (p : Protocol S R) (quiet : S → R → List ℕ → Typ
       → Acts p quiet same first now input input' output out steps spent status
   stops_reading input' status h m =
       let holds = holds_none m.text (behind_none p.commands done m.text h m.none) in
-      let within : IsWithinCommand p.commands (a.took ++ m.text) a.answered =
+      let within : IsBeforeNextCommand p.commands (a.took ++ m.text) a.answered =
       record { rest = m.text; holds = holds; near = m.near } in
       ends m.text [] a.answered same input' out now spent status m.read (appends_nothing out) (requests_of _ _ _ _ holds) a.spent
       a.repeats (by m.why (rw (← a.count) h, within))
     where
       by : ((status ≡ InputFailed) × Rose mid input') ⊎ (status ≡ OutOfMemory)
-          → (length a.answered < most_commands) × IsWithinCommand p.commands (a.took ++ m.text) a.answered
+          → StopsReading p (a.took ++ m.text) a.answered
           → EndsBy p now now input' output.grows (a.took ++ m.text) a.answered [] status
       by (inl e) within =
-          subst (EndsBy p now now input' output.grows (a.took ++ m.text) a.answered []) (sym e.0) (within.0, within.1, refl, refl)
+          subst (EndsBy p now now input' output.grows (a.took ++ m.text) a.answered []) (sym e.0) (within, refl, refl)
       by (inr e) within =
           subst (EndsBy p now now input' output.grows (a.took ++ m.text) a.answered []) (sym e) (inl (inl within, refl, refl))
 
@@ -179,7 +181,7 @@ module _ {S R : Type 0} (p : Protocol S R) (quiet : S → R → List ℕ → Typ
       ends m.text [] (a.answered ++ asked ∷ []) same' input' out now steps' status m.read (appends_nothing out)
       (requests_of _ _ _ _ holds) (steps_more asked steps' few) (repeats_more asked same' go) (by may)
     where
-      holds : Holds p.commands (a.took ++ m.text) (a.answered ++ asked ∷ []) []
+      holds : ReadsAs p.commands (a.took ++ m.text) (a.answered ++ asked ∷ []) []
       holds = holds_one m.text asked h nothing m.each
 
       by : MayLeaveUndone (p.step now asked) status
@@ -221,13 +223,13 @@ module _ {S R : Type 0} (p : Protocol S R) (quiet : S → R → List ℕ → Typ
   malformed input' h m = record { read = record { rest = m.text; holds = holds m.none; near = m.near }; final = final m.none }
     where
       holds : (IsAtEnd input' × (p.commands.parse m.text ≡ None)) ⊎ ((more : List ℕ) → p.commands.parse (m.text ++ more) ≡ None)
-          → Holds p.commands (a.took ++ m.text) a.answered m.text
+          → ReadsAs p.commands (a.took ++ m.text) a.answered m.text
       holds (inl q) = holds_none m.text (behind_none p.commands done m.text h q.1)
       holds (inr each) =
           holds_none m.text (behind_none p.commands done m.text h (ap p.commands.parse (sym (append-nil m.text)) ∙ each []))
 
       final : (IsAtEnd input' × (p.commands.parse m.text ≡ None)) ⊎ ((more : List ℕ) → p.commands.parse (m.text ++ more) ≡ None)
-          → IsAtEnd input' ⊎ ((more : List ℕ) → Holds p.commands ((a.took ++ m.text) ++ more) a.answered (m.text ++ more))
+          → IsAtEnd input' ⊎ ((more : List ℕ) → ReadsAs p.commands ((a.took ++ m.text) ++ more) a.answered (m.text ++ more))
       final (inl q) = inl q.0
       final (inr each) = inr (λ more. rw append_assoc (holds_none (m.text ++ more) (behind_none p.commands done (m.text ++ more) h (each more))))
 

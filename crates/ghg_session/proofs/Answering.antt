@@ -5,7 +5,7 @@ use Rattle.ghg_definitions.specs.Data.{Data, span}
 use Rattle.ghg_import.specs.Body.{max_body}
 use Rattle.ghg_office.specs.Keeping.{is_to_append}
 use Rattle.ghg_office.specs.Office.{Answer, IsRead, State, asked, decided, entered_by, refused, requested, submitted}
-use Rattle.ghg_office.specs.Replies.{Answers, Shows, is_accepted}
+use Rattle.ghg_office.specs.Replies.{Answers, Shows}
 use Rattle.ghg_office.specs.declared.reply.Reply.{Reply}
 use Rattle.ghg_office.specs.declared.reply.Reply.TheVariants.{Accepted, Repeated, Refused, Table, NoTable, KeeperFault, Memory}
 use Rattle.ghg_office.proofs.Cases.{submitted_cases, is_other}
@@ -13,19 +13,14 @@ use Rattle.ghg_tables.specs.declared.table.Table.{Table as NamedTable}
 use Rattle.ghg_tables.specs.Names.{table_in}
 use Rattle.ghg_units.specs.declared.rule.Rule.{Rule}
 use Rattle.ghg_units.specs.declared.rule.Rule.TheVariants.{BodyTooLong}
-use Rattle.ghg_session.specs.declared.command.Request.TheVariants.{Submit, Query}
-use Rattle.ghg_session.specs.declared.script.TableQuery.{TableQuery}
-use Rattle.ghg_session.specs.declared.status.Status.{Status}
+use Rattle.ghg_script.specs.declared.command.Request.{Request}
+use Rattle.ghg_script.specs.declared.command.Request.TheVariants.{Submit, Query}
+use Rattle.ghg_script.specs.declared.script.TableQuery.{TableQuery}
+use Rattle.ghg_words.specs.declared.status.Status.{Status}
 use Rattle.ghg_session.specs.Replies.{HasNoLines, needs_memory, office_step}
 use Rattle.ghg_session.specs.Session.{MayLeaveUndone}
 
 -- ---- a request that is left undone takes memory, or is to be kept
-
--- what is to be appended is to be kept
-append_kept : (s : State) (id body : List ℕ) (stored : Bool) → is_to_append stored (submitted s id body) ≡ true
-    → is_accepted (submitted s id body).reply ≡ true
-append_kept s id body true h = h
-append_kept s id body false h = absurd cc
 
 -- a new submission whose body is read is no repeat
 read_needs : (s : State) (id body : List ℕ) → IsRead s id body → needs_memory (submitted s id body).reply ≡ true
@@ -56,10 +51,10 @@ is_table text seq cells e = cc
 pub submission_undone : (s : State) (id body : List ℕ) (stored : Bool) (reply : Reply) (stop : Status) (new : State)
     → Answers (submitted s id body) reply s new → (reply ≡ Memory → IsRead s id body)
     → (reply ≡ KeeperFault → is_to_append stored (submitted s id body) ≡ true) → HasNoLines reply stop
-    → (new ≡ s) × MayLeaveUndone (office_step s (Submit id body)) stop
+    → (new ≡ s) × MayLeaveUndone (office_step stored s (Submit id body)) stop
 unfolding office_step
 submission_undone s id body stored KeeperFault stop new h read kept none =
-    (h, inr (none.0, append_kept s id body stored (kept refl)))
+    (h, inr (none.0, kept refl))
 submission_undone s id body stored Memory stop new h read kept none = (h, inl (none.0, read_needs s id body (read refl)))
 submission_undone s id body stored (Accepted seq cells) stop new h read kept none = let long = none.1 in absurd cc
 submission_undone s id body stored (Repeated seq) stop new h read kept none = let long = none.1 in absurd cc
@@ -97,17 +92,22 @@ requested_works s name year = by (table_in name)
     by None e = cc
     by (Some table) e = within (is_year_of (span s.content) year) _ e
 
-pub table_undone : (s : State) (show : TableQuery) (reply : Reply) (stop : Status) → Shows (requested s show.table show.year) reply
+pub table_undone : (stored : Bool) (s : State) (show : TableQuery) (reply : Reply) (stop : Status) → Shows (requested s show.table show.year) reply
     → (reply ≡ Memory → requested s show.table show.year ≢ NoTable) → HasNoLines reply stop
-    → MayLeaveUndone (office_step s (Query show)) stop
+    → MayLeaveUndone (office_step stored s (Query show)) stop
 unfolding office_step
-table_undone s show Memory stop h there none = inl (none.0, requested_needs s show.table show.year (there refl))
-table_undone s show KeeperFault stop h there none = absurd (requested_works s show.table show.year (sym h))
-table_undone s show (Accepted seq cells) stop h there none = let long = none.1 in absurd cc
-table_undone s show (Repeated seq) stop h there none = let long = none.1 in absurd cc
-table_undone s show (Refused rule) stop h there none = inl (none.0, ap needs_memory (sym h))
-table_undone s show (Table text) stop h there none = inl (none.0, ap needs_memory (sym h))
-table_undone s show NoTable stop h there none = let long = none.1 in absurd cc
+table_undone stored s show Memory stop h there none = inl (none.0, requested_needs s show.table show.year (there refl))
+table_undone stored s show KeeperFault stop h there none = absurd (requested_works s show.table show.year (sym h))
+table_undone stored s show (Accepted seq cells) stop h there none = let long = none.1 in absurd cc
+table_undone stored s show (Repeated seq) stop h there none = let long = none.1 in absurd cc
+table_undone stored s show (Refused rule) stop h there none = inl (none.0, ap needs_memory (sym h))
+table_undone stored s show (Table text) stop h there none = inl (none.0, ap needs_memory (sym h))
+table_undone stored s show NoTable stop h there none = let long = none.1 in absurd cc
+
+-- without a store no request is kept
+pub unkept : (stored : Bool) (s : State) (asked : Request TableQuery) → stored ≡ false → (office_step stored s asked).is_kept ≡ false
+unfolding office_step
+unkept stored s asked e = rw e refl
 
 -- of a result that is an error
 pub map_if_err : {T E : Type 0} (r : Result T E) (P Q : E → Type 0) → ((e : E) → P e → Q e) → IfErr r P → IfErr r Q

@@ -1,61 +1,15 @@
 -- What is left to be read decides what a session writes.
-use Rattle.std.proofs.Common.{◌≡◌, ℕ, zero, suc, ◌+◌, ◌<◌, ◌⊎◌, inl, inr, List, [], ◌∷◌, ◌++◌, length, take, append_assoc, append-nil, length-append, refl, sym, ap, subst, ◌∙◌, arith, None, Some, Option}
+use Rattle.std.proofs.Common.{◌≡◌, ℕ, ◌+◌, ◌<◌, ◌⊎◌, inl, inr, List, [], ◌∷◌, ◌++◌, length, take, append_assoc, append-nil, length-append, refl, sym, ap, subst, ◌∙◌, arith, None, Some, Option}
 use Rattle.std.specs.Io.KnownBytes as known
 use Rattle.std.proofs.Math.Seq.{take-append-add}
 use Rattle.ghg_outer.specs.Tape.{Appends, AppendsPrefix, AppendsProperPrefix, IsAtEnd, Tape}
 use Rattle.ghg_outer.proofs.Tapes.{longer_prefix, longer_proper, proper_prefix, whole_prefix}
-use Rattle.ghg_session.specs.declared.command.Command.{Command}
-use Rattle.ghg_session.specs.declared.command.Command.TheVariants as command
-use Rattle.ghg_session.specs.declared.status.Status.{Status}
-use Rattle.ghg_session.specs.declared.status.Status.TheVariants.{Done, BadCommandLine, NoScript, InputFailed, OutputFailed, StoreFailed, DoorFailed, OutOfMemory, RowRefused}
-use Rattle.ghg_session.specs.Commands.{Grammar}
-use Rattle.ghg_session.specs.Session.{BreaksOff, EndsBy, Holds, IsDecided, IsDueNext, IsMalformed, Protocol, Reading, Session, after_requests, due, last_line, last_status, most_commands, reading, reading_of, replies, state_after, with_more}
-use Rattle.ghg_session.proofs.Readings.{reading_end, reading_none, reading_request, reading_spent, replies-append}
-
--- what follows a command changes nothing of it
-abbrev pub ParsesLocally : {R : Type 0} → Grammar (Command R) → Type 0
-ParsesLocally g = (bytes rest more : List ℕ) (found : Command _) → g.parse bytes ≡ Some (found, rest)
-    → g.parse (bytes ++ more) ≡ Some (found, rest ++ more)
-
--- ---- what bytes read as, with more behind them
-
-module _ {R : Type 0} (g : Grammar (Command R)) (local : ParsesLocally g) where
-  -- a script reads the same
-  abbrev ReadsOn : ℕ → ℕ → List ℕ → List ℕ → Type 0
-  ReadsOn n number bytes more = (reading g n number bytes).wrong ≡ None
-      → reading g n number (bytes ++ more) ≡ with_more more (reading g n number bytes)
-
-  reads_by : (n number : ℕ) (bytes more : List ℕ) (first : Option (Command R × List ℕ)) → g.parse bytes ≡ first
-      → ((rest : List ℕ) → ReadsOn n (number + 1) rest more) → ReadsOn (suc n) number bytes more
-  reads_by n number bytes more None e go = rw (reading_none g n number bytes e) (λ h. absurd cc)
-  reads_by n number bytes more (Some (command.End, rest)) e go =
-      rw (reading_end g n number bytes rest e, reading_end g n number (bytes ++ more) (rest ++ more) (local bytes rest more command.End e)) (λ h. refl)
-  reads_by n number bytes more (Some (command.Request asked, rest)) e go =
-      rw (reading_request g n number bytes rest asked e, reading_request g n number (bytes ++ more) (rest ++ more) asked (local bytes rest more (command.Request asked) e))
-      (λ h. ap (after_requests (asked ∷ [])) (go rest h))
-
-  pub reads_on : (n number : ℕ) (bytes more : List ℕ) → ReadsOn n number bytes more
-  reads_on zero number bytes more = rw (reading_spent g number bytes) (λ h. absurd cc)
-  reads_on (suc n) number bytes more = reads_by n number bytes more (g.parse bytes) refl (λ rest. reads_on n (number + 1) rest more)
-
-  -- and the requests of any bytes come first
-  abbrev Extends : ℕ → ℕ → List ℕ → List ℕ → Type 0
-  Extends n number bytes more = (later : List R)
-      × ((reading g n number (bytes ++ more)).requests ≡ (reading g n number bytes).requests ++ later)
-
-  extends_by : (n number : ℕ) (bytes more : List ℕ) (first : Option (Command R × List ℕ)) → g.parse bytes ≡ first
-      → ((rest : List ℕ) → Extends n (number + 1) rest more) → Extends (suc n) number bytes more
-  extends_by n number bytes more None e go = rw (reading_none g n number bytes e) (_, refl)
-  extends_by n number bytes more (Some (command.End, rest)) e go =
-      rw (reading_end g n number bytes rest e, reading_end g n number (bytes ++ more) (rest ++ more) (local bytes rest more command.End e)) ([], refl)
-  extends_by n number bytes more (Some (command.Request asked, rest)) e go =
-      let later = go rest in
-      rw (reading_request g n number bytes rest asked e, reading_request g n number (bytes ++ more) (rest ++ more) asked (local bytes rest more (command.Request asked) e))
-      (later.0, ap (λ (l : List R). asked ∷ l) later.1)
-
-  extends : (n number : ℕ) (bytes more : List ℕ) → Extends n number bytes more
-  extends zero number bytes more = rw (reading_spent g number bytes, reading_spent g number (bytes ++ more)) ([], refl)
-  extends (suc n) number bytes more = extends_by n number bytes more (g.parse bytes) refl (λ rest. extends n (number + 1) rest more)
+use Rattle.ghg_words.specs.declared.status.Status.{Status}
+use Rattle.ghg_words.specs.declared.status.Status.TheVariants.{Done, BadCommandLine, NoScript, InputFailed, OutputFailed, StoreFailed, DoorFailed, OutOfMemory, RowRefused, SpliceRefused}
+use Rattle.ghg_script.specs.Reading.{ReadsAs, IsMalformed, Reading, most_commands, reading_of, with_more}
+use Rattle.ghg_session.specs.Session.{BreaksOff, EndsBy, IsDecided, IsDueNext, Protocol, Session, due, last_line, last_status, replies, state_after}
+use Rattle.ghg_session.proofs.Replied.{replies-append}
+use Rattle.ghg_script.proofs.Readings.{ParsesLocally, extends, reads_on}
 
 -- ---- a session
 
@@ -120,7 +74,7 @@ module _ {S R : Type 0} (p : Protocol S R) (local : ParsesLocally p.commands) (f
       at_end : rest ≡ [] → reading_of p.commands (took ++ rest) ≡ reading_of p.commands took
       at_end none = ap (λ (l : List ℕ). reading_of p.commands (took ++ l)) none ∙ ap (reading_of p.commands) (append-nil took)
 
-      by : IsAtEnd input' ⊎ ((more : List ℕ) → Holds p.commands (took ++ more) answered (m.read.rest ++ more))
+      by : IsAtEnd input' ⊎ ((more : List ℕ) → ReadsAs p.commands (took ++ more) answered (m.read.rest ++ more))
           → (all.requests ≡ answered) × (all.wrong ≡ Some (length answered + 1))
       by (inl none) =
           let same = at_end (subst known.IsAtEnd left none) ∙ m.read.holds in
@@ -157,14 +111,14 @@ module _ {S R : Type 0} (p : Protocol S R) (local : ParsesLocally p.commands) (f
       over (inl e) = absurd (no_end e)
       over (inr e) = absurd (no_refusal e)
 
-  requests_of : (requests : List R) (behind : List ℕ) → Holds p.commands took requests behind
+  requests_of : (requests : List R) (behind : List ℕ) → ReadsAs p.commands took requests behind
       → (reading_of p.commands took).requests ≡ requests
   requests_of requests behind e = ap (λ (r : Reading R). r.requests) e
 
-  within : (behind : List ℕ) → Holds p.commands took answered behind → part ≡ [] → AppendsPrefix output output' (due p first (took ++ rest))
+  within : (behind : List ℕ) → ReadsAs p.commands took answered behind → part ≡ [] → AppendsPrefix output output' (due p first (took ++ rest))
   within behind holds nothing = begun [] (requests_of answered behind holds ∙ sym (append-nil answered)) nothing
 
-  asked_for : (asked : R) → Holds p.commands took (answered ++ asked ∷ []) [] → part ≡ []
+  asked_for : (asked : R) → ReadsAs p.commands took (answered ++ asked ∷ []) [] → part ≡ []
       → AppendsPrefix output output' (due p first (took ++ rest))
   asked_for asked holds nothing = begun (asked ∷ []) (requests_of _ [] holds) nothing
 
@@ -189,7 +143,7 @@ module _ {S R : Type 0} (p : Protocol S R) (local : ParsesLocally p.commands) (f
         done = λ _. (written, sym (ap last_status none.1));
         behind = λ no. absurd cc;
       }
-  decided last InputFailed e = stops InputFailed (within e.1.rest e.1.holds e.2) (λ no. absurd cc) (λ no. cc) (λ no. cc)
+  decided last InputFailed e = stops InputFailed (within e.0.1.rest e.0.1.holds e.1) (λ no. absurd cc) (λ no. cc) (λ no. cc)
   decided last OutputFailed e =
       let proper = breaks last e in
       stops OutputFailed (proper_prefix output output' _ proper) (λ _. proper) (λ no. cc) (λ no. cc)
@@ -203,6 +157,7 @@ module _ {S R : Type 0} (p : Protocol S R) (local : ParsesLocally p.commands) (f
   decided last BadCommandLine e = absurd e
   decided last DoorFailed e = absurd e
   decided last RowRefused e = absurd e
+  decided last SpliceRefused e = absurd e
 
 -- where the bytes that were left are known, those behind what was read are known too
 known_rest : (bytes text : List ℕ) (new : Option (List ℕ)) → known.Consumes (Some bytes) new text

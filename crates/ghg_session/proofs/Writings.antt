@@ -2,8 +2,8 @@
 use Rattle.std.proofs.Common.{◌≡◌, ◌⊎◌, inl, inr, ℕ, true, List, ◌++◌, sym, ◌∙◌, Ok, Err, Result}
 use Rattle.ghg_outer.specs.Tape.{Appends, Rose, Tape}
 use Rattle.ghg_outer.proofs.Tapes.{appends_more, longer_proper, proper_behind, rose_later}
-use Rattle.ghg_session.specs.declared.status.Status.{Status}
-use Rattle.ghg_session.specs.declared.status.Status.TheVariants.{OutputFailed, OutOfMemory}
+use Rattle.ghg_words.specs.declared.status.Status.{Status}
+use Rattle.ghg_words.specs.declared.status.Status.TheVariants.{OutputFailed, OutOfMemory}
 use Rattle.ghg_session.specs.Writing.{StoppedWriting, WritesAll}
 
 -- a text behind

@@ -1,17 +1,18 @@
 -- What the office replies to requests, as bytes, and its state after them.
 use Rattle.std.specs.Prelude.{◌≡◌, ℕ, Bool, true, false, List, ◌++◌, ◌==◌, codes, count_by}
 use Rattle.std.specs.Fmt.{decimal}
+use Rattle.ghg_office.specs.Keeping.{is_to_append}
 use Rattle.ghg_office.specs.Office.{Answer, State, evaluations, submitted, requested}
-use Rattle.ghg_office.specs.Replies.{is_accepted, is_short, reply_text}
+use Rattle.ghg_office.specs.Replies.{is_short, reply_text}
 use Rattle.ghg_office.specs.declared.reply.Reply.{Reply}
 use Rattle.ghg_office.specs.declared.reply.Reply.TheVariants.{KeeperFault, NoTable, Repeated, Table}
-use Rattle.ghg_session.specs.declared.command.Request.{Request}
-use Rattle.ghg_session.specs.declared.command.Request.TheVariants.{Submit, Query}
-use Rattle.ghg_session.specs.declared.script.TableQuery.{TableQuery}
-use Rattle.ghg_session.specs.declared.status.Status.{Status}
-use Rattle.ghg_session.specs.declared.status.Status.TheVariants.{OutOfMemory, StoreFailed}
-use Rattle.ghg_session.specs.Commands.{line_of}
-use Rattle.ghg_session.specs.Script.{script_forms}
+use Rattle.ghg_script.specs.declared.command.Request.{Request}
+use Rattle.ghg_script.specs.declared.command.Request.TheVariants.{Submit, Query}
+use Rattle.ghg_script.specs.declared.script.TableQuery.{TableQuery}
+use Rattle.ghg_words.specs.declared.status.Status.{Status}
+use Rattle.ghg_words.specs.declared.status.Status.TheVariants.{OutOfMemory, StoreFailed}
+use Rattle.ghg_script.specs.Commands.{line_of}
+use Rattle.ghg_script.specs.Script.{script_forms}
 use Rattle.ghg_session.specs.Session.{Protocol, Step, protocol_of}
 
 -- how many lines a text has, each of which a line feed ends
@@ -59,15 +60,15 @@ abbrev pub steps_for : State → Request TableQuery → ℕ
 steps_for s (Submit id body) = evaluations s id body
 steps_for s (Query show) = 0
 
--- what a request to the office comes to: of all requests only a submission that is accepted is kept
-unfoldable pub office_step : State → Request TableQuery → Step State
-office_step s asked = record {
+-- What a request to the office comes to. Where submissions are stored, one that is accepted is kept.
+unfoldable pub office_step : Bool → State → Request TableQuery → Step State
+office_step stored s asked = record {
   reply = lines_of asked (answer_of s asked).reply;
   after = (answer_of s asked).after;
   takes_memory = needs_memory (answer_of s asked).reply;
-  is_kept = is_accepted (answer_of s asked).reply;
+  is_kept = is_to_append stored (answer_of s asked);
   steps = steps_for s asked;
 }
 
-abbrev pub protocol : Protocol State (Request TableQuery)
-protocol = protocol_of script_forms office_step
+abbrev pub protocol : Bool → Protocol State (Request TableQuery)
+protocol stored = protocol_of script_forms (office_step stored)

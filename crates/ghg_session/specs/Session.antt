@@ -1,17 +1,15 @@
 -- What a session does, over any requests: what it reads, the replies that it writes, and how it ends.
-use Rattle.std.specs.Prelude.{◌≡◌, ⊤, ℕ, zero, suc, ◌+◌, ◌≤◌, ◌<◌, ◌⊎◌, Bool, true, false, ◌&&◌, List, [], ◌∷◌, ◌++◌, length, take, Option, Some, None, codes}
+use Rattle.std.specs.Prelude.{◌≡◌, ⊤, ℕ, ◌+◌, ◌≤◌, ◌<◌, ◌⊎◌, Bool, true, false, List, [], ◌∷◌, ◌++◌, length, take, Option, Some, None, codes}
 use Rattle.std.specs.Fmt.{decimal}
-use Rattle.std.specs.Option.{option_map_or}
-use Rattle.ghg_outer.specs.Tape.{Appends, AppendsPrefix, AppendsProperPrefix, Consumes, IsAtEnd, Tape}
-use Rattle.ghg_session.specs.declared.command.Command.{Command}
-use Rattle.ghg_session.specs.declared.command.Command.TheVariants as command
-use Rattle.ghg_session.specs.declared.command.Request.{Request}
+use Rattle.ghg_outer.specs.Tape.{Appends, AppendsPrefix, AppendsProperPrefix, Consumes, Tape}
+use Rattle.ghg_words.specs.declared.status.Status.{Status}
+use Rattle.ghg_words.specs.declared.status.Status.TheVariants.{Done, NoScript, InputFailed, OutputFailed, StoreFailed, OutOfMemory}
+use Rattle.ghg_script.specs.declared.command.Command.{Command}
+use Rattle.ghg_script.specs.declared.command.Request.{Request}
+use Rattle.ghg_script.specs.Commands.{Forms, Grammar, commands_of, line_of}
+use Rattle.ghg_script.specs.Reading.{IsBeforeNextCommand, IsMalformed, IsScriptOf, ReadsAs, most_commands, reading_of}
 use Rattle.ghg_session.specs.declared.reply.Lines.{Lines}
 use Rattle.ghg_session.specs.declared.reply.Lines.TheVariants.{Short, Long}
-use Rattle.ghg_session.specs.declared.session.TheConstants.{MOST_COMMANDS}
-use Rattle.ghg_session.specs.declared.status.Status.{Status}
-use Rattle.ghg_session.specs.declared.status.Status.TheVariants.{Done, NoScript, InputFailed, OutputFailed, StoreFailed, OutOfMemory}
-use Rattle.ghg_session.specs.Commands.{Forms, Grammar, commands_of, line_of}
 
 -- ---- a request
 
@@ -45,50 +43,6 @@ abbrev pub protocol_of : {State Q : Type 0} → Forms Q → (State → Request Q
     → Protocol State (Request Q)
 protocol_of forms step = record { commands = commands_of forms; step = step }
 
--- ---- a script
-
--- what a script asks for, in order; the number of the command that is none, where the bytes are no script;
--- and the bytes that stand behind END, or where that command should
-pub record Reading (Request : Type 0) : Type 0 where
-  pub requests : List Request
-  pub wrong : Option ℕ
-  pub rest : List ℕ
-
--- the script has its end
-abbrev pub ended : {Request : Type 0} → List ℕ → Reading Request
-ended rest = record { requests = []; wrong = None; rest = rest }
-
--- the command of this number is none
-abbrev pub no_command : {Request : Type 0} → ℕ → List ℕ → Reading Request
-no_command number rest = record { requests = []; wrong = Some number; rest = rest }
-
--- requests, and then those of the rest
-abbrev pub after_requests : {Request : Type 0} → List Request → Reading Request → Reading Request
-after_requests requests reading = record reading { requests = requests ++ reading.requests }
-
--- more bytes behind
-abbrev pub with_more : {Request : Type 0} → List ℕ → Reading Request → Reading Request
-with_more more reading = record reading { rest = reading.rest ++ more }
-
-abbrev pub read_on : {Request : Type 0} → (List ℕ → Reading Request) → Command Request → List ℕ
-    → Reading Request
-read_on later (command.Request asked) rest = after_requests (asked ∷ []) (later rest)
-read_on later command.End rest = ended rest
-
--- what bytes read as, where at most so many commands may come and the next has this number
-unfoldable pub reading : {Request : Type 0} → Grammar (Command Request) → ℕ → ℕ → List ℕ → Reading Request
-reading g zero number bytes = no_command number bytes
-reading g (suc n) number bytes =
-    option_map_or (λ found. read_on (λ rest. reading g n (number + 1) rest) found.0 found.1) (g.parse bytes)
-    (no_command number bytes)
-
--- a script has at most so many commands, END included
-abbrev pub most_commands : ℕ
-most_commands = MOST_COMMANDS
-
-abbrev pub reading_of : {Request : Type 0} → Grammar (Command Request) → List ℕ → Reading Request
-reading_of g bytes = reading g most_commands 1 bytes
-
 -- ---- requests, one after the other
 
 -- the replies
@@ -113,31 +67,6 @@ abbrev pub steps_of : {State Request : Type 0} → Protocol State Request → St
 steps_of p s [] = 0
 steps_of p s (asked ∷ rest) = (p.step s asked).steps + steps_of p (p.step s asked).after rest
 
--- ---- what was read
-
--- the bytes are a script: these requests, and the line of END, with nothing after it
-abbrev pub IsScriptOf : {Request : Type 0} → Grammar (Command Request) → List ℕ → List Request → Type 0
-IsScriptOf g bytes requests = reading_of g bytes ≡ record { requests = requests; wrong = None; rest = [] }
-
--- the bytes are these requests, and after them this, which begins with no command
-abbrev pub Holds : {Request : Type 0} → Grammar (Command Request) → List ℕ → List Request → List ℕ → Type 0
-Holds g bytes requests rest =
-    reading_of g bytes ≡ record { requests = requests; wrong = Some (length requests + 1); rest = rest }
-
--- After these requests a command was not read to its end, and no more than it takes to find out that it is
--- one or none.
-pub record IsWithinCommand {Request : Type 0} (g : Grammar (Command Request)) (took : List ℕ)
-    (requests : List Request) : Type 0 where
-  pub rest : List ℕ
-  pub holds : Holds g took requests rest
-  pub near : length rest ≤ g.reach rest
-
--- What was read after these requests is no command: nothing is left, or it is none whatever follows.
-pub record IsMalformed {Request : Type 0} (g : Grammar (Command Request)) (left : Tape) (took : List ℕ)
-    (requests : List Request) : Type 0 where
-  pub read : IsWithinCommand g took requests
-  pub final : IsAtEnd left ⊎ ((more : List ℕ) → Holds g (took ++ more) requests (read.rest ++ more))
-
 -- ---- how a session ends
 
 -- the line that names the command that is none
@@ -148,7 +77,7 @@ wrong_line number = line_of (codes "not a script: command " ++ decimal number)
 pub record LeavesUndone {State Request : Type 0} (p : Protocol State Request) (now : State) (took : List ℕ)
     (answered : List Request) (status : Status) : Type 0 where
   pub asked : Request
-  pub holds : Holds p.commands took (answered ++ asked ∷ []) []
+  pub holds : ReadsAs p.commands took (answered ++ asked ∷ []) []
   pub why : MayLeaveUndone (p.step now asked) status
 
 -- These lines are due next, and then this is the state. They are the reply to one more request, after which
@@ -156,7 +85,7 @@ pub record LeavesUndone {State Request : Type 0} (p : Protocol State Request) (n
 abbrev pub IsDueNext : {State Request : Type 0} → Protocol State Request → State → State → Tape → List ℕ
     → List Request → List ℕ → Type 0
 IsDueNext p now last left took answered lines =
-    ((asked : _) × Holds p.commands took (answered ++ asked ∷ []) [] × (lines ≡ (p.step now asked).reply)
+    ((asked : _) × ReadsAs p.commands took (answered ++ asked ∷ []) [] × (lines ≡ (p.step now asked).reply)
     × (last ≡ (p.step now asked).after))
     ⊎ (IsMalformed p.commands left took answered × (lines ≡ wrong_line (length answered + 1)) × (last ≡ now))
 
@@ -169,10 +98,14 @@ pub record BreaksOff {State Request : Type 0} (p : Protocol State Request) (now 
   pub short : count < length lines
   pub prefix : part ≡ take count lines
 
+-- The script may have one more command, which was not read to its end.
+abbrev pub StopsReading : {State Request : Type 0} → Protocol State Request → List ℕ → List Request → Type 0
+StopsReading p took answered =
+    (length answered < most_commands) × IsBeforeNextCommand p.commands took answered
+
 -- How a session ends, by its status: `took` was read, these requests were answered, which left the state
 -- `now`, and the part was written after their replies. The last state is `last`. `left` is the input in the
--- end, and `grows` says whether a write to the output takes memory. The input or memory fails within a
--- command only if the script may have one more.
+-- end, and `grows` says whether a write to the output takes memory.
 abbrev pub EndsBy : {State Request : Type 0} → Protocol State Request → State → State → Tape → Bool → List ℕ
     → List Request → List ℕ → Status → Type 0
 EndsBy p now last left grows took answered part Done =
@@ -180,13 +113,13 @@ EndsBy p now last left grows took answered part Done =
 EndsBy p now last left grows took answered part NoScript =
     IsMalformed p.commands left took answered × (part ≡ wrong_line (length answered + 1)) × (last ≡ now)
 EndsBy p now last left grows took answered part InputFailed =
-    (length answered < most_commands) × IsWithinCommand p.commands took answered × (part ≡ []) × (last ≡ now)
+    StopsReading p took answered × (part ≡ []) × (last ≡ now)
 EndsBy p now last left grows took answered part OutputFailed = BreaksOff p now last left took answered part
 EndsBy p now last left grows took answered part StoreFailed =
     LeavesUndone p now took answered StoreFailed × (part ≡ []) × (last ≡ now)
 EndsBy p now last left grows took answered part OutOfMemory =
-    ((((length answered < most_commands) × IsWithinCommand p.commands took answered)
-    ⊎ LeavesUndone p now took answered OutOfMemory) × (part ≡ []) × (last ≡ now))
+    ((StopsReading p took answered ⊎ LeavesUndone p now took answered OutOfMemory)
+    × (part ≡ []) × (last ≡ now))
     ⊎ ((grows ≡ true) × BreaksOff p now last left took answered part)
 EndsBy p now last left grows took answered part _ = ⊥
 
@@ -196,7 +129,7 @@ pub record Session {State Request : Type 0} (p : Protocol State Request) (first 
   -- the bytes that it read, and no more
   pub took : List ℕ
   pub read : Consumes input input' took
-  -- the requests whose replies it wrote, each before it read on; and what it wrote after them
+  -- the requests whose replies it wrote, and what it wrote after them
   pub answered : List Request
   pub part : List ℕ
   pub wrote : Appends output output' (replies p first answered ++ part)
@@ -204,10 +137,10 @@ pub record Session {State Request : Type 0} (p : Protocol State Request) (first 
   -- no more steps than the requests ask for that it read
   pub spent : steps' ≤ steps + steps_of p first (reading_of p.commands took).requests
 
--- none of the requests that these bytes begin with is to be kept, where requests are kept
-abbrev pub KeepsNone : {State Request : Type 0} → Protocol State Request → Bool → State → List ℕ → Type 0
-KeepsNone p stored s took = EachReply p (λ now asked lines. (stored && (p.step now asked).is_kept) ≡ false) s
-    (reading_of p.commands took).requests
+-- none of the requests that these bytes begin with is to be kept
+abbrev pub KeepsNone : {State Request : Type 0} → Protocol State Request → State → List ℕ → Type 0
+KeepsNone p s took =
+    EachReply p (λ now asked lines. (p.step now asked).is_kept ≡ false) s (reading_of p.commands took).requests
 
 -- ---- what is due of the bytes that are left to be read
 
@@ -238,17 +171,6 @@ pub record IsDecided {State Request : Type 0} (p : Protocol State Request) (s : 
   pub behind : status ≡ Done → input'.left ≡ Some (reading_of p.commands bytes).rest
 
 -- ---- what holds of every script, and of every session
-
--- What follows the line of END changes nothing.
-abbrev pub ReadsLocally : {Q : Type 0} → Forms Q → Type 0
-ReadsLocally forms = (bytes more : List ℕ) → (reading_of (commands_of forms) bytes).wrong ≡ None
-    → reading_of (commands_of forms) (bytes ++ more) ≡ with_more more (reading_of (commands_of forms) bytes)
-
--- The same bytes begin with one script at most.
-abbrev pub ReadsOnce : {Q : Type 0} → Forms Q → Type 0
-ReadsOnce {Q} forms = (a b behind_a behind_b : List ℕ) (xs ys : List (Request Q))
-    → IsScriptOf (commands_of forms) a xs → IsScriptOf (commands_of forms) b ys
-    → a ++ behind_a ≡ b ++ behind_b → (a ≡ b) × (xs ≡ ys)
 
 -- If the input tells what is left, that decides what a session writes.
 abbrev pub WhatIsLeftDecides : {State Request : Type 0} → Protocol State Request → Type 0

@@ -1,8 +1,8 @@
 -- What calls that write to a sink leave of what was due.
 use Rattle.std.specs.Prelude.{◌≡◌, ◌⊎◌, ℕ, true, List, Result, MatchResult}
 use Rattle.ghg_outer.specs.Tape.{Appends, AppendsProperPrefix, Rose, Tape}
-use Rattle.ghg_session.specs.declared.status.Status.{Status}
-use Rattle.ghg_session.specs.declared.status.Status.TheVariants.{OutputFailed, OutOfMemory}
+use Rattle.ghg_words.specs.declared.status.Status.{Status}
+use Rattle.ghg_words.specs.declared.status.Status.TheVariants.{OutputFailed, OutOfMemory}
 
 -- A proper prefix of the text was written. Then the sink failed, and its count rose, or memory ran out, which
 -- only a sink that grows takes.

@@ -1,7 +1,7 @@
 //! Sessions: a script of submissions and requests for tables is read from a source, and answered to a sink.
 //!
 //! What a session is, is defined over any forms of lines and any steps that requests come to.
-//! [`answer_script`] answers a script in any [`Dialect`], as [`Script`], for one office. Its contract says
+//! [`answer_script`] answers a script in any dialect for one office. Its contract says
 //! what was read, what was written and how the office stands, with every result:
 //!
 //! - Where the session ends, its whole output was written. After END nothing was read, and of a malformed
@@ -12,28 +12,17 @@
 //! - Where submissions are stored, the rows that the keeper tells are the accepted submissions. A submission
 //!   that the keeper fails to keep is left undone. A session that has none to keep does not touch the keeper.
 //! - A failure of the input, the output or the keeper comes only where its count of faults rose.
-//!
-//! [`parses_texts`] says how the commands are written.
 #![tactic(auto)]
 
-mod command;
-mod dialect;
+mod environment;
 mod laws;
 mod office;
-mod reading;
 mod reply;
-mod script;
 mod session;
-mod status;
-mod word;
 mod writing;
 
-pub use command::{Command, Line, Request};
-pub use dialect::Dialect;
-pub use laws::{parses_texts, reads_locally, reads_once, what_is_left_decides};
+pub use environment::Environment;
+pub use laws::what_is_left_decides;
 pub use reply::Lines;
-pub use script::{Script, TableQuery};
 pub use session::answer_script;
-pub use status::Status;
-pub use word::Word;
 pub use writing::report;

@@ -1,20 +1,19 @@
 //! What the office answers to the requests of a script.
 
-ghost use Rattle.std.specs.Prelude.{◌≡◌, ◌≤◌, ◌+◌, ◌&&◌, true, false, IfErr, IfOk, IsErrOf, OnErr, OnOk};
+ghost use Rattle.std.specs.Prelude.{◌≡◌, ◌≤◌, ◌+◌, true, false, IfErr, IfOk, IsErrOf, OnErr, OnOk};
 ghost use Rattle.ghg_office.specs.Keeping.{KeepsAccepted, Lists};
 ghost use Rattle.ghg_outer.specs.Counts.{IsCounted};
 ghost use Rattle.ghg_session.specs.Replies.{office_step};
 ghost use Rattle.ghg_session.specs.Session.{MayLeaveUndone, bytes_of};
 
-use crate::command::Request;
+use crate::environment::Environment;
 use crate::reply::{Lines, one_line, table_lines};
-use crate::script::TableQuery;
-use crate::status::Status;
 use ghg_keeper::Keeper;
 use ghg_office::Office;
+use ghg_script::{Request, TableQuery};
 use ghg_steps::Steps;
-use ghg_workers::{Gate, Workers};
-use std::alloc::Global;
+use ghg_words::Status;
+use ghg_workers::Gate;
 use std::sync::ledger::Ledger;
 use std::thread::Threads;
 
@@ -22,48 +21,54 @@ use std::thread::Threads;
 /// for a fault of the keeper only where it is to be kept.
 #[tactic(auto, unfolding(crate::specs::Replies::office_step))]
 pub(crate) fn answer<K: Keeper, G: Gate, T: Threads + Sync, L: Ledger>(
+    environment: &Environment<'_, T, G>,
     office: &mut Office,
-    alloc: Global,
-    workers: &Workers<'_, T, G>,
     request: &Request<TableQuery>,
     keeper: &mut K,
-    stored: bool,
     steps: &mut Steps<L>,
 ) -> Result<Lines, Status>
-    requires workers { (1 ≤ workers.now.count) × (workers.now.count ≤ 64) }
-    requires same { stored ≡ true → Lists (K.shelf keeper.old) office.old.accepted }
-    ensures lines { IfOk result (λ lines. bytes_of lines ≡ (office_step office.old request.now).reply) }
-    ensures after { OnOk result (office.new ≡ (office_step office.old request.now).after) }
+    requires workers { (1 ≤ environment.now.workers.count) × (environment.now.workers.count ≤ 64) }
+    requires same { environment.now.stored ≡ true → Lists (K.shelf keeper.old) office.old.accepted }
+    ensures lines { IfOk result
+        (λ lines. bytes_of lines ≡ (office_step environment.now.stored office.old request.now).reply) }
+    ensures after { OnOk result
+        (office.new ≡ (office_step environment.now.stored office.old request.now).after) }
     ensures undone { OnErr result (office.new ≡ office.old) }
-    ensures cause { IfErr result (MayLeaveUndone (office_step office.old request.now)) }
-    ensures steps { steps.new ≤ steps.old + (office_step office.old request.now).steps }
+    ensures cause { IfErr result
+        (MayLeaveUndone (office_step environment.now.stored office.old request.now)) }
+    ensures steps { steps.new
+        ≤ steps.old + (office_step environment.now.stored office.old request.now).steps }
     // The keeper's rows are the accepted submissions, and it is called only for a request to be kept.
-    ensures kept { stored ≡ true
+    ensures kept { environment.now.stored ≡ true
         → KeepsAccepted (K.shelf keeper.old) (K.shelf keeper.new) office.new.accepted }
-    ensures repeats { (stored && (office_step office.old request.now).is_kept) ≡ false
+    ensures repeats { (office_step environment.now.stored office.old request.now).is_kept ≡ false
         → keeper.new ≡ keeper.old }
-    ensures stored { IsErrOf result Status.StoreFailed → stored ≡ true }
     ensures counted { IsCounted (K.shelf keeper.old).faults (K.shelf keeper.new).faults
         (IsErrOf result Status.StoreFailed) }
 {
+    let Environment {
+        alloc,
+        workers,
+        stored,
+    } = environment;
     match request {
         Request::Submit { id, body } => {
             let reply = office.submit(
                 workers.threads,
-                alloc,
+                *alloc,
                 id.as_slice(),
                 body.as_slice(),
                 workers.count,
                 workers.gate,
                 keeper,
-                stored,
+                *stored,
                 steps,
             );
-            one_line(alloc, &reply)
+            one_line(*alloc, &reply)
         }
         Request::Query(show) => {
-            let reply = office.show(alloc, show.table.as_slice(), show.year);
-            table_lines(alloc, show.table.as_slice(), show.year, reply)
+            let reply = office.show(*alloc, show.table.as_slice(), show.year);
+            table_lines(*alloc, show.table.as_slice(), show.year, reply)
         }
     }
 }

@@ -2,13 +2,13 @@
 
 ghost use Rattle.std.specs.Prelude.{◌≡◌, false, IfErr, IfOk, OnOk};
 ghost use Rattle.ghg_office.specs.Replies.{is_failure, reply_text};
-ghost use Rattle.ghg_session.specs.Commands.{line_of};
+ghost use Rattle.ghg_script.specs.Commands.{line_of};
 ghost use Rattle.ghg_session.specs.Replies.{HasNoLines, HasNoReply, heading, line_count, table_lines};
 ghost use Rattle.ghg_session.specs.Session.{bytes_of};
 
-use crate::status::Status;
 use ghg_office::{Reply, ShortLine, append_reply, short_text};
 use ghg_units::Text;
+use ghg_words::Status;
 use std::alloc::{AllocError, Global};
 
 /// The lines of a reply.

@@ -8,27 +8,21 @@ ghost use Rattle.ghg_session.specs.Replies.{office_step};
 ghost use Rattle.ghg_session.specs.Session.{KeepsNone, Session, bytes_of, protocol_of, wrong_line};
 ghost use Rattle.ghg_session.specs.Writing.{Reports, WritesAll};
 
-use crate::command::Command;
-use crate::dialect::Dialect;
+use crate::environment::Environment;
 use crate::office::answer;
-use crate::reading::next_command;
 use crate::reply::Lines;
-use crate::script::TableQuery;
-use crate::status::Status;
 use crate::writing::{report, write_all};
 use arrayvec::ArrayVec;
 use ghg_keeper::Keeper;
 use ghg_office::Office;
 use ghg_outer::{Sink, Source};
+use ghg_script::{Command, Dialect, MOST_COMMANDS, TableQuery, next_command};
 use ghg_steps::Steps;
-use ghg_workers::{Gate, Workers};
+use ghg_words::Status;
+use ghg_workers::Gate;
 use itoa::Buffer;
-use std::alloc::Global;
 use std::sync::ledger::Ledger;
 use std::thread::Threads;
-
-/// The most commands of a script, its end included.
-const MOST_COMMANDS: u32 = 1_000_000;
 
 /// Answers a script in this dialect to its end, command by command: each reply is written whole before the
 /// next command is read. Where submissions are stored, the keeper keeps each one before it is accepted. For
@@ -42,41 +36,39 @@ pub fn answer_script<
     T: Threads + Sync,
     L: Ledger,
 >(
-    alloc: Global,
-    workers: &Workers<'_, T, G>,
+    environment: &Environment<'_, T, G>,
     input: &mut S,
     out: &mut W,
     office: &mut Office,
     keeper: &mut K,
-    stored: bool,
     steps: &mut Steps<L>,
 ) -> Status
-    requires workers { (1 ≤ workers.now.count) × (workers.now.count ≤ 64) }
-    requires same { stored ≡ true → Lists (K.shelf keeper.old) office.old.accepted }
+    requires workers { (1 ≤ environment.now.workers.count) × (environment.now.workers.count ≤ 64) }
+    requires same { environment.now.stored ≡ true → Lists (K.shelf keeper.old) office.old.accepted }
     // If none of the requests that it read is to be kept, the keeper is as it was.
-    ensures session { (session : Session (protocol_of D.forms office_step) office.old office.new
-        (S.tape input.old) (S.tape input.new) (W.tape out.old) (W.tape out.new) steps.old steps.new result)
-        × (KeepsNone (protocol_of D.forms office_step) stored office.old session.took
+    ensures session { (session : Session (protocol_of D.forms (office_step environment.now.stored))
+        office.old office.new (S.tape input.old) (S.tape input.new) (W.tape out.old) (W.tape out.new)
+        steps.old steps.new result)
+        × (KeepsNone (protocol_of D.forms (office_step environment.now.stored)) office.old session.took
         → keeper.new ≡ keeper.old) }
     // The input or the output failed only if its count of faults rose.
     ensures input { result ≡ Status.InputFailed → Rose (S.tape input.old) (S.tape input.new) }
     ensures output { result ≡ Status.OutputFailed → Rose (W.tape out.old) (W.tape out.new) }
     // With every result the keeper's rows are the accepted submissions.
-    ensures kept { stored ≡ true
+    ensures kept { environment.now.stored ≡ true
         → KeepsAccepted (K.shelf keeper.old) (K.shelf keeper.new) office.new.accepted }
-    ensures untouched { stored ≡ false → keeper.new ≡ keeper.old }
-    // The session stops at the keeper only where that keeps the submissions, and its count of faults rose.
-    ensures stored { result ≡ Status.StoreFailed → stored ≡ true }
+    ensures untouched { environment.now.stored ≡ false → keeper.new ≡ keeper.old }
+    // The keeper failed only if its count of faults rose.
     ensures counted { IsCounted (K.shelf keeper.old).faults (K.shelf keeper.new).faults
         (result ≡ Status.StoreFailed) }
 {
     'commands: for done in 0..MOST_COMMANDS {
-        match next_command::<TableQuery, D, S>(alloc, input) {
+        match next_command::<TableQuery, D, S>(environment.alloc, input) {
             Err(status) => return status,
             Ok(None) => return refuse(out, done + 1),
             Ok(Some(Command::End)) => return Status::Done,
             Ok(Some(Command::Request(request))) => {
-                match answer(office, alloc, workers, &request, keeper, stored, steps) {
+                match answer(environment, office, &request, keeper, steps) {
                     Err(status) => return status,
                     Ok(lines) => {
                         if let Err(status) = write_lines(out, &lines) {

@@ -2,8 +2,8 @@
 
 ghost use Rattle.ghg_session.specs.Writing.{Reports, WritesAll};
 
-use crate::status::Status;
 use ghg_outer::{Sink, WriteError};
+use ghg_words::Status;
 
 /// Writes the whole piece. Where that stops early, a proper prefix of it was written.
 pub fn write_all<W: Sink>(out: &mut W, piece: &[u8]) -> Result<(), Status>

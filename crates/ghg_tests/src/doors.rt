@@ -94,7 +94,7 @@ fn doors_give_their_links_once(rt: HostRuntime) {
 // In one thread: the client connects and writes before the door is asked for it, and reads at the end.
 #[test]
 fn a_client_is_served_over_tcp(rt: HostRuntime) -> Result<(), Fail> {
-    let mut door = TcpDoor::new(rt.clone()?);
+    let mut door = TcpDoor::new(&rt);
     check(&rt, door.next().is_err(), "no port");
     check(&rt, door.listen(21_127).is_ok(), "a port");
     let mut client = TcpStream::connect(&rt, (Ipv4Addr::LOCALHOST, 21_127))?;

@@ -22,6 +22,8 @@ mod intervals;
 #[cfg(test)]
 mod layers;
 #[cfg(test)]
+mod splicing;
+#[cfg(test)]
 mod streams;
 #[cfg(test)]
 mod tables;

@@ -1,8 +1,13 @@
 -- The command that the words after the program's name ask for.
-use Rattle.std.specs.Prelude.{ℕ, ◌≤◌, List, [], ◌∷◌, if◌then◌else◌, Option, Some, None, option_map, option_and_then, codes}
+use Rattle.std.specs.Prelude.{⊤, ℕ, ◌≤◌, List, [], ◌∷◌, if◌then◌else◌, Option, Some, None, option_map, option_and_then, codes}
 use Rattle.std.specs.Str.{bytes_eq}
+use Rattle.ghg_splice.specs.Texts.{method_named}
+use Rattle.ghg_units.specs.declared.unit.Unit.{Unit as UnitWord}
+use Rattle.ghg_units.specs.declared.unit.Unit.TheVariants.{Year}
+use Rattle.ghg_units.specs.Name.{plain_name_in}
+use Rattle.ghg_units.specs.Units.{unit_in}
 use Rattle.ghg_words.specs.declared.command.Command.{Command}
-use Rattle.ghg_words.specs.declared.command.Command.TheVariants.{Compile, Generate, Serve}
+use Rattle.ghg_words.specs.declared.command.Command.TheVariants.{Compile, Generate, Serve, Splice}
 use Rattle.ghg_words.specs.declared.command.Settings.{Settings}
 use Rattle.ghg_words.specs.declared.command.TheConstants.{MOST_WORKERS}
 use Rattle.ghg_words.specs.Options.{Options, only, options_in, value_of}
@@ -49,6 +54,23 @@ generate_of o =
     (number_from (codes "seed") 0 2147483647 o))
     (workers_of (value_of (codes "workers") o))
 
+-- a unit, but for that of half-lives
+abbrev pub but_years : UnitWord → Option UnitWord
+but_years Year = None
+but_years unit = Some unit
+
+abbrev pub spliced_unit : List ℕ → Option UnitWord
+spliced_unit text = option_and_then but_years (unit_in text)
+
+abbrev pub splice_of : Options → Option Command
+splice_of o =
+    option_and_then (λ method.
+    option_and_then (λ name.
+    option_map (λ unit. Splice (record { method = method; name = name; unit = unit }))
+    (option_and_then spliced_unit (value_of (codes "unit") o)))
+    (option_and_then plain_name_in (value_of (codes "name") o)))
+    (option_and_then method_named (value_of (codes "method") o))
+
 -- the options, if the command takes them
 unfoldable pub options_of_compile : Options → Option Options
 options_of_compile = only (codes "workers" ∷ codes "store" ∷ [])
@@ -59,12 +81,16 @@ options_of_serve = only (codes "workers" ∷ codes "store" ∷ codes "port" ∷ 
 unfoldable pub options_of_generate : Options → Option Options
 options_of_generate = only (codes "seed" ∷ codes "lines" ∷ codes "workers" ∷ [])
 
+unfoldable pub options_of_splice : Options → Option Options
+options_of_splice = only (codes "method" ∷ codes "name" ∷ codes "unit" ∷ [])
+
 -- the command of that name, with these options
 abbrev pub command_named : List ℕ → Options → Option Command
 command_named word o =
     if bytes_eq word (codes "compile") then option_and_then compile_of (options_of_compile o) else (
     if bytes_eq word (codes "serve") then option_and_then serve_of (options_of_serve o) else (
-    if bytes_eq word (codes "generate") then option_and_then generate_of (options_of_generate o) else None))
+    if bytes_eq word (codes "generate") then option_and_then generate_of (options_of_generate o) else (
+    if bytes_eq word (codes "splice") then option_and_then splice_of (options_of_splice o) else None)))
 
 -- the command that the words are
 unfoldable pub command_in : List (List ℕ) → Option Command
@@ -79,3 +105,4 @@ abbrev pub IsBounded : Command → Type 0
 IsBounded (Compile settings) = AreWorkers settings.workers
 IsBounded (Serve service) = AreWorkers service.settings.workers × (1 ≤ service.connections)
 IsBounded (Generate sample) = AreWorkers sample.workers
+IsBounded (Splice splicing) = ⊤

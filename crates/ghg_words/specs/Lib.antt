@@ -1,4 +1,5 @@
 pub mod Command
 pub mod Laws
 pub mod Options
+pub mod Status
 pub mod Values

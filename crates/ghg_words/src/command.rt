@@ -2,14 +2,16 @@
 
 ghost use Rattle.std.specs.Prelude.{◌≡◌, ◌≤◌, IfSome, codes, map, option_map, option_and_then};
 ghost use Rattle.std.specs.String.{string_bytes};
-ghost use Rattle.ghg_words.specs.Command.{AreWorkers, IsBounded, command_in, compile_of, generate_of, number_from, options_of_compile, options_of_generate, options_of_serve, serve_of, settings_of, workers_of};
+ghost use Rattle.ghg_words.specs.Command.{AreWorkers, IsBounded, command_in, command_named, compile_of, generate_of, number_from, options_of_compile, options_of_generate, options_of_serve, options_of_splice, serve_of, settings_of, splice_of, spliced_unit, workers_of};
 ghost use Rattle.ghg_words.specs.Options.{seen, value_of};
 
 use crate::options::{Options, read_options};
 use crate::values::{StoreName, number_within};
+use ghg_splice::Method;
+use ghg_units::{Name, Unit, unit_named};
 
 /// What a command line asks for.
-#[derive(Debug, Drop)]
+#[derive(Drop)]
 pub enum Command<'a> {
     /// To answer a script.
     Compile(Settings<'a>),
@@ -17,6 +19,8 @@ pub enum Command<'a> {
     Serve(Service<'a>),
     /// To run the submissions that a seed decides.
     Generate(Sample),
+    /// To fill the years that a series lacks.
+    Splice(Splicing),
 }
 
 /// What `compile` and `serve` take.
@@ -49,6 +53,17 @@ pub struct Sample {
     pub lines: u32,
 }
 
+/// What is spliced, and how.
+#[derive(Drop)]
+pub struct Splicing {
+    /// The technique.
+    pub method: Method,
+    /// The series that is filled, which is no global warming potential.
+    pub name: Name,
+    /// The unit of its figures, other than `yr`.
+    pub unit: Unit,
+}
+
 /// Reads the words after the program's name. `None` where they are no command.
 #[tactic(auto, unfolding(crate::specs::Command::command_in))]
 pub fn read_command(words: &[String]) -> Option<Command<'_>>
@@ -56,11 +71,19 @@ pub fn read_command(words: &[String]) -> Option<Command<'_>>
     ensures bounds { IfSome result IsBounded }
 {
     let (word, rest) = words.split_first()?;
-    let options = read_options(rest)?;
-    match word.as_str() {
+    command_named(word.as_str(), read_options(rest)?)
+}
+
+// The command of that name, with these options.
+fn command_named<'a>(word: &str, options: Options<'a>) -> Option<Command<'a>>
+    ensures command { result ≡ command_named word.now (seen options.entry) }
+    ensures bounds { IfSome result IsBounded }
+{
+    match word {
         "compile" => compile_with(options_of_compile(options)?),
         "serve" => serve_with(options_of_serve(options)?),
         "generate" => generate_with(options_of_generate(options)?),
+        "splice" => splice_with(options_of_splice(options)?),
         _ => None,
     }
 }
@@ -87,6 +110,14 @@ fn options_of_generate(options: Options<'_>) -> Option<Options<'_>>
     ensures { option_map seen result ≡ options_of_generate (seen options.entry) }
 {
     options.only(&["seed", "lines", "workers"])
+}
+
+// The options, if `splice` takes them.
+#[tactic(auto, unfolding(crate::specs::Command::options_of_splice))]
+fn options_of_splice(options: Options<'_>) -> Option<Options<'_>>
+    ensures { option_map seen result ≡ options_of_splice (seen options.entry) }
+{
+    options.only(&["method", "name", "unit"])
 }
 
 fn compile_with(options: Options<'_>) -> Option<Command<'_>>
@@ -116,6 +147,27 @@ fn generate_with<'a>(options: Options<'_>) -> Option<Command<'a>>
         seed: number_from(options, "seed", 0, 2_147_483_647)?,
         lines: number_from(options, "lines", 1, 1_000)?,
     }))
+}
+
+fn splice_with<'a>(options: Options<'_>) -> Option<Command<'a>>
+    ensures command { result ≡ splice_of (seen options.entry) }
+    ensures bounds { IfSome result IsBounded }
+{
+    Some(Command::Splice(Splicing {
+        method: Method::named(options.value_of("method")?)?,
+        name: Name::plain(options.value_of("name")?.as_bytes())?,
+        unit: unit_from(options.value_of("unit")?)?,
+    }))
+}
+
+// The unit that a text names, which is no half-life's.
+fn unit_from(text: &str) -> Option<Unit>
+    ensures { result ≡ spliced_unit text.now }
+{
+    match unit_named(text.as_bytes())? {
+        Unit::Year => None,
+        unit => Some(unit),
+    }
 }
 
 // The number that an option gives, between two bounds.

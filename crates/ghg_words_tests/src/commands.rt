@@ -30,6 +30,7 @@ fn parts<'c>(command: &'c Command) -> (u32, Option<&'c str>, Option<(u32, u32)>)
             Some((u32::from(service.port), service.connections)),
         ),
         Command::Generate(sample) => (sample.workers, None, Some((sample.seed, sample.lines))),
+        Command::Splice(_) => (1, None, None),
     }
 }
 
@@ -61,6 +62,12 @@ const COMMANDS: &[(&str, u32, Option<&str>, Option<(u32, u32)>)] = &[
         1,
         None,
         Some((65_535, 1_000_000)),
+    ),
+    (
+        "splice --unit kt --name=ELEC.GAS --method overlap",
+        1,
+        None,
+        None,
     ),
     ("generate --seed 0 --lines 1", 1, None, Some((0, 1))),
     (
@@ -110,6 +117,12 @@ const NO_COMMANDS: &[&str] = &[
     "generate --seed 0 --lines 0",
     "generate --seed 0 --lines 1001",
     "generate --seed 2147483648 --lines 1",
+    "splice --method linear --name A",
+    "splice --method mean --name A --unit TJ",
+    "splice --method linear --name GWP.CO2 --unit TJ",
+    "splice --method linear --name a --unit TJ",
+    "splice --method linear --name A --unit yr",
+    "splice --method linear --name A --unit TJ --workers 1",
 ];
 
 #[test]

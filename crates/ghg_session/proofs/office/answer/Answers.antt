@@ -17,4 +17,4 @@ pub returns-in-Query-clause-cause : goal.returns-in-Query-clause-cause
 returns-in-Query-clause-cause g c =
     let e = rw c.as_slice-in-Query.ensures at c.show-reply.ensures in
     rw c.in-Query.is (map_if_err c.table_lines.result _ _
-    (λ stop none. table_undone _ c.in-Query.show _ stop e.table e.memory none) c.table_lines.ensures.none)
+    (λ stop none. table_undone _ _ c.in-Query.show _ stop e.table e.memory none) c.table_lines.ensures.none)

@@ -1,8 +1,9 @@
 use Rattle.std.proofs.Common.{◌≡◌, ◌≤◌, ◌+◌, ◌∙◌, [], arith, refl}
-use Rattle.ghg_session.specs.Session.{most_commands}
+use Rattle.ghg_script.specs.Reading.{most_commands}
 use Rattle.ghg_outer.proofs.Tapes.{consumes_nothing}
 use Rattle.ghg_session.proofs.Answered.{answers_one, begins, ends_at_end, malformed, refused, spent_all, stops_in_reply, stops_reading, stops_undone}
-use Rattle.ghg_session.proofs.Commands.{no_text}
+use Rattle.ghg_script.proofs.Commands.{no_text}
+use Rattle.ghg_session.proofs.Answering.{unkept}
 use Rattle.ghg_session.proofs.Keeping.{keeps_listed, keeps_more}
 use Rattle.ghg_session.proofs.session.answer_script.Goals as goal
 
@@ -43,6 +44,14 @@ returns-in-Err-write_lines-clause-session g c =
     stops_in_reply _ _ _ _ _ _ _ _ _ _ _ _ c.commands.invariant.session _ _ _ _ _ _ _ c.commands-test.true (no_text _) found
     (rw answer.lines at c.in-Err-write_lines.ensures) answer.after c.answer.ensures.steps (λ same quiet. c.answer.ensures.repeats quiet ∙ same)
 
+pub returns-in-Err-answer-clause-untouched : goal.returns-in-Err-answer-clause-untouched
+returns-in-Err-answer-clause-untouched g c =
+    λ stored. c.answer.ensures.repeats (unkept _ _ _ stored) ∙ c.commands.invariant.untouched stored
+
+pub returns-in-Err-write_lines-clause-untouched : goal.returns-in-Err-write_lines-clause-untouched
+returns-in-Err-write_lines-clause-untouched g c =
+    λ stored. c.answer.ensures.repeats (unkept _ _ _ stored) ∙ c.commands.invariant.untouched stored
+
 pub commands-preserved : goal.commands-preserved
 commands-preserved g c =
     let found = rw (c.in-Ok-Some-Request.field-0-is, c.in-Ok-Some-Request.field-0-0-is) at c.in-Ok-Some-Request.ensures in
@@ -52,7 +61,7 @@ commands-preserved g c =
           (rw answer.lines at c.in_default.ensures) answer.after c.answer.ensures.steps
           (λ same quiet. c.answer.ensures.repeats quiet ∙ same);
       kept = λ stored. keeps_more _ _ _ _ _ (c.commands.invariant.kept stored) (c.answer.ensures.kept stored);
-      untouched = λ stored. c.answer.ensures.repeats (rw stored refl) ∙ c.commands.invariant.untouched stored;
+      untouched = λ stored. c.answer.ensures.repeats (unkept _ _ _ stored) ∙ c.commands.invariant.untouched stored;
       counts = omega (arith, c.commands.invariant.counts, c.answer.ensures.counted.later);
     }
 

@@ -1,4 +1,4 @@
-use Rattle.std.proofs.Common.{◌≡◌, ◌≤◌, ◌&&◌, true, false}
+use Rattle.std.proofs.Common.{◌≡◌, ◌≤◌, true, false}
 use Rattle.ghg_office.specs.Keeping.{KeepsAccepted}
 use Rattle.ghg_session.specs.Replies.{office_step}
 use Rattle.ghg_session.specs.Session.{protocol_of}
@@ -7,11 +7,12 @@ use Rattle.ghg_session.proofs.session.answer_script.Given as goal
 
 abbrev pub invariant-commands : goal.invariant-commands
 invariant-commands g l = record {
-  session : Answered (protocol_of g.D.Dialect.forms office_step) (λ now asked lines. (l.stored && (office_step now asked).is_kept) ≡ false) (l.keeper ≡ l.fn.keeper)
+  session : Answered (protocol_of g.D.Dialect.forms (office_step l.environment.stored))
+      (λ now asked lines. (office_step l.environment.stored now asked).is_kept ≡ false) (l.keeper ≡ l.fn.keeper)
       l.fn.office l.office (g.S.Told.tape l.fn.input) (g.S.Told.tape l.input)
       (g.W.Told.tape l.fn.out) (g.W.Told.tape l.out) l.fn.steps l.steps l.done;
-  kept : l.stored ≡ true
+  kept : l.environment.stored ≡ true
       → KeepsAccepted (g.K.Keeper.shelf l.fn.keeper) (g.K.Keeper.shelf l.keeper) l.office.accepted;
-  untouched : l.stored ≡ false → l.keeper ≡ l.fn.keeper;
+  untouched : l.environment.stored ≡ false → l.keeper ≡ l.fn.keeper;
   counts : (g.K.Keeper.shelf l.fn.keeper).faults ≤ (g.K.Keeper.shelf l.keeper).faults;
 }

@@ -1,0 +1,4 @@
+pub mod Commands
+pub mod Reader
+pub mod Reading
+pub mod Script

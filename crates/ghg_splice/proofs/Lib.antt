@@ -1,0 +1,5 @@
+pub mod AllRecords
+pub mod Held
+pub mod Joined
+pub mod Lists
+pub mod Rows
