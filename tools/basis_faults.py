@@ -13,8 +13,8 @@ from tools.faults import Explained, at_row
 from tools.recognisers import Recogniser
 from tools.sheets import Row
 from tools.unit_bases import (
-    ASH_FREE, DRY, ELECTRICITY, EQUIVALENTS, GROSS, LIVESTOCK_UNITS, NET, NORMAL, OF_20_C, OF_GAS, PLACES,
-    PRODUCT, RATIOS, SAME, STANDARD, Words)
+    ASH_FREE, DRY, ELECTRICITY, EQUIVALENTS, GROSS, HEAT, LIVESTOCK_UNITS, NET, NORMAL, OF_20_C, OF_GAS, PLACES,
+    PRODUCT, RATIOS, SAME, STACKED, STANDARD, UNDER_BARK, Words)
 
 # What a net calorific value is of a gross one (Volume 2, Section 1.4.1.2), and words in the names of fuels.
 NET_OF_GROSS = {
@@ -28,6 +28,11 @@ PER_ENERGY = ("emission factor of fuel", "carbon content of fuel")
 SAID_BY_UNITS = ("gas", "carbon", "carbon content of fuel")
 # A cubic metre at 20 C of one at another temperature.
 TO_20_C = {NORMAL: "1.07", STANDARD: "1.02"}
+# The organic matter of wastewater and the CH4 that it yields are both of one oxygen demand (Volume 5, Table 6.2).
+OF_DEMAND, DEMANDS = {("Q98", "BO"), ("Q100", "TOW"), ("Q100", "S")}, ("BOD", "COD")
+YIELDS = "0.6 for one of BOD, 0.25 for one of COD"
+# What timber takes up as logs in a stack and under its bark, to solid volume over bark.
+OF_TIMBER = {STACKED: "about 0.7", UNDER_BARK: "about 1.15"}
 
 
 class Asked(typing.NamedTuple):
@@ -183,15 +188,17 @@ def dry_weights(asked: Asked) -> Told | None:
 
 
 def electricity(asked: Asked) -> Told | None:
-    """Electricity in place of fuel, or a factor for it."""
-    if ELECTRICITY in asked.words.denominator and asked.measures in PER_ENERGY:
+    """Electricity or heat in place of fuel, or a factor for it."""
+    made = [[of for of in (ELECTRICITY, HEAT) if of in words]
+            for words in (asked.words.numerator, asked.words.denominator)]
+    if made[1] and asked.measures in PER_ENERGY:
         how = "multiply by the efficiency of the plants"
-        return Told(f"for electricity made, and {asked.taker} the energy of fuel: {asked.write(how)}")
-    if ELECTRICITY not in asked.words.numerator or asked.measures not in ("energy", None):
+        return Told(f"for {made[1][0]} made, and {asked.taker} the energy of fuel: {asked.write(how)}")
+    if not made[0] or asked.measures not in ("energy", None):
         return None
     how = "divide by the efficiency of the plants"
-    cause = f"electricity, and {asked.taker} the energy of fuel: {asked.write(how)}"
-    return Told(f"{cause}; electricity that is bought has no emission of its own")
+    cause = f"{made[0][0]}, and {asked.taker} the energy of fuel: {asked.write(how)}"
+    return Told(f"{cause}; {made[0][0]} that is bought has no emission of its own")
 
 
 def animal_places(asked: Asked) -> Told | None:
@@ -220,13 +227,30 @@ def volumes_at_other_states(asked: Asked) -> Told | None:
     return None
 
 
+def oxygen_demands(asked: Asked) -> Told | None:
+    """Organic matter of wastewater, or CH4 for it, by one of its two oxygen demands."""
+    said = [of for of in asked.words.numerator + asked.words.denominator if of in DEMANDS]
+    if not said or not OF_DEMAND & set(asked.takers):
+        return None
+    other = "the organic matter" if asked.measures == "ratio" else "the yield BO"
+    return Told(f"{said[0]}: {asked.write()} if {other} that it is multiplied by is of {said[0]} too; BO is {YIELDS}")
+
+
+def volumes_of_timber(asked: Asked) -> Told | None:
+    """Timber in stacked cubic metres, or without its bark."""
+    said = [of for of in asked.words.numerator if of in OF_TIMBER]
+    if not said or asked.measures not in ("volume", None) or not asked.meant:
+        return None
+    how = f"multiply by {OF_TIMBER[said[0]]}"
+    return Told(f"{said[0]}, and {asked.taker} solid volume over bark: {asked.write(how)}")
+
+
 def unknown_words(asked: Asked) -> Told | None:
     """Words beside a unit of which it is not known whether they change the figure."""
     def is_harmless(word: str) -> bool:
         return any(vocabulary.is_said_of(*taker, word.strip(",;")) for taker in asked.takers)
 
     odd = [word for word in asked.words.others if not is_harmless(word)]
-    odd += [said for said in asked.words.denominator if said == "COD"]
     if not odd or not asked.takers or not asked.meant or not asked.is_read:
         return None
     cause = f"the unit is written {asked.meant.word}"
@@ -276,6 +300,43 @@ enter,factor,,COMPOST.EF,2019,4,,,g/kg,
 enter,activity,,COMPOST,2019,140,,,kt,
 enter,activity,,COMPOST,2020,145,,,kt,
 """
+# Right inventories of wastewater, and of a forest that is cut.
+WATER = """\
+enter,span,,,2019,2020,2019,,,
+enter,factor,,GWP.CO2,2019,1,,,1,
+enter,factor,,GWP.CH4,2019,28,,,1,
+enter,line,4D2,MILL.EF,,Q98,,,,
+enter,bind,MILL.EF,BO,,factor,YIELD,,,
+enter,bind,MILL.EF,MCF,,factor,LAGOON,,,
+enter,line,4D2,MILL.CH4,,Q100,,,,
+enter,bind,MILL.CH4,X,,line,MILL.EF,,,
+enter,bind,MILL.CH4,TOW,,activity,LOAD,,,
+enter,bind,MILL.CH4,S,,key,NO,,,
+enter,bind,MILL.CH4,R,,key,NO,,,
+enter,factor,,YIELD,2019,0.6,,,kg/kg,
+enter,factor,,LAGOON,2019,0.8,,,1,
+enter,activity,,LOAD,2019,50,,,kt,
+enter,activity,,LOAD,2020,52,,,kt,
+"""
+LOGS = """\
+enter,span,,,2019,2020,2019,,,
+enter,factor,,GWP.CO2,2019,1,,,1,
+enter,line,3B1,CUT,,Q80,,,,
+enter,bind,CUT,H,,activity,LOGS,,,
+enter,bind,CUT,BCEF,,factor,BCEF,,,
+enter,bind,CUT,R,,factor,ROOTS,,,
+enter,bind,CUT,CF,,factor,CARBON,,,
+enter,line,3B1,CHANGE,,Q83,,,,
+enter,bind,CHANGE,G,,key,NO,,,
+enter,bind,CHANGE,L,,line,CUT,,,
+enter,line,3B1,FOREST.CO2,,Q84,,,,
+enter,bind,FOREST.CO2,C,,line,CHANGE,,,
+enter,factor,,BCEF,2019,0.77,,,t/m3,
+enter,factor,,ROOTS,2019,0.29,,,1,
+enter,factor,,CARBON,2019,0.47,,,t/t,
+enter,activity,,LOGS,2019,2415,,,m3,
+enter,activity,,LOGS,2020,2450,,,m3,
+"""
 RECOGNISERS = (
     Recogniser(
         gross_values, "gross calorific values, as `TJ (GCV)`, with their usual ratio to net ones",
@@ -294,7 +355,7 @@ RECOGNISERS = (
         "N2O, and EF1 of Q69 takes N2O-N: multiply by 28/44, and write kg/kg",
         "enter,factor,,SOILS.EF1,2019,0.01,,,kg/kg,of N2O-N"),
     Recogniser(
-        other_denominators, "a factor for a tonne of cement in place of clinker",
+        other_denominators, "a factor for cement in place of clinker",
         "enter,factor,,CEMENT.EF,2019,0.39,,,t CO2/t cement,",
         "for one of cement, and EF of Q31 is for one of clinker: divide by the clinker fraction",
         "enter,factor,,CEMENT.EF,2019,0.52,,,t/t,for a t of clinker and not of cement", KILNS),
@@ -304,7 +365,7 @@ RECOGNISERS = (
         "CH4, and EF of Q10 takes CO2 (Q11 gives CH4); write the figure of CO2",
         "enter,factor,,COAL.EF,2019,94.6,,,t/TJ,CH4 has a factor of its own"),
     Recogniser(
-        product_for_nitrogen, "a mass of fertiliser in place of its nitrogen",
+        product_for_nitrogen, "fertiliser in place of its nitrogen",
         "enter,activity,,FERTILISER.N,2019,120000,,,t product,",
         "mass of a product, and FSN of Q69 takes its nitrogen: multiply by the nitrogen in it",
         "enter,activity,,FERTILISER.N,2019,41.2,,,kt,in 120 kt of product"),
@@ -312,12 +373,12 @@ RECOGNISERS = (
         ash_free_fuels, "fuel without its water and ash", "enter,activity,,COAL,2019,850,,,kt daf,",
         "fuel without water and ash: write it as it is burnt", "enter,activity,,COAL,2019,1010,,,kt,850 daf"),
     Recogniser(
-        dry_weights, "dry weights, if both weights may be meant",
+        dry_weights, "dry weights",
         "enter,activity,,COMPOST,2019,56,,,kt dry,",
         "dry weight: write kt if the factor that it is multiplied by is of dry weight too",
         "enter,activity,,COMPOST,2019,141,,,kt,56 dry", KILNS),
     Recogniser(
-        electricity, "electricity in place of fuel",
+        electricity, "electricity or heat in place of fuel",
         "enter,line,1A2,COKE.CO2,,Q10,,,,\nenter,bind,COKE.CO2,FC,,activity,COKE,,,\n"
         "enter,bind,COKE.CO2,EF,,factor,COAL.EF,,,\nenter,activity,,COKE,2019,290,,,GWh el,\n"
         "enter,activity,,COKE,2020,2100,,,TJ,\nenter,activity,,COKE,2021,2100,,,TJ,",
@@ -331,11 +392,21 @@ RECOGNISERS = (
         "animal places, and N of Q55 takes animals: multiply by the part of the year in which they are taken",
         "enter,activity,,COWS,2019,249000,,,head,in 260000 places"),
     Recogniser(
-        volumes_at_other_states, "cubic metres at 0 or 15 \u00b0C in place of those at 20 \u00b0C",
+        volumes_at_other_states, "cubic metres at 0 or 15 \u00b0C",
         "enter,factor,,MINE.EF,2019,16.8,,,Nm3/t,", "those at 20 \u00b0C, of 0.67 kg: multiply by 1.07",
         "enter,factor,,MINE.EF,2019,17.9,,,m3/t,16.8 at 0 C", KILNS),
     Recogniser(
-        unknown_words, "a word of which it is not known whether it changes the figure",
+        oxygen_demands, "BOD or COD of wastewater",
+        "enter,activity,,LOAD,2019,50,,,kt BOD,",
+        "BOD: write kt if the yield BO that it is multiplied by is of BOD too; BO is 0.6 for one of BOD",
+        "enter,activity,,LOAD,2019,50,,,kt,BOD", WATER),
+    Recogniser(
+        volumes_of_timber, "timber stacked or under bark",
+        "enter,activity,,LOGS,2019,2100,,,m3 under bark,",
+        "under bark, and H of Q80 takes solid volume over bark: multiply by about 1.15, and write m3",
+        "enter,activity,,LOGS,2019,2415,,,m3,2100 under bark", LOGS),
+    Recogniser(
+        unknown_words, "a word that may change the figure",
         "enter,activity,,COAL,2019,1000,,,kt (screened),",
         "the unit is written kt: write kt if screened changes no figure",
         "enter,activity,,COAL,2019,1000,,,kt,screened"),

@@ -10,8 +10,8 @@ import typing
 from collections.abc import Callable, Iterable
 
 from tools import as_json, check, compare, complete, completion, from_sheets, gathered, import_sheet
-from tools import mending, missing, new_folder, report, row_templates, send, service_notices, tables
-from tools import template, trace, vocabulary, wordlist
+from tools import mending, missing, new_folder, recognised, report, row_templates, send, service_notices
+from tools import splice, tables, template, trace, vocabulary, wordlist
 from tools.faults import in_order
 from tools.progress import Progress
 from tools.program import Program, ProgramFailed, found_program
@@ -64,7 +64,7 @@ def parser() -> argparse.ArgumentParser:
     commands = top.add_subparsers(dest="command", required=True, metavar="COMMAND",
                                   parser_class=CommandParser)
     for add in (add_check, add_tables, add_complete, add_trace, add_compare, add_report, add_words,
-                add_import, add_send, add_new, add_from_sheets, add_completion):
+                add_import, add_splice, add_send, add_new, add_from_sheets, add_completion):
         add(commands)
     return top
 
@@ -99,6 +99,16 @@ def over_sources(commands: Commands, name: str, what: str, example: str,
     return made
 
 
+class ListRecognised(argparse.Action):
+    """Prints what `check` tells and warns of, and ends."""
+
+    def __call__(self, parser: argparse.ArgumentParser, *_: object) -> None:
+        for title, table in (("Faults", recognised.TOLD), ("Warnings", recognised.WARNED)):
+            for of, each in table.items():
+                print(f"{title}, {of}:", *(f"  {one.told}" for one in each), sep="\n")
+        parser.exit()
+
+
 def add_check(commands: Commands) -> None:
     """Adds the command `check`."""
     what = "find every fault of every file in one run, and tell its cause"
@@ -108,6 +118,7 @@ def add_check(commands: Commands) -> None:
     made.add_argument("--all", action="store_true", help="print each warning, also where many have one cause")
     out = "write a copy of the folder with the cures that leave no choice to this new folder, and say which"
     made.add_argument("--mend", metavar="OUT", help=out)
+    made.add_argument("--list", action=ListRecognised, nargs=0, help="print what faults and warnings there are")
 
 
 def add_tables(commands: Commands) -> None:
@@ -223,6 +234,20 @@ def add_import(commands: Commands) -> None:
     made.add_argument("-o", "--output", metavar="FILE", help=where)
     made.add_argument("--replace", action="store_true", help="write over a file that has other rows")
     made.add_argument("--program", metavar="PATH", help=PROGRAM)
+
+
+def add_splice(commands: Commands) -> None:
+    """Adds the command `splice`."""
+    what = "fill the years that an activity lacks by a splicing technique, as rows to review and submit"
+    example = "examples/fuel-combustion examples/splicing WEST.COAL --method linear -o 16-spliced.csv"
+    made = over_folders(commands, "splice", what, example, compiled(splice.run))
+    made.add_argument("name", metavar="NAME", help="the activity")
+    how = "linear: between two known years; surrogate, overlap: by the series --by (docs/SPLICING.md)"
+    made.add_argument("--method", required=True, choices=splice.METHODS, help=how)
+    made.add_argument("--by", metavar="SURROGATE", help="the activity or factor that is known in the missing years")
+    where = "the file of rows to write; without it they are printed"
+    made.add_argument("-o", "--output", metavar="FILE", help=where)
+    made.add_argument("--plot", metavar="FILE.svg", help="write a picture of the series with its filled years")
 
 
 def add_send(commands: Commands) -> None:

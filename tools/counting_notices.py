@@ -9,7 +9,7 @@ from tools import vocabulary
 from tools.book import lines_taken_by
 from tools.faults import Fault, warn, years_said
 from tools.line_notices import OF_STAGES, what_it_takes
-from tools.fuels import is_of_biomass, is_of_bunkers, is_of_fossil_fuel
+from tools.fuels import fuels_of, is_of_biomass, is_of_bunkers, is_of_fossil_fuel
 from tools.recognisers import Recogniser
 from tools.results import ZERO, Results, gas_of, plain
 from tools.sheets import Row
@@ -33,6 +33,8 @@ COUNTED_TWICE, HANDING_ON = ("mass", "energy"), (*sorted(ADDING), "Q68")
 PASTURE, OF_PASTURE = "Q64", "FP"
 # Manure that is managed and that stays on pasture: the systems of a herd.
 SYSTEMS = ("Q59", "Q64")
+# What ships and aircraft burn.
+OF_VESSELS = {"JET.KEROSENE", "JET.GASOLINE", "AV.GASOLINE", "OTHER.KEROSENE", "GAS.DIESEL.OIL", "RESIDUAL.OIL"}
 # Shares are written with two or three digits.
 MOST_OF_SHARES = decimal.Decimal("1.005")
 # The CO2 factors of Volume 2, Table 1.4 that only biomass has, in kg/TJ.
@@ -348,6 +350,7 @@ def bunkers_in_totals(results: Results) -> list[Fault]:
         taken = quantities(results, name)
         keys = [(gas_of(row), activity) for activity in taken]
         there = [at_bunkers[key] for key in keys if key in at_bunkers]
+        there = [other for other in there if not is_mostly_national(results, other)]
         of_bunkers = "fuel of international bunkers stands at MB, outside the totals"
         if there:
             said = f"line {name} at {code} takes the fuel of line {there[0].field('name')} at MB"
@@ -355,6 +358,38 @@ def bunkers_in_totals(results: Results) -> list[Fault]:
         elif is_of_bunkers([name, *taken]):
             found.append(warn(row, f"line {name} at {code} is of bunkers by its names; {of_bunkers}"))
     return found
+
+
+def national_at_bunkers(results: Results) -> list[Fault]:
+    """Lines at MB of a fuel that no ship or aircraft burns, of which most lines stand at national categories."""
+    found = []
+    for row in results.emitting:
+        if row.field("subject") == "MB" and is_mostly_national(results, row):
+            activity = next(iter(quantities(results, row.field("name"))))
+            other = next(line for line in takers_of(results, activity) if line.field("subject") != "MB")
+            said = f"line {row.field('name')} at MB takes activity {activity}, and line {other.field('name')}"
+            said += f" ({other.place}) takes it at {other.field('subject')}"
+            found.append(warn(row, f"{said}; MB is outside the totals: is its category {other.field('subject')}?"))
+    return found
+
+
+def is_mostly_national(results: Results, row: Row) -> bool:
+    """Tells whether a line at MB is of a fuel that no ship or aircraft burns, and of the lines that take it fewer
+    stand at MB than elsewhere.
+    """
+    activity = next(iter(quantities(results, row.field("name"))), "")
+    fuels = fuels_of([activity]) or fuels_of([row.field("name")])
+    if not fuels or OF_VESSELS & set(fuels) or is_of_bunkers([row.field("name"), activity]):
+        return False
+    at = [line.field("subject") == "MB" for line in takers_of(results, activity)]
+    return at.count(True) < at.count(False)
+
+
+@functools.cache
+def takers_of(results: Results, activity: str) -> list[Row]:
+    """The lines that emit a gas of an activity, but for those of the reference approach and of biomass."""
+    return [line for line in results.emitting if line.field("subject") not in ("RA", "MC")
+            and activity in quantities(results, line.field("name"))]
 
 
 def biomass_in_totals(results: Results) -> list[Fault]:
@@ -598,6 +633,17 @@ enter,bind,GRAZING.N2O,FP,,{2},,,
 enter,bind,GRAZING.N2O,EF3,,factor,GRAZING.EF3,,,
 enter,factor,,GRAZING.EF3,2019,0.02,,,kg/kg,
 """
+# CH4 and N2O of the gas that BURNT has.
+COOKING = """\
+enter,line,1A4b,COOKING.CH4,,Q11,,,,
+enter,bind,COOKING.CH4,FC,,activity,GAS,,,
+enter,bind,COOKING.CH4,EF,,factor,COOKING.CH4,,,
+enter,line,1A4b,COOKING.N2O,,Q12,,,,
+enter,bind,COOKING.N2O,FC,,activity,GAS,,,
+enter,bind,COOKING.N2O,EF,,factor,COOKING.N2O,,,
+enter,factor,,COOKING.CH4,2019,5,,,kg/TJ,
+enter,factor,,COOKING.N2O,2019,0.1,,,kg/TJ,
+"""
 COAL_ONCE_MORE = """\
 enter,line,{0},MILLS.CO2,,Q10,,,,
 enter,bind,MILLS.CO2,FC,,line,COAL.TJ,,,
@@ -622,6 +668,10 @@ RECOGNISERS: tuple[Recogniser, ...] = (
         bunkers_in_totals, "fuel of international bunkers in a national category",
         example=BURNT.format("1A3a", "BUNKERS", 71500), right=BURNT.format("MB", "BUNKERS", 71500),
         says="line BUNKERS.CO2 at 1A3a is of bunkers by its names"),
+    Recogniser(
+        national_at_bunkers, "a national fuel at MB",
+        example=BURNT.format("MB", "GAS", 56100) + COOKING, right=BURNT.format("1A4b", "GAS", 56100) + COOKING,
+        says="line GAS.CO2 at MB takes activity GAS, and line COOKING.CH4"),
     Recogniser(
         biomass_in_totals, "CO2 of biomass in a national category",
         example=BURNT.format("1A4b", "WOOD", 112000), right=BURNT.format("MC", "WOOD", 112000),

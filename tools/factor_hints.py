@@ -78,6 +78,8 @@ OFF_ONE = {
                      ("Q72", "FG"), ("Q72", "FM"), ("Q73", "FL"), ("Q94", "OX")), "taken off"),
     ("Q39", "ASUF"): "abated",
 }
+# A half-life in years of a rate in percent, and what the parameter measures that takes it.
+HUNDRED_LN_2, DECAY = Number("69.3147"), "yearly decay factor"
 # The mass of an animal is of no time.
 TIMELESS = ("Q62", "TAM")
 MANURE, ENTERIC = "3A2", "3A1"
@@ -266,6 +268,22 @@ def known_ratios(odd: Odd) -> list[Ratio]:
     return [distances[distance] for distance in nearest[:1 if is_alone else 2]]
 
 
+def of_a_rate(odd: Odd) -> str | None:
+    """A rate of decay in percent in the place of a half-life."""
+    life = HUNDRED_LN_2 / odd.figure if odd.measures == DECAY else None
+    if life is None or not odd.known.has(life, Number(1)):
+        return None
+    return f"a rate of {plain(odd.figure)} % a year is a half-life of {plain(round(life))} years: is it the rate?"
+
+
+def of_all_above(odd: Odd) -> str | None:
+    """All of a tree to what is above ground in the place of what is below."""
+    rest = odd.figure - 1
+    if odd.parameter != "R" or odd.measures != "ratio" or not odd.known.has(rest, Number(1)):
+        return None
+    return f"less one it is {plain(rest)}, and {odd.line.field('value')} takes 1 + R itself: is it 1 + R?"
+
+
 def of_one_digit(odd: Odd) -> str | None:
     """A default with another digit in one place."""
     for default in odd.known.range.defaults:
@@ -276,7 +294,7 @@ def of_one_digit(odd: Odd) -> str | None:
 
 
 HINTS = (of_co2, of_another_fuel, of_other_animals, of_a_sibling, is_abated, of_swapped_digits, off_by_a_ratio,
-         rest_of_a_share, of_a_default_off_by_ten, of_one_digit)
+         rest_of_a_share, of_a_rate, of_all_above, of_a_default_off_by_ten, of_one_digit)
 
 
 def hint(odd: Odd) -> str | None:

@@ -17,12 +17,16 @@ from tools.recognisers import Recogniser
 from tools.results import NUMBER, Results, figure_of, gas_of, plain
 from tools.sheets import Row
 from tools.usual import usual, usual_row
+from tools.vocabulary import HALF_LIFE_UNIT
 
 Number = decimal.Decimal
 # Those by which activities jump that are given in another unit for a year, and how near these are met.
 RATIOS_OF = {"energy": ("3.6, GJ in a MWh", "41.868, GJ in a toe"), "carbon": (RATIOS[0][1],),
              "gas": (RATIOS[0][1],)}
 NEAR, LEAST_OF_THESE = Number("0.12"), 3
+# How near to each other the figures of years are beside one with two digits swapped, how far that is from them, and
+# how near the figure that is meant.
+STEADY_YEARS, FAR_YEAR, NEAR_YEAR = 1.1, 1.15, 1.04
 # A default of another fuel is told of where it is so far from those of its own, and these so wide.
 FAR, WIDE_OF_FUELS = Number("0.25"), Number("1.5")
 # Coke goes for coal in many names.
@@ -39,14 +43,14 @@ OF_PLANTS = {"Q11", "Q12", "Q16", "Q17", "Q38", "Q39", "Q90", "Q99"}
 
 
 def factors(results: Results) -> list[tuple[Row, str, Row]]:
-    """Each binding of a line with a factor, a rate or a line that gives one, with the line and the
+    """Each binding of a line with a factor, a rate, a half-life or a line that gives one, with the line and the
     parameter.
     """
     found = []
     for line in results.lines:
         parameters = vocabulary.parameters_of(line.field("value"))
         for parameter, bound in results.bindings(line.field("name")).items():
-            if parameter in parameters and bound.field("value") in ("factor", "activity", "line"):
+            if parameter in parameters and bound.field("value") in ("factor", "activity", "decay", "line"):
                 found.append((line, parameter, bound))
     return found
 
@@ -153,6 +157,8 @@ def said_of_unusual(one: Unusual, swapped: Unusual | None) -> str:
     odd, bound, row = one.odd, one.bound, one.row
     parameter = vocabulary.parameters_of(odd.line.field("value"))[odd.parameter]
     unit, given = (parameter["unit"] or "").replace("1", ""), bound.field("value")
+    if given == "decay":
+        unit, given = HALF_LIFE_UNIT, "half-life"
     what = f"line {bound.field('low')} gives" if given == "line" else f"{given} {bound.field('low')} is"
     is_other = row is not bound and row.field("unit") != parameter["unit"] and row.field("value") != plain(odd.figure)
     written = f" ({row.field('value')} {row.field('unit')})" if is_other else ""
@@ -193,14 +199,19 @@ def defaults_times_a_ratio(results: Results) -> list[Fault]:
                     told.add(id(record))
                     said = f"factor {record.field('name')} is {record.field('value')} {record.field('unit')},"
                     said += f" {word} of the default {text} {row['unit']} of {parameter} ({row['source']})"
-                    found.append(warn(record, f"{said}; {line.field('value')} takes it times {word} itself"))
+                    taker = line.field("value") if gas_of(line) else "Q84"
+                    found.append(warn(record, f"{said}; {taker} takes it times {word} itself"))
     return found
 
 
 def own_ratios(line: Row) -> list[tuple[Number, str]]:
-    """The ratios of molecules that the equation of a line has itself, each with how it is written."""
+    """The ratios of molecules that the equation of a line has itself, or that Q84 has which takes its carbon, each
+    with how it is written.
+    """
     words = ((Number(44) / 12, "44/12"), (Number(44) / 28, "44/28"))
-    return [pair for pair in words if pair[1] in vocabulary.equations()[line.field("value")]["expression"]]
+    is_of_carbon = line.field("subject").startswith("3B") and not gas_of(line)
+    expression = vocabulary.equations()[line.field("value")]["expression"]
+    return [pair for pair in words if pair[1] in expression or is_of_carbon and pair is words[0]]
 
 
 def is_default(figure: Number, row: dict[str, str]) -> bool:
@@ -213,7 +224,7 @@ def factors_that_jump(results: Results) -> list[Fault]:
     found, told = [], set()
     for line, parameter, bound in factors(results):
         record = record_taken_by(bound)
-        measures = vocabulary.parameters_of(line.field("value"))[parameter]["measures"]
+        measures = vocabulary.record_of(vocabulary.parameters_of(line.field("value"))[parameter]) or ""
         if record is None or record in told or vocabulary.is_amount(measures) or not results.is_own(bound):
             continue
         least = jump_of(line, parameter, measures)
@@ -261,18 +272,60 @@ def said_of_jump(record: tuple[str, str], one: Row, other: Row) -> str:
 def activities_by_a_ratio(results: Results) -> list[Fault]:
     """Activities that move little but for one jump, which is by a known ratio of units."""
     found = []
-    for name, years in sorted(results.book.years["activity"].items()):
-        rows = [row for year, row in sorted(years.items()) if NUMBER.fullmatch(row.field("value"))]
+    for name in sorted(results.book.years["activity"]):
+        numbers = results.numbers(name)
+        rows, written = [row for row, _ in numbers], [size for _, size in numbers if size]
+        if not written or max(written) < LEAST_OF_THESE * min(written) and len({row.field("unit") for row in rows}) < 2:
+            continue
         sizes = [abs(figure) for figure in map(figure_of, rows) if figure]
-        if not sizes or max(sizes) < LEAST_OF_THESE * min(sizes):
+        if max(sizes) < LEAST_OF_THESE * min(sizes):
             continue
         times = [times_of(one, other) for one, other in zip(rows, rows[1:])]
         jumps = [at for at, size in enumerate(times) if fitting(rows[at], size)]
         others = [size for at, size in enumerate(times) if at not in jumps]
         if jumps and len(others) > 1 and 0 < min(others) and max(others) < JUMP:
             one, other = rows[jumps[0]:jumps[0] + 2]
+            if swapped_in_a_year(rows, jumps[0] + 1):
+                continue
             found.append(warn(other, said_of_ratio(name, one, other, fitting(one, times[jumps[0]]))))
     return found
+
+
+def years_with_swapped_digits(results: Results) -> list[Fault]:
+    """Activities of which one year's figure is that of the years beside it with two digits in each other's place."""
+    found = []
+    for name in sorted(results.book.years["activity"]):
+        numbers = results.numbers(name)
+        far = [at for at in range(1, len(numbers) - 1) if is_far(*(size for _, size in numbers[at - 1:at + 2]))]
+        rows = [row for row, _ in numbers] if far else []
+        for at in far:
+            meant, row = swapped_in_a_year(rows, at), rows[at]
+            if meant:
+                said = f"activity {name} is {row.field('value')} {row.field('unit')} in {row.field('year')}, far from"
+                said += " the years beside it; with two digits in each other's place"
+                found.append(warn(row, f"{said} it is {meant}, near them: is that meant?"))
+    return found
+
+
+def is_far(before: float, size: float, after: float) -> bool:
+    """Tells whether a figure is far from those of the years beside it, which are near each other."""
+    one, other = sorted((before, after))
+    return other <= STEADY_YEARS * one and not other / FAR_YEAR <= size <= one * FAR_YEAR
+
+
+def swapped_in_a_year(rows: list[Row], at: int) -> str | None:
+    """A figure with two digits next to each other swapped, where that is near both figures beside it and the
+    figure itself is far; or None.
+    """
+    if not 0 < at < len(rows) - 1 or len({row.field("unit") for row in rows[at - 1:at + 2]}) > 1:
+        return None
+    sizes, text = [abs(float(row.field("value"))) for row in rows[at - 1:at + 2]], rows[at].field("value")
+    if not is_far(*sizes):
+        return None
+    one, other = sorted((sizes[0], sizes[2]))
+    pairs = (text[:place] + text[place + 1] + text[place] + text[place + 2:] for place in range(len(text) - 1))
+    known = [pair for pair in pairs if pair != text and NUMBER.fullmatch(pair) and pair[0] != "0"]
+    return next((pair for pair in known if one / NEAR_YEAR <= abs(float(pair)) <= other * NEAR_YEAR), None)
 
 
 def fitting(row: Row, times: Number) -> str | None:
@@ -323,6 +376,10 @@ RECOGNISERS: tuple[Recogniser, ...] = (
         example="enter,factor,,COWS.EF,2021,66,,,kg/head,",
         says="factor COWS.EF jumps from 126 kg/head in 2019 to 66 kg/head in 2021, 1.91 times",
         right="enter,factor,,COWS.EF,2021,131,,,kg/head,"),
+    Recogniser(
+        years_with_swapped_digits, "digits swapped in one year",
+        example="enter,activity,,COAL,2020,52800,,,TJ,", right="enter,activity,,COAL,2020,30100,,,TJ,", base=COAL,
+        says="activity COAL is 52800 TJ in 2020, far from the years beside it; with two digits in each other's place"),
     Recogniser(
         activities_by_a_ratio, "activities that jump by a ratio of units",
         example="enter,activity,,COAL,2021,95400,,,TJ,",

@@ -39,7 +39,7 @@ class Records(typing.NamedTuple):
 def all_of_figures(book: Book, mismeasured: set[tuple[str, str]]) -> list[Fault]:
     """Every warning about figures, but for those of activities and factors whose unit is a fault."""
     records, taken = named_records(book), book.taken()
-    found = [*ratios(book, records, taken), *negatives(book, records, taken), *hundredfold(records),
+    found = [*ratios(book, records, taken), *negatives(book, records, taken), *hundredfold(book, records, taken),
              *shares_as_percentages(book), *distances(records)]
     return [warning for warning in found if warning.row is None or warning.row.key[:2] not in mismeasured]
 
@@ -153,13 +153,18 @@ def is_of_distances(row: Row) -> bool:
     return value != 0 and most > 0 and least == -most
 
 
-def hundredfold(records: list[Records]) -> Iterator[Fault]:
-    """Activities that grow or shrink a hundredfold from one record to the next: once for each name."""
+def hundredfold(book: Book, records: list[Records], taken: Taken) -> Iterator[Fault]:
+    """Activities that grow or shrink a hundredfold from one record to the next, but for changes of stocks: once
+    for each name.
+    """
     for kind, name, _, rows in records:
         numbers = [row for row in rows if NUMBER.fullmatch(row.field("value"))] if kind == "activity" else []
         known = [figure_of(row) or ZERO for row in numbers]
         sizes = [abs(figure) for figure in known]
         if not sizes or max(sizes) < 100 * min(sizes):
+            continue
+        bound = taken.get((kind, name), [])
+        if bound and all(has_a_sign(book, binding) for binding in bound):
             continue
         for at, (one, other) in enumerate(zip(known, known[1:])):
             least, most = sorted((abs(one), abs(other)))

@@ -45,7 +45,7 @@ enter,factor,,COAL.EF.N2O,2019,1.5,,,kg/TJ,"""
 RECORDS = (
     Recogniser(
         notices.orphans,
-        "activities and factors that no line takes (a misspelt name of one year is such a one)",
+        "activities and factors that no line takes",
         "enter,activity,,SLUDGE,2020,1050,,,kt,", "no line takes activity SLUDGE (2020)",
         "enter,factor,,GWP.CF4,2019,6630,,,1,"),
     Recogniser(

@@ -426,10 +426,10 @@ def way_to_bounds(number: decimal.Decimal, least: decimal.Decimal, most: decimal
     held, inner = scaled(number, least, most), sorted((least, number, most))
     if held:
         return f"{held} would hold it: is the unit of the bounds another?"
-    advice = "write bounds that hold it, or leave both empty"
     if 0 < inner[2] <= 2 * inner[0]:
-        advice += "; in order they are {1} with low {0} and high {2}".format(*map(written, inner))
-    return advice
+        in_order = "{1} with low {0} and high {2}".format(*map(written, inner))
+        return f"in order they are {in_order}: are two in each other's column? else write bounds that hold it"
+    return "write bounds that hold it, or leave both empty"
 
 
 def said_of_distance(number: decimal.Decimal, distance: decimal.Decimal) -> str:

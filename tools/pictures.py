@@ -35,6 +35,14 @@ class Series:
     figures: Sequence[float]
 
 
+@dataclasses.dataclass(frozen=True)
+class Points:
+    """A name with years, and of each a figure with its low and its high."""
+    name: str
+    years: Sequence[int]
+    figures: Sequence[tuple[float, float, float]]
+
+
 class Pictures:
     """Makes pictures, whose ids differ from one to the next."""
 
@@ -86,6 +94,25 @@ class Pictures:
             axes.xaxis.set_major_locator(ticker.MaxNLocator(integer=True))
             below(axes, axes.get_lines()[:len(lines)])
             return self.svg(drawn)
+
+    def points(self, title: str, parts: Sequence[Points], unit: str) -> str:
+        """Points with their bounds over years, the first filled and the others open, as a file of its own."""
+        with pyplot.rc_context(STYLE):
+            drawn, axes = pyplot.subplots(figsize=(WIDTH, HEIGHT))
+            for at, part in enumerate(parts):
+                sides = [[value - low for value, low, _ in part.figures],
+                         [high - value for value, _, high in part.figures]]
+                axes.errorbar(part.years, [point[0] for point in part.figures], yerr=sides, linestyle="none",
+                              color=(DARK, "#a0522d")[at % 2], marker="os"[at % 2], markersize=4, capsize=2,
+                              markerfacecolor=(DARK, "white")[at % 2], label=part.name)
+            finish(axes, unit)
+            axes.xaxis.set_major_locator(ticker.MaxNLocator(integer=True))
+            axes.set_title(title, loc="left")
+            axes.legend(loc="upper left", bbox_to_anchor=(0, -0.1), ncol=2, frameon=False)
+            written = io.StringIO()
+            drawn.savefig(written, format="svg", bbox_inches="tight", metadata={"Date": None, "Creator": None})
+            pyplot.close(drawn)
+            return written.getvalue()
 
     def key_categories(self, names: Sequence[str], shares: Sequence[float], cumulative: Sequence[float],
                        is_key: Sequence[bool]) -> str:

@@ -2,19 +2,22 @@
 another fuel or another parameter, gains for losses, and bunkers that the reference approach leaves in.
 """
 import collections
+import csv
 import decimal
+import functools
+import pathlib
 import re
 from collections.abc import Iterator
 
 from tools import unit_bases, vocabulary
 from tools.book import lines_taken_by
 from tools.faults import Fault, warn, years_said
-from tools.fuels import fuels_of
+from tools.fuels import BIOMASS, KINDS, fuels_of
 from tools.line_notices import OF_LIVESTOCK, is_measured, livestock_of
 from tools.recognisers import Recogniser
 from tools.results import Results, gas_of, plain
 from tools.sheets import Row
-from tools.usual import usual_row
+from tools.usual import animals_of, usual_row
 from tools.vocabulary import listed
 
 # The categories of the source that an equation is of, by their first signs.
@@ -53,8 +56,18 @@ OF_WAYS = {"Q72": {"VOLATILISED", "VOLATILIZED", "VOLATILISATION", "VOLATILIZATI
            "Q73": {"LEACHED", "LEACHING", "LEACH", "RUNOFF", "LIXIVIATION", "AUSWASCHUNG", "LIXIVIACION"}}
 # What coal becomes, and what goes for one fuel in many names.
 OF_COKE = ("COKE", "GAS.COKE", "PETROLEUM.COKE")
-# The equations of apparent consumption, and those of fuel burnt.
-APPARENT, BURNT = {"Q20", "Q21", "Q22", "Q23"}, {"Q10", "Q13"}
+# The equations of apparent consumption; the parameters that a fuel has a factor for; and the equations of other
+# gases, whose factors fuels of a kind share.
+APPARENT = {"Q20", "Q21", "Q22", "Q23"}
+OF_FUELS = {"Q10": ("EF",), "Q11": ("EF",), "Q12": ("EF",), "Q13": ("NCV",), "Q25": ("CC", "CONV"), "Q26": ("CC",)}
+OF_KINDS = {"Q11", "Q12"}
+# Words of names that tell which of the parameters of an equation a figure is due for.
+PARAMETER_WORDS = pathlib.Path(__file__).resolve().parent / "parameter-words.csv"
+# The equations of livestock; and animals that go for each other in names.
+OF_ANIMALS = {"Q55", "Q56", "Q58", "Q59", "Q60", "Q62", "Q63", "Q64"}
+ALIKE = {"DAIRY": "CATTLE", "BUFFALO": "CATTLE", "GOATS": "SHEEP", "MULES": "HORSES"}
+# The most CH4 that a tonne of COD yields, and not one of BOD, with its margin (Volume 5, Table 6.2).
+MOST_OF_COD = decimal.Decimal("0.3")
 
 
 def other_sources(results: Results) -> Iterator[Fault]:
@@ -150,18 +163,101 @@ def factors_of_other_fuels(results: Results) -> Iterator[Fault]:
     """Lines of fuel burnt whose CO2 factor or calorific value is of another fuel by its name."""
     for row in results.lines:
         name = row.field("name")
-        if row.field("value") not in BURNT:
+        parameters = OF_FUELS.get(row.field("value"))
+        if not parameters:
             continue
         bindings = results.bindings(name)
         taken = [bound.field("low") for bound in results.bound_below(name) if bound.field("value") == "activity"]
         own = fuels_of(taken) or fuels_of([name])
-        bound = bindings.get("EF") or bindings.get("NCV")
-        of = fuels_of([bound.field("low")]) if bound and bound.field("value") == "factor" else ()
-        is_of_coke = any(fuel in OF_COKE for fuel in own + of)
-        if bound and own and of and not set(own) & set(of) and not is_of_coke:
-            fuels = [each[0].replace(".", " ").lower() for each in (own, of)]
-            said = f"line {name} burns {fuels[0]} by the names of what it takes, and factor {bound.field('low')}"
-            yield warn(bound, f"{said} is of {fuels[1]}; is another factor meant?")
+        for bound in (bindings[parameter] for parameter in parameters if parameter in bindings):
+            of = fuels_of([bound.field("low")]) if bound.field("value") == "factor" else ()
+            if own and of and are_others(own, of, row.field("value") in OF_KINDS):
+                fuels = [each[0].replace(".", " ").lower() for each in (own, of)]
+                said = f"line {name} is of {fuels[0]} by the names of what it takes, and factor {bound.field('low')}"
+                yield warn(bound, f"{said} is of {fuels[1]}; is another factor meant?")
+
+
+def are_others(own: tuple[str, ...], of: tuple[str, ...], by_kind: bool) -> bool:
+    """Tells whether fuels are other ones, or of another kind; what coal becomes goes for coal."""
+    if any(fuel in OF_COKE for fuel in own + of):
+        return False
+    if not by_kind:
+        return not set(own) & set(of)
+    kinds = [{kind for kind, words in (*KINDS.items(), ("biomass", BIOMASS)) if set(words) & set(fuels)}
+             for fuels in (own, of)]
+    return all(kinds) and not kinds[0] & kinds[1]
+
+
+def animals_of_others(results: Results) -> Iterator[Fault]:
+    """Lines of livestock that take a factor, a line or a herd of other animals by the names."""
+    for row in results.lines:
+        if row.field("value") not in OF_ANIMALS:
+            continue
+        bindings = {parameter: bound for parameter, bound in results.bindings(row.field("name")).items()
+                    if bound.field("value") in ("activity", "factor", "line")}
+        named = {parameter: alike(animals_of([bound.field("low")])) for parameter, bound in bindings.items()}
+        named[""] = alike(animals_of([row.field("name")]))
+        for parameter, bound in sorted(bindings.items(), key=lambda pair: pair[1].field("value") == "activity"):
+            rest = {animal for other, animals in named.items() if other != parameter for animal in animals}
+            if rest and named[parameter] and not rest & named[parameter]:
+                animals = [listed(sorted(each), "and").lower() for each in (rest, named[parameter])]
+                said = f"line {row.field('name')} is of {animals[0]} by its names, and {parameter} takes"
+                said += f" {bound.field('value')} {bound.field('low')} of {animals[1]}"
+                yield warn(bound, f"{said}; is another one meant?")
+                break
+
+
+def alike(animals: tuple[str, ...]) -> set[str]:
+    """Animals, without those that names confound."""
+    return {ALIKE.get(animal, animal) for animal in animals}
+
+
+@functools.cache
+def words_of_parameters(equation: str) -> dict[str, frozenset[str]]:
+    """The words of parameter-words.csv by the parameters of an equation."""
+    with open(PARAMETER_WORDS, encoding="utf-8", newline="") as file:
+        rows = [row for row in csv.DictReader(file) if equation in row["equation"].split()]
+    return {row["parameter"]: frozenset(row["words"].split()) for row in rows}
+
+
+def names_of_other_parameters(results: Results) -> Iterator[Fault]:
+    """Parameters that take what is another parameter of the equation by its name, as exports at IM."""
+    for row in results.lines:
+        words = words_of_parameters(row.field("value"))
+        bindings = results.bindings(row.field("name")) if words else {}
+        for parameter, bound in bindings.items():
+            if parameter not in words or bound.field("value") in ("key", "decay"):
+                continue
+            named = lines_taken_by(bound) or [bound.field("low")]
+            parts = {part for name in named for part in re.split("[._-]", name)}
+            other = next((each for each, own in words.items() if parts & own), None)
+            if other and not parts & words[parameter] and are_measured_alike(row, parameter, other):
+                said = f"{parameter} of line {row.field('name')} takes {named[0]}, which is {other} of"
+                yield warn(bound, f"{said} {row.field('value')} by its name; is it bound to the wrong parameter?")
+                break
+
+
+def are_measured_alike(line: Row, one: str, other: str) -> bool:
+    """Tells whether two parameters of a line measure the same."""
+    parameters = vocabulary.parameters_of(line.field("value"))
+    return bool(parameters[one]["measures"] == parameters[other]["measures"])
+
+
+def other_oxygen_demands(results: Results) -> Iterator[Fault]:
+    """Wastewater whose organic matter is BOD, by Q99, with the CH4 that a tonne of COD yields."""
+    for row in results.lines:
+        bindings = results.bindings(row.field("name"))
+        if row.field("value") != "Q100" or not {"X", "TOW"} <= bindings.keys():
+            continue
+        lines = [[results.book.lines[name] for taken in lines_taken_by(bindings[parameter])
+                  for name in results.below(taken) if name in results.book.lines] for parameter in ("X", "TOW")]
+        yields = [results.bindings(line.field("name"))["BO"] for line in lines[0] if line.field("value") == "Q98"]
+        load = next((line for line in lines[1] if line.field("value") == "Q99"), None)
+        bound = next((each for each in yields if 0 < (results.taken(each, results.years[0]) or 0) <= MOST_OF_COD), None)
+        if load and bound:
+            said = f"{bound.field('low')} is {plain(results.taken(bound, results.years[0]) or decimal.Decimal(0))}, CH4"
+            said += f" of a tonne of COD, and line {row.field('name')} takes BOD by line {load.field('name')} (Q99)"
+            yield warn(bound, f"{said}; of BOD it is 0.6 (Volume 5, Table 6.2)")
 
 
 def bunkers_left_in(results: Results) -> Iterator[Fault]:
@@ -441,7 +537,68 @@ enter,factor,,SOILS.FM,2019,0.2,,,kg/kg,
 enter,factor,,SOILS.EF4,2019,0.01,,,kg/kg,
 """
 
+# Sheep beside cows; and wastewater of people.
+SHEEP = """\
+enter,line,3A1,SHEEP.CH4,,Q55,,,,
+enter,bind,SHEEP.CH4,N,,activity,SHEEP,,,
+enter,bind,SHEEP.CH4,EF,,factor,{},,,
+enter,factor,,SHEEP.EF,2019,8,,,kg/head,
+enter,activity,,SHEEP,2019,900000,,,head,
+enter,activity,,SHEEP,2020,905000,,,head,
+enter,activity,,SHEEP,2021,902000,,,head,
+"""
+SEWAGE = """\
+enter,line,4D1,LOAD,,Q99,,,,
+enter,bind,LOAD,P,,activity,PEOPLE,,,
+enter,bind,LOAD,BOD,,factor,BOD,,,
+enter,bind,LOAD,I,,factor,WITH.INDUSTRY,,,
+enter,line,4D1,PLANT.EF,,Q98,,,,
+enter,bind,PLANT.EF,BO,,factor,YIELD,,,
+enter,bind,PLANT.EF,MCF,,factor,PLANT.MCF,,,
+enter,line,4D1,SEWAGE.CH4,,Q100,,,,
+enter,bind,SEWAGE.CH4,X,,line,PLANT.EF,,,
+enter,bind,SEWAGE.CH4,TOW,,line,LOAD,,,
+enter,bind,SEWAGE.CH4,S,,key,NO,,,
+enter,bind,SEWAGE.CH4,R,,key,NO,,,
+enter,factor,,BOD,2019,60,,,g/person/day,
+enter,factor,,WITH.INDUSTRY,2019,1.25,,,1,
+enter,factor,,YIELD,2019,{},,,kg/kg,
+enter,factor,,PLANT.MCF,2019,0.3,,,1,
+enter,activity,,PEOPLE,2019,5400000,,,person,
+enter,activity,,PEOPLE,2020,5410000,,,person,
+enter,activity,,PEOPLE,2021,5420000,,,person,
+"""
+IRON = """\
+enter,line,2C1,STEEL.CO2,,Q40,,,,
+enter,bind,STEEL.CO2,BOF,,activity,{0}.STEEL,,,
+enter,bind,STEEL.CO2,EFB,,factor,BOF.EF,,,
+enter,bind,STEEL.CO2,EAF,,activity,{1}.STEEL,,,
+enter,bind,STEEL.CO2,EFE,,factor,EAF.EF,,,
+enter,bind,STEEL.CO2,OHF,,key,NO,,,
+enter,bind,STEEL.CO2,EFO,,key,NO,,,
+enter,factor,,BOF.EF,2019,1.46,,,t/t,
+enter,factor,,EAF.EF,2019,0.08,,,t/t,
+enter,activity,,BOF.STEEL,2019,3000,,,kt,
+enter,activity,,BOF.STEEL,2020,3050,,,kt,
+enter,activity,,BOF.STEEL,2021,3020,,,kt,
+enter,activity,,EAF.STEEL,2019,900,,,kt,
+enter,activity,,EAF.STEEL,2020,910,,,kt,
+enter,activity,,EAF.STEEL,2021,905,,,kt,
+"""
+
 RECOGNISERS: tuple[Recogniser, ...] = (
+    Recogniser(
+        animals_of_others, "what is of other animals by its name",
+        example=SHEEP.format("COWS.EF"), right=SHEEP.format("SHEEP.EF"),
+        says="line SHEEP.CH4 is of sheep by its names, and EF takes factor COWS.EF of cattle"),
+    Recogniser(
+        names_of_other_parameters, "exports at IM, and other parameters by their names",
+        example=IRON.format("EAF", "BOF"), right=IRON.format("BOF", "EAF"),
+        says="BOF of line STEEL.CO2 takes EAF.STEEL, which is EAF of Q40 by its name"),
+    Recogniser(
+        other_oxygen_demands, "BOD with the yield of COD",
+        example=SEWAGE.format("0.25"), right=SEWAGE.format("0.6"),
+        says="YIELD is 0.25, CH4 of a tonne of COD, and line SEWAGE.CH4 takes BOD by line LOAD (Q99)"),
     Recogniser(
         other_sources, "a line at a category whose source another equation is of",
         example=MINE.format("1B2"), right=MINE.format("1B1"),

@@ -18,6 +18,8 @@ BYTES_AT_ONCE = 1 << 20
 # refused for its length as well where it is cut.
 MOST_COMMANDS = 999_999
 MOST_BYTES = 99_999_999
+# The status of a series that is not spliced.
+NOT_SPLICED = 10
 REFUSED = re.compile(r"refused (\d+) (\w+)(?: row (\d+))?(?: column (\w+))?(?: (.*))?")
 
 
@@ -63,6 +65,18 @@ def found_program(given: str | None = None) -> str:
         raise ProgramFailed(f"there is no program at {path}; name one by --program or GHG_PROGRAM, or unset "
                             "GHG_PROGRAM, so that ./ghg builds it")
     return path
+
+
+def spliced(path: str, words: Iterable[str], body: bytes) -> tuple[int, str]:
+    """What the program makes of a series: the status 0 with the rows, or 10 with the line that refuses it."""
+    try:
+        ran = subprocess.run([path, "splice", *words], input=body, stdout=subprocess.PIPE, check=False)
+    except OSError as error:
+        raise ProgramFailed(f"{path} cannot be run: {error.strerror}") from error
+    text = ran.stdout.decode("ascii", "backslashreplace")
+    if ran.returncode not in (0, NOT_SPLICED):
+        raise ProgramFailed(f"the program ended with status {ran.returncode} before it had spliced: {text.strip()}")
+    return ran.returncode, text
 
 
 class Program:

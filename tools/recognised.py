@@ -1,11 +1,11 @@
-"""The one table of what `check` recognises: the page and the tests are made from it."""
+"""The one table of what `check` recognises: its list and the tests are made from it."""
 from tools import basis_faults, counting_notices, cycle_notices, factor_notices, noticed, number_faults
 from tools import parted_numbers, place_notices, potential_notices, record_faults, result_notices
 from tools import shape_faults, shifts, word_faults
 from tools.recognisers import Recogniser
 
 Tables = dict[str, tuple[Recogniser, ...]]
-# The tables of faults and of warnings, by the words of docs/WORKBOOK.md for what their recognisers are of.
+# The tables of faults and of warnings, by what their recognisers are of.
 TOLD: Tables = {
     "fields": shape_faults.SHAPES,
     "rows": word_faults.ROWS,
@@ -30,8 +30,3 @@ WARNED: Tables = {
     "the year's cycle": cycle_notices.RECOGNISERS,
 }
 TABLES: Tables = {**TOLD, **WARNED}
-
-
-def page(tables: Tables) -> str:
-    """The rows of a table of the page: what is told, by what it is of."""
-    return "".join(f"| {of} | {'; '.join(each.told for each in table)} |\n" for of, table in tables.items())

@@ -2,7 +2,7 @@
 and a right inventory that looks alike and that it must not tell of.
 
 Each module of recognisers has a table of them, and tools/recognised.py gathers these tables. `check` calls
-the functions out of the tables, docs/WORKBOOK.md has the words, and the tests try each example.
+the functions out of the tables, `check --list` prints the words, and the tests try each example.
 """
 import collections.abc
 import dataclasses

@@ -310,12 +310,12 @@ class Drawings:
             "percent since the year before, at most 100 drawn", 100))
 
 
-def needed(module: str) -> Any:
-    """A library, or what to do where it is not installed."""
+def needed(module: str, command: str = "report") -> Any:
+    """A library that a command needs, or what to do where it is not installed."""
     try:
         return importlib.import_module(module)
     except ImportError as error:
-        need = f"report needs the library {module}"
+        need = f"{command} needs the library {module}"
         raise FolderFault(f"{need}; install it: apt install {PACKAGES[module]}") from error
 
 

@@ -9,6 +9,7 @@ import typing
 
 from tools import vocabulary
 from tools.book import lines_taken_by, record_taken_by
+from tools.counting_notices import amounts_taken
 from tools.fuels import KINDS, fuels_of
 from tools.faults import Fault, counted, warn, years_said
 from tools.recognisers import LANDFILL, Recogniser
@@ -19,6 +20,7 @@ from tools.vocabulary import listed
 # The equations whose result has either sign: the apparent consumption of secondary fuels, of which a country
 # may export more than it imports, what is computed of it, and changes of carbon stocks.
 EITHER_SIGN = {"Q21", "Q23", "Q25", "Q26", "Q83", "Q84", "Q86"}
+KEYS = {"NO", "NA", "IE", "NE"}
 # The equations of what goes into a stock that decays.
 OF_DEPOSITS = {"Q90"}
 # So many figures alike are no chance.
@@ -31,6 +33,9 @@ HUNDREDFOLD = 100
 # So many years with changes of stocks are no chance, where each is so many times nearer with the other sign.
 FEWEST_YEARS, NEARER = 3, 4
 MOST_CHANGE, EXCEPTIONAL, LEAST_CHANGE = decimal.Decimal("0.1"), 3, decimal.Decimal("0.02")
+# Two thirds of the greater of two years: so much a term of a sum changes that is told of by itself.
+OF_TERMS = decimal.Decimal("0.66")
+OF_DISASTERS = {"Q82", "Q88", "Q89"}
 
 
 class Change(typing.NamedTuple):
@@ -114,6 +119,52 @@ def blank_between(results: Results) -> list[Fault]:
                 lines.setdefault(record, set()).add(name)
     return [warn(*said_of_blank(results, kind, name, sorted(blank)))
             for (kind, name), blank in sorted(lines.items())]
+
+
+def blank_at_the_edges(results: Results) -> list[Fault]:
+    """Activities that are NE in the first or the last years of the span, and have figures in most others."""
+    found, taken = [], results.book.taken()
+    for name in sorted(results.book.years["activity"]):
+        records = results.records("activity", name)
+        known = [year for year, row in records.items() if NUMBER.fullmatch(row.field("value"))]
+        blank = [year for year, row in records.items() if is_not_estimated(row) and not row.has_other_figure
+                 and known and not min(known) < year < max(known)]
+        if blank and len(known) >= FEWEST_YEARS and len(blank) < len(known) and ("activity", name) in taken:
+            lines = sorted({bound.field("subject") for bound in taken["activity", name]})
+            said = f"activity {name} is NE in {years_said(blank)}, and has figures in {years_said(known)}; what line"
+            found.append(warn(records[blank[0]], f"{said} {lines[0]} gives is blank there, and totals count zero"))
+    return found
+
+
+def nothing_by_a_key(results: Results) -> list[Fault]:
+    """Lines that are zero or blank in all years since a factor is a notation key, whatever amount they take."""
+    found = []
+    for row in results.lines:
+        name = row.field("name")
+        values = results.series(name).values()
+        if any(values):
+            continue
+        taken = amounts_taken(row.field("value"))
+        amounts = {parameter: bound for parameter, bound in results.bindings(name).items() if parameter in taken}
+        known = next((bound for bound in amounts.values() if any(results.taken(bound, year) for year in results.years)),
+                     None)
+        for parameter, bound in results.bindings(name).items():
+            key = key_of(results, bound) if known and parameter not in amounts else None
+            if key and known and results.is_own(bound):
+                what, why = ("zero", "counts as zero") if values else ("blank", "leaves it blank")
+                said = f"line {name} is {what} in all years, whatever {known.field('low')} is: {parameter} is {key},"
+                found.append(warn(bound, f"{said} which {why}; a factor that does not apply is 1"))
+                break
+    return found
+
+
+def key_of(results: Results, bound: Row) -> str | None:
+    """The notation key that a binding takes in all years, by itself, but for NE, or by a factor; or None."""
+    if bound.field("value") == "key":
+        return str(bound.field("low")) if bound.field("low") != "NE" else None
+    rows = results.book.years["factor"].get(bound.field("low"), {}).values() if bound.field("value") == "factor" else ()
+    keys = {row.field("value") for row in rows}
+    return f"{keys.pop()} by factor {bound.field('low')}" if len(keys) == 1 and keys <= KEYS else None
 
 
 def is_not_estimated(record: Row | None) -> bool:
@@ -293,6 +344,15 @@ def large_changes(results: Results) -> list[Fault]:
     """Changes of lines above 20 percent from one year to the next, the largest first, gathered at the
     activity that makes them.
     """
+    gathered = [(row, sorted(changes, key=lambda change: -abs(change.size)))
+                for row, changes in changes_by_cause(results)]
+    gathered.sort(key=lambda pair: -abs(pair[1][0].size))
+    return [warn(row, said_of_changes(results, row, changes)) for row, changes in gathered]
+
+
+@functools.cache
+def changes_by_cause(results: Results) -> list[tuple[Row, list[Change]]]:
+    """The changes of lines above 20 percent, by the record that makes them."""
     found: dict[int, list[Change]] = {}
     records: dict[int, Row] = {}
     for year in results.years[1:]:
@@ -303,9 +363,41 @@ def large_changes(results: Results) -> list[Fault]:
             if change and record:
                 records[id(record)] = record
                 found.setdefault(id(record), []).append(change)
-    gathered = [(at, sorted(changes, key=lambda change: -abs(change.size))) for at, changes in found.items()]
-    gathered.sort(key=lambda pair: -abs(pair[1][0].size))
-    return [warn(records[at], said_of_changes(results, records[at], changes)) for at, changes in gathered]
+    return [(records[at], changes) for at, changes in found.items()]
+
+
+def terms_that_jump(results: Results) -> list[Fault]:
+    """Activities that become three times as much or a third in one year, where they usually change less, and which
+    are so small a term that no line changes much.
+    """
+    taken = results.book.taken()
+    told = {row.field("name") for row, _ in changes_by_cause(results)}
+    deposits = {bound.field("low") for row in results.lines if row.field("value") in OF_DEPOSITS
+                for bound in results.bindings(row.field("name")).values()}
+    found = []
+    for name in sorted(results.book.years["activity"].keys() - told - deposits):
+        bound = taken.get(("activity", name), [])
+        if not bound or any(is_fitful(results, each) for each in bound) or not may_jump(results.numbers(name)):
+            continue
+        years = [year for year, change in changes_of(results, name).items()
+                 if OF_TERMS <= change < 1 and exceptional(results, name, year)]
+        if years:
+            rows = [results.book.years["activity"][name][at] for at in (years[0] - 1, years[0])]
+            was, now = (f"{row.field('value')} {row.field('unit')}" for row in rows)
+            said = f"activity {name} is {now} in {years[0]}, and was {was} the year before; line"
+            found.append(warn(rows[1], f"{said} {bound[0].field('subject')} hardly shows it; is a figure wrong?"))
+    return found
+
+
+def is_fitful(results: Results, bound: Row) -> bool:
+    """Tells whether a binding is of a change of stocks, or of what a fire or a storm takes."""
+    line = results.book.lines.get(bound.field("subject"))
+    return bound.field("name") == "SC" or line is not None and line.field("value") in OF_DISASTERS
+
+
+def may_jump(numbers: list[tuple[Row, float]]) -> bool:
+    """Tells whether figures as they are written become twice as much or half from one to the next."""
+    return any(not one <= 2 * other <= 4 * one for (_, one), (_, other) in zip(numbers, numbers[1:]))
 
 
 def deposits_that_jump(results: Results) -> list[Fault]:
@@ -571,6 +663,24 @@ enter,bind,PEAT.CHANGE,L,,line,PEAT.LOSS,,,
 enter,line,3B4,PEAT.CO2,,Q84,,,,
 enter,bind,PEAT.CO2,C,,line,PEAT.CHANGE,,,
 """
+STRAW = """\
+enter,span,,,2019,2023,2019,,,
+enter,bind,SOILS.N2O,FCR,,activity,STRAW.N,,,
+enter,activity,,STRAW.N,2019,295,,,t,
+enter,activity,,STRAW.N,2020,300,,,t,
+enter,activity,,STRAW.N,2021,{},,,t,
+enter,activity,,STRAW.N,2022,305,,,t,
+enter,activity,,STRAW.N,2023,308,,,t,
+-enter,span,,,2019,2021
+enter,activity,,COAL,2022,1010,,,kt,
+enter,activity,,COAL,2023,1015,,,kt,
+enter,activity,,COWS,2022,244000,,,head,
+enter,activity,,COWS,2023,244500,,,head,
+enter,activity,,FERTILISER.N,2022,41000,,,t,
+enter,activity,,FERTILISER.N,2023,41300,,,t,
+enter,activity,,MANURE.N,2022,20500,,,t,
+enter,activity,,MANURE.N,2023,20600,,,t,
+"""
 IMPORTS = """\
 enter,line,2A1,CEMENT.CO2,,Q31,,,,
 enter,bind,CEMENT.CO2,CL,,activity,CLINKER,,,
@@ -596,6 +706,18 @@ RECOGNISERS: tuple[Recogniser, ...] = (
         example="enter,activity,,COWS,2020,NE,,,head,",
         says="activity COWS is NE in 2020, between years with figures; line COWS.CH4 is blank there",
         right="enter,activity,,COWS,2019,NE,,,head,"),
+    Recogniser(
+        blank_at_the_edges, "activities that are `NE` in first or last years",
+        example="enter,span,,,2019,2022,2019,,,\n-enter,span,,,2019,2021\nenter,activity,,COAL,2022,1010,,,kt,\n"
+                "enter,activity,,COWS,2022,NE,,,head,\nenter,activity,,FERTILISER.N,2022,41000,,,t,\n"
+                "enter,activity,,MANURE.N,2022,20500,,,t,",
+        says="activity COWS is NE in 2022, and has figures in 2019 to 2021; what line COWS.CH4 gives is blank",
+        right="enter,activity,,COWS,2021,NE,,,head,"),
+    Recogniser(
+        nothing_by_a_key, "lines zero or blank since a factor is a key",
+        example="enter,bind,COWS.CH4,EF,,key,NO,,,\n-enter,factor,,COWS.EF",
+        says="line COWS.CH4 is zero in all years, whatever COWS is: EF is NO, which counts as zero",
+        right="enter,bind,SOILS.N2O,FON,,key,NO,,,\n-enter,activity,,MANURE.N"),
     Recogniser(
         approaches_apart, "a reference approach more than 5 percent from the sectoral one, or from the lines"
         " of its one kind of fuels",
@@ -635,6 +757,10 @@ RECOGNISERS: tuple[Recogniser, ...] = (
         example="enter,activity,,COWS,2021,145000,,,head,",
         says="line COWS.CH4 changes by -41.5 % in 2021, -363.384 Gg CO2 equivalent: activity COWS is 145000",
         right="enter,activity,,COWS,2021,205000,,,head,"),
+    Recogniser(
+        terms_that_jump, "small terms of a line that triple in one year",
+        example=STRAW.format(2900), right=STRAW.format(310),
+        says="activity STRAW.N is 2900 t in 2021, and was 300 t the year before; line SOILS.N2O hardly shows it"),
     Recogniser(
         stock_changes_with_other_sign, "changes of stocks with the other sign, with which the approaches agree",
         example=STOCKS_OF_COAL.format("", "-", ""), right=STOCKS_OF_COAL.format("-", "", "-"),

@@ -5,7 +5,7 @@ import re
 import typing
 
 from tools import vocabulary
-from tools.book import Book, lines_taken_by, record_taken_by
+from tools.book import KIND_TAKEN, Book, lines_taken_by, record_taken_by
 from tools.sheets import Row
 
 # A figure in the base unit of what it measures, or None where it is blank.
@@ -63,10 +63,10 @@ class Results:
         return bound
 
     def taken(self, bound: Row, year: int) -> Figure:
-        """What a parameter takes in a year."""
+        """What a parameter takes in a year: a half-life where it is a yearly decay factor."""
         form = bound.field("value")
-        if form in ("activity", "factor"):
-            record = self.records(form, bound.field("low")).get(year)
+        if form in KIND_TAKEN:
+            record = self.records(KIND_TAKEN[form], bound.field("low")).get(year)
             return figure_of(record) if record else None
         if form == "key":
             return None if bound.field("low") == "NE" else ZERO
@@ -79,9 +79,9 @@ class Results:
 
     def record(self, bound: Row, year: int) -> Row | None:
         """The record that a binding takes in a year, or None where it takes no figure or there is none."""
-        if bound.field("value") not in ("activity", "factor"):
+        if bound.field("value") not in KIND_TAKEN:
             return None
-        return self.records(bound.field("value"), bound.field("low")).get(year)
+        return self.records(KIND_TAKEN[bound.field("value")], bound.field("low")).get(year)
 
     @functools.cache
     def records(self, kind: str, name: str) -> dict[int, Row]:
@@ -91,6 +91,14 @@ class Results:
             until = self.years[-1] if kind == "factor" else min(start, self.years[-1])
             found.update(dict.fromkeys(range(max(start, self.years[0]), until + 1), row))
         return found
+
+    @functools.cache
+    def numbers(self, activity: str) -> list[tuple[Row, float]]:
+        """The records of an activity that are numbers, by year, with their sizes as they are written: to see fast
+        which of them have to be looked at.
+        """
+        rows = (row for _, row in sorted(self.book.years["activity"].get(activity, {}).items()))
+        return [(row, abs(float(text))) for row in rows if NUMBER.fullmatch(text := row.field("value"))]
 
     @functools.cache
     def below(self, line: str) -> list[str]:

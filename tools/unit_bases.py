@@ -7,14 +7,18 @@ import typing
 
 from tools import letters, units, vocabulary
 
-GROSS, NET, EQUIVALENTS, ELECTRICITY, PRODUCT = "gross", "net", "equivalents", "electricity", "product"
+GROSS, NET, EQUIVALENTS, PRODUCT = "gross", "net", "equivalents", "product"
+ELECTRICITY, HEAT = "electricity", "heat"
 DRY, WET, ASH_FREE = "dry matter", "wet weight", "no ash"
 PLACES, LIVESTOCK_UNITS = "places", "livestock units"
 NORMAL, STANDARD = "0 \u00b0C", "15 \u00b0C"
+STACKED, UNDER_BARK = "stacked volume", "under bark"
 # What people write for these, in lower case.
 SPELLINGS = {
-    GROSS: "gcv hcv hhv gross gchv hs ho pcs upper higher brut superior superieur superiore brennwert hsup bovenwaarde",
-    NET: "ncv lcv lhv net nchv hi hu pci lower inferior inferieur inferiore heizwert hinf onderwaarde",
+    GROSS: "gcv hcv hhv gross gchv hs ho pcs upper higher brut superior superieur superiore brennwert hsup bovenwaarde "
+           "oberer obere oberen ovre bovenste ylempi kalorimetriskt",
+    NET: "ncv lcv lhv net nchv hi hu pci lower inferior inferieur inferiore heizwert hinf onderwaarde "
+         "unterer untere unteren nedre undre onderste alempi",
     EQUIVALENTS: "equivalence",
     "CO2": "co2", "CH4": "ch4", "N2O": "n2o", "CF4": "cf4", "C2F6": "c2f6", "N2O-N": "n2o-n",
     "CH4-C": "ch4-c", "C": "c carbon co2-c kohlenstoff carbone carbono",
@@ -23,13 +27,16 @@ SPELLINGS = {
     "urea": "urea uree harnstoff mocznik", "nitrate": "nh4no3 nitrate", "HNO3": "hno3", "CaO": "cao", "COD": "cod",
     "BOD": "bod bod5",
     "protein": "protein", "clinker": "clinker klinker",
-    "cement": "cement zement ciment cemento",
+    "cement": "cement zement ciment cemento", "humus": "humus",
     DRY: "dm dry drymatter odt bdt dw ms ts tm trocken trockenmasse trockensubstanz sec seche seca seco secca secco "
          "suchej droog",
     WET: "wet fresh ww fw fm frischmasse fraiche frais humide humedo humeda nass", ASH_FREE: "daf maf",
-    ELECTRICITY: "e el elec electric electricity electrical electricite strom elettricita electricidad",
+    ELECTRICITY: "e el elec electric electricity electrical electricite strom elettricita electricidad elektrisch "
+                 "electrico electricos electrica electrique electriques elettrici elektriciteit elektrizitat",
+    HEAT: "heat fernwarme warme chaleur calor calore steam dampf vapeur vapor vapore fjarrvarme fjernvarme warmte",
     PLACES: "place places stall stalls stallplatz stallplatze stallplaetze plazas posti emplacements",
-    LIVESTOCK_UNITS: "lsu lu gve gv uba ugb ugm grossvieheinheiten",
+    LIVESTOCK_UNITS: "lsu lu gve gv uba ugb ugm grossvieheinheiten tlu ubt dse",
+    STACKED: "stere steres ster rm raummeter estereo estereos estere", UNDER_BARK: "underbark",
     NORMAL: "nm3 mnm3 normal stp 0\u00b0c", STANDARD: "sm3 msm3 scm 15\u00b0c",
     PRODUCT: "product products fertiliser fertilisers fertilizer fertilizers npk dap uan can "
              "an n-fertiliser n-fertilizer engrais dunger duenger fertilizante abono nawoz sulphate sulfate "
@@ -71,6 +78,7 @@ RATIOS = {
     ("N", "NH3"): "17/14", ("NO3", "N"): "14/62", ("urea", "N"): "0.46, the nitrogen in urea",
     ("N", "urea"): "1/0.46, by the nitrogen in urea",
     ("nitrate", "N"): "0.35, the nitrogen in ammonium nitrate",
+    ("humus", "C"): "0.58, the carbon in humus",
     ("HNO3", "N"): "14/63", ("N", "HNO3"): "63/14", ("protein", "N"): "0.16, the nitrogen in protein",
     ("N", "protein"): "1/0.16, by the nitrogen in protein", ("CaO", "limestone"): "100/56",
     ("cement", "clinker"): "the clinker fraction of the cement",
@@ -87,7 +95,13 @@ AT_THE_END = ("CO2", "CH4", "N2O", "CF4", "C2F6", "N2O-N", EQUIVALENTS)
 # Words beside a unit that change no figure; so do those by which the page of equations names a parameter.
 HARMLESS = frozenset(
     "al aluminium hno3 vs fuel mass matter weight live value heating calorific basis as cv and the animal "
-    "gas acid total used produced".split())
+    "gas acid total used produced potere poder pouvoir calorifico calorifique verbrandingswaarde varmevarde "
+    "over bark".split())
+# Timber without its bark, and gas at a temperature, as people write them after the volume.
+WITHOUT_BARK = re.compile(
+    r"\b(?:under|without|excl\w*\.?|ohne|sous|sans|sin|sem|senza)[\s-]+(?:bark|rinde|ecorce|corteza|casca|corteccia)\b"
+    r"|\bo\. ?r\.|\bu\. ?b\.|\bub\b", re.IGNORECASE)
+AT_DEGREES = re.compile(r"\b(M?)m(3|\^3)(.*?)[\s(]*(?:\b(?:at|bei|a)\b)?[\s@,]*\b(0|15) ?\u00b0 ?C\)?", re.IGNORECASE)
 
 
 class Words(typing.NamedTuple):
@@ -104,6 +118,8 @@ class Words(typing.NamedTuple):
 def words_of(text: str) -> Words:
     """What a text of a unit says that it is of."""
     text = letters.without_accents(text).replace("(NH4)2SO4", "sulphate")
+    text = WITHOUT_BARK.sub("underbark", re.sub("\\b[dl]['\u2019]|heat[ -]?input", "", text, flags=re.IGNORECASE))
+    text = AT_DEGREES.sub(lambda of: f"{of[1]}{'N' if of[4] == '0' else 'S'}m3{of[3]}", text)
     text = re.sub(r"\b([a-z])\.([a-z])\.([a-z])\b\.?", r"\1\2\3", text, flags=re.IGNORECASE)
     text = units.EQUIVALENTS.sub(r"\g<gas> equivalence", text)
     text = re.sub(r"(wh)[_-]?(el?)\b", r"\1 \2", text, flags=re.IGNORECASE)
@@ -135,7 +151,7 @@ def is_other(word: str) -> bool:
 
 def is_unit(word: str) -> bool:
     """Tells whether a word is a unit or a number and not only what it is of: a cubic metre is both."""
-    return SAID.get(word.casefold().removesuffix("^-1"), NORMAL) in (NORMAL, STANDARD)
+    return SAID.get(word.casefold().removesuffix("^-1"), NORMAL) in (NORMAL, STANDARD, STACKED)
 
 
 def said_by(word: str) -> list[str]:

@@ -48,13 +48,21 @@ def usual_values() -> dict[tuple[str, str], list[dict[str, str]]]:
 
 def usual_row(line: Row, parameter: str, said: typing.Iterable[str] = ()) -> dict[str, str] | None:
     """The first row of usual values of a parameter of a line that is of its category, and of whose words each
-    stands in the names that tell what it is of; or None.
+    stands in the names that tell what it is of, or another one that goes for it; or None.
     """
+    rows = usual_values().get((line.field("value"), parameter))
+    if not rows:
+        return None
     names_said = (line.field("name"), *said)
     words = {part for name in names_said for part in re.split("[._-]", name)}.union(animals_of(names_said))
-    rows = usual_values().get((line.field("value"), parameter), ())
     return next((row for row in rows if line.field("subject").startswith(row["category"])
-                 and words.issuperset(row["words"].split())), None)
+                 and all(words & each for each in alternatives(row["words"]))), None)
+
+
+@functools.cache
+def alternatives(words: str) -> tuple[frozenset[str], ...]:
+    """The words of a row of usual values, each with the others that go for it."""
+    return tuple(frozenset(word.split("|")) for word in words.split())
 
 
 class Usual(typing.NamedTuple):
@@ -84,7 +92,8 @@ def usual(results: Results, line: Row, parameter: str, bound: Row) -> Usual | No
     of_takers = animals_of(said[0] + said[1]) if said[2] else ()
     row = usual_row(line, parameter, sum(said[:2] if of_takers else said, []))
     if row:
-        animals = (of_takers or animals_of(said[2])) if set(row["words"].split()) & set(ANIMALS) else ()
+        is_of_animals = any(each & set(ANIMALS) for each in alternatives(row["words"]))
+        animals = (of_takers or animals_of(said[2])) if is_of_animals else ()
         of = f"{parameter} of {line.field('value')}" + (f" for {' or '.join(animals).lower()}" if animals else "")
         return Usual(range_of(row), of, Number(row["margin"] or MARGIN), named=animals)
     if measures == "net calorific value":

@@ -171,6 +171,7 @@ def measured_by(word: str) -> str | None:
     return unit["measures"] if unit else None
 
 
+@functools.cache
 def is_amount(measures: str | None) -> bool:
     """Tells whether what is measured is an amount, as activities are, and no ratio and no rate."""
     base = units_that_measure(measures)[0]

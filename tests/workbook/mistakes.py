@@ -439,6 +439,35 @@ MISTAKES = [Mistake(*fields) for fields in (
     ("nitrogen", ("~FSN,,activity,MINERAL.N~FSN,,activity,UREA",), "enter,bind,INPUTS.N2O,FSN", ("urea",)),
     ("cycle", ("+correct,activity,,WORKS.COAL,2012,2080,,,TJ,",),
      "correct,activity,,WORKS.COAL,2012", ("is 2022 meant?",)),
+    # what is usual of one waste, animal or category
+    ("landfill", ("~WASTE~FOOD.WASTE", "DOC:40"), "enter,factor,,DOC,", ("0.08 to 0.2",)),
+    ("landfill", ("~WASTE~FOOD.WASTE", "HALFLIFE:18"), "enter,factor,,HALFLIFE", ("1 to 14", "is it the rate?")),
+    ("landfill", ("~WASTE~WOOD.WASTE", "DOC:43", "HALFLIFE:3"), "enter,factor,,HALFLIFE", ("14 to 69",)),
+    ("forest", ("ROOTS:1.29",), "enter,factor,,ROOTS", ("1 + R",)),
+    ("fields", ("SEASON:365",), "enter,factor,,SEASON", ("60 to 270",)),
+    ("wells", ("OIL.CH4:1800",), "enter,factor,,OIL.CH4", ("EF of Q15",)),
+    ("uses", ("USED.UP:100",), "enter,factor,,USED.UP", ("ODU of Q46",)),
+    ("dairy", ("COWS.BO:0.48",), "enter,factor,,COWS.BO", ("BO of Q58",)),
+    ("cropland", ("BOGS:18.33",), "enter,factor,,BOGS", ("44/12 of the default 5", "Q84")),
+    # notation keys that leave a line without a value
+    ("kilns", ("~LIME.CO2,CF,,factor,KILN.DUST~LIME.CO2,CF,,key,NO",), "enter,bind,LIME.CO2,CF",
+     ("zero in all years",)),
+    ("homes", ("STOVES.N2O:NE",), "enter,bind,STOVES.N2O,EF", ("blank in all years",)),
+    ("power", ("GAS.TJ@2020=NE",), "enter,activity,,GAS.TJ,2020", ("NE in 2020", "2010 to 2019")),
+    # what is another's by its name
+    ("homes", ("~line,1A4b,HOMES.GAS.CO2~line,MB,HOMES.GAS.CO2", "+f GAS.CH4 kg/TJ 5", "+f GAS.N2O kg/TJ 0.1",
+               "+line 1A4b HOMES.GAS.CH4 Q11 FC=a:HOMES.GAS EF=f:GAS.CH4",
+               "+line 1A4b HOMES.GAS.N2O Q12 FC=a:HOMES.GAS EF=f:GAS.N2O"),
+     "enter,line,MB,HOMES.GAS.CO2", ("is its category 1A4b?",)),
+    ("dairy", ("~SHEEP.ENTERIC,EF,,factor,SHEEP.EF~SHEEP.ENTERIC,EF,,factor,CATTLE.EF",),
+     "enter,bind,SHEEP.ENTERIC,EF", ("of sheep", "of cattle")),
+    ("homes", ("~STOVES.CH4,EF,,factor,STOVES.CH4~STOVES.CH4,EF,,factor,LPG.CH4", "+f LPG.CH4 kg/TJ 5"),
+     "enter,bind,STOVES.CH4,EF", ("is of lpg",)),
+    ("cropland", ("~S0,,sum,NOW.FULL NOW.LITTLE~S0,,sum,THEN.FULL THEN.LITTLE",
+                  "~ST,,sum,THEN.FULL THEN.LITTLE~ST,,sum,NOW.FULL NOW.LITTLE"),
+     "enter,bind,SOIL,S0", ("which is ST of Q86",)),
+    ("sewage", ("BOD.CH4:0.25",), "enter,bind,PLANT.EF,BO", ("of COD", "BOD by line LOAD")),
+    ("soils", ("SLUDGE.N@2015*10",), "enter,activity,,SLUDGE.N,2015", ("hardly shows it",)),
 )]
 
 # Those that are not told: a calorific value of hard coal that lignite may have, which some call coal; and
@@ -473,6 +502,7 @@ STILL_RIGHT: tuple[tuple[str, tuple[str, ...]], ...] = (
                "+line 1B2 VENTS.CH4 Q15 A=a:OIL.PUMPED EF=f:VENTS.CH4", "+f VENTS.CH4 kg/m3 0.72")),
     ("power", ("+line 5B SF6 Q32 MCL=a:SF6 EF=f:SF6.POTENTIAL CF=f:ALL", "+a SF6 t 2.8 2.4",
                "+f SF6.POTENTIAL 1 23500", "+f ALL 1 1")),
+    ("balance", ("COAL.STOCKS@2015*0.001",)), ("landfill", ("~WASTE~GARDEN.WASTE", "DOC:20", "HALFLIFE:4")),
     ("sewage", ("BOD:34", "PROTEIN:21")), ("acids", ("NITRIC.EF:9", "ADIPIC.EF:290")),
     ("landfill", ("DOC:4",)), ("wells", ("FLARES.N2O:0.0003",)),
     ("cropland", ("BOGS:7.9", "LITTLE:1.1")), ("wells", ("MINES.EF:11", "REFINERY.GAS:56800")),

@@ -195,8 +195,8 @@ TOLD: dict[str, tuple[str, list[str], list[str]]] = {
     "a bound without a value": ("Fuel,unit,1990,1991,1991 low\nA,TJ,1,,3\n", [], [
         "sheet.csv!E2: a bound of 1991 without its value"]),
     "bounds that do not hold the value": ("Fuel,unit,1990,1990 low,1990 high,1991\nA,TJ,5,6,7,1\n", [], [
-        'sheet.csv!D2 low "6": low is above the value 5; write bounds that hold it, or leave both empty; '
-        "in order they are 6 with low 5 and high 7"]),
+        'sheet.csv!D2 low "6": low is above the value 5; in order they are 6 with low 5 and high 7: '
+        "are two in each other's column? else write bounds that hold it"]),
     "a name that is too long": ("Fuel,unit,1990,1991\nNatural gas of the northern fields,TJ,5,6\n", [], [
         'sheet.csv!A2 name "NATURAL.GAS.OF.THE.NORTHERN.FIELDS": 34 letters where 24 are the most; '
         "write a shorter name, the same everywhere"]),

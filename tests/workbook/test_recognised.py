@@ -1,13 +1,13 @@
-"""Each recogniser tells of its example and not of the right inventory beside it; the page has its words."""
+"""Each recogniser tells of its example and not of the right inventory beside it; the list has its words."""
 import contextlib
 import io
 import pathlib
 import tempfile
 import unittest
 
-from tests.workbook.running import PROGRAM, TOP
+from tests.workbook.running import PROGRAM
 from tools import command
-from tools.recognised import TABLES, TOLD, WARNED, page
+from tools.recognised import TABLES
 from tools.recognisers import files_of
 
 
@@ -37,10 +37,12 @@ class Recognised(unittest.TestCase):
                 with self.subTest(each.name, rows=rows):
                     self.assertRegex(checked(each.base, rows)[0], r"^[0-9]+ files?: 0 faults, 0 warnings$")
 
-    def test_the_page_has_the_table(self) -> None:
-        text = (TOP / "docs/WORKBOOK.md").read_text(encoding="utf-8")
-        for tables in (TOLD, WARNED):
-            self.assertTrue(page(tables) in text, f"docs/WORKBOOK.md lacks these rows:\n{page(tables)}")
+    def test_the_list_has_each(self) -> None:
+        with contextlib.redirect_stdout(io.StringIO()) as printed, self.assertRaises(SystemExit):
+            command.parser().parse_args(["check", "--list"])
+        lines = printed.getvalue().splitlines()
+        for each in (each for table in TABLES.values() for each in table):
+            self.assertIn(f"  {each.told}", lines)
 
 
 if __name__ == "__main__":
