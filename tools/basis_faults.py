@@ -29,7 +29,7 @@ SAID_BY_UNITS = ("gas", "carbon", "carbon content of fuel")
 # A cubic metre at 20 C of one at another temperature.
 TO_20_C = {NORMAL: "1.07", STANDARD: "1.02"}
 # The organic matter of wastewater and the CH4 that it yields are both of one oxygen demand (Volume 5, Table 6.2).
-OF_DEMAND, DEMANDS = {("Q98", "BO"), ("Q100", "TOW"), ("Q100", "S")}, ("BOD", "COD")
+OF_DEMAND, DEMANDS = {("Q98", "BO"), ("Q100", "TOW"), ("Q100", "S"), ("Q100", "X")}, ("BOD", "COD")
 YIELDS = "0.6 for one of BOD, 0.25 for one of COD"
 # What timber takes up as logs in a stack and under its bark, to solid volume over bark.
 OF_TIMBER = {STACKED: "about 0.7", UNDER_BARK: "about 1.15"}

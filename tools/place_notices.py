@@ -623,7 +623,7 @@ RECOGNISERS: tuple[Recogniser, ...] = (
     Recogniser(
         factors_of_other_fuels, "a CO2 factor or a calorific value of another fuel, by the names",
         example=PETROL.format("DIESEL", 74100), right=PETROL.format("GASOLINE", 69300),
-        says="line PETROL.CO2 burns motor gasoline by the names of what it takes, and factor DIESEL.CO2 is of gas"),
+        says="line PETROL.CO2 is of motor gasoline by the names of what it takes, and factor DIESEL.CO2 is of gas"),
     Recogniser(
         bunkers_left_in, "bunkers that the reference approach does not take off",
         example=JETS.format("key,NO"), right=JETS.format("activity,JET.ABROAD").replace("BOUGHT", "SOLD"),

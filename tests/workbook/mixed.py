@@ -437,7 +437,7 @@ OF_BASIS = [
     ("enter,factor,,MINE.EF,2018,16.8,,,normal m3/t,", "0 .C"),
     ("enter,activity,,PIPED,2018,5400,,,Mm3 (15\u00b0C),", "15 .C"),
     ("enter,factor,,WATER.BOD,2018,120,,,g COD per capita per day,", "BOD"),
-    ("enter,factor,,WATER.X,2018,0.075,,,kg CH4/kg COD,", "if COD changes no figure"),
+    ("enter,factor,,WATER.X,2018,0.075,,,kg CH4/kg COD,", "if the organic matter that it is multiplied by is of COD too"),
     ("enter,activity,,COAL,2018,900,,,kt (dry basis),", "dry"),
     ("enter,factor,,COAL.CH4.EF,2018,28,,,kg/TJ CO2e,", r"CO2 equivalents.*GWP\.CH4"),
     ("enter,factor,,COWS.EF,2018,126,,,kg/head N2O,", "N2O, and EF of Q55 takes CH4"),
