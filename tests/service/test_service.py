@@ -1,6 +1,7 @@
 """The built program as a service: whole replies against bytes that are written by hand here, or of
 tests/country.
 """
+import os
 import contextlib
 import http.client
 import io
@@ -264,6 +265,7 @@ class Links(unittest.TestCase):
             self.assertFalse(sender.is_alive())
             self.assertEqual(service.status(), 0)
 
+    @unittest.skipUnless(os.environ.get("GHG_SLOW"), "takes two minutes; set GHG_SLOW=1")
     def test_a_client_that_sends_a_byte_now_and_then(self) -> None:
         with Service(2) as service, service.connect() as link, service.connect() as other:
             other.sendall(post("a", GAS))
