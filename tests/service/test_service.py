@@ -1,10 +1,10 @@
 """The built program as a service: whole replies against bytes that are written by hand here, or of
 tests/country.
 """
-import os
 import contextlib
 import http.client
 import io
+import os
 import pathlib
 import re
 import resource
