@@ -29,7 +29,7 @@ SAID_BY_UNITS = ("gas", "carbon", "carbon content of fuel")
 # A cubic metre at 20 C of one at another temperature.
 TO_20_C = {NORMAL: "1.07", STANDARD: "1.02"}
 # The organic matter of wastewater and the CH4 that it yields are both of one oxygen demand (Volume 5, Table 6.2).
-OF_DEMAND, DEMANDS = {("Q98", "BO"), ("Q100", "TOW"), ("Q100", "S"), ("Q100", "X")}, ("BOD", "COD")
+OF_DEMAND, DEMANDS = {("Q98", "BO"), ("Q100", "TOW"), ("Q100", "S")}, ("BOD", "COD")
 YIELDS = "0.6 for one of BOD, 0.25 for one of COD"
 # What timber takes up as logs in a stack and under its bark, to solid volume over bark.
 OF_TIMBER = {STACKED: "about 0.7", UNDER_BARK: "about 1.15"}
@@ -230,7 +230,9 @@ def volumes_at_other_states(asked: Asked) -> Told | None:
 def oxygen_demands(asked: Asked) -> Told | None:
     """Organic matter of wastewater, or CH4 for it, by one of its two oxygen demands."""
     said = [of for of in asked.words.numerator + asked.words.denominator if of in DEMANDS]
-    if not said or not OF_DEMAND & set(asked.takers):
+    # An emission factor of domestic wastewater is for BOD, as its unit may say.
+    takers = OF_DEMAND | ({("Q100", "X")} if "COD" in said else set())
+    if not said or not takers & set(asked.takers):
         return None
     other = "the organic matter" if asked.measures == "ratio" else "the yield BO"
     return Told(f"{said[0]}: {asked.write()} if {other} that it is multiplied by is of {said[0]} too; BO is {YIELDS}")
