@@ -56,25 +56,25 @@ fn end_of(
     end_with::<_, Brand>(rt, alloc, hasher, Blank::new(1), link)
 }
 
-/// The end of a link with these bytes, on which the call of this number fails, or none where it is 0, and what
-/// was written on it.
-pub(crate) fn end(
+// Serves a link with these bytes, on which the call of this number fails, or none where it is 0, and compares
+// its end.
+fn check(
     rt: &(impl Abort + AllocGlobal + RandomSource + Threads + Sync),
-    bytes: &[u8],
+    bytes: &str,
     failing: u64,
-) -> Result<(LinkEnd, Vec<u8>), Fail> {
+    end: LinkEnd,
+) -> Result<(), Fail> {
     let alloc = rt.alloc();
     let mut link = link(alloc, bytes, failing)?;
-    let end = end_of(rt, alloc, RandomState::new(rt)?, &mut link)?;
-    Ok((end, link.written().to_vec(alloc)?))
+    let ended = end_of(rt, alloc, RandomState::new(rt)?, &mut link)?;
+    assert_eq!(rt; ended, end);
+    Ok(())
 }
 
 #[test]
 fn a_link_that_fails_ends_in_a_fault(rt: HostRuntime) -> Result<(), Fail> {
-    let nowhere = NOWHERE.as_bytes();
-    assert_eq!(rt; end(&rt, nowhere, 0)?.0, LinkEnd::Served(404));
-    assert_eq!(rt; end(&rt, b"GET /nothing HTTP/1.1\r\n", 0)?.0, LinkEnd::Cut);
-    assert_eq!(rt; end(&rt, nowhere, 1)?.0, LinkEnd::LinkFault);
-    assert_eq!(rt; end(&rt, nowhere, 2)?.0, LinkEnd::LinkFault);
-    Ok(())
+    check(&rt, NOWHERE, 0, LinkEnd::Served(404))?;
+    check(&rt, "GET /nothing HTTP/1.1\r\n", 0, LinkEnd::Cut)?;
+    check(&rt, NOWHERE, 1, LinkEnd::LinkFault)?;
+    check(&rt, NOWHERE, 2, LinkEnd::LinkFault)
 }

@@ -6,8 +6,6 @@
 #[cfg(test)]
 mod ends;
 #[cfg(test)]
-mod faults;
-#[cfg(test)]
 mod full_at_first;
 #[cfg(test)]
 mod meeting;
