@@ -56,25 +56,25 @@ fn end_of(
     end_with::<_, Brand>(rt, alloc, hasher, Blank::new(1), link)
 }
 
-// Serves a link with these bytes, on which the call of this number fails, or none where it is 0, and compares
-// its end.
-fn check(
+/// The end of a link with these bytes, on which the call of this number fails, or none where it is 0, and what
+/// was written on it.
+pub(crate) fn end(
     rt: &(impl Abort + AllocGlobal + RandomSource + Threads + Sync),
-    bytes: &str,
+    bytes: &[u8],
     failing: u64,
-    end: LinkEnd,
-) -> Result<(), Fail> {
+) -> Result<(LinkEnd, Vec<u8>), Fail> {
     let alloc = rt.alloc();
     let mut link = link(alloc, bytes, failing)?;
-    let ended = end_of(rt, alloc, RandomState::new(rt)?, &mut link)?;
-    assert_eq!(rt; ended, end);
-    Ok(())
+    let end = end_of(rt, alloc, RandomState::new(rt)?, &mut link)?;
+    Ok((end, link.written().to_vec(alloc)?))
 }
 
 #[test]
 fn a_link_that_fails_ends_in_a_fault(rt: HostRuntime) -> Result<(), Fail> {
-    check(&rt, NOWHERE, 0, LinkEnd::Served(404))?;
-    check(&rt, "GET /nothing HTTP/1.1\r\n", 0, LinkEnd::Cut)?;
-    check(&rt, NOWHERE, 1, LinkEnd::LinkFault)?;
-    check(&rt, NOWHERE, 2, LinkEnd::LinkFault)
+    let nowhere = NOWHERE.as_bytes();
+    assert_eq!(rt; end(&rt, nowhere, 0)?.0, LinkEnd::Served(404));
+    assert_eq!(rt; end(&rt, b"GET /nothing HTTP/1.1\r\n", 0)?.0, LinkEnd::Cut);
+    assert_eq!(rt; end(&rt, nowhere, 1)?.0, LinkEnd::LinkFault);
+    assert_eq!(rt; end(&rt, nowhere, 2)?.0, LinkEnd::LinkFault);
+    Ok(())
 }

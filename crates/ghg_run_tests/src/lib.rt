@@ -6,6 +6,8 @@
 #[cfg(test)]
 mod ends;
 #[cfg(test)]
+mod faults;
+#[cfg(test)]
 mod full_at_first;
 #[cfg(test)]
 mod meeting;

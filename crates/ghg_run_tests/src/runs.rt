@@ -153,6 +153,96 @@ fn words_and_faults(rt: HostRuntime) -> Result<(), Fail> {
     Ok(())
 }
 
+const LINEAR: &str = "splice --method linear --name A --unit TJ";
+
+const SURROGATE: &str = "splice --unit=TJ --name=A --method=surrogate";
+
+const OVERLAP: &str = "splice --name A --unit TJ --method overlap";
+
+// Series to splice: y is known in 1990 and 1993; both are in two years, of which the one before has x alone.
+const TWO_YEARS: &str = "year,y,y_low,y_high,x,x_low,x_high\n1990,10,9,12,,,\n1993,40,,,,,\n";
+
+const TWO_BASES: &str =
+    "year,y,y_low,y_high,x,x_low,x_high\n1990,,,,80,,\n1991,50,,,100,,\n1992,60,,,120,,\n";
+
+const ZERO_BASE: &str = "year,y,y_low,y_high,x,x_low,x_high\n1990,,,,80,,\n1991,50,,,0,-1,1\n";
+
+const RAGGED: &str = "year,y,y_low,y_high,x,x_low,x_high\n1990,10,9,12,,,\n1993,40\n";
+
+const ONE_BOUND: &str = "year,y,y_low,y_high,x,x_low,x_high\n1990,10,9,,,,\n";
+
+const TWO_YEARS_SPLICED: &str = "act,kind,subject,name,year,value,low,high,unit,note\n\
+    enter,activity,,A,1991,20.000000000000,19.333333333333,21.333333333334,TJ,linear\n\
+    enter,activity,,A,1992,30.000000000000,29.666666666666,30.666666666667,TJ,linear\n";
+
+const BY_SURROGATE: &str = "act,kind,subject,name,year,value,low,high,unit,note\n\
+    enter,activity,,A,1990,40.000000000000,40.000000000000,40.000000000000,TJ,surrogate\n";
+
+const BY_OVERLAP: &str = "act,kind,subject,name,year,value,low,high,unit,note\n\
+    enter,activity,,A,1990,40.000000000000,40.000000000000,40.000000000000,TJ,overlap\n";
+
+// Series that are spliced, or are not, and the read or the write that fails.
+#[test]
+fn series_are_spliced(rt: HostRuntime) -> Result<(), Fail> {
+    for (words, input, failing_read, failing_write, status, output) in [
+        (LINEAR, TWO_YEARS, 0, 0, 0, TWO_YEARS_SPLICED),
+        (SURROGATE, TWO_BASES, 0, 0, 0, BY_SURROGATE),
+        (OVERLAP, TWO_BASES, 0, 0, 0, BY_OVERLAP),
+        (SURROGATE, ZERO_BASE, 0, 0, 10, "not spliced: zero 1991\n"),
+        (LINEAR, ZERO_BASE, 0, 0, 10, "not spliced: no base\n"),
+        (LINEAR, "year\n", 0, 0, 10, "not spliced: row 0\n"),
+        (LINEAR, RAGGED, 0, 0, 10, "not spliced: row 2\n"),
+        (LINEAR, ONE_BOUND, 0, 0, 10, "not spliced: row 1\n"),
+        (LINEAR, TWO_YEARS, 1, 0, 4, ""),
+        (LINEAR, TWO_YEARS, 0, 1, 5, ""),
+        (SURROGATE, ZERO_BASE, 0, 1, 5, ""),
+        (
+            "splice --method linear --name GWP.CO2 --unit TJ",
+            "",
+            1,
+            0,
+            2,
+            "bad command line\n",
+        ),
+        (
+            "splice --method linear --name A --unit yr",
+            "",
+            1,
+            0,
+            2,
+            "bad command line\n",
+        ),
+        (
+            "splice --method mean --name A --unit TJ",
+            "",
+            1,
+            0,
+            2,
+            "bad command line\n",
+        ),
+        (
+            "splice --method linear --name A",
+            "",
+            1,
+            0,
+            2,
+            "bad command line\n",
+        ),
+    ] {
+        let case = Case {
+            words,
+            input,
+            failing_read,
+            failing_write,
+            status,
+            output,
+            ..CALM
+        };
+        check(&rt, &case, &OpenGate)?;
+    }
+    Ok(())
+}
+
 // The reading of a body and of a line fails, and the writing of a second reply.
 #[test]
 fn a_fault_ends_the_session(rt: HostRuntime) -> Result<(), Fail> {

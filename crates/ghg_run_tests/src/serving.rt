@@ -24,25 +24,31 @@ pub(crate) const NOWHERE: &str = "GET /nothing HTTP/1.1\r\n\r\n";
 const NOT_FOUND: &str = "HTTP/1.1 404 Not Found\r\ncontent-type: application/json\r\n\
     content-length: 21\r\nconnection: close\r\n\r\n{\"reply\":\"not found\"}";
 
-const SUBMISSION: &str = "POST /submissions/a HTTP/1.1\r\nContent-Length: 52\r\n\r\n\
+/// A submission of a header.
+pub(crate) const SUBMISSION: &str = "POST /submissions/a HTTP/1.1\r\nContent-Length: 52\r\n\r\n\
     act,kind,subject,name,year,value,low,high,unit,note\n";
 
-const ACCEPTED: &str = "HTTP/1.1 201 Created\r\ncontent-type: application/json\r\n\
+/// The reply to it, if it is the first.
+pub(crate) const ACCEPTED: &str = "HTTP/1.1 201 Created\r\ncontent-type: application/json\r\n\
     content-length: 22\r\nconnection: close\r\n\r\n{\"reply\":\"accepted 1\"}";
+
+/// The reply to it where it acted before.
+pub(crate) const REPEATED: &str = "HTTP/1.1 200 OK\r\ncontent-type: application/json\r\n\
+    content-length: 22\r\nconnection: close\r\n\r\n{\"reply\":\"repeated 1\"}";
 
 const NO_MEMORY: &str = "HTTP/1.1 507 Insufficient Storage\r\ncontent-type: application/json\r\n\
     content-length: 18\r\nconnection: close\r\n\r\n{\"reply\":\"memory\"}";
 
 /// A link with this request, and the number of the call on it that fails, or 0 where none does.
-pub(crate) fn link(alloc: Global, request: &str, failing: u64) -> Result<MemoryLink, AllocError>
+pub(crate) fn link(alloc: Global, request: &[u8], failing: u64) -> Result<MemoryLink, AllocError>
     ensures { IfOk result IsFreshLink }
 {
-    let bytes = request.as_bytes().to_vec(alloc)?;
+    let bytes = request.to_vec(alloc)?;
     Ok(MemoryLink::new(alloc, bytes, [failing].to_vec(alloc)?))
 }
 
-// Serves these links, and compares the status and what was written on each link that was taken back.
-fn check<K: Keeper>(
+/// Serves these links, and compares the status and what was written on each link that was taken back.
+pub(crate) fn check<K: Keeper>(
     rt: &(impl Abort + AllocGlobal + RandomSource + Threads + Sync),
     words: &str,
     links: Vec<MemoryLink>,
@@ -82,7 +88,7 @@ fn check<K: Keeper>(
 #[test]
 fn a_request_is_replied_to(rt: HostRuntime) -> Result<(), Fail> {
     let alloc = rt.alloc();
-    let links = Vec::from_array(alloc, [link(alloc, NOWHERE, 0)?])?;
+    let links = Vec::from_array(alloc, [link(alloc, NOWHERE.as_bytes(), 0)?])?;
     check(
         &rt,
         "serve --port 8000 --connections 2",
@@ -97,8 +103,8 @@ fn a_request_is_replied_to(rt: HostRuntime) -> Result<(), Fail> {
 #[test]
 fn a_link_that_fails_ends_no_other(rt: HostRuntime) -> Result<(), Fail> {
     let alloc = rt.alloc();
-    let failing = link(alloc, NOWHERE, 1)?;
-    let whole = link(alloc, SUBMISSION, 0)?;
+    let failing = link(alloc, NOWHERE.as_bytes(), 1)?;
+    let whole = link(alloc, SUBMISSION.as_bytes(), 0)?;
     check(
         &rt,
         "serve --port 8000 --connections 2",
@@ -113,8 +119,8 @@ fn a_link_that_fails_ends_no_other(rt: HostRuntime) -> Result<(), Fail> {
 #[test]
 fn want_of_memory_is_replied_to(rt: HostRuntime) -> Result<(), Fail> {
     let alloc = rt.alloc();
-    let first = link(alloc, SUBMISSION, 0)?;
-    let again = link(alloc, SUBMISSION, 0)?;
+    let first = link(alloc, SUBMISSION.as_bytes(), 0)?;
+    let again = link(alloc, SUBMISSION.as_bytes(), 0)?;
     let mut keeper = FullAtFirst::new(alloc);
     check(
         &rt,

@@ -1,0 +1,5 @@
+use Rattle.ghg_run_tests.proofs.faults.ended.Given as goal
+
+-- the ledger that the blank one opens
+abbrev pub ghosts-run_counted : goal.ghosts-run_counted
+ghosts-run_counted g a = record { name = a.blank.name; parts = a.blank.parts }
