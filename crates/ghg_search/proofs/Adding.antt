@@ -16,16 +16,16 @@ use Rattle.ghg_definitions.proofs.Depth.{or_else}
 use Rattle.ghg_graph.proofs.EquationParameters.{at_place}
 use Rattle.ghg_definitions.specs.Listed.{IsListed}
 use Rattle.ghg_definitions.proofs.Listed.{in_either, listed_left, listed_right}
-use Rattle.ghg_search.specs.Found.{AreAdded, IsEquivalentTried, IsIn, is_found}
+use Rattle.ghg_search.specs.Found.{AreAdded, AreFound, IsEquivalentTried, IsIn, is_found}
 use Rattle.ghg_search.specs.Series.{IsOf, Within}
 use Rattle.ghg_columns.specs.Cells.{series_of, series_order}
 use Rattle.ghg_search.specs.declared.found.Found.{Found}
-use Rattle.ghg_search.specs.declared.series.Group.{Group}
+use Rattle.ghg_search.specs.declared.found.Group.{Group}
 use Rattle.ghg_columns.specs.declared.series.Series.{Series}
 use Rattle.ghg_columns.specs.declared.series.Series.TheVariants as series
 use Rattle.ghg_search.specs.Search.{AreTriedBy, IsTotalOf}
 use Rattle.ghg_search.specs.declared.index.Source.{Source}
-use Rattle.ghg_search.proofs.Sources.{listed_next}
+use Rattle.ghg_search.proofs.Sources.{listed_next, listed_one}
 use Rattle.ghg_search.proofs.Groups.{of_node, series_itself, series_same}
 
 pub added_none : (P : Node → Type 0) (f : Found) → AreAdded P f f
@@ -93,7 +93,7 @@ module _ (old new : Found) (s : Series) (years fresh all : YearSet)
       ]
       by false e h = inl h
 
-  pub added_group : AreAdded (IsOf s years) old new
+  added_group : AreAdded (IsOf s years) old new
   added_group = record {
     queued = λ was n is. elim (comes n is) [
       | inl before ↦ let q = was n before in
@@ -107,21 +107,21 @@ module _ (old new : Found) (s : Series) (years fresh all : YearSet)
     kept = stays;
     only = λ n q. elim (in_either q.0 old.queue.items (record { series = s; years = fresh } ∷ []) (subst (IsListed q.0) queued q.1)) [
       | inl on ↦ inl (q.0, on, q.2)
-      | inr j ↦ elim j [
-        | inl same ↦ let of = subst (λ (g : Group). IsOf g.series g.years n) same q.2 in
-            inr (of.0, first_so (has_year years (year_in n)) _ (sym (fresh_is (year_in n)) ∙ of.1))
-        | inr none ↦ absurd none
-      ]
+      | inr j ↦ let of = subst (λ (g : Group). IsOf g.series g.years n) (listed_one _ _ j) q.2 in
+          inr (of.0, first_so (has_year years (year_in n)) _ (sym (fresh_is (year_in n)) ∙ of.1))
     ];
     behind = (record { series = s; years = fresh } ∷ [], queued);
   }
 
-  pub found_group : (n : Node) → IsOf s years n → IsIn new n
-  found_group n of = subst (λ q. is_found new q (year_in n) ≡ true) (sym of.0) (here (year_in n) ∙ all_is (year_in n)
-      ∙ elim (or_else (is_found old s (year_in n))) [
-        | inl was ↦ or_second (has_year fresh (year_in n)) _ was
-        | inr off ↦ or_first _ (is_found old s (year_in n)) (fresh_is (year_in n) ∙ both _ _ of.1 (so_not _ off))
-      ])
+  pub found_group : AreFound (IsOf s years) old new
+  found_group = record {
+    added = added_group;
+    found = λ n of. subst (λ q. is_found new q (year_in n) ≡ true) (sym of.0) (here (year_in n) ∙ all_is (year_in n)
+        ∙ elim (or_else (is_found old s (year_in n))) [
+          | inl was ↦ or_second (has_year fresh (year_in n)) _ was
+          | inr off ↦ or_first _ (is_found old s (year_in n)) (fresh_is (year_in n) ∙ both _ _ of.1 (so_not _ off))
+        ]);
+  }
 
 -- where none is missing, all are found
 pub none_missing : (f : Found) (s : Series) (years fresh : YearSet)

@@ -5,7 +5,6 @@ use Rattle.ghg_categories.specs.declared.category.Category.{Category}
 use Rattle.ghg_units.specs.declared.node.Node.{Node}
 use Rattle.ghg_units.specs.declared.node.Node.TheVariants as node
 use Rattle.ghg_units.specs.declared.row.Span.{Span}
-use Rattle.ghg_units.specs.WellFormed.{IsSpan}
 use Rattle.ghg_units.specs.Year.{is_year}
 use Rattle.ghg_affected.proofs.Bools.{never_so, true_not_false}
 use Rattle.ghg_definitions.specs.Compilation.{emits, is_in_tree, is_node, is_year_of}
@@ -17,14 +16,21 @@ use Rattle.ghg_definitions.proofs.Depth.{or_else}
 use Rattle.ghg_definitions.proofs.Listed.{contained, listed}
 use Rattle.ghg_definitions.proofs.NodeLists.{emitting, tree_is}
 use Rattle.ghg_search.specs.Found.{IsIn}
-use Rattle.ghg_search.specs.Search.{AreKept, AreLineNodes, AreYearsOf, IsNodeIn, IsTotalOf}
+use Rattle.ghg_search.specs.Search.{AreKept, AreYearsOf, IsNodeIn, IsTotalOf}
 use Rattle.ghg_search.specs.Series.{IsOf, Within}
 use Rattle.ghg_data.specs.YearSet.{has_year}
 use Rattle.ghg_search.specs.declared.found.Found.{Found}
 use Rattle.ghg_columns.specs.declared.series.Series.TheVariants as series
 use Rattle.ghg_data.specs.declared.year_set.YearSet.{YearSet}
+use Rattle.ghg_definitions.specs.Sound.{IsWorkbook}
+use Rattle.ghg_graph.proofs.YearNodes.{span_is}
 use Rattle.ghg_search.proofs.Groups.{of_node}
 use Rattle.ghg_search.proofs.Spans.{of_span_is}
+
+-- the line and, where it emits, its equivalent are found in the years
+abbrev pub AreLineNodes : Data → Found → Name → YearSet → Type 0
+AreLineNodes m f name years = (year : ℕ) → has_year years year ≡ true
+    → IsIn f (node.Line name year) × (emits m name ≡ true → IsIn f (node.Equiv name year))
 
 module _ (m : Data) (years : YearSet) (of_m : AreYearsOf m years) where
   pub line_nodes : (name : Name) → is_some (line m name) ≡ true → (n : Node) → IsOf (series.Line name) years n → IsNodeIn m years n
@@ -66,7 +72,7 @@ all_nodes m years f lines totals gross (node.Gross y) is = gross (node.Gross y) 
 
 -- ---- years that are new, and the others
 
-module _ (old new : Data) (inventory : Span) (inside : IsSpan inventory) (at : span new ≡ Some inventory) (o : Option Span) (was : o ≡ span old)
+module _ (old new : Data) (inventory : Span) (workbook : IsWorkbook new) (at : Some inventory ≡ span new) (o : Option Span) (was : o ≡ span old)
     (all before fresh kept : YearSet)
     (all_only : (y : ℕ) → has_year all y ≡ true → (is_year y ≡ true) × (is_year_of (Some inventory) y ≡ true))
     (all_all : (y : ℕ) → is_year y ≡ true → is_year_of (Some inventory) y ≡ true → has_year all y ≡ true)
@@ -78,7 +84,7 @@ module _ (old new : Data) (inventory : Span) (inside : IsSpan inventory) (at : s
   in_all y h = first_so (has_year all y) _ (sym (kept_is y) ∙ h)
 
   now_in : (y : ℕ) → has_year all y ≡ true → is_year_of (span new) y ≡ true
-  now_in y h = ap (λ s. is_year_of s y) at ∙ (all_only y h).1
+  now_in y h = ap (λ s. is_year_of s y) (sym at) ∙ (all_only y h).1
 
   pub fresh_of_new : AreYearsOf new fresh
   fresh_of_new y h = now_in y (first_so (has_year all y) _ (sym (fresh_is y) ∙ h))
@@ -105,8 +111,8 @@ module _ (old new : Data) (inventory : Span) (inside : IsSpan inventory) (at : s
   pub parted : (y : ℕ) → is_year_of (span new) y ≡ true
       → ((is_year_of (span old) y ≡ true) × (has_year kept y ≡ true)) ⊎ (has_year fresh y ≡ true)
   parted y within =
-      let here : is_year_of (Some inventory) y ≡ true = ap (λ s. is_year_of s y) (sym at) ∙ within in
-      let on : has_year all y ≡ true = all_all y (of_span_is inventory inside y here) here in
+      let here : is_year_of (Some inventory) y ≡ true = ap (λ s. is_year_of s y) at ∙ within in
+      let on : has_year all y ≡ true = all_all y (of_span_is inventory (span_is new inventory workbook (sym at)) y here) here in
       elim (or_else (has_year before y)) [
         | inl is ↦ inl (was_in y is, kept_is y ∙ both _ _ on (so_not _ (fresh_is y ∙ ap (λ b. has_year all y && not b) is ∙ ap (λ b. b && false) on)))
         | inr off ↦ inr (fresh_is y ∙ both _ _ on (so_not _ off))

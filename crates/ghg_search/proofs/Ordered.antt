@@ -26,7 +26,7 @@ use Rattle.ghg_search.specs.declared.found.Found.{Found}
 use Rattle.ghg_columns.specs.declared.series.Series.{Series}
 use Rattle.ghg_data.specs.declared.year_set.YearSet.{YearSet}
 use Rattle.ghg_search.proofs.Groups.{at_of, by_series, node_back, of_node, series_itself, series_less, series_same, year_back}
-use Rattle.ghg_search.proofs.Sources.{listed_next}
+use Rattle.ghg_search.proofs.Sources.{listed_next, listed_one}
 use Rattle.ghg_search.proofs.Spans.{next_or_before}
 
 -- ---- a node behind others
@@ -91,13 +91,10 @@ module _ (s : Series) (years : YearSet) (old now more : List Node) (last year : 
     ];
     only = λ m i. elim (in_either m now (n ∷ []) (subst (IsListed m) pushed i)) [
       | inl was ↦ elim (put.only m was) [ inl old ↦ inl old | inr of ↦ inr (of.0, omega (arith, of.1, later)) ]
-      | inr j ↦ elim j [
-        | inl same ↦ inr (
-          subst (IsOf s years) (sym (same ∙ is)) (at_of s years year has),
-          let e : year_in m ≡ year = ap year_in (same ∙ is) ∙ year_back s year in omega (arith, e),
-        )
-        | inr none ↦ absurd none
-      ]
+      | inr j ↦
+          let same = listed_one _ _ j ∙ is in
+          let e : year_in m ≡ year = ap year_in same ∙ year_back s year in
+          inr (subst (IsOf s years) (sym same) (at_of s years year has), omega (arith, e))
     ];
     order = λ sorted before. subst (IsStrictlySortedBy node_cmp) (sym pushed) (sorted_push now n (put.order sorted before) (before_it before));
   }

@@ -1,11 +1,13 @@
 -- Lines under sources.
-use Rattle.std.proofs.Common.{◌≡◌, ◌⊎◌, inl, inr, ℕ, ◌+◌, ◌<◌, Bool, true, false, cond, if◌then◌else◌, List, [], ◌∷◌, ◌++◌, length, get_or, take, flat_map, map, option_and_then, is_eq, Option, Some, None, Vec, Global, refl, sym, ap, ◌∙◌, subst}
+use Rattle.std.proofs.Common.{◌≡◌, ◌⊎◌, inl, inr, ℕ, ◌+◌, ◌<◌, ◌≤◌, Bool, true, false, cond, if◌then◌else◌, List, [], ◌∷◌, ◌++◌, length, get_or, take, flat_map, map, option_and_then, is_eq, Option, Some, None, Vec, Global, refl, sym, ap, ◌∙◌, subst}
 use Rattle.std.proofs.lemmas.Cmp.{tied_itself}
-use Rattle.std.proofs.lemmas.List.{get_or_default}
+use Rattle.std.proofs.lemmas.List.{get_or_default, take_all}
+use Rattle.std.specs.Cmp.Lexicographic.{bytes_decides}
 use Rattle.std.specs.FinMap as finite
 use Rattle.std.specs.List.{list_any}
 use Rattle.std.specs.Option.{option_map, option_map_or, option_to_list}
 use Rattle.std.specs.Ordering.{eq_by_cmp}
+use Rattle.std.specs.Str.{bytes_eq}
 use Rattle.ghg_equations.specs.declared.eq_id.EqId.{EqId}
 use Rattle.ghg_equations.specs.declared.row.Param.{Param}
 use Rattle.ghg_equations.specs.Table.{Quantity, output, parameters}
@@ -34,19 +36,19 @@ use Rattle.ghg_search.specs.declared.index.Source.TheVariants as source
 
 pub source_same : (a b : Source) → is_eq (source_order a b) ≡ true → a ≡ b
 source_same (source.Activity a) (source.Activity b) e = ap (λ n. source.Activity n) (names_equal a b e)
-source_same (source.Activity a) (source.Factor b) e = absurd (cc)
-source_same (source.Activity a) (source.Line b) e = absurd (cc)
-source_same (source.Factor a) (source.Activity b) e = absurd (cc)
 source_same (source.Factor a) (source.Factor b) e = ap (λ n. source.Factor n) (names_equal a b e)
-source_same (source.Factor a) (source.Line b) e = absurd (cc)
-source_same (source.Line a) (source.Activity b) e = absurd (cc)
-source_same (source.Line a) (source.Factor b) e = absurd (cc)
 source_same (source.Line a) (source.Line b) e = ap (λ n. source.Line n) (names_equal a b e)
+source_same (source.Previous a) (source.Previous b) e = ap (λ n. source.Previous n) (names_equal a b e)
+source_same a b e = absurd (cc)
 
 pub source_itself : (a : Source) → is_eq (source_order a a) ≡ true
 source_itself (source.Activity a) = equal_itself a
 source_itself (source.Factor a) = equal_itself a
 source_itself (source.Line a) = equal_itself a
+source_itself (source.Previous a) = equal_itself a
+
+pub name_itself : (name : Name) → bytes_eq name name ≡ true
+name_itself name = (bytes_decides name name).1 refl
 
 -- ---- a line more
 
@@ -72,13 +74,29 @@ module _ (old new : Index) (at : Source) (items : List Name)
 
 -- ---- what is listed up to a place
 
+pub listed_one : {A : Type 0} (x y : A) → IsListed x (y ∷ []) → x ≡ y
+listed_one x y (inl e) = e
+listed_one x y (inr none) = absurd none
+
 pub listed_next : {A : Type 0} (xs : List A) (i : ℕ) (x : A) → i < length xs → x ≡ get_or xs i x → (y : A)
     → IsListed y (take (i + 1) xs) → IsListed y (take i xs) ⊎ (y ≡ x)
 listed_next xs i x h e y j =
     elim (in_either y (take i xs) (x ∷ []) (subst (IsListed y) (take_next xs i x h e) j)) [
       | inl k ↦ inl k
-      | inr k ↦ elim k [ inl same ↦ inr same | inr none ↦ absurd none ]
+      | inr k ↦ inr (listed_one y x k)
     ]
+
+-- what holds of each of the first ones and of the next, and of all of them at the end
+pub each_next : {A : Type 0} (P : A → Type 0) (xs : List A) (i : ℕ) (x : A) → i < length xs → x ≡ get_or xs i x
+    → ((y : A) → IsListed y (take i xs) → P y) → P x → (y : A) → IsListed y (take (i + 1) xs) → P y
+each_next P xs i x h e before here y j = elim (listed_next xs i x h e y j) [
+  | inl k ↦ before y k
+  | inr same ↦ subst P (sym same) here
+]
+
+pub each_all : {A : Type 0} (P : A → Type 0) (xs : List A) (i : ℕ) → length xs ≤ i
+    → ((y : A) → IsListed y (take i xs) → P y) → (y : A) → IsListed y xs → P y
+each_all P xs i h each y j = each y (subst (IsListed y) (sym (take_all i xs h)) j)
 
 pub flat_next : {A B : Type 0} (f : A → List B) (xs : List A) (i : ℕ) (d : A) → i < length xs → (y : B)
     → IsListed y (flat_map f (take (i + 1) xs)) → IsListed y (flat_map f (take i xs)) ⊎ IsListed y (f (get_or xs i d))

@@ -13,7 +13,7 @@ use Rattle.ghg_search.specs.Found.{AreAdded, AreQueued, IsIn, IsQueued}
 use Rattle.ghg_search.specs.Search.{AreAffected, AreNodes, IsClosed, IsTaker, IsTakerOf}
 use Rattle.ghg_search.specs.Series.{IsOf}
 use Rattle.ghg_search.specs.declared.found.Found.{Found}
-use Rattle.ghg_search.specs.declared.series.Group.{Group}
+use Rattle.ghg_search.specs.declared.found.Group.{Group}
 use Rattle.ghg_search.proofs.Sources.{listed_next}
 
 -- the takers of the first ones of the queue are found

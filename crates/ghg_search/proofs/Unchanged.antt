@@ -1,7 +1,6 @@
 -- What is changed is found where the records that its formula reads are gone over.
 use Rattle.std.proofs.Common.{◌≡◌, ◌⊎◌, inl, inr, ℕ, true, false, ◌==◌, nat_le, is_some, List, [], ◌∷◌, map, flat_map, Option, Some, None, refl, sym, ap, ap₂, ◌∙◌, subst}
 use Rattle.std.proofs.lemmas.Bool.Decides.{Decides-eqb}
-use Rattle.std.specs.Cmp.Lexicographic.{bytes_decides}
 use Rattle.std.specs.FinMap.{get}
 use Rattle.std.specs.List.{list_any}
 use Rattle.std.specs.Option.{option_map, option_map_or, option_to_list}
@@ -33,6 +32,7 @@ use Rattle.ghg_search.specs.Index.{DifferAt, HasUser, HasUsers, is_named, is_pot
 use Rattle.ghg_data.specs.declared.year_set.YearSet.{YearSet}
 use Rattle.ghg_data.specs.YearSet.{has_year}
 use Rattle.ghg_definitions.specs.Nodes.{year_in}
+use Rattle.ghg_search.proofs.Sources.{name_itself}
 use Rattle.ghg_search.proofs.Spans.{year_of_node}
 use Rattle.ghg_search.proofs.Takers.{equivalent_is}
 use Rattle.ghg_search.specs.Found.{IsIn, is_found}
@@ -43,8 +43,12 @@ use Rattle.ghg_search.specs.declared.index.Index.{Index}
 use Rattle.ghg_search.specs.declared.index.Source.{Source}
 use Rattle.ghg_search.specs.declared.index.Source.TheVariants as source
 
-itself : (name : Name) → is_named (source.Factor name) (Some (bound.Factor name)) ≡ true
-itself name = (bytes_decides name name).1 refl
+-- a node whose formula gives what it gave is not changed
+no_change : (old new : Data) (n : Node) → (is_node new n ≡ true → is_node old n ≡ true)
+    → formula_with_inputs old n ≡ formula_with_inputs new n → IsChange old new n → ⊥
+no_change old new n was same e =
+    let changed = is_so old new n e in
+    elim changed.differs [ inl none ↦ true_not_false (sym (was changed.node) ∙ none) | inr apart ↦ apart same ]
 
 -- ---- lines
 
@@ -59,13 +63,13 @@ module _ (old new : Data) (index : Index) (has : HasUsers new index) (name : Nam
       ap (λ o. Given (input_of_figure (as_figure o))) (same (key.Activity other year) (users (source.Activity other) (inl refl), refl))
   same_bound first (Some (bound.Factor other)) users named =
       ap Given (factor_same old new other year (λ start le. ap as_figure (same (key.Factor other start)
-      (users (source.Factor other) (inl refl), named (source.Factor other) (itself other), le))))
+      (users (source.Factor other) (inl refl), named (source.Factor other) (name_itself other), le))))
   same_bound first (Some (bound.Line k)) users named = refl
   same_bound first (Some (bound.Prev k)) users named = same_previous old new (nat_le year first) k year
   same_bound first (Some (bound.Sum ks)) users named = refl
   same_bound first (Some (bound.Decay other)) users named =
       ap Given (decay_same old new other year (λ start le. ap as_figure (same (key.Factor other start)
-      (users (source.Factor other) (inl refl), named (source.Factor other) (itself other), le))))
+      (users (source.Factor other) (inl refl), named (source.Factor other) (name_itself other), le))))
   same_bound first (Some (bound.Key notation)) users named = ap Given (same_notation old new notation)
 
   same_equation : (first : ℕ) (e : Option EqId) → line new name ≡ e
@@ -101,13 +105,8 @@ module _ (old new : Data) (index : Index) (has : HasUsers new index) (name : Nam
 
   -- so it is not changed
   line_unchanged : is_year_of (span old) year ≡ true → IsChange old new (node.Line name year) → ⊥
-  line_unchanged was e =
-      let changed = is_so old new (node.Line name year) e in
-      elim changed.differs [
-        | inl none ↦ true_not_false (sym (both _ _ (ap (λ o. is_some (as_line o)) (same (key.Line name) refl)
-            ∙ first_so (is_some (line new name)) _ changed.node) was) ∙ none)
-        | inr apart ↦ apart line_same
-      ]
+  line_unchanged was = no_change old new (node.Line name year) (λ is. both _ _
+      (ap (λ o. is_some (as_line o)) (same (key.Line name) refl) ∙ first_so (is_some (line new name)) _ is) was) line_same
 
 -- ---- equivalents
 
@@ -126,7 +125,7 @@ module _ (old new : Data) (index : Index) (has : HasUsers new index) (name : Nam
       (λ start le. ap as_figure (same (key.Factor (potential_name gas) start) (
         has name factor (listed_right factor _ _
             (subst (λ o. IsListed factor (option_to_list (option_map (λ g. source.Factor (potential_name g)) o))) (sym e) (inl refl))),
-        ap (is_potential factor) e ∙ itself (potential_name gas),
+        ap (is_potential factor) e ∙ name_itself (potential_name gas),
         le,
       )))
 
@@ -135,12 +134,8 @@ module _ (old new : Data) (index : Index) (has : HasUsers new index) (name : Nam
       ∙ ap (λ (x : Input). Weighted (node.Line name year) x) (same_potential (line_gas new name) refl)
 
   equivalent_unchanged : is_year_of (span old) year ≡ true → IsChange old new (node.Equiv name year) → ⊥
-  equivalent_unchanged was e =
-      let changed = is_so old new (node.Equiv name year) e in
-      elim changed.differs [
-        | inl none ↦ true_not_false (sym (both _ _ (ap is_some gas_kept ∙ first_so (emits new name) _ changed.node) was) ∙ none)
-        | inr apart ↦ apart equivalent_same
-      ]
+  equivalent_unchanged was = no_change old new (node.Equiv name year)
+      (λ is. both _ _ (ap is_some gas_kept ∙ first_so (emits new name) _ is) was) equivalent_same
 
 -- ---- all that is changed is found
 

@@ -14,7 +14,7 @@ use Rattle.ghg_definitions.specs.Nodes.{node_cmp, year_in}
 use Rattle.ghg_search.specs.Series.{IsOf}
 use Rattle.ghg_columns.specs.Cells.{series_of, series_order}
 use Rattle.ghg_search.specs.declared.found.Found.{Found}
-use Rattle.ghg_search.specs.declared.series.Group.{Group}
+use Rattle.ghg_search.specs.declared.found.Group.{Group}
 use Rattle.ghg_columns.specs.declared.series.Series.{Series}
 
 -- the list has the affected nodes of the new data and no other, each once, and in the order of nodes
@@ -44,6 +44,11 @@ pub record AreAdded (P : Node → Type 0) (old new : Found) : Type 0 where
   pub kept : (n : Node) → IsIn old n → IsIn new n
   pub only : (n : Node) → IsQueued new n → IsQueued old n ⊎ P n
   pub behind : (fresh : List Group) × (new.queue.items ≡ old.queue.items ++ fresh)
+
+-- more nodes are found: all that have P, and no others
+pub record AreFound (P : Node → Type 0) (old new : Found) : Type 0 where
+  pub added : AreAdded P old new
+  pub found : (n : Node) → P n → IsIn new n
 
 -- the line is found in the year, if it is changed
 abbrev pub IsLineTried : Data → Data → Found → Name → ℕ → Type 0

@@ -1,28 +1,22 @@
 -- From which lines and years the search begins, and from node to node.
-use Rattle.std.specs.Prelude.{◌≡◌, ◌≢◌, ◌⊎◌, ℕ, ◌≤◌, Bool, true, false, List, Option, Some}
-use Rattle.std.specs.List.{list_any}
-use Rattle.std.specs.Option.{option_map_or}
-use Rattle.std.specs.Str.{bytes_eq}
+use Rattle.std.specs.Prelude.{◌≡◌, ◌≢◌, ◌⊎◌, ℕ, ◌≤◌, true, List}
 use Rattle.ghg_categories.specs.declared.category.Category.{Category}
 use Rattle.ghg_categories.specs.Tree.{stands_within}
-use Rattle.ghg_equations.specs.Table.{parameters}
 use Rattle.ghg_units.specs.Year.{is_year}
 use Rattle.ghg_units.specs.declared.node.Node.{Node}
 use Rattle.ghg_units.specs.declared.node.Node.TheVariants as node
-use Rattle.ghg_units.specs.declared.row.Binding.{Binding}
-use Rattle.ghg_units.specs.declared.row.Binding.TheVariants as bound
 use Rattle.ghg_affected.specs.Affected.{IsAffected, is_changed}
 use Rattle.ghg_definitions.specs.declared.record.RecordKey.{RecordKey}
 use Rattle.ghg_definitions.specs.declared.record.RecordKey.TheVariants as key
-use Rattle.ghg_definitions.specs.Compilation.{emits, first_year, is_in_tree, is_node, is_year_of, line_gas, sheet_of}
-use Rattle.ghg_definitions.specs.Data.{Data, Name, binding, line, span}
+use Rattle.ghg_definitions.specs.Compilation.{first_year, is_in_tree, is_node, is_year_of, line_gas, sheet_of}
+use Rattle.ghg_definitions.specs.Data.{Data, Name, span}
 use Rattle.ghg_definitions.specs.Listed.{IsListed}
 use Rattle.ghg_definitions.specs.Nodes.{year_in}
 use Rattle.ghg_definitions.specs.Trials.{IsInput}
 use Rattle.ghg_data.specs.declared.year_set.YearSet.{YearSet}
 use Rattle.ghg_data.specs.YearSet.{has_year}
 use Rattle.ghg_search.specs.Index.{HasUser, is_potential, names_bound}
-use Rattle.ghg_search.specs.Found.{IsEquivalentTried, IsIn, IsLineTried, IsQueued}
+use Rattle.ghg_search.specs.Found.{AreAdded, IsEquivalentTried, IsIn, IsLineTried, IsQueued}
 use Rattle.ghg_search.specs.Series.{IsOf}
 use Rattle.ghg_search.specs.declared.found.Found.{Found}
 use Rattle.ghg_columns.specs.declared.series.Series.{Series}
@@ -82,11 +76,6 @@ AreKept old new years = (year : ℕ) → has_year years year ≡ true
 abbrev pub IsNodeIn : Data → YearSet → Node → Type 0
 IsNodeIn m years n = (is_node m n ≡ true) × (has_year years (year_in n) ≡ true)
 
--- the line and, where it emits, its equivalent are found in the years
-abbrev pub AreLineNodes : Data → Found → Name → YearSet → Type 0
-AreLineNodes m f name years = (year : ℕ) → has_year years year ≡ true
-    → IsIn f (node.Line name year) × (emits m name ≡ true → IsIn f (node.Equiv name year))
-
 -- the total of one of the categories in the year
 abbrev pub IsTotalOf : List Category → ℕ → Node → Type 0
 IsTotalOf tops year n = (top : Category) × IsListed top tops × (n ≡ node.Total top year)
@@ -94,25 +83,15 @@ IsTotalOf tops year n = (top : Category) × IsListed top tops × (n ≡ node.Tot
 abbrev pub IsChange : Data → Data → Node → Type 0
 IsChange old new n = is_changed old new n ≡ true
 
+-- more nodes are found, all of them changed
+abbrev pub AddsChanges : Data → Data → Found → Found → Type 0
+AddsChanges old new = AreAdded (IsChange old new)
+
 -- ---- from a node to those that take it
 
--- the binding takes the line's value, of the same year or, where it is so, of the year before
-abbrev pub takes_by : Bool → Name → Option Binding → Bool
-takes_by false name (Some (bound.Line k)) = bytes_eq k name
-takes_by false name (Some (bound.Sum ks)) = list_any (λ k. bytes_eq k name) ks
-takes_by true name (Some (bound.Prev k)) = bytes_eq k name
-takes_by before name _ = false
-
--- one of the bindings of the taker's parameters does
-abbrev pub takes : Data → Bool → Name → Name → Bool
-takes m before taker name =
-    option_map_or (λ e. list_any (λ q. takes_by before name (binding m taker q.name)) (parameters e))
-    (line m taker) false
-
--- a line in the year that does
-abbrev pub IsLineTaking : Data → Bool → Name → ℕ → Node → Type 0
-IsLineTaking m before name year n =
-    (taker : Name) × (n ≡ node.Line taker year) × (takes m before taker name ≡ true)
+-- a line in the year that names the source
+abbrev pub IsLineNaming : Data → Source → ℕ → Node → Type 0
+IsLineNaming m s year n = (taker : Name) × (n ≡ node.Line taker year) × (names_bound m s taker ≡ true)
 
 -- the total of a category of the tree, which is the first or stands above it by so many levels at most
 abbrev pub IsTotalAbove : ℕ → Category → ℕ → Node → Type 0

@@ -7,17 +7,23 @@ ghost use Rattle.std.specs.List.Sorted.{IsStrictlySortedBy};
 ghost use Rattle.ghg_units.specs.declared.node.Node.{Node};
 ghost use Rattle.ghg_data.specs.YearSet.{has_year};
 ghost use Rattle.ghg_definitions.specs.Nodes.{node_cmp, year_in};
-ghost use Rattle.ghg_search.specs.Found.{AreAdded, AreQueued, IsIn, is_found};
+ghost use Rattle.ghg_search.specs.Found.{AreFound, AreQueued, IsIn, is_found};
 ghost use Rattle.ghg_search.specs.Listing.{AreListed, AreOfSeries};
 ghost use Rattle.ghg_search.specs.Series.{IsOf};
 ghost use Rattle.ghg_columns.specs.Cells.{series_order};
 
-use crate::series::Group;
 use ghg_columns::Series;
 use ghg_data::YearSet;
 use ghg_units::Node;
 use std::alloc::{AllocError, Global};
 use std::collections::BTreeMap;
+
+/// The nodes of a series in some years.
+#[derive(Clone, Copy)]
+pub(crate) struct Group {
+    pub(crate) series: Series,
+    pub(crate) years: YearSet,
+}
 
 /// Nodes, also in the order in which they were found.
 #[derive(Drop)]
@@ -55,8 +61,7 @@ impl Found {
 
     /// Adds the nodes of a series in some years, if they are not found yet.
     pub(crate) fn put(&mut self, series: &Series, years: &YearSet) -> Result<(), AllocError>
-        ensures added { OnOk result (AreAdded (λ n. IsOf series.now years.now n) self.old self.new) }
-        ensures found { OnOk result ((n : Node) → IsOf series.now years.now n → IsIn self.new n) }
+        ensures { OnOk result (AreFound (IsOf series.now years.now) self.old self.new) }
     {
         let fresh = self.missing(series, years);
         if fresh.is_empty() {
@@ -78,10 +83,8 @@ impl Found {
         series: &Series,
         years: &YearSet,
     ) -> Result<(), AllocError>
-        ensures added { OnOk result (AreAdded (λ n. (condition ≡ true) × IsOf series.now years.now n)
-            self.old self.new) }
-        ensures found { OnOk result (condition ≡ true → (n : Node) → IsOf series.now years.now n →
-            IsIn self.new n) }
+        ensures { OnOk result
+            (AreFound (λ n. (condition ≡ true) × IsOf series.now years.now n) self.old self.new) }
     {
         if condition {
             self.put(series, years)?;

@@ -1,18 +1,17 @@
 //! Which lines name an activity, a factor or a line.
 
-ghost use Rattle.std.specs.Prelude.{◌≡◌, [], true, option_copied, OnOk};
+ghost use Rattle.std.specs.Prelude.{◌≡◌, [], map, option_copied, OnOk};
 ghost use Rattle.std.specs.FinMap.{empty};
-ghost use Rattle.std.specs.List.{AllByRecursion};
-ghost use Rattle.ghg_units.specs.Parameter.{is_parameter};
+ghost use Rattle.std.specs.List.{list_any};
+ghost use Rattle.std.specs.Str.{bytes_eq};
 ghost use Rattle.ghg_definitions.specs.declared.record.Record.{Record};
-ghost use Rattle.ghg_definitions.specs.Data.{Data, Name, binding, key_cmp};
+ghost use Rattle.ghg_definitions.specs.Data.{Data, Name, key_cmp};
 ghost use Rattle.ghg_definitions.specs.Listed.{IsListed};
-ghost use Rattle.ghg_search.specs.Index.{DifferAt, HasUser, HasUsers, IsUnderAll, IsUnderBy, Keeps, KeepsBut, is_named, is_potential, named_by, names_bound, sources_at, users_of};
+ghost use Rattle.ghg_search.specs.Index.{DifferAt, HasUser, HasUsers, IsUnderAll, IsUnderBy, Keeps, KeepsBut, is_named, is_potential, named_by, names_bound, users_of};
 
-use crate::taking::has_name;
 use ghg_data::{Records, params_of};
 use ghg_definitions::RecordKey;
-use ghg_equations::{Gas, Param};
+use ghg_equations::Gas;
 use ghg_graph::{equation_of, line_gas};
 use ghg_units::{Binding, Name};
 use std::alloc::{AllocError, Global};
@@ -25,8 +24,10 @@ pub enum Source {
     Activity(Name),
     /// A factor, also where its decay is taken, or where it is the warming potential of a gas.
     Factor(Name),
-    /// A line, whether its value of the same year is taken, alone or in a sum, or that of the year before.
+    /// A line of which the value of the same year is taken, alone or in a sum.
     Line(Name),
+    /// A line of which the value of the year before is taken.
+    Previous(Name),
 }
 
 /// Under each source the lines that name it, in byte order. There may be more, and never fewer: so it can
@@ -117,9 +118,8 @@ impl Index {
             Some(Binding::Factor(name) | Binding::Decay(name)) => {
                 self.cut(records, Source::Factor(*name), line);
             }
-            Some(Binding::Line(name) | Binding::Prev(name)) => {
-                self.cut(records, Source::Line(*name), line);
-            }
+            Some(Binding::Line(name)) => self.cut(records, Source::Line(*name), line),
+            Some(Binding::Prev(name)) => self.cut(records, Source::Previous(*name), line),
             Some(Binding::Sum(names)) => self.cut_sum(records, names.as_slice(), line),
             _ => {}
         }
@@ -138,10 +138,7 @@ impl Index {
     fn cut<R: Records>(&mut self, records: &R, source: Source, line: &Name)
         ensures { HasUsers (R.content records.now) self.old → HasUsers (R.content records.now) self.new }
     {
-        if names_bound(records, line, &source) {
-            return;
-        }
-        if is_potential(line_gas(records, line), &source) {
+        if names_bound(records, line, &source) || is_potential(line_gas(records, line), &source) {
             return;
         }
         self.cut_user(&source, line);
@@ -189,33 +186,13 @@ impl Index {
         let Some(id) = equation_of(records, line) else {
             return Ok(());
         };
-        self.put_bound(records, line, params_of(id))?;
-        match line_gas(records, line) {
-            Some(gas) => {
-                self.put(Source::Factor(Name::potential(gas)), line)?;
-                Ok(())
-            }
-            None => Ok(()),
-        }
-    }
-
-    // Puts a line under all that it names at these parameters.
-    fn put_bound<R: Records>(
-        &mut self,
-        records: &R,
-        line: &Name,
-        params: &[Param],
-    ) -> Result<(), AllocError>
-        requires { AllByRecursion (λ q. is_parameter q.name.now ≡ true) params.now }
-        ensures kept { Keeps self.old self.new }
-        ensures put { OnOk result ((s : Source) →
-            IsListed s (sources_at (R.content records.now) line.now params.now) →
-            HasUser self.new s line.now) }
-    {
-        for param in params {
+        for param in params_of(id) {
             self.put_named(records.bound(line, param), line)?;
         }
-        Ok(())
+        match line_gas(records, line) {
+            Some(gas) => self.put(Source::Factor(Name::potential(gas)), line),
+            None => Ok(()),
+        }
     }
 
     // Puts a line under all that a binding names.
@@ -229,11 +206,9 @@ impl Index {
             Some(Binding::Factor(name) | Binding::Decay(name)) => {
                 self.put(Source::Factor(*name), line)
             }
-            Some(Binding::Line(name) | Binding::Prev(name)) => self.put(Source::Line(*name), line),
-            Some(Binding::Sum(names)) => {
-                self.put_sum(names.as_slice(), line)?;
-                Ok(())
-            }
+            Some(Binding::Line(name)) => self.put(Source::Line(*name), line),
+            Some(Binding::Prev(name)) => self.put(Source::Previous(*name), line),
+            Some(Binding::Sum(names)) => self.put_sum(names.as_slice(), line),
             _ => Ok(()),
         }
     }
@@ -241,8 +216,8 @@ impl Index {
     // Puts a line under the lines that it adds.
     fn put_sum(&mut self, names: &[Name], line: &Name) -> Result<(), AllocError>
         ensures kept { Keeps self.old self.new }
-        ensures put { OnOk result ((name : Name) → IsListed name names.now →
-            HasUser self.new (Source.Line name) line.now) }
+        ensures put { OnOk result ((s : Source) → IsListed s (map (λ name. Source.Line name) names.now) →
+            HasUser self.new s line.now) }
     {
         for name in names {
             self.put(Source::Line(*name), line)?;
@@ -256,8 +231,7 @@ impl Index {
         ensures put { OnOk result (HasUser self.new source line.now) }
     {
         let lines = self.users.entry(source)?.or_default();
-        put_name(lines, line)?;
-        Ok(())
+        put_name(lines, line)
     }
 }
 
@@ -309,10 +283,16 @@ fn is_named(binding: Option<&Binding>, source: &Source) -> bool
         (Some(Binding::Factor(name)), Source::Factor(other)) => name == other,
         (Some(Binding::Decay(name)), Source::Factor(other)) => name == other,
         (Some(Binding::Line(name)), Source::Line(other)) => name == other,
-        (Some(Binding::Prev(name)), Source::Line(other)) => name == other,
+        (Some(Binding::Prev(name)), Source::Previous(other)) => name == other,
         (Some(Binding::Sum(names)), Source::Line(other)) => has_name(names.as_slice(), other),
         _ => false,
     }
+}
+
+fn has_name(lines: &[Name], name: &Name) -> bool
+    ensures { result ≡ list_any (λ line. bytes_eq line name.now) lines.now }
+{
+    lines.iter().any(|line| line == name)
 }
 
 /// Whether a source is the warming potential of a gas.

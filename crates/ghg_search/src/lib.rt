@@ -6,9 +6,7 @@ mod edited;
 mod found;
 mod index;
 mod seeds;
-mod series;
 mod spreading;
-mod taking;
 mod years;
 
 pub use edited::affected;

@@ -2,17 +2,15 @@
 
 ghost use Rattle.std.specs.Prelude.{◌≡◌, ◌≢◌, ℕ, true, is_some, OnOk};
 ghost use Rattle.ghg_categories.specs.declared.category.Category.{Category};
-ghost use Rattle.ghg_units.specs.declared.node.Node.{Node};
 ghost use Rattle.ghg_units.specs.declared.node.Node.TheVariants as node;
 ghost use Rattle.ghg_data.specs.YearSet.{has_year};
 ghost use Rattle.ghg_definitions.specs.declared.record.RecordKey.{RecordKey};
-ghost use Rattle.ghg_definitions.specs.Compilation.{first_year, is_node, is_year_of};
+ghost use Rattle.ghg_definitions.specs.Compilation.{first_year};
 ghost use Rattle.ghg_definitions.specs.Data.{Name, line, span};
 ghost use Rattle.ghg_definitions.specs.Listed.{IsListed};
-ghost use Rattle.ghg_definitions.specs.Nodes.{year_in};
 ghost use Rattle.ghg_graph.specs.Moves.{AreMoved};
-ghost use Rattle.ghg_search.specs.Found.{AreAdded, IsEquivalentTried, IsIn, IsLineTried};
-ghost use Rattle.ghg_search.specs.Search.{AreEquivalentsTried, AreKept, AreLineNodes, AreLinesTried, AreTriedBy, AreYearsOf, IsChange, IsNodeIn, IsTotalOf};
+ghost use Rattle.ghg_search.specs.Found.{AreAdded, AreFound, IsEquivalentTried, IsIn, IsLineTried};
+ghost use Rattle.ghg_search.specs.Search.{AddsChanges, AreEquivalentsTried, AreKept, AreLinesTried, AreTriedBy, AreYearsOf, IsChange, IsNodeIn, IsTotalOf};
 ghost use Rattle.ghg_search.specs.Series.{Within};
 
 use crate::changed::{changed_equivalents, changed_lines};
@@ -36,58 +34,19 @@ impl Found {
         years: &YearSet,
     ) -> Result<(), AllocError>
         requires { AreYearsOf (R.content records.now) years.now }
-        ensures added { OnOk result
-            (AreAdded (IsNodeIn (R.content records.now) years.now) self.old self.new) }
-        ensures found { OnOk result ((n : Node) → IsNodeIn (R.content records.now) years.now n →
-            IsIn self.new n) }
+        ensures { OnOk result (AreFound (IsNodeIn (R.content records.now) years.now) self.old self.new) }
     {
         if years.is_empty() {
             return Ok(());
         }
         let lines = records.lines(alloc)?;
-        self.put_lines(records, &lines, years)?;
+        for name in &lines {
+            self.put(&Series::Line(*name), years)?;
+            let emits = line_gas(records, name).is_some();
+            self.put_if(emits, &Series::Equivalent(*name), years)?;
+        }
         self.put_totals(ghg_categories::all(), years)?;
         self.put(&Series::Gross, years)?;
-        Ok(())
-    }
-
-    // Adds lines in some years, and their equivalents.
-    fn put_lines<R: Records>(
-        &mut self,
-        records: &R,
-        names: &[Name],
-        years: &YearSet,
-    ) -> Result<(), AllocError>
-        requires names { (name : Name) → IsListed name names.now →
-            is_some (line (R.content records.now) name) ≡ true }
-        requires years { AreYearsOf (R.content records.now) years.now }
-        ensures added { OnOk result
-            (AreAdded (IsNodeIn (R.content records.now) years.now) self.old self.new) }
-        ensures found { OnOk result ((name : Name) → IsListed name names.now →
-            AreLineNodes (R.content records.now) self.new name years.now) }
-    {
-        for name in names {
-            self.put_line(records, name, years)?;
-        }
-        Ok(())
-    }
-
-    // Adds a line in some years, and its equivalent.
-    fn put_line<R: Records>(
-        &mut self,
-        records: &R,
-        name: &Name,
-        years: &YearSet,
-    ) -> Result<(), AllocError>
-        requires name { is_some (line (R.content records.now) name.now) ≡ true }
-        requires years { AreYearsOf (R.content records.now) years.now }
-        ensures added { OnOk result
-            (AreAdded (IsNodeIn (R.content records.now) years.now) self.old self.new) }
-        ensures found { OnOk result (AreLineNodes (R.content records.now) self.new name.now years.now) }
-    {
-        self.put(&Series::Line(*name), years)?;
-        let emits = line_gas(records, name).is_some();
-        self.put_if(emits, &Series::Equivalent(*name), years)?;
         Ok(())
     }
 
@@ -103,8 +62,7 @@ impl Found {
         years: &YearSet,
     ) -> Result<(), AllocError>
         requires { AreKept (R.content old.now) (S.content new.now) years.now }
-        ensures added { OnOk result (AreAdded (IsChange (R.content old.now) (S.content new.now))
-            self.old self.new) }
+        ensures added { OnOk result (AddsChanges (R.content old.now) (S.content new.now) self.old self.new) }
         ensures lines { OnOk result ((k : RecordKey) → IsListed k keys.now →
             AreLinesTried (R.content old.now) (S.content new.now) index.now years.now k self.new) }
         ensures equivalents { OnOk result ((k : RecordKey) → IsListed k keys.now →
@@ -130,8 +88,7 @@ impl Found {
         years: &YearSet,
     ) -> Result<(), AllocError>
         requires { AreKept (R.content old.now) (S.content new.now) years.now }
-        ensures added { OnOk result (AreAdded (IsChange (R.content old.now) (S.content new.now))
-            self.old self.new) }
+        ensures added { OnOk result (AddsChanges (R.content old.now) (S.content new.now) self.old self.new) }
         ensures lines { OnOk result
             (AreLinesTried (R.content old.now) (S.content new.now) index.now years.now key.now self.new) }
         ensures equivalents { OnOk result
@@ -139,14 +96,10 @@ impl Found {
             self.new) }
     {
         match key {
-            RecordKey::Span => {
-                self.try_span(alloc, old, new, years)?;
-                Ok(())
-            }
+            RecordKey::Span => self.try_span(alloc, old, new, years),
             RecordKey::Activity(name, year) => {
                 let users = index.users(&Source::Activity(*name));
-                self.try_lines(old, new, users, &years_at(years, *year))?;
-                Ok(())
+                self.try_lines(old, new, users, &years_at(years, *year))
             }
             RecordKey::Factor(name, start) => {
                 let factor = Source::Factor(*name);
@@ -159,10 +112,7 @@ impl Found {
                 self.try_equivalent(old, new, name, years)?;
                 Ok(())
             }
-            RecordKey::Bind(name, _) => {
-                self.try_line(old, new, name, years)?;
-                Ok(())
-            }
+            RecordKey::Bind(name, _) => self.try_line(old, new, name, years),
             RecordKey::Uncert(_) => Ok(()),
         }
     }
@@ -176,8 +126,7 @@ impl Found {
         years: &YearSet,
     ) -> Result<(), AllocError>
         requires { AreKept (R.content old.now) (S.content new.now) years.now }
-        ensures added { OnOk result (AreAdded (IsChange (R.content old.now) (S.content new.now))
-            self.old self.new) }
+        ensures added { OnOk result (AddsChanges (R.content old.now) (S.content new.now) self.old self.new) }
         ensures tried { OnOk result (first_year (span (R.content old.now)) ≢
             first_year (span (S.content new.now)) → (name : Name) (year : ℕ) →
             has_year years.now year ≡ true →
@@ -200,8 +149,7 @@ impl Found {
         years: &YearSet,
     ) -> Result<(), AllocError>
         requires { AreKept (R.content old.now) (S.content new.now) years.now }
-        ensures added { OnOk result (AreAdded (IsChange (R.content old.now) (S.content new.now))
-            self.old self.new) }
+        ensures added { OnOk result (AddsChanges (R.content old.now) (S.content new.now) self.old self.new) }
         ensures tried { OnOk result ((name : Name) → IsListed name names.now → (year : ℕ) →
             has_year years.now year ≡ true →
             IsLineTried (R.content old.now) (S.content new.now) self.new name year) }
@@ -212,7 +160,8 @@ impl Found {
         Ok(())
     }
 
-    // Adds those of lines that are changed in some years where a source differs, and of their equivalents.
+    // Adds the lines of which bindings name the source, and the equivalents of those of which it is the
+    // potential, where they are changed in some years.
     fn try_users<R: Records, S: Records>(
         &mut self,
         old: &R,
@@ -222,36 +171,16 @@ impl Found {
         years: &YearSet,
     ) -> Result<(), AllocError>
         requires { AreKept (R.content old.now) (S.content new.now) years.now }
-        ensures added { OnOk result (AreAdded (IsChange (R.content old.now) (S.content new.now))
-            self.old self.new) }
+        ensures added { OnOk result (AddsChanges (R.content old.now) (S.content new.now) self.old self.new) }
         ensures tried { OnOk result ((name : Name) → IsListed name names.now →
             AreTriedBy (R.content old.now) (S.content new.now) source.now years.now name self.new) }
     {
         for name in names {
-            self.try_user(old, new, name, source, years)?;
+            let bound = years_if(names_bound(new, name, source), years);
+            self.try_line(old, new, name, &bound)?;
+            let weighted = years_if(is_potential(line_gas(new, name), source), years);
+            self.try_equivalent(old, new, name, &weighted)?;
         }
-        Ok(())
-    }
-
-    // Adds a line where its bindings name the source, and its equivalent where its potential is the source.
-    fn try_user<R: Records, S: Records>(
-        &mut self,
-        old: &R,
-        new: &S,
-        name: &Name,
-        source: &Source,
-        years: &YearSet,
-    ) -> Result<(), AllocError>
-        requires { AreKept (R.content old.now) (S.content new.now) years.now }
-        ensures added { OnOk result (AreAdded (IsChange (R.content old.now) (S.content new.now))
-            self.old self.new) }
-        ensures tried { OnOk result
-            (AreTriedBy (R.content old.now) (S.content new.now) source.now years.now name.now self.new) }
-    {
-        let bound = years_if(names_bound(new, name, source), years);
-        self.try_line(old, new, name, &bound)?;
-        let weighted = years_if(is_potential(line_gas(new, name), source), years);
-        self.try_equivalent(old, new, name, &weighted)?;
         Ok(())
     }
 
@@ -264,8 +193,7 @@ impl Found {
         years: &YearSet,
     ) -> Result<(), AllocError>
         requires { AreKept (R.content old.now) (S.content new.now) years.now }
-        ensures added { OnOk result (AreAdded (IsChange (R.content old.now) (S.content new.now))
-            self.old self.new) }
+        ensures added { OnOk result (AddsChanges (R.content old.now) (S.content new.now) self.old self.new) }
         ensures tried { OnOk result ((year : ℕ) → has_year years.now year ≡ true →
             IsLineTried (R.content old.now) (S.content new.now) self.new name.now year) }
     {
@@ -285,8 +213,7 @@ impl Found {
         years: &YearSet,
     ) -> Result<(), AllocError>
         requires { AreKept (R.content old.now) (S.content new.now) years.now }
-        ensures added { OnOk result (AreAdded (IsChange (R.content old.now) (S.content new.now))
-            self.old self.new) }
+        ensures added { OnOk result (AddsChanges (R.content old.now) (S.content new.now) self.old self.new) }
         ensures tried { OnOk result ((year : ℕ) → has_year years.now year ≡ true →
             IsEquivalentTried (R.content old.now) (S.content new.now) self.new name.now year) }
     {
@@ -307,8 +234,7 @@ impl Found {
     ) -> Result<(), AllocError>
         requires moved { AreMoved (R.content old.now) (S.content new.now) moved.now }
         requires years { AreKept (R.content old.now) (S.content new.now) years.now }
-        ensures added { OnOk result (AreAdded (IsChange (R.content old.now) (S.content new.now))
-            self.old self.new) }
+        ensures added { OnOk result (AddsChanges (R.content old.now) (S.content new.now) self.old self.new) }
         ensures totals { OnOk result ((top : Category) (year : ℕ) → has_year years.now year ≡ true →
             IsChange (R.content old.now) (S.content new.now) (node.Total top year) →
             IsIn self.new (node.Total top year)) }
@@ -323,9 +249,7 @@ impl Found {
 
     // Adds the totals of categories in some years.
     fn put_totals(&mut self, tops: &[Category], years: &YearSet) -> Result<(), AllocError>
-        ensures added { OnOk result (AreAdded (Within years.now (IsTotalOf tops.now)) self.old self.new) }
-        ensures totals { OnOk result ((top : Category) → IsListed top tops.now → (year : ℕ) →
-            has_year years.now year ≡ true → IsIn self.new (node.Total top year)) }
+        ensures { OnOk result (AreFound (Within years.now (IsTotalOf tops.now)) self.old self.new) }
     {
         for top in tops {
             self.put(&Series::Total(*top), years)?;

@@ -13,27 +13,15 @@ returns-in_default g c =
 
 pub put_years-requires : goal.put_years-requires
 put_years-requires g c =
-    let old = g.R.Records.content c.args.old.now in
-    let new = g.S.Records.content c.args.new.now in
-    let inventory = c.in-Some.span in
-    let inside = span_is new inventory c.span.ensures.workbook (sym c.in-Some.ensures.span) in
-    fresh_of_new old new inventory inside (sym c.in-Some.ensures.span) c.span-2.result c.span-2.ensures.span c.years_of-all.result c.years_of.result c.years_without-fresh.result c.years_without-kept.result c.years_of-all.ensures.only c.years_of-all.ensures.all c.years_of.ensures.only c.years_of.ensures.all c.years_without-fresh.ensures c.years_without-kept.ensures
+    fresh_of_new _ _ c.in-Some.span c.span.ensures.workbook c.in-Some.ensures.span c.span-2.result c.span-2.ensures.span c.years_of-all.result c.years_of.result c.years_without-fresh.result c.years_without-kept.result c.years_of-all.ensures.only c.years_of-all.ensures.all c.years_of.ensures.only c.years_of.ensures.all c.years_without-fresh.ensures c.years_without-kept.ensures
 
 pub try_keys-requires : goal.try_keys-requires
 try_keys-requires g c =
-    let old = g.R.Records.content c.args.old.now in
-    let new = g.S.Records.content c.args.new.now in
-    let inventory = c.in-Some.span in
-    let inside = span_is new inventory c.span.ensures.workbook (sym c.in-Some.ensures.span) in
-    are_kept old new inventory inside (sym c.in-Some.ensures.span) c.span-2.result c.span-2.ensures.span c.years_of-all.result c.years_of.result c.years_without-fresh.result c.years_without-kept.result c.years_of-all.ensures.only c.years_of-all.ensures.all c.years_of.ensures.only c.years_of.ensures.all c.years_without-fresh.ensures c.years_without-kept.ensures
+    are_kept _ _ c.in-Some.span c.span.ensures.workbook c.in-Some.ensures.span c.span-2.result c.span-2.ensures.span c.years_of-all.result c.years_of.result c.years_without-fresh.result c.years_without-kept.result c.years_of-all.ensures.only c.years_of-all.ensures.all c.years_of.ensures.only c.years_of.ensures.all c.years_without-fresh.ensures c.years_without-kept.ensures
 
 pub put_moved-requires-clause-years : goal.put_moved-requires-clause-years
 put_moved-requires-clause-years g c =
-    let old = g.R.Records.content c.args.old.now in
-    let new = g.S.Records.content c.args.new.now in
-    let inventory = c.in-Some.span in
-    let inside = span_is new inventory c.span.ensures.workbook (sym c.in-Some.ensures.span) in
-    are_kept old new inventory inside (sym c.in-Some.ensures.span) c.span-2.result c.span-2.ensures.span c.years_of-all.result c.years_of.result c.years_without-fresh.result c.years_without-kept.result c.years_of-all.ensures.only c.years_of-all.ensures.all c.years_of.ensures.only c.years_of.ensures.all c.years_without-fresh.ensures c.years_without-kept.ensures
+    are_kept _ _ c.in-Some.span c.span.ensures.workbook c.in-Some.ensures.span c.span-2.result c.span-2.ensures.span c.years_of-all.result c.years_of.result c.years_without-fresh.result c.years_without-kept.result c.years_of-all.ensures.only c.years_of-all.ensures.all c.years_of.ensures.only c.years_of.ensures.all c.years_without-fresh.ensures c.years_without-kept.ensures
 
 pub spread-requires-clause-years : goal.spread-requires-clause-years
 spread-requires-clause-years g c =
@@ -47,28 +35,24 @@ pub spread-requires-clause-nodes : goal.spread-requires-clause-nodes
 spread-requires-clause-nodes g c =
     let old = g.R.Records.content c.args.old.now in
     let new = g.S.Records.content c.args.new.now in
-    let inventory = c.in-Some.span in
-    let inside = span_is new inventory c.span.ensures.workbook (sym c.in-Some.ensures.span) in
     seeds_nodes old new c.new-found.result c.put_years.new.self c.try_keys.new.self c.put_moved.new.self c.years_without-fresh.result
-    c.in_ok-put_years.ensures.added (fresh_off old new inventory inside (sym c.in-Some.ensures.span) c.span-2.result c.span-2.ensures.span c.years_of-all.result c.years_of.result c.years_without-fresh.result c.years_without-kept.result c.years_of-all.ensures.only c.years_of-all.ensures.all c.years_of.ensures.only c.years_of.ensures.all c.years_without-fresh.ensures c.years_without-kept.ensures)
+    c.in_ok-put_years.ensures.added (fresh_off _ _ c.in-Some.span c.span.ensures.workbook c.in-Some.ensures.span c.span-2.result c.span-2.ensures.span c.years_of-all.result c.years_of.result c.years_without-fresh.result c.years_without-kept.result c.years_of-all.ensures.only c.years_of-all.ensures.all c.years_of.ensures.only c.years_of.ensures.all c.years_without-fresh.ensures c.years_without-kept.ensures)
     c.in_ok-try_keys.ensures.added c.in_ok-put_moved.ensures.added c.new-found.ensures.none
 
 pub returns : goal.returns
 returns g c =
     let old = g.R.Records.content c.args.old.now in
     let new = g.S.Records.content c.args.new.now in
-    let inventory = c.in-Some.span in
-    let inside = span_is new inventory c.span.ensures.workbook (sym c.in-Some.ensures.span) in
     let fresh = c.years_without-fresh.result in
     let kept = c.years_without-kept.result in
     let seeds = c.put_moved.new.self in
     let grown = c.in_ok-put_moved.ensures.added.kept in
     lists old new c.new-found.result c.put_years.new.self c.try_keys.new.self seeds fresh
-    c.in_ok-put_years.ensures.added (fresh_off old new inventory inside (sym c.in-Some.ensures.span) c.span-2.result c.span-2.ensures.span c.years_of-all.result c.years_of.result c.years_without-fresh.result c.years_without-kept.result c.years_of-all.ensures.only c.years_of-all.ensures.all c.years_of.ensures.only c.years_of.ensures.all c.years_without-fresh.ensures c.years_without-kept.ensures)
+    c.in_ok-put_years.ensures.added (fresh_off _ _ c.in-Some.span c.span.ensures.workbook c.in-Some.ensures.span c.span-2.result c.span-2.ensures.span c.years_of-all.result c.years_of.result c.years_without-fresh.result c.years_without-kept.result c.years_of-all.ensures.only c.years_of-all.ensures.all c.years_of.ensures.only c.years_of.ensures.all c.years_without-fresh.ensures c.years_without-kept.ensures)
     c.in_ok-try_keys.ensures.added c.in_ok-put_moved.ensures.added c.new-found.ensures.none
     c.spread.new.self (c.in_ok-spread.ensures.affected old) c.in_ok-spread.ensures.queued c.in_ok-spread.ensures.closed c.in_ok-spread.ensures.kept
     (changed_found old new c.args.keys.now c.requires.kept c.args.index.now c.requires.index seeds fresh kept
-    (parted old new inventory inside (sym c.in-Some.ensures.span) c.span-2.result c.span-2.ensures.span c.years_of-all.result c.years_of.result c.years_without-fresh.result c.years_without-kept.result c.years_of-all.ensures.only c.years_of-all.ensures.all c.years_of.ensures.only c.years_of.ensures.all c.years_without-fresh.ensures c.years_without-kept.ensures)
+    (parted _ _ c.in-Some.span c.span.ensures.workbook c.in-Some.ensures.span c.span-2.result c.span-2.ensures.span c.years_of-all.result c.years_of.result c.years_without-fresh.result c.years_without-kept.result c.years_of-all.ensures.only c.years_of-all.ensures.all c.years_of.ensures.only c.years_of.ensures.all c.years_without-fresh.ensures c.years_without-kept.ensures)
     (λ n is. grown n (c.in_ok-try_keys.ensures.added.kept n (c.in_ok-put_years.ensures.found n is)))
     (λ k i name year within may e. grown (node.Line name year) (c.in_ok-try_keys.ensures.lines k i name year within may e))
     (λ k i name year within may. equivalent_kept old new c.try_keys.new.self seeds name grown year

@@ -1,28 +1,19 @@
-use Rattle.std.proofs.Common.{◌∙◌, ◌||◌, ◌&&◌, ap, ap₂, not}
+use Rattle.std.proofs.Common.{◌∙◌, ◌&&◌, ◌||◌, ap, ap₂, not}
 use Rattle.std.proofs.Math.Bool.{and-true}
 use Rattle.ghg_data.specs.YearSet.{has_year}
 use Rattle.ghg_search.specs.Series.{IsOf}
-use Rattle.ghg_search.proofs.Adding.{added_group, added_none, found_group, none_missing}
+use Rattle.ghg_search.proofs.Adding.{added_none, found_group, none_missing}
 use Rattle.ghg_search.proofs.found.Found.put.Goals as goal
 
-pub returns-then-is_empty-clause-added : goal.returns-then-is_empty-clause-added
-returns-then-is_empty-clause-added c = added_none (IsOf c.args.series.now c.args.years.now) c.args.self.now
+pub returns-then-is_empty : goal.returns-then-is_empty
+returns-then-is_empty c = record {
+  added = added_none (IsOf c.args.series.now c.args.years.now) c.args.self.now;
+  found = none_missing c.args.self.now c.args.series.now c.args.years.now c.missing-fresh.result c.missing-fresh.ensures
+      (c.is_empty.ensures.0 c.if-is_empty.true);
+}
 
-pub returns-then-is_empty-clause-found : goal.returns-then-is_empty-clause-found
-returns-then-is_empty-clause-found c =
-    none_missing c.args.self.now c.args.series.now c.args.years.now c.missing-fresh.result c.missing-fresh.ensures
-    (c.is_empty.ensures.0 c.if-is_empty.true)
-
-pub returns-clause-added : goal.returns-clause-added
-returns-clause-added c =
-    added_group c.args.self.now (record { years = c.insert.new.self; queue = c.push.new.self }) c.args.series.now c.args.years.now
-    c.missing-fresh.result c.changed-all.result c.in_ok-insert.ensures.updates.0 c.in_ok-push.ensures.items c.missing-fresh.ensures
-    (λ y. c.changed-all.ensures y
-    ∙ ap₂ (λ a b. has_year c.missing-fresh.result y || (a && not b)) (c.years_of.ensures y) (c.empty.ensures y)
-    ∙ ap (λ b. has_year c.missing-fresh.result y || b) (and-true _))
-
-pub returns-clause-found : goal.returns-clause-found
-returns-clause-found c =
+pub returns : goal.returns
+returns c =
     found_group c.args.self.now (record { years = c.insert.new.self; queue = c.push.new.self }) c.args.series.now c.args.years.now
     c.missing-fresh.result c.changed-all.result c.in_ok-insert.ensures.updates.0 c.in_ok-push.ensures.items c.missing-fresh.ensures
     (λ y. c.changed-all.ensures y

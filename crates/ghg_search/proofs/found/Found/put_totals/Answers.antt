@@ -1,6 +1,7 @@
 use Rattle.std.proofs.Common.{subst, sym}
 use Rattle.std.proofs.lemmas.List.{take_all}
 use Rattle.ghg_definitions.specs.Listed.{IsListed}
+use Rattle.ghg_search.specs.Found.{IsIn}
 use Rattle.ghg_search.specs.Search.{IsTotalOf}
 use Rattle.ghg_search.specs.Series.{Within}
 use Rattle.ghg_search.proofs.Adding.{added_more, added_none, added_weaker, total_of, totals_next}
@@ -21,6 +22,9 @@ loop-top-preserved c = record {
       c.loop-top.invariant.totals c.in_ok-put.ensures.added.kept c.in_ok-put.ensures.found;
 }
 
-pub returns-clause-totals : goal.returns-clause-totals
-returns-clause-totals c = λ top i.
-    c.loop-top.invariant.totals top (subst (IsListed top) (sym (take_all c.loop-top.top-index c.args.tops.now c.loop-top-test.false)) i)
+pub returns : goal.returns
+returns c = record {
+  added = c.loop-top.invariant.added;
+  found = λ n h. let t = h.2 in subst (IsIn c.loop-top.self) (sym t.2) (c.loop-top.invariant.totals t.0
+      (subst (IsListed t.0) (sym (take_all c.loop-top.top-index c.args.tops.now c.loop-top-test.false)) t.1) h.0 h.1);
+}
