@@ -162,6 +162,11 @@ class Kept(Stores):
             connection.backup(copy)
         self.assertEqual(self.run_with(GAS_THEN_CELLS, "--store", "copy.db"), (0, b"repeated 1\n" + CELLS))
 
+    def test_one_file_is_left_by_a_run_that_ends(self) -> None:
+        self.run_with(GAS_THEN_CELLS)
+        (self.room / "book.db-wal").unlink()
+        self.assertEqual(self.run_with(GAS_THEN_CELLS), (0, b"repeated 1\n" + CELLS))
+
     def test_both_files_are_a_copy(self) -> None:
         self.run_with(GAS_THEN_CELLS)
         for path in self.room.glob("book.db*"):
@@ -195,6 +200,12 @@ class Refused(Stores):
             self.assertEqual(self.run_with(session(), *words), (2, b"bad command line\n"), words)
         self.assertEqual(list(self.room.iterdir()), [])
         self.assertEqual(self.run_with(session(), "--workers=1", "--store", "s" * 64), (0, b""))
+
+    def test_names_of_logs_and_journals(self) -> None:
+        for end in ("-wal", "-shm", "-journal"):
+            with self.subTest(end=end):
+                self.assertEqual(self.run_with(GAS_THEN_CELLS, "--store", "book.db" + end), (6, b""))
+        self.assertEqual(list(self.room.iterdir()), [])
 
     def test_a_text_file(self) -> None:
         self.store.write_bytes(GAS * 20)

@@ -56,6 +56,7 @@ fn main(rt: HostRuntime) -> ExitCode {
     let Ok(hasher) = RandomState::new(&rt) else {
         return ExitCode::from(Status::OutOfMemory.code());
     };
+    let mut keeper = FileKeeper::new(&rt);
     let status = run_counted::<_, _, _, _, _, _, Brand>(
         &rt,
         alloc,
@@ -63,10 +64,14 @@ fn main(rt: HostRuntime) -> ExitCode {
         &words,
         &mut InputSource::new(reader),
         &mut OutputSink::new(io::writer(&rt)),
-        &mut FileKeeper::new(&rt),
+        &mut keeper,
         &mut TcpDoor::new(&rt),
         &OpenGate,
         Blank::new(1),
     );
+    if let Some(store) = keeper.into_store() {
+        // What was acknowledged is kept already. Where its log cannot be copied, the two files are the store.
+        drop(store.close());
+    }
     ExitCode::from(status)
 }

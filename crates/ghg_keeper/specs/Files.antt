@@ -1,5 +1,6 @@
 -- What a keeper over a database file shows.
-use Rattle.std.specs.Prelude.{[], None, Result, ⊤, IsErrOf, IsSomeAnd, MatchOption}
+use Rattle.std.specs.Prelude.{ℕ, Bool, ◌==◌, ◌||◌, List, [], codes, None, Result, ⊤, IsErrOf, IsSomeAnd, MatchOption}
+use Rattle.std.specs.List.{ends_with}
 use Rattle.sqlite.specs.Files.{over_files}
 use Rattle.sqlite.specs.State.{State}
 use Rattle.ghg_keeper.specs.Databases.{database, kept_shelf}
@@ -28,3 +29,9 @@ IsStored keeper holds = IsSomeAnd keeper.store (λ store. holds (database over_f
 abbrev pub IsHandedOn : FileKeeper → FileKeeper → (State → State → Type 0) → Type 0
 IsHandedOn before after does = MatchOption before.store ⊤
     (λ old. IsStored after (λ new. does (database over_files old) new))
+
+-- the name of a file that SQLite keeps beside a database: its log, the index of that, or its journal
+abbrev pub is_beside : List ℕ → Bool
+is_beside name =
+    ends_with (◌==◌) name (codes "-wal") || ends_with (◌==◌) name (codes "-shm")
+    || ends_with (◌==◌) name (codes "-journal")

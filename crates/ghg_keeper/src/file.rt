@@ -5,10 +5,11 @@ ghost use Rattle.sqlite.specs.Files.{over_files};
 ghost use Rattle.ghg_outer.specs.Counts.{IsCounted};
 ghost use Rattle.ghg_keeper.specs.Accepted.{has_kept_table};
 ghost use Rattle.ghg_keeper.specs.Databases.{database};
+ghost use Rattle.ghg_keeper.specs.Files.{is_beside};
 ghost use Rattle.ghg_keeper.specs.Errors.{CountsRows, HasCause, InsertsRow, IsCount, IsKept, ReadsRow, Refuses, RefusesRow, keep_error};
 ghost use Rattle.ghg_keeper.specs.Id.{is_id};
 ghost use Rattle.ghg_keeper.specs.Listed.{IsBeforeOrAfter, IsSafe};
-ghost use Rattle.ghg_keeper.specs.Shelf.{Adds, CountsFaults, Keeps};
+ghost use Rattle.ghg_keeper.specs.Shelf.{Adds, CountsFaults, Keeps, StaysUnlessFailed};
 ghost use Rattle.ghg_keeper.specs.Texts.{count_text, insert_text, row_text};
 
 use crate::{KeepError, Keeper, KeptRow, SqlKeeper};
@@ -20,14 +21,15 @@ use std::rt::HostRuntime;
 ///
 /// It is part of the trusted edge and tells nothing of its rows. It is proved what each call does with the
 /// store in use. A file that does not open for another cause than memory, and a call before `attach`, fail
-/// and are counted: a folder, a file that is no database or that this process may not write, and a database
-/// that another process has open. Want of memory at the open is told as such, and not counted. A file whose
-/// table of that name is another one fails too, and no store of it is in use.
+/// and are counted: a folder, a file that is no database or that this process may not write, a database that
+/// another process has open, and a name that ends in `-wal`, `-shm` or `-journal`, of which nothing is
+/// opened. Want of memory at the open is told as such, and not counted. A file whose table of that name is
+/// another one fails too, and no store of it is in use.
 ///
 /// The file has its log beside it, named as the file with `-wal` behind that, and the two are one store. A
 /// row that was acknowledged has been synced. It outlives a crash where the disk has what a sync
 /// acknowledged, where each byte of a write that is cut off is the old or the new one and no other byte
-/// changes, and where nobody else writes the two files.
+/// changes, and where nobody else writes the two files. [`SqlKeeper::close`] makes one file of the two.
 #[derive(Drop)]
 pub struct FileKeeper<'a> {
     rt: &'a HostRuntime,
@@ -51,11 +53,19 @@ impl<'a> FileKeeper<'a> {
         }
     }
 
+    /// Gives the store in use back, as to close it.
+    pub fn into_store(self) -> Option<SqlKeeper<FileStore<File>>>
+        ensures { result ≡ self.entry.store }
+    {
+        self.store
+    }
+
     // Passes an answer on, and counts a failure.
     fn passed<T>(&mut self, answer: Result<T, KeepError>) -> Result<T, KeepError>
         ensures answer { result ≡ answer }
         ensures store { self.new.store ≡ self.old.store }
         ensures faults { IsCounted self.old.faults self.new.faults (IsErrOf answer KeepError.Failed) }
+        ensures stays { IsErrOf result KeepError.Failed ⊎ (self.new.faults ≡ self.old.faults) }
     {
         match answer {
             Err(KeepError::Failed) => {
@@ -68,7 +78,7 @@ impl<'a> FileKeeper<'a> {
 }
 
 impl Keeper for FileKeeper<'_> {
-    ghost use Rattle.ghg_keeper.specs.Files.{IsHandedOn, IsPassed, IsStored, file_shelf};
+    ghost use Rattle.ghg_keeper.specs.Files.{IsHandedOn, IsPassed, IsStored, file_shelf, is_beside};
 
     ghost shelf = { file_shelf };
 
@@ -78,8 +88,14 @@ impl Keeper for FileKeeper<'_> {
         ensures err { OnErr result (self.new.store ≡ self.old.store) }
         // This is the name of a store in memory, and of no file.
         ensures memory { name.now ≡ codes ":memory:" → IsErrOf result KeepError.Failed }
+        // The name is that of another store's log or journal, which an open would write over.
+        ensures beside { IsTrue (is_beside name.now) → IsErrOf result KeepError.Failed }
         ensures faults { CountsFaults (file_shelf self.old) (file_shelf self.new) result }
+        ensures stays { StaysUnlessFailed (file_shelf self.old) (file_shelf self.new) result }
     {
+        if is_beside(name) {
+            return self.passed(Err(KeepError::Failed));
+        }
         match opened(self.rt, name) {
             Ok(store) => {
                 self.store = Some(store);
@@ -97,6 +113,7 @@ impl Keeper for FileKeeper<'_> {
             × IfOk result (CountsRows old new)
             × HasCause result (IsTrue old.in_transaction) (RefusesRow count_text [] old new IsCount)) }
         ensures faults { CountsFaults (file_shelf self.old) (file_shelf self.new) result }
+        ensures stays { StaysUnlessFailed (file_shelf self.old) (file_shelf self.new) result }
     {
         let Some(store) = &mut self.store else {
             return self.passed(Err(KeepError::Failed));
@@ -116,6 +133,7 @@ impl Keeper for FileKeeper<'_> {
             × HasCause result (IsTrue old.in_transaction ⊎ (2 ^ 63 ≤ seq))
             (RefusesRow row_text (Int (pos seq) ∷ []) old new IsKept)) }
         ensures faults { CountsFaults (file_shelf self.old) (file_shelf self.new) result }
+        ensures stays { StaysUnlessFailed (file_shelf self.old) (file_shelf self.new) result }
     {
         let Some(store) = &mut self.store else {
             return self.passed(Err(KeepError::Failed));
@@ -136,6 +154,7 @@ impl Keeper for FileKeeper<'_> {
             × HasCause result (IsTrue old.in_transaction)
             (Refuses insert_text (Text id.now ∷ Blob body.now ∷ []) old new)) }
         ensures faults { CountsFaults (file_shelf self.old) (file_shelf self.new) result }
+        ensures stays { StaysUnlessFailed (file_shelf self.old) (file_shelf self.new) result }
     {
         let Some(store) = &mut self.store else {
             return self.passed(Err(KeepError::Failed));
@@ -143,6 +162,14 @@ impl Keeper for FileKeeper<'_> {
         let answer = store.append(id, body);
         self.passed(answer)
     }
+}
+
+// Whether a name is that of a file that SQLite keeps beside a database.
+fn is_beside(name: &str) -> bool
+    ensures { result ≡ is_beside name.now }
+{
+    let name = name.as_bytes();
+    name.ends_with(b"-wal") || name.ends_with(b"-shm") || name.ends_with(b"-journal")
 }
 
 // A keeper over the database file of this name, which has its table.

@@ -1,6 +1,6 @@
 ghost use Rattle.std.specs.Prelude.{◌≡◌, ◌-◌, ◌≤◌, length, slice_get, Some, IsTrue, IfOk, IfSome, OnOk, OnErr};
 ghost use Rattle.ghg_keeper.specs.Id.{is_id};
-ghost use Rattle.ghg_keeper.specs.Shelf.{Shelf, Adds, CountsFaults, Keeps, KeepsRows, StaysTold};
+ghost use Rattle.ghg_keeper.specs.Shelf.{Shelf, Adds, CountsFaults, Keeps, KeepsRows, StaysTold, StaysUnlessFailed};
 
 use crate::KeptRow;
 use sqlite::{Error, ErrorCode};
@@ -45,7 +45,8 @@ impl From<Error> for KeepError {
 
 /// A list of rows, each an id and a body, in the store that is in use.
 ///
-/// What a call is not said to change stays as it is, also after an error.
+/// What a call is not said to change stays as it is, also after an error. With any answer but `Failed` the
+/// count of faults is as before, so a failure is never told as want of memory.
 pub trait Keeper {
     /// What the keeper tells.
     ghost shelf: { Self → Shelf };
@@ -56,14 +57,16 @@ pub trait Keeper {
         ensures told { StaysTold (shelf self.old) (shelf self.new) result }
         ensures ok { OnOk result (IfSome (shelf self.new).name (λ used. used ≡ name.now)) }
         ensures err { OnErr result ((shelf self.new).name ≡ (shelf self.old).name) }
-        ensures faults { CountsFaults (shelf self.old) (shelf self.new) result };
+        ensures faults { CountsFaults (shelf self.old) (shelf self.new) result }
+        ensures stays { StaysUnlessFailed (shelf self.old) (shelf self.new) result };
 
     /// How many rows there are.
     fn count(&mut self) -> Result<u64, KeepError>
         ensures count { (shelf self.new).tells → IfOk result (λ n. n ≡ length (shelf self.old).rows) }
         ensures keeps { Keeps (shelf self.old) (shelf self.new) }
         ensures told { StaysTold (shelf self.old) (shelf self.new) result }
-        ensures faults { CountsFaults (shelf self.old) (shelf self.new) result };
+        ensures faults { CountsFaults (shelf self.old) (shelf self.new) result }
+        ensures stays { StaysUnlessFailed (shelf self.old) (shelf self.new) result };
 
     /// The row of this number, counted from 1.
     fn row(&mut self, seq: u64) -> Result<KeptRow, KeepError>
@@ -73,7 +76,8 @@ pub trait Keeper {
             → IfOk result (λ row. slice_get (shelf self.old).rows (seq - 1) ≡ Some row) }
         ensures keeps { Keeps (shelf self.old) (shelf self.new) }
         ensures told { StaysTold (shelf self.old) (shelf self.new) result }
-        ensures faults { CountsFaults (shelf self.old) (shelf self.new) result };
+        ensures faults { CountsFaults (shelf self.old) (shelf self.new) result }
+        ensures stays { StaysUnlessFailed (shelf self.old) (shelf self.new) result };
 
     /// Puts one row behind the others, and answers its number.
     fn append(&mut self, id: &[u8], body: &[u8]) -> Result<u64, KeepError>
@@ -82,5 +86,7 @@ pub trait Keeper {
             (Adds (shelf self.old) (shelf self.new) (record { id = id.now; body = body.now })) }
         ensures number { (shelf self.new).tells → IfOk result (λ seq. seq ≡ length (shelf self.new).rows) }
         ensures err { OnErr result (Keeps (shelf self.old) (shelf self.new)) }
-        ensures faults { CountsFaults (shelf self.old) (shelf self.new) result };
+        ensures told { StaysTold (shelf self.old) (shelf self.new) result }
+        ensures faults { CountsFaults (shelf self.old) (shelf self.new) result }
+        ensures stays { StaysUnlessFailed (shelf self.old) (shelf self.new) result };
 }

@@ -1,9 +1,9 @@
-ghost use Rattle.std.specs.Prelude.{◌≡◌, ◌⊎◌, ◌-◌, ◌≤◌, ◌^◌, pos, [], ◌∷◌, length, slice_get, Some, IsTrue, IfOk, IsErrOf, OnOk, OnErr};
+ghost use Rattle.std.specs.Prelude.{◌≡◌, ◌⊎◌, ◌-◌, ◌≤◌, ◌^◌, pos, [], ◌∷◌, length, slice_get, Some, IsTrue, IfOk, IfErr, IsErrOf, OnOk, OnErr};
 ghost use Rattle.sqlite.specs.declared.types.Value.TheVariants.{Int, Text, Blob};
 ghost use Rattle.sqlite.specs.State.{HasCleanDisk};
 ghost use Rattle.ghg_outer.specs.Counts.{IsCounted};
 ghost use Rattle.ghg_keeper.specs.Id.{is_id};
-ghost use Rattle.ghg_keeper.specs.Shelf.{Adds, CountsFaults, Keeps, KeepsRows};
+ghost use Rattle.ghg_keeper.specs.Shelf.{Adds, CountsFaults, Keeps, KeepsRows, StaysUnlessFailed};
 ghost use Rattle.ghg_keeper.specs.Accepted.{accepted_schema, has_kept_table};
 ghost use Rattle.ghg_keeper.specs.Errors.{Acknowledges, CountsRows, HasAnother, HasCause, InsertsRow, IsCount, IsKept, ReadsRow, Refuses, RefusesRow, told_of};
 ghost use Rattle.ghg_keeper.specs.Listed.{IsAsBeforeOrMade, IsBeforeOrAfter, IsSafe};
@@ -12,7 +12,8 @@ ghost use Rattle.ghg_keeper.specs.Texts.{count_text, create_text, insert_text, r
 use crate::statements::{MOST, count_rows, insert_row, kept_count, kept_row, make_table, read_row};
 use crate::table::has_kept_table;
 use crate::{KeepError, Keeper, KeptRow};
-use sqlite::{Alter, Connection, Error};
+use sqlite::{Alter, Connection, Error, FileStore, Files};
+use sqlite_disk::Disk;
 
 /// Rows in the table `accepted(seq INTEGER PRIMARY KEY, id TEXT UNIQUE NOT NULL, body BLOB NOT NULL)` of a
 /// database, over any store: a file or memory.
@@ -66,6 +67,7 @@ impl<S: Alter> SqlKeeper<S> {
         ensures answer { result ≡ told_of answer }
         ensures same { self.new.connection ≡ self.old.connection }
         ensures faults { IsCounted self.old.faults self.new.faults (IsErrOf result KeepError.Failed) }
+        ensures stays { IsErrOf result KeepError.Failed ⊎ (self.new.faults ≡ self.old.faults) }
     {
         match answer {
             Ok(value) => Ok(value),
@@ -74,6 +76,28 @@ impl<S: Alter> SqlKeeper<S> {
                 KeepError::Failed => self.fault(),
             }),
         }
+    }
+}
+
+impl<D: Disk + Drop> SqlKeeper<FileStore<D>> {
+    ghost use Rattle.sqlite_store.specs.FileStore.{view};
+    ghost use Rattle.sqlite_trees.specs.View.{IsClean};
+    ghost use Rattle.sqlite_wal.specs.Reads.{AreClean};
+    ghost use Rattle.sqlite.specs.Closing.{IsCopied};
+    ghost use Rattle.sqlite.specs.Files.{FailsToClose, IsClosed};
+    ghost use Rattle.ghg_keeper.specs.Databases.{held};
+
+    /// Ends the use of a store in files. Its log is copied into the database file, which then has all rows
+    /// by itself. After an error the two files are the store, as before.
+    pub fn close(self) -> Result<Files<D>, (Error, FileStore<D>)>
+        // What was committed stands in the database file alone, as that reads now and after a crash.
+        ensures copied { IfOk result
+            (λ files. AreClean D.Disk files.log files.db → IsCopied (held self) files) }
+        // A crash has no new outcome, and the error has a cause.
+        ensures failed { IfErr result (λ left. IsClosed (held self) left.1
+            × (IsClean (view left.1) → FailsToClose (held self) left.1 left.0)) }
+    {
+        self.into_connection().close_files()
     }
 }
 
@@ -87,6 +111,7 @@ impl<S: Alter> Keeper for SqlKeeper<S> {
     fn attach(&mut self, name: &str) -> Result<(), KeepError>
         ensures rows { KeepsRows (kept_shelf S.Store self.old) (kept_shelf S.Store self.new) }
         ensures faults { CountsFaults (kept_shelf S.Store self.old) (kept_shelf S.Store self.new) result }
+        ensures stays { StaysUnlessFailed (kept_shelf S.Store self.old) (kept_shelf S.Store self.new) result }
         // Over a clean store the table is there once that is acknowledged.
         ensures made { (kept_shelf S.Store self.old).tells → HasCleanDisk (database S.Store self.new)
             → OnOk result ((database S.Store self.new).now.schema ≡ accepted_schema) }
@@ -118,6 +143,7 @@ impl<S: Alter> Keeper for SqlKeeper<S> {
             → IfOk result (λ n. n ≡ length (kept_shelf S.Store self.old).rows) }
         ensures keeps { Keeps (kept_shelf S.Store self.old) (kept_shelf S.Store self.new) }
         ensures faults { CountsFaults (kept_shelf S.Store self.old) (kept_shelf S.Store self.new) result }
+        ensures stays { StaysUnlessFailed (kept_shelf S.Store self.old) (kept_shelf S.Store self.new) result }
         ensures safe { IsSafe (database S.Store self.old) (database S.Store self.new) result
             (λ db. db ≡ (database S.Store self.old).now.trees) }
         ensures reads { IfOk result (CountsRows (database S.Store self.old) (database S.Store self.new)) }
@@ -140,6 +166,7 @@ impl<S: Alter> Keeper for SqlKeeper<S> {
             slice_get (kept_shelf S.Store self.old).rows (seq - 1) ≡ Some row) }
         ensures keeps { Keeps (kept_shelf S.Store self.old) (kept_shelf S.Store self.new) }
         ensures faults { CountsFaults (kept_shelf S.Store self.old) (kept_shelf S.Store self.new) result }
+        ensures stays { StaysUnlessFailed (kept_shelf S.Store self.old) (kept_shelf S.Store self.new) result }
         ensures safe { IsSafe (database S.Store self.old) (database S.Store self.new) result
             (λ db. db ≡ (database S.Store self.old).now.trees) }
         ensures reads { IfOk result (ReadsRow seq (database S.Store self.old) (database S.Store self.new)) }
@@ -168,6 +195,7 @@ impl<S: Alter> Keeper for SqlKeeper<S> {
             → IfOk result (λ seq. seq ≡ length (kept_shelf S.Store self.new).rows) }
         ensures err { OnErr result (Keeps (kept_shelf S.Store self.old) (kept_shelf S.Store self.new)) }
         ensures faults { CountsFaults (kept_shelf S.Store self.old) (kept_shelf S.Store self.new) result }
+        ensures stays { StaysUnlessFailed (kept_shelf S.Store self.old) (kept_shelf S.Store self.new) result }
         // A crash at the end of the call, with any answer, leaves the rows as they were, or with the new one.
         ensures safe { IsSafe (database S.Store self.old) (database S.Store self.new) result
             (IsBeforeOrAfter (database S.Store self.old).now id.now body.now) }

@@ -9,6 +9,7 @@ attach-tells g c = record {
   ok = on_ok c.result tt;
   err = on_err c.result refl;
   faults = c.ensures.faults;
+  stays = c.ensures.stays;
 }
 
 pub count-tells : goal.count-tells
@@ -17,6 +18,7 @@ count-tells g c = record {
   told = λ h. absurd h;
   keeps = keeps_none c.args.self.now c.new.self.now;
   faults = c.ensures.faults;
+  stays = c.ensures.stays;
 }
 
 pub row-tells : goal.row-tells
@@ -25,12 +27,15 @@ row-tells g c = record {
   told = λ h. absurd h;
   keeps = keeps_none c.args.self.now c.new.self.now;
   faults = c.ensures.faults;
+  stays = c.ensures.stays;
 }
 
 pub append-tells : goal.append-tells
 append-tells g c = record {
   ok = on_ok c.result (adds_none c.args.self.now c.new.self.now _);
   number = λ h. absurd h;
+  told = λ h. absurd h;
   err = on_err c.result (keeps_none c.args.self.now c.new.self.now);
   faults = c.ensures.faults;
+  stays = c.ensures.stays;
 }

@@ -12,6 +12,7 @@ attach-tells g c = record {
   ok = on_ok c.result tt;
   err = on_err c.result refl;
   faults = c.ensures.faults;
+  stays = c.ensures.stays;
 }
 
 pub count-tells : goal.count-tells
@@ -21,6 +22,7 @@ count-tells g c = record {
   told = stays_told (database g.S.Store c.args.self.now) (database g.S.Store c.new.self.now) c.args.self.now.faults c.new.self.now.faults
       c.result c.ensures.safe;
   faults = c.ensures.faults;
+  stays = c.ensures.stays;
 }
 
 pub row-tells : goal.row-tells
@@ -30,4 +32,16 @@ row-tells g c = record {
   told = stays_told (database g.S.Store c.args.self.now) (database g.S.Store c.new.self.now) c.args.self.now.faults c.new.self.now.faults
       c.result c.ensures.safe;
   faults = c.ensures.faults;
+  stays = c.ensures.stays;
+}
+
+pub append-tells : goal.append-tells
+append-tells g c = record {
+  ok = c.ensures.ok;
+  number = c.ensures.number;
+  err = c.ensures.err;
+  told = stays_told (database g.S.Store c.args.self.now) (database g.S.Store c.new.self.now) c.args.self.now.faults c.new.self.now.faults
+      c.result c.ensures.safe;
+  faults = c.ensures.faults;
+  stays = c.ensures.stays;
 }
