@@ -9,5 +9,4 @@ pub mod Settling
 pub mod YearSet
 pub mod Series
 pub mod Calendar
-pub mod Brackets
 pub mod Lasting

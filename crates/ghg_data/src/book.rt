@@ -118,6 +118,7 @@ impl Book {
         ensures few { IfOk result (AreOfRows rows.now) }
         ensures ready { IfOk result (IsPlanned self.new) }
     {
+        self.holdings.keep_brackets(rows)?;
         let edits = planned_edits(alloc, &self.holdings, rows, rest, kept_bytes)?;
         let span = Draft::of(&self.holdings, &edits).span();
         self.holdings.reserve(alloc, &edits, span)?;

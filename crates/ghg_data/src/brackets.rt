@@ -1,46 +1,94 @@
 //! Brackets of decay factors, each computed once.
 
-ghost use Rattle.std.specs.Prelude.{◌≡◌, ◌≤◌};
+ghost use Rattle.std.specs.Prelude.{◌≡◌, IfSome};
+ghost use Rattle.std.specs.List.{AllByRecursion};
 ghost use Rattle.ghg_roots.specs.Decay.{decay_bounds};
-ghost use Rattle.ghg_units.specs.WellFormed.{IsHalfLife};
-ghost use Rattle.ghg_data.specs.Brackets.{AreBrackets, AreBracketsUpTo};
+ghost use Rattle.ghg_units.specs.WellFormed.{IsHalfLife, IsWellFormed};
 
 use ghg_interval::Interval;
 use ghg_roots::decay_bracket;
-use ghg_units::LONGEST_HALF_LIFE;
+use ghg_units::{Amount, Row, RowForm};
+use std::alloc::{AllocError, Global};
 
-const HALF_LIVES: usize = LONGEST_HALF_LIFE as usize;
+/// The bracket of the yearly decay factor of a half-life in tenths of a year.
+#[derive(Drop)]
+struct Bracket {
+    half_life: u32,
+    factor: Interval,
+    ghost right: { factor ≡ decay_bounds half_life },
+}
 
-/// The brackets of the yearly decay factors of all half-lives in whole years, that of one year first.
+/// The brackets of the half-lives that the rows of submissions named. There are few of them.
 #[derive(Drop)]
 pub(crate) struct Brackets {
-    kept: [Interval; HALF_LIVES],
-    ghost right: { AreBrackets kept },
+    kept: Vec<Bracket>,
 }
 
 impl Brackets {
-    /// All brackets, which are computed here and nowhere else.
-    pub(crate) fn new() -> Brackets {
+    /// None. It takes no memory.
+    pub(crate) fn new(alloc: Global) -> Brackets {
         Brackets {
-            kept: all_brackets(),
+            kept: Vec::new(alloc),
         }
     }
 
-    /// The bracket of a half-life.
+    /// Keeps the brackets of the half-lives that rows name.
+    pub(crate) fn keep(&mut self, rows: &[Row]) -> Result<(), AllocError>
+        requires { AllByRecursion IsWellFormed rows.now }
+    {
+        for row in rows {
+            if let Some(half_life) = half_life_of(row) {
+                self.keep_one(half_life)?;
+            }
+        }
+        Ok(())
+    }
+
+    fn keep_one(&mut self, half_life: u32) -> Result<(), AllocError>
+        requires { IsHalfLife half_life }
+    {
+        if self.find(half_life).is_none() {
+            self.kept.push(Bracket {
+                half_life,
+                factor: decay_bracket(half_life),
+            })?;
+        }
+        Ok(())
+    }
+
+    /// The bracket of a half-life, which is computed where it is not kept.
     pub(crate) fn get(&self, half_life: u32) -> Interval
         requires { IsHalfLife half_life }
         ensures { result ≡ decay_bounds half_life }
     {
-        self.kept[half_life as usize - 1]
+        match self.find(half_life) {
+            Some(factor) => factor,
+            None => decay_bracket(half_life),
+        }
+    }
+
+    fn find(&self, half_life: u32) -> Option<Interval>
+        ensures { IfSome result (λ factor. factor ≡ decay_bounds half_life) }
+    {
+        for bracket in &self.kept {
+            if bracket.half_life == half_life {
+                return Some(bracket.factor);
+            }
+        }
+        None
     }
 }
 
-fn all_brackets() -> [Interval; HALF_LIVES]
-    ensures { AreBrackets result }
+// The half-life that a row names, if it names one.
+fn half_life_of(row: &Row) -> Option<u32>
+    requires { IsWellFormed row.now }
+    ensures { IfSome result IsHalfLife }
 {
-    let mut kept = [decay_bracket(1); HALF_LIVES];
-    for place in 1..HALF_LIVES {
-        kept[place] = decay_bracket(place as u32 + 1);
+    match &row.form {
+        RowForm::Factor(_, _, Some(figure)) => match figure.amount {
+            Amount::HalfLife(half_life) => Some(half_life),
+            _ => None,
+        },
+        _ => None,
     }
-    kept
 }

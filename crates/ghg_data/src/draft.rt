@@ -102,7 +102,7 @@ impl<'a> Draft<'a> {
         lines_after(alloc, self.holdings, self.edits)
     }
 
-    /// The bracket of the yearly decay factor of a half-life.
+    /// The bracket of the yearly decay factor of a half-life in tenths of a year.
     pub(crate) fn decay_bracket(&self, half_life: u32) -> Interval
         requires { IsHalfLife half_life }
         ensures { result ≡ decay_bounds half_life }

@@ -3,6 +3,7 @@
 ghost use Rattle.std.specs.Prelude.{◌≡◌, ℕ, ◌+◌, ◌^◌, ◌≤◌, ◌<◌, ◌&&◌, true, false, OnOk, Some, None, is_some, option_copied, length};
 ghost use Rattle.std.specs.FinMap as finite;
 ghost use Rattle.std.specs.FinMap.{from_entries};
+ghost use Rattle.std.specs.List.{AllByRecursion};
 ghost use Rattle.indexmap.specs.IndexMap.{spare};
 ghost use Rattle.ghg_definitions.specs.Data.{key_cmp, line, line_names};
 ghost use Rattle.ghg_definitions.specs.Rows.{with_record};
@@ -10,7 +11,7 @@ ghost use Rattle.ghg_data.specs.Calendar.{IsCalendarOf, IsNoted};
 ghost use Rattle.ghg_data.specs.Series.{dated};
 ghost use Rattle.ghg_data.specs.Changes.{applied};
 ghost use Rattle.ghg_roots.specs.Decay.{decay_bounds};
-ghost use Rattle.ghg_units.specs.WellFormed.{IsHalfLife};
+ghost use Rattle.ghg_units.specs.WellFormed.{IsHalfLife, IsWellFormed};
 ghost use Rattle.ghg_units.specs.Year.{is_year};
 ghost use Rattle.ghg_data.specs.YearSet.{has_year};
 
@@ -24,7 +25,7 @@ use crate::year_set::YearSet;
 use ghg_definitions::{Record, RecordKey};
 use ghg_equations::EqId;
 use ghg_interval::Interval;
-use ghg_units::{Name, Span};
+use ghg_units::{Name, Row, Span};
 use indexmap::IndexMap;
 use std::alloc::{AllocError, Global};
 use std::hash::RandomState;
@@ -71,7 +72,7 @@ impl Holdings {
             records: IndexMap::with_hasher(alloc, hasher),
             lines: Vec::new(alloc),
             calendar: Calendar::new(alloc, hasher),
-            brackets: Brackets::new(),
+            brackets: Brackets::new(alloc),
         }
     }
 
@@ -126,7 +127,15 @@ impl Holdings {
         self.calendar.years(series)
     }
 
-    /// The bracket of the yearly decay factor of a half-life.
+    /// Keeps the brackets of the half-lives that rows name, each of which is computed once.
+    pub(crate) fn keep_brackets(&mut self, rows: &[Row]) -> Result<(), AllocError>
+        requires { AllByRecursion IsWellFormed rows.now }
+        ensures { self.new ≡ self.old }
+    {
+        self.brackets.keep(rows)
+    }
+
+    /// The bracket of the yearly decay factor of a half-life in tenths of a year.
     pub(crate) fn decay_bracket(&self, half_life: u32) -> Interval
         requires { IsHalfLife half_life }
         ensures { result ≡ decay_bounds half_life }

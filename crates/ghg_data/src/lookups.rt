@@ -4,7 +4,7 @@ ghost use Rattle.std.specs.Prelude.{◌≡◌, ◌≤◌, ◌+◌, IfSome, optio
 ghost use Rattle.ghg_definitions.specs.Data.{figure};
 ghost use Rattle.ghg_definitions.specs.Lookups.{activity_input, decay_input, decay_of_figure, factor_input, input_of_amount, input_of_figure, input_of_key, zero_input};
 ghost use Rattle.ghg_definitions.specs.Sound.{IsWorkbook};
-ghost use Rattle.ghg_interval.specs.Bounds.{AreBounded, point};
+ghost use Rattle.ghg_interval.specs.Bounds.{AreBounded, exactly};
 ghost use Rattle.ghg_data.specs.Lasting.{HasYear, IsLasting, NoneStartsBetween};
 ghost use Rattle.ghg_units.specs.Units.{converted};
 ghost use Rattle.ghg_units.specs.WellFormed.{IsAmountOf, IsFigure};
@@ -13,7 +13,7 @@ use crate::lasting::Lasting;
 use crate::records::Records;
 use ghg_cell::Input;
 use ghg_definitions::{Record, RecordKey};
-use ghg_interval::Interval;
+use ghg_interval::{Interval, SCALE};
 use ghg_units::{Amount, Decimal, Figure, Name, NotationKey, Unit, to_interval};
 
 /// What an activity's record of the year gives.
@@ -101,7 +101,7 @@ fn input(figure: Option<&Figure>) -> Input
     match figure.amount {
         Amount::Key(key) => input_of_key(key),
         Amount::Known { value, low, high } => known(figure.unit, value, low, high),
-        Amount::HalfLife(years) => whole(years),
+        Amount::HalfLife(tenths) => exactly(i128::from(tenths) * (SCALE / 10)),
     }
 }
 
@@ -114,8 +114,8 @@ fn decay_of<R: Records>(records: &R, figure: Option<&Figure>) -> Input
         return Input::Blank;
     };
     match figure.amount {
-        Amount::HalfLife(years) => {
-            let bracket = records.decay_bracket(years);
+        Amount::HalfLife(tenths) => {
+            let bracket = records.decay_bracket(tenths);
             Input::Known {
                 point: bracket,
                 range: bracket,
@@ -162,15 +162,15 @@ pub fn input_of_key(key: NotationKey) -> Input
 fn zero() -> Input
     ensures { result ≡ zero_input }
 {
-    whole(0)
+    exactly(0)
 }
 
-// A whole number of base units, the same at each choice.
-fn whole(number: u32) -> Input
-    requires { AreBounded (point (pos number)) }
-    ensures { result ≡ Input.Known (point (pos number)) (point (pos number)) }
+// A number at the scale of intervals, the same at each choice.
+fn exactly(number: i128) -> Input
+    requires { AreBounded (exactly number) }
+    ensures { result ≡ Input.Known (exactly number) (exactly number) }
 {
-    let point = Interval::whole(i128::from(number)).unwrap();
+    let point = Interval::exact(number).unwrap();
     Input::Known {
         point,
         range: point,

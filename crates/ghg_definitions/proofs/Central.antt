@@ -23,7 +23,7 @@ use Rattle.ghg_definitions.proofs.Chosen.{figure_formed}
 central_amount : UnitWord → Amount → Fraction
 central_amount u (amounts.Key notation) = whole (pos 0)
 central_amount u (amounts.Known value low high) = exact_of u value
-central_amount u (amounts.HalfLife years) = in_units (decay_bounds years).lo
+central_amount u (amounts.HalfLife tenths) = in_units (decay_bounds tenths).lo
 
 central_figure : Option Figure → Fraction
 central_figure None = whole (pos 0)
@@ -42,7 +42,7 @@ amount_chosen : (u : UnitWord) (a : Amount) → IsAmountOf u a → IsChoiceOfAmo
 unfolding central_amount
 amount_chosen u (amounts.Key notation) formed = tt
 amount_chosen u (amounts.Known value low high) formed = (exact_ordered u low value formed.0, exact_ordered u value high formed.1)
-amount_chosen u (amounts.HalfLife years) formed = low_inside (decay_bounds years) (decay_ordered years formed.0)
+amount_chosen u (amounts.HalfLife tenths) formed = low_inside (decay_bounds tenths) (decay_ordered tenths formed.0)
 
 figure_chosen : (o : Option Figure) → ((g : Figure) → o ≡ Some g → IsFigure g) → IsChoiceOf o (central_figure o)
 unfolding central_figure
@@ -53,7 +53,7 @@ amount_central : (u : UnitWord) (a : Amount) → IsCentralOfAmount u a (central_
 unfolding central_amount
 amount_central u (amounts.Key notation) = tt
 amount_central u (amounts.Known value low high) = record { same = refl }
-amount_central u (amounts.HalfLife years) = tt
+amount_central u (amounts.HalfLife tenths) = tt
 
 figure_central : (o : Option Figure) → IsCentralOf o (central_figure o)
 unfolding central_figure

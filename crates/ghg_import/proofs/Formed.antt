@@ -23,9 +23,10 @@ use Rattle.ghg_units.specs.declared.row.RowForm.TheVariants as forms
 use Rattle.ghg_units.specs.declared.rule.Column.TheVariants as columns
 use Rattle.ghg_units.specs.declared.rule.Rule.{Rule}
 use Rattle.ghg_units.specs.declared.unit.Unit.{Unit as UnitWord}
-use Rattle.ghg_units.specs.Decimal.{decimal_in, number_in, number_of}
-use Rattle.ghg_units.specs.HalfLife.{half_life_in, is_half_life}
-use Rattle.ghg_units.specs.declared.half_life.TheConstants.{LONGEST_HALF_LIFE}
+use Rattle.ghg_units.specs.Decimal.{decimal_in, number_of}
+use Rattle.ghg_units.specs.Format.{format_in}
+use Rattle.ghg_units.specs.HalfLife.{half_life_in, is_half_life, tenths_in, years_in}
+use Rattle.ghg_units.specs.declared.half_life.TheConstants.{LONGEST_HALF_LIFE, SHORTEST_HALF_LIFE}
 use Rattle.ghg_units.specs.Name.{factor_name_in, is_digit, is_name, is_potential_name, name_in, plain_name_in}
 use Rattle.ghg_units.specs.Parameter.{is_parameter, parameter_in}
 use Rattle.ghg_units.specs.Uncertainty.{uncertainty_in}
@@ -170,16 +171,16 @@ known_formed u row =
       record { lo = (bound_bounded u value low (text_of row columns.Low) is l).lo; hi = (bound_bounded u value high (text_of row columns.High) is h).hi },
     )))))
 
-half_life_formed : (text : List ℕ) (years : ℕ) → half_life_in text ≡ Some years → IsHalfLife years
-half_life_formed text years e = by (number_in 2 text) e
+half_life_formed : (format : ℕ) (text : List ℕ) (tenths : ℕ) → half_life_in format text ≡ Some tenths → IsHalfLife tenths
+unfolding half_life_in
+half_life_formed format text tenths e = by (if format == 2 then tenths_in text else years_in text) e
   where
-    by : (o : Option ℕ) → option_and_then (λ y. if is_half_life y then Some y else None) o ≡ Some years → IsHalfLife years
+    by : (o : Option ℕ) → option_and_then (λ t. if is_half_life t then Some t else None) o ≡ Some tenths → IsHalfLife tenths
     by None e = absurd (cc)
-    by (Some y) e =
-        let parts = chosen (is_half_life y) y years e in
-        let from = (and_parts (nat_le 1 y) (nat_le y LONGEST_HALF_LIFE) parts.0).0 in
-        let to = (and_parts (nat_le 1 y) (nat_le y LONGEST_HALF_LIFE) parts.0).1 in
-        subst IsHalfLife parts.1 (leb-true _ _ from, leb-true _ _ to)
+    by (Some t) e =
+        let parts = chosen (is_half_life t) t tenths e in
+        let within = and_parts (nat_le SHORTEST_HALF_LIFE t) (nat_le t LONGEST_HALF_LIFE) parts.0 in
+        subst IsHalfLife parts.1 (leb-true _ _ within.0, leb-true _ _ within.1)
 
 abbrev pub says_years : Manner → Bool
 says_years Withdraws = false
@@ -207,11 +208,11 @@ known_amount u row = by (known_in u row) (known_formed u row) (known_stays)
         reads (bound_in u value (text_of row columns.High)) _ P (λ high h.
         passes (int_le low.scaled value.scaled && int_le value.scaled high.scaled) _ P (λ ordered. refl))))
 
-amount_formed : (m : Manner) (u : UnitWord) (row : Texts) → IfSome (amount_in m u row) (IsAmountIn m u)
-amount_formed Withdraws u row = known_amount u row
-amount_formed InYears u row = mapped amounts.HalfLife (half_life_in (text_of row columns.Value)) (IsAmountIn InYears u) (λ years e. (half_life_formed (text_of row columns.Value) years e, refl))
-amount_formed Keyed u row = mapped amounts.Key (key_in (text_of row columns.Value)) (IsAmountIn Keyed u) (λ key e. (tt, refl))
-amount_formed Valued u row = known_amount u row
+amount_formed : (format : ℕ) (m : Manner) (u : UnitWord) (row : Texts) → IfSome (amount_in format m u row) (IsAmountIn m u)
+amount_formed format Withdraws u row = known_amount u row
+amount_formed format InYears u row = mapped amounts.HalfLife (half_life_in format (text_of row columns.Value)) (IsAmountIn InYears u) (λ tenths e. (half_life_formed format (text_of row columns.Value) tenths e, refl))
+amount_formed format Keyed u row = mapped amounts.Key (key_in (text_of row columns.Value)) (IsAmountIn Keyed u) (λ key e. (tt, refl))
+amount_formed format Valued u row = known_amount u row
 
 -- a figure in the row's unit
 abbrev IsFigureIn : Chosen → Figure → Type 0
@@ -219,7 +220,7 @@ IsFigureIn c f = IsFigure f × (decays f.amount ≡ says_years c.manner) × (c.u
 
 figure_formed : (c : Chosen) (row : Texts) → IfSome (figure_in c row) (IsFigureIn c)
 unfolding figure_in
-figure_formed c row = reads c.unit _ (IsFigureIn c) (λ u e. keeps (amount_in c.manner u row) (IsAmountIn c.manner u) (amount_formed c.manner u row) _ (IsFigureIn c) (λ a good. (good.0, good.1, e)))
+figure_formed c row = reads c.unit _ (IsFigureIn c) (λ u e. keeps (amount_in c.format c.manner u row) (IsAmountIn c.manner u) (amount_formed c.format c.manner u row) _ (IsFigureIn c) (λ a good. (good.0, good.1, e)))
 
 span_formed : (row : Texts) → IfSome (span_in row) IsSpan
 unfolding span_in
@@ -312,46 +313,46 @@ behind Keyed (Some a) Q good f gone here = here a refl good
 behind Valued None Q good f gone here = tt
 behind Valued (Some a) Q good f gone here = here a refl good
 
-said_formed : (kind : Kind) (act : Act) (row : Texts) → IfSome (content_of kind (chosen_in kind act row) row) (IsForm (is_away (manner_of kind act row)))
+said_formed : (format : ℕ) (kind : Kind) (act : Act) (row : Texts) → IfSome (content_of kind (chosen_in format kind act row) row) (IsForm (is_away (manner_of kind act row)))
 unfolding content_of
-said_formed kinds.Span act row = behind (manner_of kinds.Span act row) (span_in row) IsSpan (span_formed row) forms.Span refl (λ s here ok. (refl, ok))
-said_formed kinds.Activity act row =
-    let c : Chosen = chosen_in kinds.Activity act row in
+said_formed format kinds.Span act row = behind (manner_of kinds.Span act row) (span_in row) IsSpan (span_formed row) forms.Span refl (λ s here ok. (refl, ok))
+said_formed format kinds.Activity act row =
+    let c : Chosen = chosen_in format kinds.Activity act row in
     let P : RowForm → Type 0 = IsForm (is_away c.manner) in
     reads (plain_name_in (text_of row columns.Name)) _ P (λ name n. reads (year_in (text_of row columns.Year)) _ P (λ y e.
     let plain = plain_name (text_of row columns.Name) name n in
     let is = year (text_of row columns.Year) y e in
     behind c.manner (figure_in c row) (IsFigureIn c) (figure_formed c row) (forms.Activity name y) (refl, plain, is) (λ f here ok.
     (refl, plain, is, (ok.0, ok.1 ∙ in_years kinds.Activity act row here)))))
-said_formed kinds.Factor act row =
-    let c : Chosen = chosen_in kinds.Factor act row in
+said_formed format kinds.Factor act row =
+    let c : Chosen = chosen_in format kinds.Factor act row in
     let P : RowForm → Type 0 = IsForm (is_away c.manner) in
     reads (factor_name_in (text_of row columns.Name)) _ P (λ name n. reads (year_in (text_of row columns.Year)) _ P (λ y e.
     let own = factor_name (text_of row columns.Name) name n in
     let is = year (text_of row columns.Year) y e in
     behind c.manner (figure_in c row) (IsFigureIn c) (figure_formed c row) (forms.Factor name y) (refl, own, is) (λ f here ok.
     (refl, own, is, (ok.0, ok.1 ∙ in_years kinds.Factor act row here ∙ ap (is_in_years kinds.Factor) ok.2)))))
-said_formed kinds.Line act row =
+said_formed format kinds.Line act row =
     let m : Manner = manner_of kinds.Line act row in
     reads (plain_name_in (text_of row columns.Name)) _ (IsForm (is_away m)) (λ name n.
     let plain = plain_name (text_of row columns.Name) name n in
     behind m (line_in row) (λ l. IsLeaf l.0) (line_formed row) (forms.Line name) (refl, plain) (λ l here ok. (refl, plain, ok)))
-said_formed kinds.Bind act row =
+said_formed format kinds.Bind act row =
     let m : Manner = manner_of kinds.Bind act row in
     let P : RowForm → Type 0 = IsForm (is_away m) in
     reads (plain_name_in (text_of row columns.Subject)) _ P (λ line l. reads (parameter_in (text_of row columns.Name)) _ P (λ name n.
     let plain = plain_name (text_of row columns.Subject) line l in
     let own = parameter (text_of row columns.Name) name n in
     behind m (binding_in row) IsBinding (binding_formed row) (forms.Bind line name) (refl, plain, own) (λ b here ok. (refl, plain, own, ok))))
-said_formed kinds.Uncert act row =
+said_formed format kinds.Uncert act row =
     let m : Manner = manner_of kinds.Uncert act row in
     reads (plain_name_in (text_of row columns.Name)) _ (IsForm (is_away m)) (λ line l.
     let plain = plain_name (text_of row columns.Name) line l in
     behind m (uncertainties_in row) AreUncertainties (uncertainties_formed row) (forms.Uncert line) (refl, plain) (λ u here ok. (refl, plain, ok.0, ok.1)))
 
-form_formed : (kind : Kind) (act : Act) (row : Texts) → IfOk (form_in kind act row) (IsForm (withdraws act))
+form_formed : (format : ℕ) (kind : Kind) (act : Act) (row : Texts) → IfOk (form_in format kind act row) (IsForm (withdraws act))
 unfolding form_of
-form_formed kind act row = by (wrong_column kind (chosen_in kind act row) row) (content_of kind (chosen_in kind act row) row) (said_formed kind act row)
+form_formed format kind act row = by (wrong_column kind (chosen_in format kind act row) row) (content_of kind (chosen_in format kind act row) row) (said_formed format kind act row)
   where
     by : (fault : Option Fault) (o : Option RowForm) → IfSome o (IsForm (is_away (manner_of kind act row))) → IfOk (unless_wrong fault o) (IsForm (withdraws act))
     by (Some fault) o good = tt
@@ -360,11 +361,11 @@ form_formed kind act row = by (wrong_column kind (chosen_in kind act row) row) (
 
 -- ---- rows
 
-content_formed : (row : Texts) → IfOk (content_in row) (λ (c : Act × RowForm). IsForm (withdraws c.0) c.1)
+content_formed : (format : ℕ) (row : Texts) → IfOk (content_in format row) (λ (c : Act × RowForm). IsForm (withdraws c.0) c.1)
 unfolding content_in
-content_formed row =
+content_formed format row =
     let P : Act × RowForm → Type 0 = λ c. IsForm (withdraws c.0) c.1 in
-    named (act_in (text_of row columns.Act)) _ _ P (λ act. named (kind_in (text_of row columns.Kind)) _ _ P (λ kind. pair act (form_in kind act row) (form_formed kind act row)))
+    named (act_in (text_of row columns.Act)) _ _ P (λ act. named (kind_in (text_of row columns.Kind)) _ _ P (λ kind. pair act (form_in format kind act row) (form_formed format kind act row)))
   where
     named : {A B : Type 0} (o : Option A) (e : Fault) (f : A → Result B Fault) (P : B → Type 0) → ((a : A) → IfOk (f a) P) → IfOk (ok_or o e >>= f) P
     named (Some a) e f P k = k a
@@ -374,22 +375,22 @@ content_formed row =
     pair act (Ok form) good = good
     pair act (Err e) good = tt
 
-row_formed : (number : ℕ) (fields : List (List ℕ)) → IfOk (row_in number fields) IsWellFormed
+row_formed : (format : ℕ) (number : ℕ) (fields : List (List ℕ)) → IfOk (row_in format number fields) IsWellFormed
 unfolding row_in row_content
-row_formed number fields = by (has_columns fields)
+row_formed format number fields = by (has_columns fields)
   where
     counted : (r : Result (Act × RowForm) Fault) → IfOk r (λ (c : Act × RowForm). IsForm (withdraws c.0) c.1) → IfOk (numbered number r) IsWellFormed
     counted (Ok c) good = good
     counted (Err e) good = tt
 
-    by : (b : Bool) → IfOk (numbered number (if b then content_in fields else Err Shape)) IsWellFormed
+    by : (b : Bool) → IfOk (numbered number (if b then content_in format fields else Err Shape)) IsWellFormed
     by false = tt
-    by true = counted (content_in fields) (content_formed fields)
+    by true = counted (content_in format fields) (content_formed format fields)
 
-rows_formed : (number : ℕ) (records : List (List (List ℕ))) → AllByRecursion IsWellFormed (rows_from number records).rows
+rows_formed : (format : ℕ) (number : ℕ) (records : List (List (List ℕ))) → AllByRecursion IsWellFormed (rows_from format number records).rows
 unfolding rows_from
-rows_formed number [] = tt
-rows_formed number (fields ∷ records) = by (row_in number fields) (row_formed number fields) (rows_from (number + 1) records) (rows_formed (number + 1) records)
+rows_formed format number [] = tt
+rows_formed format number (fields ∷ records) = by (row_in format number fields) (row_formed format number fields) (rows_from format (number + 1) records) (rows_formed format (number + 1) records)
   where
     by : (r : Result Row Rule) → IfOk r IsWellFormed → (later : Reading) → AllByRecursion IsWellFormed later.rows → AllByRecursion IsWellFormed (then_rows r later).rows
     by (Ok row) good later rest = (good, rest)
@@ -397,15 +398,15 @@ rows_formed number (fields ∷ records) = by (row_in number fields) (row_formed 
 
 pub all_formed : (body : List ℕ) → AllByRecursion IsWellFormed (reading_of body).rows
 unfolding reading_of
-all_formed body = by (records_of body)
+all_formed body = by (format_in body) (records_of body)
   where
-    headed : (records : List (List (List ℕ))) (b : Bool) → AllByRecursion IsWellFormed (if b then rows_from 1 records else no_header).rows
-    headed records true = rows_formed 1 records
-    headed records false = tt
+    headed : (format : ℕ) (records : List (List (List ℕ))) (b : Bool) → AllByRecursion IsWellFormed (if b then rows_from format 1 records else no_header).rows
+    headed format records true = rows_formed format 1 records
+    headed format records false = tt
 
-    by : (records : List (List (List ℕ))) → AllByRecursion IsWellFormed (under_header records).rows
-    by [] = tt
-    by (header ∷ records) = headed records (is_header header)
+    by : (format : ℕ) (records : List (List (List ℕ))) → AllByRecursion IsWellFormed (under_header format records).rows
+    by format [] = tt
+    by format (header ∷ records) = headed format records (is_header format header)
 
 -- rows that tell a body are well formed
 pub told_formed : {E : Type 0} (r : Result Rows E) (body : List ℕ) → IfOk r (λ rows. Tells rows (reading_of body)) → IfOk r (λ rows. AllByRecursion IsWellFormed rows.rows.items)

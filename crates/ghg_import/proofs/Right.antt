@@ -1,7 +1,7 @@
 -- A row with a content, no text in a column that should be empty, and no bound alone has no wrong column.
 use Rattle.std.specs.List.{find}
 use Rattle.std.specs.Option.{ok_or, option_map}
-use Rattle.std.proofs.Common.{sym, ap, ◌≡◌, ◌∙◌, ◌==◌, ◌&&◌, ◌||◌, length, Option, Some, None, Ok, Bool, true, false, not, refl, is_some, option_and_then, if◌then◌else◌, IfSome}
+use Rattle.std.proofs.Common.{sym, ap, ◌≡◌, ◌∙◌, ◌==◌, ◌&&◌, ◌||◌, ℕ, length, Option, Some, None, Ok, Bool, true, false, not, refl, is_some, option_and_then, if◌then◌else◌, IfSome}
 use Rattle.std.proofs.lemmas.Bool.{and_parts}
 use Rattle.ghg_units.specs.declared.decimal.Decimal.{Decimal}
 use Rattle.ghg_units.specs.declared.row.Act.{Act}
@@ -130,8 +130,8 @@ stays f None Q P good k = tt
 
 -- ---- what a row that says something, and no more, has in each column
 
-abbrev chosen_by : Manner → Option UnitWord → Texts → Chosen
-chosen_by m u row = record { manner = m; unit = u; binds = is_some (binding_in row) }
+abbrev chosen_by : ℕ → Manner → Option UnitWord → Texts → Chosen
+chosen_by format m u row = record { format = format; manner = m; unit = u; binds = is_some (binding_in row) }
 
 -- each column is what it may hold where the row says something, and no more
 abbrev IsRight : Kind → Chosen → Texts → Type 0
@@ -158,19 +158,19 @@ span_read row =
     reads_both (year_in (text_of row columns.Year)) (year_in (text_of row columns.Value)) _ P (λ first last f l.
     reads_one (year_in (text_of row columns.Low)) _ P (λ base b. passes _ _ (λ _. P) (λ ordered. (first, last, base))))
 
-span_right : (m : Manner) (u : Option UnitWord) (row : Texts) → IsRight kinds.Span (chosen_by m u row) row
+span_right : (format : ℕ) (m : Manner) (u : Option UnitWord) (row : Texts) → IsRight kinds.Span (chosen_by format m u row) row
 unfolding content_of
-span_right m u row = by m
+span_right format m u row = by m
   where
     stayed : (c : Chosen)
         → IsRightThere kinds.Span c row (option_map forms.Span (option_map Some (span_in row)))
     stayed c b = stays forms.Span (span_in row) _ _ (span_read row) (λ s. (b.0, b.1, s.0, s.1, s.2, b.5, b.6))
 
-    by : (m : Manner) → IsRight kinds.Span (chosen_by m u row) row
+    by : (m : Manner) → IsRight kinds.Span (chosen_by format m u row) row
     by Withdraws b = b
-    by InYears b = stayed (chosen_by InYears u row) b
-    by Keyed b = stayed (chosen_by Keyed u row) b
-    by Valued b = stayed (chosen_by Valued u row) b
+    by InYears b = stayed (chosen_by format InYears u row) b
+    by Keyed b = stayed (chosen_by format Keyed u row) b
+    by Valued b = stayed (chosen_by format Valued u row) b
 
 -- ---- figures
 
@@ -189,18 +189,18 @@ high_held false true value q same e = absurd (cc)
 high_held false false value q same e = e
 
 -- each column of a figure is what it may hold; those of an activity hold what those of a factor do
-abbrev IsFigureHeld : Manner → Option UnitWord → Texts → Type 0
-IsFigureHeld m u row =
+abbrev IsFigureHeld : ℕ → Manner → Option UnitWord → Texts → Type 0
+IsFigureHeld format m u row =
     let h : Holdings = holdings_of kinds.Factor m in
-    let c : Chosen = chosen_by m u row in
+    let c : Chosen = chosen_by format m u row in
     (is_held h.value c row (text_of row columns.Value) ≡ true) × (is_held h.low c row (text_of row columns.Low) ≡ true)
     × (is_held h.high c row (text_of row columns.High) ≡ true) × (is_held h.unit c row (text_of row columns.Unit) ≡ true)
 
-known_held : (u : UnitWord) (row : Texts) → AreBare (holdings_of kinds.Factor Valued) row
-    → IfSome (known_in u row) (λ _. IsFigureHeld Valued (Some u) row)
+known_held : (format : ℕ) (u : UnitWord) (row : Texts) → AreBare (holdings_of kinds.Factor Valued) row
+    → IfSome (known_in u row) (λ _. IsFigureHeld format Valued (Some u) row)
 unfolding known_in bound_in
-known_held u row b =
-    let P : Type 0 = IsFigureHeld Valued (Some u) row in
+known_held format u row b =
+    let P : Type 0 = IsFigureHeld format Valued (Some u) row in
     let low : Bool = length (text_of row columns.Low) == 0 in
     let high : Bool = length (text_of row columns.High) == 0 in
     reads_one (quantity_in u (text_of row columns.Value)) _ P (λ is_value value.
@@ -212,59 +212,59 @@ known_held u row b =
       refl,
     ))))
 
-amount_held : (m : Manner) (u : UnitWord) (row : Texts) → is_away m ≡ false
-    → AreBare (holdings_of kinds.Factor m) row → IfSome (amount_in m u row) (λ _. IsFigureHeld m (Some u) row)
-amount_held Withdraws u row here b = absurd (cc)
-amount_held InYears u row here b =
-    made amounts.HalfLife (half_life_in (text_of row columns.Value)) _ (λ years. (years, b.4, b.5, refl))
-amount_held Keyed u row here b =
+amount_held : (format : ℕ) (m : Manner) (u : UnitWord) (row : Texts) → is_away m ≡ false
+    → AreBare (holdings_of kinds.Factor m) row → IfSome (amount_in format m u row) (λ _. IsFigureHeld format m (Some u) row)
+amount_held format Withdraws u row here b = absurd (cc)
+amount_held format InYears u row here b =
+    made amounts.HalfLife (half_life_in format (text_of row columns.Value)) _ (λ years. (years, b.4, b.5, refl))
+amount_held format Keyed u row here b =
     made amounts.Key (key_in (text_of row columns.Value)) _ (λ key. (key, b.4, b.5, refl))
-amount_held Valued u row here b = known_held u row b
+amount_held format Valued u row here b = known_held format u row b
 
-figure_held : (m : Manner) (u : Option UnitWord) (row : Texts) → is_away m ≡ false
+figure_held : (format : ℕ) (m : Manner) (u : Option UnitWord) (row : Texts) → is_away m ≡ false
     → AreBare (holdings_of kinds.Factor m) row
-    → IfSome (figure_in (chosen_by m u row) row) (λ _. IsFigureHeld m u row)
+    → IfSome (figure_in (chosen_by format m u row) row) (λ _. IsFigureHeld format m u row)
 unfolding figure_in
-figure_held m None row here b = tt
-figure_held m (Some u) row here b =
-    let P : Type 0 = IsFigureHeld m (Some u) row in
-    keeps (amount_in m u row) (λ _. P) (amount_held m u row here b) _ (λ _. P) (λ amount held. held)
+figure_held format m None row here b = tt
+figure_held format m (Some u) row here b =
+    let P : Type 0 = IsFigureHeld format m (Some u) row in
+    keeps (amount_in format m u row) (λ _. P) (amount_held format m u row here b) _ (λ _. P) (λ amount held. held)
 
-figure_stays : (m : Manner) (u : Option UnitWord) (row : Texts) → is_away m ≡ false
+figure_stays : (format : ℕ) (m : Manner) (u : Option UnitWord) (row : Texts) → is_away m ≡ false
     → AreBare (holdings_of kinds.Factor m) row
-    → (f : Option Figure → RowForm) (P : Type 0) → (IsFigureHeld m u row → P)
-    → IfSome (option_map f (option_map Some (figure_in (chosen_by m u row) row))) (λ _. P)
-figure_stays m u row here b f P k =
-    stays f (figure_in (chosen_by m u row) row) (IsFigureHeld m u row) P (figure_held m u row here b) k
+    → (f : Option Figure → RowForm) (P : Type 0) → (IsFigureHeld format m u row → P)
+    → IfSome (option_map f (option_map Some (figure_in (chosen_by format m u row) row))) (λ _. P)
+figure_stays format m u row here b f P k =
+    stays f (figure_in (chosen_by format m u row) row) (IsFigureHeld format m u row) P (figure_held format m u row here b) k
 
-activity_right : (m : Manner) (u : Option UnitWord) (row : Texts) → says_years m ≡ false
-    → IsRight kinds.Activity (chosen_by m u row) row
+activity_right : (format : ℕ) (m : Manner) (u : Option UnitWord) (row : Texts) → says_years m ≡ false
+    → IsRight kinds.Activity (chosen_by format m u row) row
 unfolding content_of
-activity_right Withdraws u row never b =
+activity_right format Withdraws u row never b =
     reads_both (plain_name_in (text_of row columns.Name)) (year_in (text_of row columns.Year)) _ _ (λ name year n y.
     (b.0, name, year, b.3, b.4, b.5, b.6))
-activity_right InYears u row never b = absurd (cc)
-activity_right Keyed u row never b =
+activity_right format InYears u row never b = absurd (cc)
+activity_right format Keyed u row never b =
     reads_both (plain_name_in (text_of row columns.Name)) (year_in (text_of row columns.Year)) _ _ (λ name year n y.
-    figure_stays Keyed u row refl b (forms.Activity n y) _ (λ f. (b.0, name, year, f.0, f.1, f.2, f.3)))
-activity_right Valued u row never b =
+    figure_stays format Keyed u row refl b (forms.Activity n y) _ (λ f. (b.0, name, year, f.0, f.1, f.2, f.3)))
+activity_right format Valued u row never b =
     reads_both (plain_name_in (text_of row columns.Name)) (year_in (text_of row columns.Year)) _ _ (λ name year n y.
-    figure_stays Valued u row refl b (forms.Activity n y) _ (λ f. (b.0, name, year, f.0, f.1, f.2, f.3)))
+    figure_stays format Valued u row refl b (forms.Activity n y) _ (λ f. (b.0, name, year, f.0, f.1, f.2, f.3)))
 
-factor_right : (m : Manner) (u : Option UnitWord) (row : Texts) → IsRight kinds.Factor (chosen_by m u row) row
+factor_right : (format : ℕ) (m : Manner) (u : Option UnitWord) (row : Texts) → IsRight kinds.Factor (chosen_by format m u row) row
 unfolding content_of
-factor_right Withdraws u row b =
+factor_right format Withdraws u row b =
     reads_both (factor_name_in (text_of row columns.Name)) (year_in (text_of row columns.Year)) _ _ (λ name year n y.
     (b.0, name, year, b.3, b.4, b.5, b.6))
-factor_right InYears u row b =
+factor_right format InYears u row b =
     reads_both (factor_name_in (text_of row columns.Name)) (year_in (text_of row columns.Year)) _ _ (λ name year n y.
-    figure_stays InYears u row refl b (forms.Factor n y) _ (λ f. (b.0, name, year, f.0, f.1, f.2, f.3)))
-factor_right Keyed u row b =
+    figure_stays format InYears u row refl b (forms.Factor n y) _ (λ f. (b.0, name, year, f.0, f.1, f.2, f.3)))
+factor_right format Keyed u row b =
     reads_both (factor_name_in (text_of row columns.Name)) (year_in (text_of row columns.Year)) _ _ (λ name year n y.
-    figure_stays Keyed u row refl b (forms.Factor n y) _ (λ f. (b.0, name, year, f.0, f.1, f.2, f.3)))
-factor_right Valued u row b =
+    figure_stays format Keyed u row refl b (forms.Factor n y) _ (λ f. (b.0, name, year, f.0, f.1, f.2, f.3)))
+factor_right format Valued u row b =
     reads_both (factor_name_in (text_of row columns.Name)) (year_in (text_of row columns.Year)) _ _ (λ name year n y.
-    figure_stays Valued u row refl b (forms.Factor n y) _ (λ f. (b.0, name, year, f.0, f.1, f.2, f.3)))
+    figure_stays format Valued u row refl b (forms.Factor n y) _ (λ f. (b.0, name, year, f.0, f.1, f.2, f.3)))
 
 -- ---- lines
 
@@ -274,9 +274,9 @@ unfolding line_in
 line_read row =
     reads_both (leaf_in (text_of row columns.Subject)) (named (text_of row columns.Value)) _ _ (λ category equation c e. (category, equation))
 
-line_right : (m : Manner) (u : Option UnitWord) (row : Texts) → IsRight kinds.Line (chosen_by m u row) row
+line_right : (format : ℕ) (m : Manner) (u : Option UnitWord) (row : Texts) → IsRight kinds.Line (chosen_by format m u row) row
 unfolding content_of
-line_right m u row = by m
+line_right format m u row = by m
   where
     stayed : (c : Chosen) → IsRightThere kinds.Line c row
         (option_and_then (λ name. option_map (forms.Line name) (option_map Some (line_in row)))
@@ -285,11 +285,11 @@ line_right m u row = by m
         reads_one (plain_name_in (text_of row columns.Name)) _ _ (λ name n.
         stays (forms.Line n) (line_in row) _ _ (line_read row) (λ l. (l.0, name, b.2, l.1, b.4, b.5, b.6)))
 
-    by : (m : Manner) → IsRight kinds.Line (chosen_by m u row) row
+    by : (m : Manner) → IsRight kinds.Line (chosen_by format m u row) row
     by Withdraws b = reads_one (plain_name_in (text_of row columns.Name)) _ _ (λ name n. (b.0, name, b.2, b.3, b.4, b.5, b.6))
-    by InYears b = stayed (chosen_by InYears u row) b
-    by Keyed b = stayed (chosen_by Keyed u row) b
-    by Valued b = stayed (chosen_by Valued u row) b
+    by InYears b = stayed (chosen_by format InYears u row) b
+    by Keyed b = stayed (chosen_by format Keyed u row) b
+    by Valued b = stayed (chosen_by format Valued u row) b
 
 -- ---- bindings
 
@@ -308,11 +308,11 @@ binding_read row = by (binding_form_in (text_of row columns.Value)) (λ form. ta
     by None f = tt
     by (Some a) f = target (f a)
 
-bind_right : (m : Manner) (u : Option UnitWord) (row : Texts) → IsRight kinds.Bind (chosen_by m u row) row
+bind_right : (format : ℕ) (m : Manner) (u : Option UnitWord) (row : Texts) → IsRight kinds.Bind (chosen_by format m u row) row
 unfolding content_of
-bind_right m u row = by m
+bind_right format m u row = by m
   where
-    stayed : (m : Manner) → IsRightThere kinds.Bind (chosen_by m u row) row
+    stayed : (m : Manner) → IsRightThere kinds.Bind (chosen_by format m u row) row
         (option_and_then (λ line. option_and_then (λ name. option_map (forms.Bind line name)
         (option_map Some (binding_in row))) (parameter_in (text_of row columns.Name))) (plain_name_in (text_of row columns.Subject)))
     stayed m b =
@@ -320,7 +320,7 @@ bind_right m u row = by m
         stays (forms.Bind l n) (binding_in row) _ _ (binding_read row) (λ t.
         (line, name, b.2, t.0, t.1, b.5, b.6)))
 
-    by : (m : Manner) → IsRight kinds.Bind (chosen_by m u row) row
+    by : (m : Manner) → IsRight kinds.Bind (chosen_by format m u row) row
     by Withdraws b =
         reads_both (plain_name_in (text_of row columns.Subject)) (parameter_in (text_of row columns.Name)) _ _ (λ line name l n.
         (line, name, b.2, b.3, b.4, b.5, b.6))
@@ -337,9 +337,9 @@ uncertainties_read row =
     reads_both (uncertainty_in (text_of row columns.Value)) (uncertainty_in (text_of row columns.Low)) _ _ (λ activity factor a f.
     (activity, factor))
 
-uncert_right : (m : Manner) (u : Option UnitWord) (row : Texts) → IsRight kinds.Uncert (chosen_by m u row) row
+uncert_right : (format : ℕ) (m : Manner) (u : Option UnitWord) (row : Texts) → IsRight kinds.Uncert (chosen_by format m u row) row
 unfolding content_of
-uncert_right m u row = by m
+uncert_right format m u row = by m
   where
     stayed : (c : Chosen) → IsRightThere kinds.Uncert c row
         (option_and_then (λ line. option_map (forms.Uncert line) (option_map Some (uncertainties_in row)))
@@ -349,11 +349,11 @@ uncert_right m u row = by m
         stays (forms.Uncert l) (uncertainties_in row) _ _ (uncertainties_read row) (λ p.
         (b.0, line, b.2, p.0, p.1, b.5, b.6)))
 
-    by : (m : Manner) → IsRight kinds.Uncert (chosen_by m u row) row
+    by : (m : Manner) → IsRight kinds.Uncert (chosen_by format m u row) row
     by Withdraws b = reads_one (plain_name_in (text_of row columns.Name)) _ _ (λ line l. (b.0, line, b.2, b.3, b.4, b.5, b.6))
-    by InYears b = stayed (chosen_by InYears u row) b
-    by Keyed b = stayed (chosen_by Keyed u row) b
-    by Valued b = stayed (chosen_by Valued u row) b
+    by InYears b = stayed (chosen_by format InYears u row) b
+    by Keyed b = stayed (chosen_by format Keyed u row) b
+    by Valued b = stayed (chosen_by format Valued u row) b
 
 -- ---- rows
 
@@ -363,36 +363,36 @@ never_in_years Withdraw row = refl
 never_in_years Enter row = in_years kinds.Activity Enter row (away kinds.Activity Enter row)
 never_in_years Correct row = in_years kinds.Activity Correct row (away kinds.Activity Correct row)
 
-all_right : (kind : Kind) (act : Act) (row : Texts) → IsRight kind (chosen_in kind act row) row
-all_right kinds.Span act row = span_right (manner_of kinds.Span act row) (unit_in (text_of row columns.Unit)) row
-all_right kinds.Activity act row =
-    activity_right (manner_of kinds.Activity act row) (unit_in (text_of row columns.Unit)) row (never_in_years act row)
-all_right kinds.Factor act row = factor_right (manner_of kinds.Factor act row) (unit_in (text_of row columns.Unit)) row
-all_right kinds.Line act row = line_right (manner_of kinds.Line act row) (unit_in (text_of row columns.Unit)) row
-all_right kinds.Bind act row = bind_right (manner_of kinds.Bind act row) (unit_in (text_of row columns.Unit)) row
-all_right kinds.Uncert act row = uncert_right (manner_of kinds.Uncert act row) (unit_in (text_of row columns.Unit)) row
+all_right : (format : ℕ) (kind : Kind) (act : Act) (row : Texts) → IsRight kind (chosen_in format kind act row) row
+all_right format kinds.Span act row = span_right format (manner_of kinds.Span act row) (unit_in (text_of row columns.Unit)) row
+all_right format kinds.Activity act row =
+    activity_right format (manner_of kinds.Activity act row) (unit_in (text_of row columns.Unit)) row (never_in_years act row)
+all_right format kinds.Factor act row = factor_right format (manner_of kinds.Factor act row) (unit_in (text_of row columns.Unit)) row
+all_right format kinds.Line act row = line_right format (manner_of kinds.Line act row) (unit_in (text_of row columns.Unit)) row
+all_right format kinds.Bind act row = bind_right format (manner_of kinds.Bind act row) (unit_in (text_of row columns.Unit)) row
+all_right format kinds.Uncert act row = uncert_right format (manner_of kinds.Uncert act row) (unit_in (text_of row columns.Unit)) row
 
-nothing_wrong : (kind : Kind) (act : Act) (row : Texts)
-    → is_some (content_of kind (chosen_in kind act row) row) ≡ true
+nothing_wrong : (format : ℕ) (kind : Kind) (act : Act) (row : Texts)
+    → is_some (content_of kind (chosen_in format kind act row) row) ≡ true
     → says_no_more kind (manner_of kind act row) row ≡ true
-    → wrong_column kind (chosen_in kind act row) row ≡ None
+    → wrong_column kind (chosen_in format kind act row) row ≡ None
 unfolding wrong_column
-nothing_wrong kind act row says no_more =
-    let c : Chosen = chosen_in kind act row in
+nothing_wrong format kind act row says no_more =
+    let c : Chosen = chosen_in format kind act row in
     let h : Holdings = holdings_of kind c.manner in
-    let right = all_right kind act row (bare h row no_more) in
+    let right = all_right format kind act row (bare h row no_more) in
     none_wrong h c row (shown (content_of kind c row) (AreHeld h c row) right says)
 
 abbrev says_no_more_by : Kind → Texts → Chosen → Bool
 says_no_more_by kind row c = says_no_more kind c.manner row
 
 -- a row that says something, and no more, gives its content
-pub right_row : (kind : Kind) (act : Act) (row : Texts) (c : Chosen) (form : RowForm)
-    → c ≡ chosen_in kind act row → content_of kind c row ≡ Some form
-    → says_no_more kind c.manner row ≡ true → form_in kind act row ≡ Ok form
+pub right_row : (format : ℕ) (kind : Kind) (act : Act) (row : Texts) (c : Chosen) (form : RowForm)
+    → c ≡ chosen_in format kind act row → content_of kind c row ≡ Some form
+    → says_no_more kind c.manner row ≡ true → form_in format kind act row ≡ Ok form
 unfolding form_of
-right_row kind act row c form same says no_more =
-    let chosen : Chosen = chosen_in kind act row in
+right_row format kind act row c form same says no_more =
+    let chosen : Chosen = chosen_in format kind act row in
     let said : content_of kind chosen row ≡ Some form = ap (λ x. content_of kind x row) (sym same) ∙ says in
     let more = ap (says_no_more_by kind row) (sym same) ∙ no_more in
-    rw (nothing_wrong kind act row (ap is_some said) more) (ap (λ o. ok_or o Disorder) said)
+    rw (nothing_wrong format kind act row (ap is_some said) more) (ap (λ o. ok_or o Disorder) said)

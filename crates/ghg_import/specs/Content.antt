@@ -58,15 +58,15 @@ known_in u row = do
       else None
 
 -- a half-life, a notation key, or a value
-abbrev pub amount_in : Manner → UnitWord → Texts → Option Amount
-amount_in InYears u row = option_map amounts.HalfLife (half_life_in (text_of row columns.Value))
-amount_in Keyed u row = option_map amounts.Key (key_in (text_of row columns.Value))
-amount_in _ u row = known_in u row
+abbrev pub amount_in : ℕ → Manner → UnitWord → Texts → Option Amount
+amount_in format InYears u row = option_map amounts.HalfLife (half_life_in format (text_of row columns.Value))
+amount_in format Keyed u row = option_map amounts.Key (key_in (text_of row columns.Value))
+amount_in format _ u row = known_in u row
 
 unfoldable pub figure_in : Chosen → Texts → Option Figure
 figure_in c row = do
   unit ← c.unit
-  amount ← amount_in c.manner unit row
+  amount ← amount_in c.format c.manner unit row
   Some (record { unit = unit; amount = amount })
 
 unfoldable pub line_in : Texts → Option (Category × EqId)
@@ -119,6 +119,6 @@ unless_wrong None content = ok_or content Disorder
 unfoldable pub form_of : Kind → Chosen → Texts → Result RowForm Fault
 form_of kind c row = unless_wrong (wrong_column kind c row) (content_of kind c row)
 
--- what a row of a kind says, or the first fault of its columns
-abbrev pub form_in : Kind → Act → Texts → Result RowForm Fault
-form_in kind act row = form_of kind (chosen_in kind act row) row
+-- what a row of a kind says in a body of a format, or the first fault of its columns
+abbrev pub form_in : ℕ → Kind → Act → Texts → Result RowForm Fault
+form_in format kind act row = form_of kind (chosen_in format kind act row) row

@@ -7,5 +7,4 @@ pub mod Table
 pub mod Content
 pub mod Reading
 pub mod Told
-pub mod Failing
 pub mod Laws

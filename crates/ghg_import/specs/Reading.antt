@@ -7,6 +7,7 @@ use Rattle.ghg_units.specs.declared.row.RowForm.{RowForm}
 use Rattle.ghg_units.specs.declared.rule.Column.TheVariants as columns
 use Rattle.ghg_units.specs.declared.rule.Rule.{Rule}
 use Rattle.ghg_units.specs.declared.rule.Rule.TheVariants.{BadShape}
+use Rattle.ghg_units.specs.Format.{format_in}
 use Rattle.ghg_units.specs.Words.{act_in}
 use Rattle.ghg_import.specs.declared.fault.Fault.{Fault}
 use Rattle.ghg_import.specs.declared.fault.Fault.TheVariants.{Shape, Word}
@@ -21,44 +22,46 @@ pub record Reading : Type 0 where
   pub rows : List Row
   pub rest : Option Rule
 
--- what a row says: its act, its kind, and what the kind makes of its other columns
-unfoldable pub content_in : Texts → Result (Act × RowForm) Fault
-content_in row = do
+-- what a row says in a body of a format: its act, its kind, and what the kind makes of its other columns
+unfoldable pub content_in : ℕ → Texts → Result (Act × RowForm) Fault
+content_in format row = do
   act ← ok_or (act_in (text_of row columns.Act)) (Word columns.Act)
   kind ← ok_or (kind_in (text_of row columns.Kind)) (Word columns.Kind)
-  form ← form_in kind act row
+  form ← form_in format kind act row
   Ok (act, form)
 
 -- the row of a record's fields, or the first rule that they break
-unfoldable pub row_content : Texts → Result (Act × RowForm) Fault
-row_content fields = if has_columns fields then content_in fields else Err Shape
+unfoldable pub row_content : ℕ → Texts → Result (Act × RowForm) Fault
+row_content format fields = if has_columns fields then content_in format fields else Err Shape
 
 abbrev pub numbered : ℕ → Result (Act × RowForm) Fault → Result Row Rule
 numbered number (Ok content) = Ok (record { number = number; act = content.0; form = content.1 })
 numbered number (Err fault) = Err (rule_at number fault)
 
-unfoldable pub row_in : ℕ → Texts → Result Row Rule
-row_in number fields = numbered number (row_content fields)
+unfoldable pub row_in : (format number : ℕ) → Texts → Result Row Rule
+row_in format number fields = numbered number (row_content format fields)
 
 -- a row and what comes after it
 abbrev pub then_rows : Result Row Rule → Reading → Reading
 then_rows (Ok row) later = record { rows = row ∷ later.rows; rest = later.rest }
 then_rows (Err rule) later = record { rows = []; rest = Some rule }
 
--- what records say, the first with this number
-unfoldable pub rows_from : ℕ → List Texts → Reading
-rows_from number [] = record { rows = []; rest = None }
-rows_from number (fields ∷ records) = then_rows (row_in number fields) (rows_from (number + 1) records)
+-- what records say in a body of a format, the first with this number
+unfoldable pub rows_from : (format number : ℕ) → List Texts → Reading
+rows_from format number [] = record { rows = []; rest = None }
+rows_from format number (fields ∷ records) =
+    then_rows (row_in format number fields) (rows_from format (number + 1) records)
 
--- a body with no header
+-- a body with no header of its format
 abbrev pub no_header : Reading
 no_header = record { rows = []; rest = Some (BadShape 0) }
 
 -- the header has the number 0, and the rows count from 1
-abbrev pub under_header : List Texts → Reading
-under_header [] = no_header
-under_header (header ∷ records) = if is_header header then rows_from 1 records else no_header
+abbrev pub under_header : ℕ → List Texts → Reading
+under_header format [] = no_header
+under_header format (header ∷ records) =
+    if is_header format header then rows_from format 1 records else no_header
 
--- what a body says
+-- what a body says, in its format
 unfoldable pub reading_of : List ℕ → Reading
-reading_of body = under_header (records_of body)
+reading_of body = under_header (format_in body) (records_of body)

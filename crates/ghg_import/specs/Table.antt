@@ -64,7 +64,7 @@ holding_at h columns.High = h.high
 holding_at h columns.Unit = h.unit
 holding_at h _ = Empty
 
--- ---- what a row's words choose for its other columns
+-- ---- what a body's format and a row's words choose for its other columns
 
 -- whether a row of this kind and unit holds a half-life
 abbrev pub is_in_years : Kind → Option measures.Unit → Bool
@@ -78,9 +78,10 @@ manner_of kind act row =
     else if is_some (key_in (text_of row columns.Value)) then Keyed
     else Valued
 
-abbrev pub chosen_in : Kind → Act → Texts → Chosen
-chosen_in kind act row =
+abbrev pub chosen_in : ℕ → Kind → Act → Texts → Chosen
+chosen_in format kind act row =
     record {
+      format = format;
       manner = manner_of kind act row;
       unit = unit_in (text_of row columns.Unit);
       binds = is_some (binding_in row);
@@ -121,7 +122,7 @@ is_held Year c row text = is_some (year_in text)
 is_held Figure c row text = is_quantity c.unit text
 is_held Bound c row text =
     (is_unfilled row columns.Low && is_unfilled row columns.High) || is_quantity c.unit text
-is_held HalfLife c row text = is_some (half_life_in text)
+is_held HalfLife c row text = is_some (half_life_in c.format text)
 is_held NoBound c row text = length text == 0
 is_held Percentage c row text = is_some (uncertainty_in text)
 

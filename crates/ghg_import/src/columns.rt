@@ -4,8 +4,7 @@ ghost use Rattle.std.specs.Prelude.{◌≡◌, []};
 ghost use Rattle.std.specs.List.{list_all};
 ghost use Rattle.std.specs.Str.{bytes_eq, is_utf8};
 ghost use Rattle.csv.specs.Records.{field_at, fields_of};
-ghost use Rattle.ghg_units.specs.Refusals.{column_word};
-ghost use Rattle.ghg_import.specs.Shape.{all_columns, field, has_columns, is_header, is_text, text_of};
+ghost use Rattle.ghg_import.specs.Shape.{all_columns, field, has_columns, header_word, is_header, is_text, text_of};
 
 use csv::ByteRecord;
 use ghg_units::Column;
@@ -41,27 +40,37 @@ pub(crate) fn has_columns(row: &ByteRecord) -> bool
     row.len() == COLUMNS.len() && is_text(row)
 }
 
-/// Whether a record is the header.
+/// Whether a record is the header of a format.
 #[tactic(auto, unfolding(crate::specs::Shape::is_header))]
-pub(crate) fn is_header(row: &ByteRecord) -> bool
-    ensures { result ≡ is_header (fields_of row.now) }
+pub(crate) fn is_header(format: u32, row: &ByteRecord) -> bool
+    ensures { result ≡ is_header format (fields_of row.now) }
 {
-    row.len() == COLUMNS.len() && has_names(row)
+    row.len() == COLUMNS.len() && has_names(format, row)
 }
 
 // Whether the field of each column is its name.
-fn has_names(row: &ByteRecord) -> bool
-    ensures { result ≡ list_all (λ column. bytes_eq (text_of (fields_of row.now) column) (column_word column))
-        all_columns }
+fn has_names(format: u32, row: &ByteRecord) -> bool
+    ensures { result ≡ list_all (λ column. bytes_eq (text_of (fields_of row.now) column)
+        (header_word format column)) all_columns }
 {
-    COLUMNS.iter().all(|column| is_named(row, *column))
+    COLUMNS.iter().all(|column| is_named(format, row, *column))
 }
 
 // Whether the field of a column is its name.
-fn is_named(row: &ByteRecord, column: Column) -> bool
-    ensures { result ≡ bytes_eq (text_of (fields_of row.now) column) (column_word column) }
+fn is_named(format: u32, row: &ByteRecord, column: Column) -> bool
+    ensures { result ≡ bytes_eq (text_of (fields_of row.now) column) (header_word format column) }
 {
-    text(row, column) == column.word().as_bytes()
+    text(row, column) == header_word(format, column).as_bytes()
+}
+
+// The name of a column in the header of a format.
+fn header_word(format: u32, column: Column) -> &'static str
+    ensures { result.now ≡ header_word format column }
+{
+    match column {
+        Column::Act if format == 2 => "act2",
+        _ => column.word(),
+    }
 }
 
 // The field at a place, or nothing.

@@ -26,26 +26,37 @@ use ghg_units::{
 };
 use std::alloc::{AllocError, Global};
 
-/// What a row says, or the first rule that it breaks.
+/// What a row of a body of a format says, or the first rule that it breaks.
 #[tactic(auto, unfolding(crate::specs::Reading::content_in))]
-pub(crate) fn content(alloc: Global, row: &ByteRecord) -> Result<(Act, RowForm), ReadError>
-    ensures { Gives result (content_in (fields_of row.now)) }
+pub(crate) fn content(
+    alloc: Global,
+    format: u32,
+    row: &ByteRecord,
+) -> Result<(Act, RowForm), ReadError>
+    ensures { Gives result (content_in format (fields_of row.now)) }
 {
     let act = act_named(text(row, Column::Act)).ok_or(Fault::Word(Column::Act))?;
     let kind = kind_named(text(row, Column::Kind)).ok_or(Fault::Word(Column::Kind))?;
-    let form = form(alloc, kind, act, row)?;
+    let form = form(alloc, format, kind, act, row)?;
     Ok((act, form))
 }
 
 // A wrong column, else disorder, else the content. Where the row has a content, no text in a column that
 // should be empty, and no bound alone, no column is wrong, and they are not gone through one by one.
 #[tactic(auto, unfolding(crate::specs::Content::form_of))]
-fn form(alloc: Global, kind: Kind, act: Act, row: &ByteRecord) -> Result<RowForm, ReadError>
-    ensures { Gives result (form_in kind act (fields_of row.now)) }
+fn form(
+    alloc: Global,
+    format: u32,
+    kind: Kind,
+    act: Act,
+    row: &ByteRecord,
+) -> Result<RowForm, ReadError>
+    ensures { Gives result (form_in format kind act (fields_of row.now)) }
 {
     let binding = binding_named(alloc, row)?;
     let unit = unit_of(row);
     let chosen = Chosen {
+        format,
         manner: manner_of(kind, act, unit, row),
         unit,
         binds: binding.is_some(),
@@ -162,16 +173,19 @@ fn figure(chosen: Chosen, row: &ByteRecord) -> Option<Figure>
     ensures { result ≡ figure_in chosen (fields_of row.now) }
 {
     let unit = chosen.unit?;
-    let amount = amount(chosen.manner, unit, row)?;
+    let amount = amount(chosen, unit, row)?;
     Some(Figure { unit, amount })
 }
 
 // A half-life, a notation key, or a value.
-fn amount(manner: Manner, unit: Unit, row: &ByteRecord) -> Option<Amount>
-    ensures { result ≡ amount_in manner unit (fields_of row.now) }
+fn amount(chosen: Chosen, unit: Unit, row: &ByteRecord) -> Option<Amount>
+    ensures { result ≡ amount_in chosen.format chosen.manner unit (fields_of row.now) }
 {
-    match manner {
-        Manner::InYears => Some(Amount::HalfLife(read_half_life(text(row, Column::Value))?)),
+    match chosen.manner {
+        Manner::InYears => {
+            let tenths = read_half_life(chosen.format, text(row, Column::Value))?;
+            Some(Amount::HalfLife(tenths))
+        }
         Manner::Keyed => Some(Amount::Key(key_named(text(row, Column::Value))?)),
         _ => known(unit, row),
     }

@@ -85,9 +85,11 @@ pub(crate) enum Manner {
     Valued,
 }
 
-/// What a row's words choose for its other columns.
+/// What the format of a body and a row's words choose for the other columns of the row.
 #[derive(Clone, Copy, Drop)]
 pub(crate) struct Chosen {
+    /// The format of the body, by which a half-life is read.
+    pub(crate) format: u32,
     pub(crate) manner: Manner,
     /// The unit of its figures, if it names one.
     pub(crate) unit: Option<Unit>,

@@ -241,7 +241,7 @@ fn is_held(holding: Holding, chosen: Chosen, row: &ByteRecord, text: &[u8]) -> b
             is_unfilled(row, Column::Low) && is_unfilled(row, Column::High)
                 || is_quantity(chosen.unit, text)
         }
-        Holding::HalfLife => read_half_life(text).is_some(),
+        Holding::HalfLife => read_half_life(chosen.format, text).is_some(),
         Holding::NoBound => text.is_empty(),
         Holding::Percentage => read_uncertainty(text).is_some(),
     }

@@ -3,7 +3,7 @@ use Rattle.std.proofs.Common.{◌≡◌, ℕ, zero, suc, ◌+◌, ◌<◌, ◌�
 use Rattle.std.proofs.lemmas.Int.{ints}
 use Rattle.std.proofs.lemmas.Bool.{both_ways}
 use Rattle.ghg_interval.specs.Bounds.{Bounds, unit_scale}
-use Rattle.ghg_roots.specs.Decay.{IsDecayBracket, bracket_of, decay_bounds, is_below, is_within, last_passing, parts_down}
+use Rattle.ghg_roots.specs.Decay.{IsDecayBracket, bracket_of, decay_bounds, is_below, is_within, last_passing, most_parts, parts_down}
 use Rattle.ghg_roots.specs.Laws.{IsExactDecay}
 use Rattle.ghg_roots.proofs.Ends.{bracket_holds, bracket_ordered, bracket_width, down_at_unit, down_at_zero, one_bracket, up_at_unit, up_at_zero}
 
@@ -115,19 +115,19 @@ module _ (parts exponent : ℕ) (some_parts : 2 ≤ parts) (positive : 1 ≤ exp
   pub bracket_is : (b : Bounds) → IsDecayBracket parts exponent b → b ≡ bracket_of parts exponent
   bracket_is b is = one_bracket parts exponent (bracket_of parts exponent) b positive bracket_found is
 
-pub decay_ordered : (half_life : ℕ) → 1 ≤ half_life → (decay_bounds half_life).lo ≤ℤ (decay_bounds half_life).hi
-decay_ordered half_life positive = found_ordered 2 half_life (omega arith) positive
+pub decay_ordered : (tenths : ℕ) → 10 ≤ tenths → (decay_bounds tenths).lo ≤ℤ (decay_bounds tenths).hi
+decay_ordered tenths ten = found_ordered most_parts tenths (omega arith) (omega (arith, ten))
 
-pub decay_exact : (half_life : ℕ) → 1 ≤ half_life → IsExactDecay half_life
-decay_exact half_life positive = record {
+pub decay_exact : (tenths : ℕ) → 1 ≤ tenths → IsExactDecay tenths
+decay_exact tenths positive = record {
   bracket = found;
-  only = bracket_is 2 half_life two positive;
-  holds = bracket_holds 2 half_life positive _ found;
-  width = bracket_width 2 half_life positive _ found (found_small 2 half_life two positive);
+  only = bracket_is most_parts tenths some positive;
+  holds = bracket_holds most_parts tenths positive _ found;
+  width = bracket_width most_parts tenths positive _ found (found_small most_parts tenths some positive);
 }
   where
-    two : 2 ≤ 2
-    two = omega arith
+    some : 2 ≤ most_parts
+    some = omega arith
 
-    found : IsDecayBracket 2 half_life (decay_bounds half_life)
-    found = bracket_found 2 half_life two positive
+    found : IsDecayBracket most_parts tenths (decay_bounds tenths)
+    found = bracket_found most_parts tenths some positive

@@ -1,6 +1,7 @@
 -- Decay factors at the scale of intervals, between two whole numbers of parts of a unit.
 -- Source: 2006 IPCC Guidelines, Volume 5, Chapter 3. A year leaves the share e^-k of decaying waste, with
--- k = ln 2 / half-life. So two times the share to the power of the half-life is one.
+-- k = ln 2 / half-life. With a half-life in tenths of a year, 1024 times the share to the power of the tenths
+-- is one, since 1024 is two to the power of ten.
 use Rattle.std.specs.Prelude.{ℕ, zero, suc, ◌+◌, Bool, if◌then◌else◌, ℤ, pos, ◌+ℤ◌, ◌-ℤ◌, ◌*ℤ◌, ◌≤ℤ◌, ◌<ℤ◌, int_le, int_lt}
 use Rattle.std.specs.Int.{int_pow}
 use Rattle.ghg_interval.specs.Bounds.{Bounds, unit_scale}
@@ -64,6 +65,6 @@ bracket_of parts exponent = record {
   hi = pos (last_passing (is_below parts exponent) unit_scale + 1);
 }
 
--- the bracket of the yearly decay factor for a half-life in years: its power by the half-life is one half
+-- the bracket of the yearly decay factor for a half-life in tenths of a year
 abbrev pub decay_bounds : ℕ → Bounds
-decay_bounds half_life = bracket_of 2 half_life
+decay_bounds tenths = bracket_of most_parts tenths

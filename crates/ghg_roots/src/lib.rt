@@ -30,19 +30,19 @@ pub fn sqrt_bracket(n: u128) -> (u128, u128)
     }
 }
 
-/// The share of decaying waste that a year leaves, for a half-life in whole years: the factor whose power by
-/// the half-life is one half (2006 IPCC Guidelines, Volume 5, Chapter 3, where it is e^-k with k = ln 2 /
-/// half-life).
-pub fn decay_bracket(half_life: u32) -> Interval
-    requires { (1 ≤ half_life) × (half_life ≤ 60) }
-    ensures value { result ≡ decay_bounds half_life }
-    ensures bracket { IsDecayBracket 2 half_life result }
-    ensures only { (b : Bounds) → IsDecayBracket 2 half_life b → b ≡ result }
-    ensures holds { HoldsDecay 2 half_life result }
-    ensures width { result.hi ≤ℤ (result.lo +ℤ pos 8) }
-    ensures sharper { result.hi ≤ℤ (result.lo +ℤ pos 3) }
+/// The share of decaying waste that a year leaves, for a half-life in tenths of a year: the factor of which
+/// 1024 times the power by the tenths is one, since 1024 is two to the power of ten (2006 IPCC Guidelines,
+/// Volume 5, Chapter 3, where it is e^-k with k = ln 2 / half-life).
+pub fn decay_bracket(tenths: u32) -> Interval
+    requires { (10 ≤ tenths) × (tenths ≤ 600) }
+    ensures value { result ≡ decay_bounds tenths }
+    ensures bracket { IsDecayBracket 1_024 tenths result }
+    ensures only { (b : Bounds) → IsDecayBracket 1_024 tenths b → b ≡ result }
+    ensures holds { HoldsDecay 1_024 tenths result }
+    ensures width { result.hi ≤ℤ (result.lo +ℤ pos 2_100) }
+    ensures sharper { result.hi ≤ℤ (result.lo +ℤ pos 1_025) }
 {
-    bracket(2, half_life)
+    bracket(1_024, tenths)
 }
 
 // The number whose power is one of so many parts of a unit.

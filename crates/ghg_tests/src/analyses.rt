@@ -20,32 +20,24 @@ fn roots_are_between_whole_numbers(rt: HostRuntime) {
     }
 }
 
-fn has_bounds(bracket: Interval, low: i128, high: i128) -> bool {
-    bracket.lo() == low && bracket.hi() == high
+// Whether a bracket holds the number and the next, between which its factor is.
+fn holds(bracket: Interval, number: i64) -> bool {
+    bracket.lo() <= i128::from(number) && i128::from(number) < bracket.hi()
 }
 
-// A half-life of one year leaves 0.5 in a year, one of two years the root of it, 0.7071067811865475.., one of
-// 60 years 0.9885140203528961...
+// A half-life of one year leaves 0.5 in a year, one of 1.5 years 0.6299605249474365.., one of two years
+// 0.7071067811865475.., one of 60 years 0.9885140203528961...
 #[test]
 fn decay_factors_are_bracketed(rt: HostRuntime) {
-    let one = decay_bracket(1);
+    let one = decay_bracket(10);
     check(
         &rt,
-        has_bounds(one, 500_000_000_000, 500_000_000_000),
+        one.lo() == 500_000_000_000 && one.hi() == 500_000_000_000,
         "one year",
     );
-    let two = decay_bracket(2);
-    check(
-        &rt,
-        has_bounds(two, 707_106_781_186, 707_106_781_187),
-        "two years",
-    );
-    let sixty = decay_bracket(60);
-    check(
-        &rt,
-        sixty.lo() <= 988_514_020_352 && 988_514_020_353 <= sixty.hi(),
-        "60 years",
-    );
+    check(&rt, holds(decay_bracket(15), 629_960_524_947), "1.5 years");
+    check(&rt, holds(decay_bracket(20), 707_106_781_186), "two years");
+    check(&rt, holds(decay_bracket(600), 988_514_020_352), "60 years");
 }
 
 // 3 and 4 percent make 5, and twice 1000 percent 1414.213...

@@ -8,9 +8,9 @@ use ghg_interval::Interval;
 use ghg_tables::{Precision, Table, near, precision_for, reported, table_named};
 use ghg_units::{
     Act, Decimal, Name, Names, Node, NotationKey, ParamName, Rule, ShortText, Text, Unit,
-    act_named, append_rule, base_word, dim, fixed_texts_read, is_potential_name, key_named, ratio,
-    read_decimal, read_half_life, read_number, read_uncertainty, read_year, to_interval,
-    unit_named, write_fixed,
+    act_named, append_rule, base_word, dim, fixed_texts_read, format_of, is_potential_name,
+    key_named, ratio, read_decimal, read_half_life, read_number, read_uncertainty, read_year,
+    to_interval, unit_named, write_fixed,
 };
 use std::alloc::{AllocError, Global};
 use std::process::Abort;
@@ -105,24 +105,55 @@ fn numbers_are_read_within_their_digits(rt: HostRuntime) {
     check(&rt, read_number(b"01900", 4).is_none(), "five digits");
 }
 
-// A text, and the half-life that it is, in years.
-const HALF_LIVES: &[(&str, Option<u32>)] = &[
-    ("1", Some(1)),
-    ("07", Some(7)),
-    ("60", Some(60)),
-    ("61", None),
-    ("0", None),
-    ("007", None),
-    ("1.5", None),
-    ("-1", None),
-    ("NO", None),
-    ("", None),
+// A format, a text, and the half-life that it is in a body of that format, in tenths of a year.
+const HALF_LIVES: &[(u32, &str, Option<u32>)] = &[
+    (1, "1", Some(10)),
+    (1, "07", Some(70)),
+    (1, "60", Some(600)),
+    (1, "61", None),
+    (1, "0", None),
+    (1, "007", None),
+    (1, "1.5", None),
+    (1, "-1", None),
+    (1, "NO", None),
+    (1, "", None),
+    (2, "1", Some(10)),
+    (2, "1.5", Some(15)),
+    (2, "07.0", Some(70)),
+    (2, "60", Some(600)),
+    (2, "60.0", Some(600)),
+    (2, "60.1", None),
+    (2, "0.9", None),
+    (2, "1.50", None),
+    (2, "1.", None),
+    (2, ".5", None),
+    (2, "007.1", None),
+    (2, "NO", None),
 ];
 
 #[test]
 fn half_lives_are_read_within_their_limits(rt: HostRuntime) {
-    for (text, want) in HALF_LIVES {
-        check(&rt, read_half_life(text.as_bytes()) == *want, text);
+    for (format, text, want) in HALF_LIVES {
+        check(&rt, read_half_life(*format, text.as_bytes()) == *want, text);
+    }
+}
+
+// A body, and its format.
+const FORMATS: &[(&[u8], u32)] = &[
+    (b"act2,kind", 2),
+    (b"\"act2\",kind", 2),
+    (b"\xEF\xBB\xBFact2,", 2),
+    (b"act,kind", 1),
+    (b"\xEF\xBB\xBF\xEF\xBB\xBFact2,", 1),
+    (b" act2,", 1),
+    (b"act2", 1),
+    (b"", 1),
+];
+
+#[test]
+fn headers_name_the_format_of_bodies(rt: HostRuntime) {
+    for (body, want) in FORMATS {
+        check(&rt, format_of(body) == *want, "a format");
     }
 }
 
@@ -477,9 +508,27 @@ fn refusals_are_printed_with_their_place(rt: HostRuntime) {
     );
 }
 
-// A row, and the rule that it breaks; nothing where it is read.
+// A row, and the rule that it breaks in a body of format 2; nothing where it is read.
+const ROWS_IN_TENTHS: &[(&str, &str)] = &[
+    ("enter,factor,,WOOD,1990,1.5,,,yr,", ""),
+    ("enter,factor,,WOOD,1990,60.0,,,yr,", ""),
+    (
+        "enter,factor,,WOOD,1990,60.1,,,yr,",
+        "6 BadNumber row 1 column value",
+    ),
+    (
+        "enter,factor,,WOOD,1990,1.5,1,,yr,",
+        "6 BadNumber row 1 column low",
+    ),
+];
+
+// A row, and the rule that it breaks in a body of format 1; nothing where it is read.
 const ROWS: &[(&str, &str)] = &[
     ("enter,factor,,WOOD,1990,23,,,yr,", ""),
+    (
+        "enter,factor,,WOOD,1990,1.5,,,yr,",
+        "6 BadNumber row 1 column value",
+    ),
     (
         "enter,factor,,WOOD,1990,61,,,yr,",
         "6 BadNumber row 1 column value",
@@ -532,14 +581,17 @@ const ROWS: &[(&str, &str)] = &[
     ),
 ];
 
-// Whether the row breaks this rule, or none.
-fn is_refused_so(rt: &impl Abort, alloc: Global, row: &str, want: &str) -> bool {
-    let mut body = Vec::from_slice(
-        alloc,
-        b"act,kind,subject,name,year,value,low,high,unit,note\n",
-    )
-    .ok()
-    .expect(rt, "memory");
+// Whether the row, under a header with this first name, breaks this rule, or none.
+fn is_refused_so(rt: &impl Abort, alloc: Global, act: &str, row: &str, want: &str) -> bool {
+    let columns = ",kind,subject,name,year,value,low,high,unit,note\n";
+    let mut body = Vec::from_slice(alloc, act.as_bytes())
+        .ok()
+        .expect(rt, "memory");
+    check(
+        rt,
+        body.extend_from_slice(columns.as_bytes()).is_ok(),
+        "memory",
+    );
     check(rt, body.extend_from_slice(row.as_bytes()).is_ok(), "memory");
     assert!(rt; !is_too_long(&body));
     let Rows { rows, rest } = read_rows(alloc, &body).ok().expect(rt, "memory");
@@ -552,7 +604,10 @@ fn is_refused_so(rt: &impl Abort, alloc: Global, row: &str, want: &str) -> bool 
 #[test]
 fn rows_hold_what_their_kind_and_their_unit_ask_for(rt: HostRuntime) {
     for (row, want) in ROWS {
-        check(&rt, is_refused_so(&rt, rt.alloc(), row, want), row);
+        check(&rt, is_refused_so(&rt, rt.alloc(), "act", row, want), row);
+    }
+    for (row, want) in ROWS_IN_TENTHS {
+        check(&rt, is_refused_so(&rt, rt.alloc(), "act2", row, want), row);
     }
 }
 
