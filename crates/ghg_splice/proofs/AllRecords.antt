@@ -1,8 +1,10 @@
 -- The records that a reader of a text gives, one after another, are those of the text.
-use Rattle.std.proofs.Common.{Bor, ◌≡◌, ◌≤◌, ◌<◌, ◌+◌, ◌-◌, ℕ, zero, suc, List, [], ◌∷◌, ◌++◌, length, Option, Some, None, true, false, refl, sym, subst, arith, inl, inr}
-use Rattle.std.proofs.lemmas.Bool.{cases_Bool}
+use Rattle.std.proofs.Common.{Bor, ◌≡◌, ◌∙◌, ◌≤◌, ◌<◌, ◌+◌, ◌-◌, ℕ, zero, suc, List, [], ◌∷◌, ◌++◌, length, Option, Some, None, true, false, refl, sym, subst, arith, inl, inr}
+use Rattle.std.proofs.lemmas.Bool.{cases_Bool, false≢true}
 use Rattle.csv.specs.Machine.{Read, ends_at_end, field_after, fields_after, is_end, next_record, step}
-use Rattle.csv.specs.Reading.{Reached, Ready, default_config, reader_config, reader_state, reader_trim, records, records_from, source_of, strip_bom}
+use Rattle.csv.specs.Reading.{ExplainsRead, Reached, Ready, default_config, is_flexible, reader_config, reader_state, reader_trim, records, records_from, source_of, stops_reader, strip_bom}
+use Rattle.csv.specs.declared.error.ErrorKind.{ErrorKind}
+use Rattle.csv.specs.declared.error.ErrorKind.TheVariants as kinds
 use Rattle.csv.specs.declared.iter.ByteRecordsIntoIter.{ByteRecordsIntoIter}
 use Rattle.csv.specs.declared.parser.State.{State}
 use Rattle.csv.specs.declared.parser.State.TheVariants as st
@@ -21,12 +23,22 @@ pub record IsReading (it : ByteRecordsIntoIter (Bor (List ℕ))) : Type 0 where
   pub ready : Ready it.rdr
   pub left : 0 < it.left
   pub config : reader_config it.rdr ≡ default_config
+  pub flexible : is_flexible it.rdr ≡ true
 
 -- a reader that has given these records of a text, and the bytes that it has left
 pub record IsAhead (text : List ℕ) (rows : List (List (List ℕ))) (reader : Reader (Bor (List ℕ))) : Type 0 where
   pub left : List ℕ
   pub known : source_of rest reader ≡ Some left
   pub reached : Reached default_config st.StartRecord (strip_bom text) rows (reader_state reader) left
+
+-- why a read failed
+pub fails_by_memory : (a b : Reader (Bor (List ℕ))) (kind : ErrorKind) → is_flexible a ≡ true → ExplainsRead rest a b false kind → stops_reader kind ≡ true
+fails_by_memory a b (kinds.Io error) flexible why = refl
+fails_by_memory a b kinds.OutOfMemory flexible why = refl
+fails_by_memory a b (kinds.Utf8 place error) flexible why = absurd (false≢true why.0)
+fails_by_memory a b (kinds.UnequalLengths place expected len) flexible why = absurd (false≢true (sym why.0 ∙ flexible))
+fails_by_memory a b (kinds.Serialize text) flexible why = absurd why
+fails_by_memory a b (kinds.Deserialize place error) flexible why = absurd why
 
 -- ---- a record takes bytes
 

@@ -21,10 +21,10 @@ use Rattle.ghg_splice.specs.declared.method.Method.{Method}
 use Rattle.ghg_splice.specs.declared.method.Method.TheVariants.{Linear, Surrogate, Overlap}
 use Rattle.ghg_splice.specs.declared.quantity.Quantity.{Quantity}
 use Rattle.ghg_splice.specs.declared.series.Row.{Row}
-use Rattle.ghg_splice.specs.Fills.{base_in, beside, gap, gap_after, gaps, interpolated, known_of}
+use Rattle.ghg_splice.specs.Fills.{base_in, fill_from_x, gap, gap_after, gaps, interpolated, known_of}
 use Rattle.ghg_splice.specs.Formulas.{linear, overlap, ratio_sum, surrogate, with_ratio}
 use Rattle.ghg_splice.specs.Laws.{AreChosen, AreHeld, FillsHoldExactFractions, HoldsExactFractions, IsHeld, IsSupplied}
-use Rattle.ghg_splice.specs.Quantities.{exactly, part_in, quantities}
+use Rattle.ghg_splice.specs.Quantities.{fractions, part_in, quantities}
 
 -- ---- operations
 
@@ -70,19 +70,19 @@ both_held None range f inside = tt
 both_held (Some point) None f inside = tt
 both_held (Some point) (Some range) f inside = inside range refl
 
-sum_held : (p q : Quantity) (f g : Fraction) → Inside p.range f → Inside q.range g → IsHeld (quantities.sum p q) (exactly.sum f g)
+sum_held : (p q : Quantity) (f g : Fraction) → Inside p.range f → Inside q.range g → IsHeld (quantities.sum p q) (fractions.sum f g)
 sum_held p q f g h k = both_held (result_ok (sum_in p.point q.point)) (result_ok (sum_in p.range q.range)) (fraction.sum f g) (sum_inside p.range q.range f g h k)
 
-product_held : (p q : Quantity) (f g : Fraction) → Inside p.range f → Inside q.range g → IsHeld (quantities.product p q) (exactly.product f g)
+product_held : (p q : Quantity) (f g : Fraction) → Inside p.range f → Inside q.range g → IsHeld (quantities.product p q) (fractions.product f g)
 product_held p q f g h k = both_held (result_ok (product_in p.point q.point)) (result_ok (product_in p.range q.range)) (fraction.product f g) (product_inside p.range q.range f g h k)
 
-quotient_held : (p q : Quantity) (f g : Fraction) → Inside p.range f → Inside q.range g → IsHeld (quantities.quotient p q) (exactly.quotient f g)
+quotient_held : (p q : Quantity) (f g : Fraction) → Inside p.range f → Inside q.range g → IsHeld (quantities.quotient p q) (fractions.quotient f g)
 quotient_held p q f g h k = both_held (result_ok (quotient_in p.point q.point)) (result_ok (quotient_in p.range q.range)) (fraction.quotient f g) (quotient_inside p.range q.range f g h k)
 
-times_held : (n : ℕ) (p : Quantity) (f : Fraction) → Inside p.range f → IsHeld (quantities.times n p) (exactly.times n f)
+times_held : (n : ℕ) (p : Quantity) (f : Fraction) → Inside p.range f → IsHeld (quantities.times n p) (fractions.times n f)
 times_held n p f h = both_held (result_ok (scaled_in n 1 p.point)) (result_ok (scaled_in n 1 p.range)) (fraction.scaled n 1 (zero-lt-suc 0) f) (scaled_inside n 0 p.range f h)
 
-over_held : (n : ℕ) (p : Quantity) (f : Fraction) → Inside p.range f → IsHeld (quantities.over n p) (exactly.over n f)
+over_held : (n : ℕ) (p : Quantity) (f : Fraction) → Inside p.range f → IsHeld (quantities.over n p) (fractions.over n f)
 over_held zero p f h = tt
 over_held (suc n) p f h = both_held (part_in (suc n) p.point) (part_in (suc n) p.range) (fraction.scaled 1 (suc n) (zero-lt-suc n) f) (scaled_inside 1 n p.range f h)
 
@@ -115,7 +115,7 @@ AreBases [] [] = Unit {0}
 AreBases (a ∷ bases) (b ∷ exact) = IsBase a b × AreBases bases exact
 AreBases _ _ = ⊥
 
-linear_held : (a b : Known Quantity) (f g : Known Fraction) (t : ℕ) → IsKnown a f → IsKnown b g → IsHeld (linear quantities a t b) (linear exactly f t g)
+linear_held : (a b : Known Quantity) (f g : Known Fraction) (t : ℕ) → IsKnown a f → IsKnown b g → IsHeld (linear quantities a t b) (linear fractions f t g)
 unfolding linear
 linear_held a b f g t h k =
     rw (h.year, k.year) (then_held _ _ _ _ (times_held (g.year - t) a.y f.y h.y) (λ p p' first.
@@ -124,7 +124,7 @@ linear_held a b f g t h k =
     over_held (g.year - f.year) s s' both))))
 
 surrogate_held : (bases : List (Base Quantity)) (exact : List (Base Fraction)) (x : Quantity) (f : Fraction) → AreBases bases exact → Inside x.range f
-    → IsHeld (surrogate quantities bases x) (surrogate exactly exact f)
+    → IsHeld (surrogate quantities bases x) (surrogate fractions exact f)
 unfolding surrogate
 surrogate_held [] [] x f h k = tt
 surrogate_held [] (e ∷ exact) x f h k = absurd h
@@ -133,24 +133,24 @@ surrogate_held (b ∷ bases) (e ∷ exact) x f h k =
     then_held _ _ _ _ (quotient_held x b.x f e.x k h.0.x) (λ r r' ratio. product_held r b.y r' e.y ratio h.0.y)
 
 with_ratio_held : (q : Option Quantity) (f : Option Fraction) (b : Base Quantity) (e : Base Fraction) → IsHeld q f → IsBase b e
-    → IsHeld (with_ratio quantities q b) (with_ratio exactly f e)
+    → IsHeld (with_ratio quantities q b) (with_ratio fractions f e)
 with_ratio_held q f b e h k =
     then_held q f _ _ h (λ s s' before.
     then_held _ _ _ _ (quotient_held b.y b.x e.y e.x k.y k.x) (λ r r' ratio. sum_held s r s' r' before ratio))
 
 added_held : (bases : List (Base Quantity)) (exact : List (Base Fraction)) (q : Option Quantity) (f : Option Fraction) → IsHeld q f → AreBases bases exact
-    → IsHeld (fold (with_ratio quantities) q bases) (fold (with_ratio exactly) f exact)
+    → IsHeld (fold (with_ratio quantities) q bases) (fold (with_ratio fractions) f exact)
 added_held [] [] q f h k = h
 added_held [] (e ∷ exact) q f h k = absurd k
 added_held (b ∷ bases) [] q f h k = absurd k
-added_held (b ∷ bases) (e ∷ exact) q f h k = added_held bases exact (with_ratio quantities q b) (with_ratio exactly f e) (with_ratio_held q f b e h k.0) k.1
+added_held (b ∷ bases) (e ∷ exact) q f h k = added_held bases exact (with_ratio quantities q b) (with_ratio fractions f e) (with_ratio_held q f b e h k.0) k.1
 
-ratio_sum_held : (bases : List (Base Quantity)) (exact : List (Base Fraction)) → AreBases bases exact → IsHeld (ratio_sum quantities bases) (ratio_sum exactly exact)
+ratio_sum_held : (bases : List (Base Quantity)) (exact : List (Base Fraction)) → AreBases bases exact → IsHeld (ratio_sum quantities bases) (ratio_sum fractions exact)
 unfolding ratio_sum
 ratio_sum_held [] [] h = tt
 ratio_sum_held [] (e ∷ exact) h = absurd h
 ratio_sum_held (b ∷ bases) [] h = absurd h
-ratio_sum_held (b ∷ bases) (e ∷ exact) h = added_held bases exact (quantities.quotient b.y b.x) (exactly.quotient e.y e.x) (quotient_held b.y b.x e.y e.x h.0.y h.0.x) h.1
+ratio_sum_held (b ∷ bases) (e ∷ exact) h = added_held bases exact (quantities.quotient b.y b.x) (fractions.quotient e.y e.x) (quotient_held b.y b.x e.y e.x h.0.y h.0.x) h.1
 
 same_length : (bases : List (Base Quantity)) (exact : List (Base Fraction)) → AreBases bases exact → length bases ≡ length exact
 same_length [] [] h = refl
@@ -159,7 +159,7 @@ same_length (b ∷ bases) [] h = absurd h
 same_length (b ∷ bases) (e ∷ exact) h = ap suc (same_length bases exact h.1)
 
 overlap_held : (bases : List (Base Quantity)) (exact : List (Base Fraction)) (x : Quantity) (f : Fraction) → AreBases bases exact → Inside x.range f
-    → IsHeld (overlap quantities bases x) (overlap exactly exact f)
+    → IsHeld (overlap quantities bases x) (overlap fractions exact f)
 unfolding overlap
 overlap_held bases exact x f h k =
     rw (same_length bases exact h) (then_held _ _ _ _ (ratio_sum_held bases exact h) (λ s s' sum.
@@ -188,24 +188,24 @@ append_held (e ∷ a) b [] d h k = absurd h
 append_held (e ∷ a) b (f ∷ c) d h k = (h.0, h.1, append_held a b c d h.2 k)
 
 years_held : (a b : Known Quantity) (f g : Known Fraction) (years : List ℕ) → IsKnown a f → IsKnown b g
-    → AreHeld (map (interpolated quantities a b) years) (map (interpolated exactly f g) years)
+    → AreHeld (map (interpolated quantities a b) years) (map (interpolated fractions f g) years)
 years_held a b f g [] h k = tt
 years_held a b f g (t ∷ years) h k = (refl, linear_held a b f g t h k, years_held a b f g years h k)
 
-gap_held : (a b : Known Quantity) (f g : Known Fraction) → IsKnown a f → IsKnown b g → AreHeld (gap quantities a b) (gap exactly f g)
+gap_held : (a b : Known Quantity) (f g : Known Fraction) → IsKnown a f → IsKnown b g → AreHeld (gap quantities a b) (gap fractions f g)
 unfolding gap
 gap_held a b f g h k =
     let same : range_with_len (a.year + 1) (b.year - (a.year + 1)) ≡ range_with_len (f.year + 1) (g.year - (f.year + 1)) = rw (h.year, k.year) refl in
     rw same (years_held a b f g (range_with_len (f.year + 1) (g.year - (f.year + 1))) h k)
 
 gap_after_held : (a : Known Quantity) (f : Known Fraction) (known : List (Known Quantity)) (exact : List (Known Fraction)) → IsKnown a f → AreKnown known exact
-    → AreHeld (gap_after quantities a known) (gap_after exactly f exact)
+    → AreHeld (gap_after quantities a known) (gap_after fractions f exact)
 gap_after_held a f [] [] h k = tt
 gap_after_held a f [] (g ∷ exact) h k = absurd k
 gap_after_held a f (b ∷ known) [] h k = absurd k
 gap_after_held a f (b ∷ known) (g ∷ exact) h k = gap_held a b f g h k.0
 
-gaps_held : (known : List (Known Quantity)) (exact : List (Known Fraction)) → AreKnown known exact → AreHeld (gaps quantities known) (gaps exactly exact)
+gaps_held : (known : List (Known Quantity)) (exact : List (Known Fraction)) → AreKnown known exact → AreHeld (gaps quantities known) (gaps fractions exact)
 unfolding gaps
 gaps_held [] [] h = tt
 gaps_held [] (f ∷ exact) h = absurd h
@@ -240,7 +240,7 @@ first_base (b ∷ bases) (e ∷ exact) h = (h.0, tt)
 cons_fill : (formula : Quantity → Option Quantity) (exact : Fraction → Option Fraction) (y x : Option Quantity) (f g : Option Fraction) (year other : ℕ)
     (later : List (Fill Quantity)) (laters : List (Fill Fraction)) → ((q : Quantity) (e : Fraction) → Inside q.range e → IsHeld (formula q) (exact e))
     → year ≡ other → IsSupplied y f → IsSupplied x g → AreHeld later laters
-    → AreHeld (cons_option (beside formula (record { year = year; y = y; x = x })) later) (cons_option (beside exact (record { year = other; y = f; x = g })) laters)
+    → AreHeld (cons_option (fill_from_x formula (record { year = year; y = y; x = x })) later) (cons_option (fill_from_x exact (record { year = other; y = f; x = g })) laters)
 cons_fill formula exact None None None None year other later laters held same h k l = l
 cons_fill formula exact None None None (Some g) year other later laters held same h k l = absurd k
 cons_fill formula exact None (Some x) None None year other later laters held same h k l = absurd k
@@ -249,21 +249,21 @@ cons_fill formula exact None x (Some f) g year other later laters held same h k 
 cons_fill formula exact (Some y) x None g year other later laters held same h k l = absurd h
 cons_fill formula exact (Some y) x (Some f) g year other later laters held same h k l = l
 
-besides_held : (formula : Quantity → Option Quantity) (exact : Fraction → Option Fraction) (rows : List (Row Quantity)) (choices : List (Row Fraction))
+fills_from_x_held : (formula : Quantity → Option Quantity) (exact : Fraction → Option Fraction) (rows : List (Row Quantity)) (choices : List (Row Fraction))
     → ((q : Quantity) (e : Fraction) → Inside q.range e → IsHeld (formula q) (exact e)) → AreChosen rows choices
-    → AreHeld (filter_map (beside formula) rows) (filter_map (beside exact) choices)
-besides_held formula exact [] [] held h = tt
-besides_held formula exact [] (c ∷ choices) held h = absurd h
-besides_held formula exact (r ∷ rows) [] held h = absurd h
-besides_held formula exact (r ∷ rows) (c ∷ choices) held h =
-    cons_fill formula exact r.y r.x c.y c.x r.year c.year _ _ held h.0.year h.0.y h.0.x (besides_held formula exact rows choices held h.1)
+    → AreHeld (filter_map (fill_from_x formula) rows) (filter_map (fill_from_x exact) choices)
+fills_from_x_held formula exact [] [] held h = tt
+fills_from_x_held formula exact [] (c ∷ choices) held h = absurd h
+fills_from_x_held formula exact (r ∷ rows) [] held h = absurd h
+fills_from_x_held formula exact (r ∷ rows) (c ∷ choices) held h =
+    cons_fill formula exact r.y r.x c.y c.x r.year c.year _ _ held h.0.year h.0.y h.0.x (fills_from_x_held formula exact rows choices held h.1)
 
 pub fills_hold : FillsHoldExactFractions
 fills_hold Linear rows choices h = gaps_held (known_of rows) (known_of choices) (known_held rows choices h)
 fills_hold Surrogate rows choices h =
-    besides_held _ _ rows choices (λ q e inside. surrogate_held _ _ q e (first_base _ _ (all_bases rows choices h)) inside) h
+    fills_from_x_held _ _ rows choices (λ q e inside. surrogate_held _ _ q e (first_base _ _ (all_bases rows choices h)) inside) h
 fills_hold Overlap rows choices h =
-    besides_held _ _ rows choices (λ q e inside. overlap_held _ _ q e (all_bases rows choices h) inside) h
+    fills_from_x_held _ _ rows choices (λ q e inside. overlap_held _ _ q e (all_bases rows choices h) inside) h
 
 -- the same of the rows of a body
 pub held_in : (method : Method) (body : List ℕ) → HoldsExactFractions method body

@@ -1,8 +1,6 @@
 -- Lists that loops build from the rows that they have passed.
-use Rattle.std.proofs.Common.{◌≡◌, ◌∙◌, ◌≤◌, ◌<◌, ◌+◌, ◌-◌, ℕ, List, [], ◌∷◌, ◌++◌, length, map, filter_map, take, drop, get_or, find, Option, Some, None, Result, Ok, Err, ◌==◌, false, true≢false, arith, refl, sym, ap, add-one, append_assoc, length-drop}
+use Rattle.std.proofs.Common.{◌≡◌, ◌∙◌, ◌≤◌, ◌<◌, ◌+◌, ◌-◌, ℕ, List, [], ◌∷◌, ◌++◌, length, map, filter_map, take, drop, get_or, find, Option, Some, None, Result, Ok, Err, ◌==◌, false, true≢false, arith, refl, ap, append_assoc, length-drop}
 use Rattle.std.specs.List.{cons_option, range_with_len}
-use Rattle.std.proofs.Math.Seq.{take-suc}
-use Rattle.std.proofs.lemmas.List.Elements.{filter_map-append}
 use Rattle.std.proofs.lemmas.List.FromFn.{map-range_with_len_more}
 use Rattle.ghg_splice.specs.declared.fills.Fill.{Fill}
 use Rattle.ghg_interval.specs.Operations.{holds_zero}
@@ -19,14 +17,7 @@ use Rattle.ghg_splice.specs.Formulas.{linear}
 use Rattle.ghg_splice.specs.Quantities.{quantities}
 use Rattle.ghg_splice.proofs.Joined.{split_at}
 
--- ---- what is left of rows
-
--- one row more
-pub more_left : {X Y : Type 0} (f : X → Option Y) (xs : List X) (i : ℕ) (x : X) → i < length xs → x ≡ get_or xs i x
-    → filter_map f (take (i + 1) xs) ≡ filter_map f (take i xs) ++ filter_map f (x ∷ [])
-more_left f xs i x small is =
-    let longer : take (i + 1) xs ≡ take i xs ++ x ∷ [] = rw (add-one i) (take-suc xs i x small ∙ ap (λ y. take i xs ++ y ∷ []) (sym is)) in
-    rw longer (filter_map-append f (take i xs) (x ∷ []))
+-- ---- how many bases there are
 
 cons_few : {X : Type 0} (o : Option X) (xs : List X) (n : ℕ) → length xs ≤ n → length (cons_option o xs) ≤ n + 1
 cons_few None xs n h = omega arith

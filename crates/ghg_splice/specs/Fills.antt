@@ -60,8 +60,8 @@ proportional m Surrogate bases x = surrogate m bases x
 proportional m _ bases x = overlap m bases x
 
 -- the year of a row that has x and no y
-abbrev pub beside : {A : Type 0} → (A → Option A) → Row A → Option (Fill A)
-beside formula row =
+abbrev pub fill_from_x : {A : Type 0} → (A → Option A) → Row A → Option (Fill A)
+fill_from_x formula row =
     if is_some row.y then None
     else option_map (λ x. record { year = row.year; value = formula x }) row.x
 
@@ -70,7 +70,7 @@ beside formula row =
 -- the years to fill, in their order
 abbrev pub fills_of : {A : Type 0} → Arithmetic A → Method → List (Row A) → List (Fill A)
 fills_of m Linear rows = gaps m (known_of rows)
-fills_of m method rows = filter_map (beside (proportional m method (bases_of method rows))) rows
+fills_of m method rows = filter_map (fill_from_x (proportional m method (bases_of method rows))) rows
 
 -- no base, or the first one whose range of x holds zero
 abbrev pub fault_of : List (Base Quantity) → Option SpliceRefusal

@@ -7,7 +7,7 @@ use Rattle.ghg_splice.specs.declared.method.Method.{Method}
 use Rattle.ghg_splice.specs.declared.quantity.Quantity.{Quantity}
 use Rattle.ghg_splice.specs.declared.series.Row.{Row}
 use Rattle.ghg_splice.specs.Fills.{fills_of}
-use Rattle.ghg_splice.specs.Quantities.{exactly, quantities}
+use Rattle.ghg_splice.specs.Quantities.{fractions, quantities}
 use Rattle.ghg_splice.specs.Series.{rows_in}
 
 -- a fraction stands where a quantity is supplied, inside its bounds
@@ -46,10 +46,10 @@ AreHeld _ _ = ⊥
 abbrev pub FillsHoldExactFractions : Type 0
 FillsHoldExactFractions =
     (method : Method) (rows : List (Row Quantity)) (choices : List (Row Fraction)) →
-    AreChosen rows choices → AreHeld (fills_of quantities method rows) (fills_of exactly method choices)
+    AreChosen rows choices → AreHeld (fills_of quantities method rows) (fills_of fractions method choices)
 
 -- the same of the rows of a body
 abbrev pub HoldsExactFractions : Method → List ℕ → Type 0
 HoldsExactFractions method body =
     (rows : List (Row Quantity)) (choices : List (Row Fraction)) → rows_in body ≡ Ok rows →
-    AreChosen rows choices → AreHeld (fills_of quantities method rows) (fills_of exactly method choices)
+    AreChosen rows choices → AreHeld (fills_of quantities method rows) (fills_of fractions method choices)

@@ -55,8 +55,8 @@ exact_part zero f = None
 exact_part (suc n) f = Some (fraction.scaled 1 (suc n) (zero-lt-suc n) f)
 
 -- the operations of fractions; no formula divides by what may be zero
-abbrev pub exactly : Arithmetic Fraction
-exactly = record {
+abbrev pub fractions : Arithmetic Fraction
+fractions = record {
   sum = λ f g. Some (fraction.sum f g);
   product = λ f g. Some (fraction.product f g);
   quotient = λ f g. Some (fraction.quotient f g);

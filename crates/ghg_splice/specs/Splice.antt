@@ -29,10 +29,11 @@ text_in h body = do
   fills ← fills_in h.method rows
   printed_in h fills
 
-abbrev pub told : Result (List ℕ) SpliceRefusal → Spliced
-told (Ok text) = Body text
-told (Err refusal) = Refused refusal
+abbrev pub answer_of : Result (List ℕ) SpliceRefusal → Spliced
+answer_of (Ok text) = Body text
+answer_of (Err refusal) = Refused refusal
 
 -- what splicing a body gives
 abbrev pub splice_of : Method → List ℕ → UnitWord → List ℕ → Spliced
-splice_of method name unit body = told (text_in (record { method = method; name = name; unit = unit }) body)
+splice_of method name unit body =
+    answer_of (text_in (record { method = method; name = name; unit = unit }) body)

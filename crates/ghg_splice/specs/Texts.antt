@@ -26,12 +26,12 @@ method_named word =
     if bytes_eq word (codes "overlap") then Some Overlap else None))
 
 -- a text and a comma
-unfoldable pub field : List ℕ → List ℕ
-field text = text ++ codes ","
+unfoldable pub field_text : List ℕ → List ℕ
+field_text text = text ++ codes ","
 
 -- a number in 10^-12 with all its decimals, and a comma
 unfoldable pub number_text : ℤ → List ℕ
-number_text n = field (fixed_text n 12)
+number_text n = field_text (fixed_text n 12)
 
 -- half the sum of the bounds, rounded down
 abbrev pub middle : Bounds → ℤ
@@ -42,11 +42,11 @@ unfoldable pub figures_text : Quantity → List ℕ
 figures_text q = number_text (middle q.point) ++ number_text q.range.lo ++ number_text q.range.hi
 
 unfoldable pub subject_text : Heading → ℕ → List ℕ
-subject_text h year = field (codes "enter,activity,") ++ field h.name ++ field (decimal year)
+subject_text h year = field_text (codes "enter,activity,") ++ field_text h.name ++ field_text (decimal year)
 
 unfoldable pub line_text : Heading → ℕ → Quantity → List ℕ
 line_text h year q =
-    subject_text h year ++ figures_text q ++ field (word_of h.unit) ++ method_word h.method ++ codes "\n"
+    subject_text h year ++ figures_text q ++ field_text (word_of h.unit) ++ method_word h.method ++ codes "\n"
 
 -- both bounds are below the limit in magnitude, so that each has no more digits than a decimal
 abbrev pub is_printable : Bounds → Bool

@@ -1,9 +1,9 @@
 //! The years that a technique fills.
 
-ghost use Rattle.std.specs.Prelude.{◌∷◌, [], ◌≡◌, ◌++◌, ◌≤◌, IfOk, OnOk, length, filter_map, find};
+ghost use Rattle.std.specs.Prelude.{◌≡◌, ◌++◌, ◌≤◌, IfOk, OnOk, length, filter_map, find};
 ghost use Rattle.ghg_interval.specs.Operations.{holds_zero};
 ghost use Rattle.ghg_units.specs.Year.{latest_year};
-ghost use Rattle.ghg_splice.specs.Fills.{base_fault, base_in, bases_of, beside, fault_of, fills_in, fills_of, gap, gaps, known_of, proportional, unless};
+ghost use Rattle.ghg_splice.specs.Fills.{base_fault, base_in, bases_of, fault_of, fill_from_x, fills_in, fills_of, gap, gaps, known_in, known_of, proportional, unless};
 ghost use Rattle.ghg_splice.specs.declared.method.Method.TheVariants as methods;
 ghost use Rattle.ghg_splice.specs.Quantities.{quantities};
 ghost use Rattle.ghg_splice.specs.Refusals.{Gives};
@@ -60,11 +60,11 @@ fn by_bases(
 ) -> Result<Vec<Fill<Quantity>>, Stop>
     requires { length rows.now ≤ latest_year }
     ensures { Gives (λ fills. fills.items) result (unless (fault_of (bases_of method rows.now))
-        (filter_map (beside (proportional quantities method (bases_of method rows.now))) rows.now)) }
+        (filter_map (fill_from_x (proportional quantities method (bases_of method rows.now))) rows.now)) }
 {
     let bases = bases_of(alloc, method, rows)?;
     check_bases(&bases)?;
-    let fills = beside_bases(alloc, method, &bases, rows)?;
+    let fills = fills_from_x(alloc, method, &bases, rows)?;
     Ok(fills)
 }
 
@@ -86,23 +86,15 @@ fn between_known(
 fn known_of(alloc: Global, rows: &[Row<Quantity>]) -> Result<Vec<Known<Quantity>>, AllocError>
     ensures { IfOk result (λ known. known.items ≡ known_of rows.now) }
 {
-    let mut known = Vec::new(alloc);
-    for row in rows {
-        push_known(&mut known, row)?;
-    }
-    Ok(known)
+    rows.iter().filter_map(|row| known_in(row)).collect(alloc)
 }
 
-fn push_known(known: &mut Vec<Known<Quantity>>, row: &Row<Quantity>) -> Result<(), AllocError>
-    ensures { OnOk result (known.new.items ≡ known.old.items ++ known_of (row.now ∷ [])) }
+// The year of a row, where it is known.
+fn known_in(row: &Row<Quantity>) -> Option<Known<Quantity>>
+    ensures { result ≡ known_in row.now }
 {
-    match row.y {
-        Some(y) => {
-            known.push(Known { year: row.year, y })?;
-            Ok(())
-        }
-        None => Ok(()),
-    }
+    let y = row.y?;
+    Some(Known { year: row.year, y })
 }
 
 // The years between two known neighbours.
@@ -142,7 +134,7 @@ fn first_zero(bases: &[Base<Quantity>]) -> Option<Base<Quantity>>
 }
 
 // The years of the other series alone.
-fn beside_bases(
+fn fills_from_x(
     alloc: Global,
     method: Method,
     bases: &[Base<Quantity>],
@@ -150,36 +142,31 @@ fn beside_bases(
 ) -> Result<Vec<Fill<Quantity>>, AllocError>
     requires { length bases.now ≤ latest_year }
     ensures { IfOk result (λ fills.
-        fills.items ≡ filter_map (beside (proportional quantities method bases.now)) rows.now) }
+        fills.items ≡ filter_map (fill_from_x (proportional quantities method bases.now)) rows.now) }
 {
-    let mut fills = Vec::new(alloc);
-    for row in rows {
-        push_fill(&mut fills, method, bases, row)?;
-    }
-    Ok(fills)
+    rows.iter()
+        .filter_map(|row| fill_from_x(method, bases, row))
+        .collect(alloc)
 }
 
-fn push_fill(
-    fills: &mut Vec<Fill<Quantity>>,
+// The year of a row that has the other series alone.
+fn fill_from_x(
     method: Method,
     bases: &[Base<Quantity>],
     row: &Row<Quantity>,
-) -> Result<(), AllocError>
+) -> Option<Fill<Quantity>>
     requires { length bases.now ≤ latest_year }
-    ensures { OnOk result (fills.new.items ≡ fills.old.items ++
-        filter_map (beside (proportional quantities method bases.now)) (row.now ∷ [])) }
+    ensures { result ≡ fill_from_x (proportional quantities method bases.now) row.now }
 {
-    match (row.y, row.x) {
-        (None, Some(x)) => {
-            let value = proportional(method, bases, &x);
-            fills.push(Fill {
-                year: row.year,
-                value,
-            })?;
-            Ok(())
-        }
-        _ => Ok(()),
+    if row.y.is_some() {
+        return None;
     }
+    let x = row.x?;
+    let value = proportional(method, bases, &x);
+    Some(Fill {
+        year: row.year,
+        value,
+    })
 }
 
 // The years that have both series; of surrogate data the first alone.
@@ -190,30 +177,31 @@ fn bases_of(
 ) -> Result<Vec<Base<Quantity>>, AllocError>
     ensures { IfOk result (λ bases. bases.items ≡ bases_of method rows.now) }
 {
-    let mut bases = Vec::new(alloc);
-    for row in rows {
-        push_base(&mut bases, row)?;
-    }
+    let mut bases = all_bases(alloc, rows)?;
     if method == Method::Surrogate {
         bases.truncate(1);
     }
     Ok(bases)
 }
 
-fn push_base(bases: &mut Vec<Base<Quantity>>, row: &Row<Quantity>) -> Result<(), AllocError>
-    ensures { OnOk result (bases.new.items ≡ bases.old.items ++ filter_map base_in (row.now ∷ [])) }
+// The years that have both series.
+fn all_bases(alloc: Global, rows: &[Row<Quantity>]) -> Result<Vec<Base<Quantity>>, AllocError>
+    ensures { IfOk result (λ bases. bases.items ≡ filter_map base_in rows.now) }
 {
-    match (row.y, row.x) {
-        (Some(y), Some(x)) => {
-            bases.push(Base {
-                year: row.year,
-                y,
-                x,
-            })?;
-            Ok(())
-        }
-        _ => Ok(()),
-    }
+    rows.iter().filter_map(|row| base_in(row)).collect(alloc)
+}
+
+// The year of a row that has both series.
+fn base_in(row: &Row<Quantity>) -> Option<Base<Quantity>>
+    ensures { result ≡ base_in row.now }
+{
+    let y = row.y?;
+    let x = row.x?;
+    Some(Base {
+        year: row.year,
+        y,
+        x,
+    })
 }
 
 // Whether the range holds zero.

@@ -1,10 +1,11 @@
 //! The records of a body.
 
-ghost use Rattle.std.specs.Prelude.{◌≡◌, map, IfOk};
+ghost use Rattle.std.specs.Prelude.{◌≡◌, map, true, IfOk};
+ghost use Rattle.csv.specs.Reading.{error_kind, stops_reader};
 ghost use Rattle.csv.specs.Records.{fields_of};
 ghost use Rattle.ghg_splice.specs.Series.{records_of};
 
-use csv::{ByteRecord, ReaderBuilder};
+use csv::{ByteRecord, Error, ErrorKind, ReaderBuilder};
 use std::alloc::{AllocError, Global};
 
 /// The records of a body, the header first.
@@ -19,8 +20,20 @@ pub(crate) fn read_records(alloc: Global, body: &[u8]) -> Result<Vec<ByteRecord>
     for record in reader.into_byte_records() {
         match record {
             Ok(record) => records.push(record)?,
-            Err(_) => return Err(AllocError),
+            Err(error) => return Err(want_of_memory(error)),
         }
     }
     Ok(records)
+}
+
+// The error of a read of bytes in memory, where records may have any length.
+//
+// A slice does not fail, but no clause of the reader says so: `Io` is answered as out of memory.
+fn want_of_memory(error: Error) -> AllocError
+    requires { stops_reader (error_kind error) ≡ true }
+{
+    match error.into_kind() {
+        ErrorKind::Io(_) | ErrorKind::OutOfMemory => AllocError,
+        _ => unreachable!(),
+    }
 }

@@ -37,7 +37,8 @@ pub fn splice(
     body: &[u8],
 ) -> Result<Spliced, AllocError>
     ensures gives { IfOk result (λ spliced. spliced ≡ splice_of method name unit body.now) }
-    // At every choice of fractions inside the supplied bounds, what fills a year holds the formula's fraction.
+    // For every choice of fractions inside the supplied bounds, what fills a year holds the fraction that the
+    // formula gives.
     ensures holds { HoldsExactFractions method body.now }
 {
     let heading = Heading { method, name, unit };

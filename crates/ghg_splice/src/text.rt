@@ -2,7 +2,7 @@
 
 ghost use Rattle.std.specs.Prelude.{◌≡◌, ◌++◌, OnOk};
 ghost use Rattle.ghg_splice.specs.Refusals.{Gives, GivesBehind};
-ghost use Rattle.ghg_splice.specs.Texts.{field, figures_text, is_printable, line_in, line_text, middle, number_text, printed_in, subject_text};
+ghost use Rattle.ghg_splice.specs.Texts.{field_text, figures_text, is_printable, line_in, line_text, middle, number_text, printed_in, subject_text};
 
 use crate::fills::Fill;
 use crate::method::Method;
@@ -103,7 +103,7 @@ fn middle(point: &Interval) -> i128
 }
 
 // A number with all its decimals, and a comma.
-#[tactic(auto, unfolding(crate::specs::Texts::number_text, crate::specs::Texts::field))]
+#[tactic(auto, unfolding(crate::specs::Texts::number_text, crate::specs::Texts::field_text))]
 fn append_number(out: &mut Vec<u8>, n: i128) -> Result<(), AllocError>
     ensures { OnOk result (out.new.items ≡ out.old.items ++ number_text n) }
 {
@@ -112,9 +112,9 @@ fn append_number(out: &mut Vec<u8>, n: i128) -> Result<(), AllocError>
     Ok(())
 }
 
-#[tactic(auto, unfolding(crate::specs::Texts::field))]
+#[tactic(auto, unfolding(crate::specs::Texts::field_text))]
 fn append_field(out: &mut Vec<u8>, text: &[u8]) -> Result<(), AllocError>
-    ensures { OnOk result (out.new.items ≡ out.old.items ++ field text.now) }
+    ensures { OnOk result (out.new.items ≡ out.old.items ++ field_text text.now) }
 {
     out.extend_from_slice(text)?;
     out.push(b',')?;
