@@ -5,7 +5,7 @@ use Rattle.std.proofs.lemmas.List.{append_cancel_left, length-take-le, nil_from_
 use Rattle.httparse.specs.Grammar.{ReadsRequest}
 use Rattle.httparse.proofs.GrammarLemmas.{ReadsRequest-append}
 use Rattle.ghg_outer.specs.Tape.{Consumes, Tape}
-use Rattle.ghg_outer.proofs.Tapes.{consumes_more, consumes_nothing, rose_later}
+use Rattle.ghg_outer.proofs.Tapes.{consumes_more, consumes_nothing}
 use Rattle.ghg_http.specs.Decision.{seen, show, submit}
 use Rattle.ghg_http.specs.Head.{HasHead, IsWhole}
 use Rattle.ghg_http.specs.Receive.{CompletesBody, CutsBody, EndsEarly, FollowsHead, Grows, HasShortBody, HoldsRequest, IsFilled, IsPrompt, Stopped, TakesRequest, max_read}
@@ -13,7 +13,7 @@ use Rattle.ghg_http.specs.declared.decision.Decision.{Decision}
 use Rattle.ghg_http.specs.declared.decision.Decision.TheVariants as decided
 use Rattle.ghg_http.specs.declared.decision.Refusal.{Refusal}
 use Rattle.ghg_http.specs.declared.request.ReceiveError.{ReceiveError}
-use Rattle.ghg_http.specs.declared.request.ReceiveError.TheVariants.{Failed, Memory}
+use Rattle.ghg_http.specs.declared.request.ReceiveError.TheVariants.{Memory}
 use Rattle.ghg_http.specs.declared.request.Request.{Request}
 use Rattle.ghg_http.specs.declared.request.Request.TheVariants.{Refused, Submit, Show}
 
@@ -27,7 +27,6 @@ pub stopped_later : (Kind Late Taken Came : List ℕ → Type 0) (a b c : Tape) 
 stopped_later Kind Late Taken Came a b c text e read known took s = record {
   text = text ++ s.text;
   read = consumes_more a b c text s.text read s.read;
-  cause = λ failed. rose_later a b c read.counts (s.cause failed);
   kind = λ failed. known s.text (s.kind failed);
   taken = took s.text s.taken;
 }
@@ -37,13 +36,9 @@ pub stopped_at_once : (Kind Taken : List ℕ → Type 0) (a : Tape) → Taken []
 stopped_at_once Kind Taken a taken = record {
   text = [];
   read = consumes_nothing a;
-  cause = λ failed. absurd (other failed);
-  kind = λ failed. absurd (other failed);
+  kind = λ failed. absurd (cc);
   taken = taken;
 }
-  where
-    other : Memory ≡ Failed → ⊥
-    other e = cc
 
 -- ---- a buffer
 

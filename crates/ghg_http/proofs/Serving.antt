@@ -5,8 +5,10 @@ use Rattle.std.specs.declared.alloc.AllocError.{AllocError}
 use Rattle.std.proofs.lemmas.Bool.{false≢true}
 use Rattle.ghg_definitions.specs.Compilation.{is_year_of}
 use Rattle.ghg_definitions.specs.Data.{span}
-use Rattle.ghg_outer.specs.Tape.{Appends, Consumes, Tape}
-use Rattle.ghg_outer.proofs.Tapes.{appends_nothing, rose_later}
+use Rattle.ghg_outer.specs.Tape.{Appends, Consumes, IsAtEnd, Tape}
+use Rattle.ghg_outer.specs.Counts.{IsCounted}
+use Rattle.ghg_outer.proofs.Counts.{counted_none, counted_on}
+use Rattle.ghg_outer.proofs.Tapes.{appends_nothing}
 use Rattle.ghg_office.specs.Office.{State, asked, requested}
 use Rattle.ghg_office.specs.Replies.{Shows}
 use Rattle.ghg_office.specs.declared.reply.Reply.{Reply}
@@ -15,7 +17,7 @@ use Rattle.ghg_tables.specs.declared.table.Table.{Table}
 use Rattle.ghg_tables.specs.Names.{table_in}
 use Rattle.ghg_http.specs.Receive.{EndsEarly, IsPrompt, Stopped, TakesRequest}
 use Rattle.ghg_http.specs.Reply.{HttpReply, reply_bytes}
-use Rattle.ghg_http.specs.Serve.{AnswersRequest, BreaksOff, Exchange, IsAnswered, IsCaused, IsUnanswered, Passes, Sends, ServesLink, Snapshot, TellsFaults, asks_to_append, evaluations_for, shown, snapshot}
+use Rattle.ghg_http.specs.Serve.{AnswersRequest, BreaksOff, Exchange, IsAnswered, IsUnanswered, Passes, Sends, ServesLink, Snapshot, TellsFaults, asks_to_append, evaluations_for, shown, snapshot}
 use Rattle.ghg_http.specs.declared.reply.Message.{Message}
 use Rattle.ghg_http.specs.declared.request.ReceiveError.TheVariants as stopped
 use Rattle.ghg_http.specs.declared.request.Request.{Request}
@@ -48,7 +50,7 @@ shows_no_fault s name year answer h e = is_shown s name year (sym (subst (Shows 
 -- nothing was due, and the keeper is as before
 none_due : (stored : Bool) (count : ℕ) → TellsFaults None stored count count
 none_due stored count = record {
-  counted = record { later = omega arith; rose = λ e. absurd (false≢true e) };
+  counted = counted_none count _ false≢true;
   store = λ e. absurd (false≢true e);
 }
 
@@ -68,9 +70,9 @@ module _ (stored : Bool) (count : ℕ) (Same : Type 0) (s : State) (a b : Tape) 
   quietly text = record { same = refl; nothing = refl; none = refl }
 
   -- nothing was written, and the keeper is as before
-  read_only : (end : LinkEnd) (text : List ℕ) → Consumes a b text → Passes (quiet text) None end → IsCaused a b end
-      → Serves stored count count Same (snapshot s a n) (snapshot s b n) end
-  read_only end text read passes cause = (
+  read_only : (end : LinkEnd) (text : List ℕ) → Consumes a b text → Passes (quiet text) None end → (end ≡ Cut → IsAtEnd b)
+      → IsCounted a.faults b.faults (end ≡ LinkFault) → Serves stored count count Same (snapshot s a n) (snapshot s b n) end
+  read_only end text read passes cut counted = (
     None,
     record {
       exchange = quiet text;
@@ -78,24 +80,25 @@ module _ (stored : Bool) (count : ℕ) (Same : Type 0) (s : State) (a b : Tape) 
       to = refl;
       link = (b, read, appends_nothing b);
       passes = passes;
-      cause = cause;
+      cut = cut;
+      counted = counted;
       spent = omega arith;
     },
     none_due stored count,
     λ _. same,
   )
 
-  pub cut_off : TakesRequest a b None → Serves stored count count Same (snapshot s a n) (snapshot s b n) Cut
-  cut_off t = read_only Cut t.bytes t.read (record { early = t.holds.1; unanswered = quietly t.bytes }) t.holds.0
+  pub cut_off : TakesRequest a b None → IsCounted a.faults b.faults (Cut ≡ LinkFault)
+      → Serves stored count count Same (snapshot s a n) (snapshot s b n) Cut
+  cut_off t = read_only Cut t.bytes t.read (record { early = t.holds.1; unanswered = quietly t.bytes }) (λ _. t.holds.0)
 
-  pub link_failed : Stopped EndsEarly IsPrompt a b stopped.Failed
+  pub link_failed : Stopped EndsEarly IsPrompt a b stopped.Failed → IsCounted a.faults b.faults (LinkFault ≡ LinkFault)
       → Serves stored count count Same (snapshot s a n) (snapshot s b n) LinkFault
-  link_failed h =
-      read_only LinkFault h.text h.read (record { early = h.kind refl; unanswered = quietly h.text }) (h.cause refl)
+  link_failed h = read_only LinkFault h.text h.read (record { early = h.kind refl; unanswered = quietly h.text }) (λ e. cc)
 
-  pub ran_out : Stopped EndsEarly IsPrompt a b stopped.Memory
+  pub ran_out : Stopped EndsEarly IsPrompt a b stopped.Memory → IsCounted a.faults b.faults (Memory ≡ LinkFault)
       → Serves stored count count Same (snapshot s a n) (snapshot s b n) Memory
-  ran_out h = read_only Memory h.text h.read (record { prompt = h.taken; unanswered = quietly h.text }) tt
+  ran_out h = read_only Memory h.text h.read (record { prompt = h.taken; unanswered = quietly h.text }) (λ e. cc)
 
 -- ---- with an answer
 
@@ -105,7 +108,7 @@ unfolding reply_bytes
 reply_some due = omega arith
 
 module _ (stored : Bool) (count later : ℕ) (Same : Type 0) (s after : State) (a b : Tape) (n m : ℕ) (request : Request)
-    (due : HttpReply) (t : TakesRequest a b (Some request)) (spent : m ≤ n + evaluations_for s (Some request))
+    (due : HttpReply) (t : TakesRequest a b (Some request)) (stays : b.faults ≡ a.faults) (spent : m ≤ n + evaluations_for s (Some request))
     (faults : TellsFaults (Some due) stored count later)
     (untouched : asks_to_append stored s (Some request) ≡ false → Same) where
   abbrev loud : List ℕ → Exchange
@@ -113,8 +116,9 @@ module _ (stored : Bool) (count later : ℕ) (Same : Type 0) (s after : State) (
 
   -- this was written
   wrote : (c : Tape) (end : LinkEnd) (written : List ℕ) → Appends b c written → Passes (loud written) (Some due) end
-      → IsCaused a c end → Serves stored count later Same (snapshot s a n) (snapshot after c m) end
-  wrote c end written w passes cause = (
+      → (end ≡ Cut → IsAtEnd c) → IsCounted b.faults c.faults (end ≡ LinkFault)
+      → Serves stored count later Same (snapshot s a n) (snapshot after c m) end
+  wrote c end written w passes cut counted = (
     Some due,
     record {
       exchange = loud written;
@@ -122,7 +126,8 @@ module _ (stored : Bool) (count later : ℕ) (Same : Type 0) (s after : State) (
       to = refl;
       link = (b, t.read, w);
       passes = passes;
-      cause = cause;
+      cut = cut;
+      counted = counted_on _ _ _ _ stays counted;
       spent = spent;
     },
     faults,
@@ -138,7 +143,7 @@ module _ (stored : Bool) (count later : ℕ) (Same : Type 0) (s after : State) (
   pub unwritten : (r : Result Message AllocError) → AnswersRequest s request due after r
       → Serves stored count later Same (snapshot s a n) (snapshot after b m) Memory
   unwritten r h = wrote b Memory [] (appends_nothing b)
-      (record { answered = is_answered r h []; count = 0; short = reply_some due; prefix = refl }) tt
+      (record { answered = is_answered r h []; count = 0; short = reply_some due; prefix = refl }) (λ e. cc) (counted_none _ _ (λ e. cc))
 
   module _ (message : Message) (h : AnswersRequest s request due after (Ok message)) (c : Tape) where
     abbrev bytes : List ℕ
@@ -153,15 +158,13 @@ module _ (stored : Bool) (count later : ℕ) (Same : Type 0) (s after : State) (
     }
 
     -- the reply was written, or a part of it
-    pub sent : (end : LinkEnd) → Sends b c message end
+    pub sent : (end : LinkEnd) → Sends b c message end → IsCounted b.faults c.faults (end ≡ LinkFault)
         → Serves stored count later Same (snapshot s a n) (snapshot after c m) end
     sent (Served code) w = wrote c (Served code) bytes w.1
-        (record { answered = is_answered (Ok message) h bytes; code_is = sym h.made.status ∙ sym w.0; whole = h.made.bytes })
-        tt
+        (record { answered = is_answered (Ok message) h bytes; code_is = sym h.made.status ∙ sym w.0; whole = h.made.bytes }) (λ e. cc)
     sent Cut w = absurd w
-    sent LinkFault w = wrote c LinkFault (take w.0.count bytes) w.0.wrote (breaks w.0.count w.0.short)
-        (rose_later a b c t.read.counts w.1)
-    sent Memory w = wrote c Memory (take w.count bytes) w.wrote (breaks w.count w.short) tt
+    sent LinkFault w = wrote c LinkFault (take w.count bytes) w.wrote (breaks w.count w.short) (λ e. cc)
+    sent Memory w = wrote c Memory (take w.count bytes) w.wrote (breaks w.count w.short) (λ e. cc)
 
 -- ---- the keeper
 

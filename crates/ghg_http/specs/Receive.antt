@@ -1,7 +1,7 @@
 -- What is received from a link, and where a request stands in it.
 use Rattle.std.specs.Prelude.{◌≡◌, ℕ, ◌<◌, ◌≤◌, ◌⊎◌, List, [], ◌++◌, length, Option, Some, None}
 use Rattle.httparse.specs.Grammar.{RequestHead, NeverHasRequest}
-use Rattle.ghg_outer.specs.Tape.{Consumes, IsAtEnd, Rose, Tape}
+use Rattle.ghg_outer.specs.Tape.{Consumes, IsAtEnd, Tape}
 use Rattle.ghg_http.specs.Decision.{decision_of, refuse, submit, show}
 use Rattle.ghg_http.specs.Head.{AwaitsHead, HasHead, IsTooLarge}
 use Rattle.ghg_http.specs.declared.decision.Refusal.{Refusal}
@@ -37,12 +37,11 @@ pub record ReadsLast (old new : List ℕ) (size : ℕ) : Type 0 where
 abbrev pub IsFilled : List ℕ → List ℕ → ℕ → Type 0
 IsFilled old new size = (new ≡ old) ⊎ ReadsLast old new size
 
--- Some text was read, of which `Taken` holds. Then the link failed: its count rose, and `Kind` holds of the
--- text too. Or memory ran out.
+-- Some text was read, of which `Taken` holds. Then the link failed, and `Kind` holds of the text too. Or
+-- memory ran out.
 pub record Stopped (Kind Taken : List ℕ → Type 0) (before after : Tape) (error : ReceiveError) : Type 0 where
   pub text : List ℕ
   pub read : Consumes before after text
-  pub cause : error ≡ Failed → Rose before after
   pub kind : error ≡ Failed → Kind text
   pub taken : Taken text
 

@@ -4,7 +4,7 @@ use Rattle.std.specs.Prelude.{◌≡◌, ◌≢◌, ◌==◌, ⊤, ℕ, Bool, tr
 use Rattle.std.specs.declared.alloc.AllocError.{AllocError}
 use Rattle.ghg_units.specs.Decimal.{number_in}
 use Rattle.ghg_outer.specs.Counts.{IsCounted}
-use Rattle.ghg_outer.specs.Tape.{Appends, AppendsProperPrefix, Consumes, IsAtEnd, Rose, Tape}
+use Rattle.ghg_outer.specs.Tape.{Appends, AppendsProperPrefix, Consumes, IsAtEnd, Tape}
 use Rattle.ghg_office.specs.Keeping.{is_to_append}
 use Rattle.ghg_office.specs.Office.{IsRead, State, evaluations, requested, submitted}
 use Rattle.ghg_office.specs.Replies.{Answers, Shows, is_accepted}
@@ -135,9 +135,7 @@ Exchanges before after x =
 abbrev pub Sends : Tape → Tape → Message → LinkEnd → Type 0
 Sends before after message (Served code) = (code ≡ message.status) × Appends before after message.bytes.items
 Sends before after message Cut = ⊥
-Sends before after message LinkFault =
-    AppendsProperPrefix before after message.bytes.items × Rose before after
-Sends before after message Memory = AppendsProperPrefix before after message.bytes.items
+Sends before after message end = AppendsProperPrefix before after message.bytes.items
 
 -- what a serving acts on, but for the keeper
 pub record Snapshot : Type 0 where
@@ -148,21 +146,16 @@ pub record Snapshot : Type 0 where
 abbrev pub snapshot : State → Tape → ℕ → Snapshot
 snapshot state link steps = record { state = state; link = link; steps = steps }
 
--- why a link ended: its input came to its end, or its count of faults rose
-abbrev pub IsCaused : Tape → Tape → LinkEnd → Type 0
-IsCaused before after Cut = IsAtEnd after
-IsCaused before after LinkFault = Rose before after
-IsCaused before after end = ⊤
-
--- This passed over the link, which ended so, where this reply was due, or none was. No more steps were taken
--- than the request asks for.
+-- This passed over the link, which ended so, where this reply was due, or none was. The link's count of
+-- faults rose exactly where it failed. No more steps were taken than the request asks for.
 pub record ServesLink (before after : Snapshot) (due : Option HttpReply) (end : LinkEnd) : Type 0 where
   pub exchange : Exchange
   pub from : exchange.before ≡ before.state
   pub to : exchange.after ≡ after.state
   pub link : Exchanges before.link after.link exchange
   pub passes : Passes exchange due end
-  pub cause : IsCaused before.link after.link end
+  pub cut : end ≡ Cut → IsAtEnd after.link
+  pub counted : IsCounted before.link.faults after.link.faults (end ≡ LinkFault)
   pub spent : after.steps ≤ before.steps + evaluations_for before.state exchange.asked
 
 -- ---- faults of the keeper
@@ -172,8 +165,8 @@ abbrev pub is_unavailable : Option HttpReply → Bool
 is_unavailable (Some due) = due.code == 503
 is_unavailable None = false
 
--- The keeper's count of faults does not fall. Where the reply that was due is that the keeper failed, the
--- count rose, and submissions are stored.
+-- The keeper's count of faults rose exactly where the reply that was due is that the keeper failed. Then
+-- submissions are stored.
 pub record TellsFaults (due : Option HttpReply) (stored : Bool) (before now : ℕ) : Type 0 where
   pub counted : IsCounted before now (is_unavailable due ≡ true)
   pub store : is_unavailable due ≡ true → stored ≡ true

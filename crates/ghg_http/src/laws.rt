@@ -1,5 +1,7 @@
 //! Laws of targets, of repeats and of the bytes of requests.
 
+ghost use Rattle.std.specs.Prelude.{◌≡◌};
+ghost use Rattle.ghg_http.specs.declared.head.TheConstants.{MAX_FIELDS, MAX_HEAD};
 ghost use Rattle.ghg_http.specs.Laws.{FindsTargets, HoldsNoneEarly, HoldsOneRequest, RepliesToRepeats};
 
 /// A request target asks for a submission exactly where its path is `/submissions/ID`, and for a table
@@ -26,4 +28,10 @@ pub fn holds_one_request()
 /// as malformed, where no bytes can complete it; and only those with more than 64 fields, as too large.
 pub fn holds_none_early()
     ensures { HoldsNoneEarly }
+{}
+
+/// The limits of a request: how many bytes its head has, and how many fields.
+pub fn limits_are_numbers()
+    ensures head { MAX_HEAD ≡ 16_384 }
+    ensures fields { MAX_FIELDS ≡ 64 }
 {}

@@ -15,7 +15,9 @@ mod serve;
 mod status;
 
 pub use decision::Refusal;
-pub use laws::{finds_targets, holds_none_early, holds_one_request, replies_to_repeats};
+pub use laws::{
+    finds_targets, holds_none_early, holds_one_request, limits_are_numbers, replies_to_repeats,
+};
 pub use request::Request;
 pub use route::{Route, routes};
 pub use serve::{LinkEnd, serve_one};

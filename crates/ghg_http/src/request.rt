@@ -1,9 +1,10 @@
 //! Requests, as they are received from a link.
 
-ghost use Rattle.std.specs.Prelude.{◌≡◌, ◌⊎◌, ◌+◌, ◌++◌, ◌<◌, ◌≤◌, [], IfErr, IfOk, IfSome, MatchOption, false, length, true};
+ghost use Rattle.std.specs.Prelude.{◌≡◌, ◌⊎◌, ◌+◌, ◌++◌, ◌<◌, ◌≤◌, [], IfErr, IfOk, IfSome, IsErrOf, MatchOption, false, length, true};
 ghost use Rattle.ghg_http.specs.Head.{IsWhole};
 ghost use Rattle.ghg_http.specs.Receive.{CompletesBody, CutsBody, EndsEarly, FollowsHead, Grows, IsFilled, IsPrompt, Stopped, TakesRequest, max_read};
 ghost use Rattle.ghg_http.specs.Route.{routes};
+ghost use Rattle.ghg_outer.specs.Counts.{IsCounted};
 ghost use Rattle.ghg_outer.specs.Tape.{IsAtEnd};
 
 use crate::decision::{Decision, Refusal};
@@ -69,6 +70,8 @@ pub fn receive_request<T: Source>(
     requires { router.now ≡ routes }
     ensures request { IfOk result (TakesRequest (T.tape link.old) (T.tape link.new)) }
     ensures stopped { IfErr result (Stopped EndsEarly IsPrompt (T.tape link.old) (T.tape link.new)) }
+    ensures counted { IsCounted (T.tape link.old).faults (T.tape link.new).faults
+        (IsErrOf result ReceiveError.Failed) }
 {
     let mut buffer = Vec::new(alloc);
     'head: loop {
@@ -102,6 +105,8 @@ fn receive_rest<T: Source>(
     ensures request { IfOk result (FollowsHead (T.tape link.old) (T.tape link.new) bytes.now) }
     ensures stopped { IfErr result (Stopped (λ text. EndsEarly (bytes.now ++ text))
         (λ text. IsPrompt (bytes.now ++ text)) (T.tape link.old) (T.tape link.new)) }
+    ensures counted { IsCounted (T.tape link.old).faults (T.tape link.new).faults
+        (IsErrOf result ReceiveError.Failed) }
 {
     match decision {
         Decision::Refuse(reason) => Ok(Some(Request::Refused(reason))),
@@ -144,6 +149,8 @@ fn receive_body<T: Source>(
     ensures size { IfOk result (λ body. IfSome body (λ bytes. length bytes ≡ size)) }
     ensures stopped { IfErr result (Stopped (λ text. length (rest.now ++ text) < size)
         (λ text. IsFilled rest.now (rest.now ++ text) size) (T.tape link.old) (T.tape link.new)) }
+    ensures counted { IsCounted (T.tape link.old).faults (T.tape link.new).faults
+        (IsErrOf result ReceiveError.Failed) }
 {
     let mut body = Vec::from_slice(alloc, rest)?;
     if !fill(link, &mut body, size)? {
@@ -164,6 +171,8 @@ fn fill<T: Source>(link: &mut T, body: &mut Vec<u8>, size: usize) -> Result<bool
     ensures end { IfOk result (λ whole. whole ≡ false → IsAtEnd (T.tape link.new)) }
     ensures stopped { IfErr result (Stopped (λ text. length (body.old.items ++ text) < size)
         (λ text. IsFilled body.old.items (body.old.items ++ text) size) (T.tape link.old) (T.tape link.new)) }
+    ensures counted { IsCounted (T.tape link.old).faults (T.tape link.new).faults
+        (IsErrOf result ReceiveError.Failed) }
 {
     while body.len() < size {
         if receive(link, body, size - body.len())? == 0 {
@@ -188,6 +197,8 @@ fn receive<T: Source>(
     ensures end { IfOk result (λ n. n ≡ 0 → IsAtEnd (T.tape link.new)) }
     ensures stopped { IfErr result (Stopped (λ text. text ≡ []) (λ text. length text ≤ max_read)
         (T.tape link.old) (T.tape link.new)) }
+    ensures counted { IsCounted (T.tape link.old).faults (T.tape link.new).faults
+        (IsErrOf result ReceiveError.Failed) }
 {
     let mut chunk = [0; MAX_READ];
     let room = most.min(chunk.len());

@@ -3,6 +3,7 @@
 ghost use Rattle.std.specs.Prelude.{◌≡◌, ◌≢◌, ◌≤◌, ◌+◌, true, false, Option, Some};
 ghost use Rattle.ghg_office.specs.Keeping.{KeepsAccepted, Lists};
 ghost use Rattle.ghg_office.specs.Replies.{Shows};
+ghost use Rattle.ghg_outer.specs.Counts.{IsCounted};
 ghost use Rattle.ghg_http.specs.Reply.{HttpReply};
 ghost use Rattle.ghg_http.specs.Route.{routes};
 ghost use Rattle.ghg_http.specs.Serve.{AnswersRequest, Sends, ServesLink, TellsFaults, asks_to_append, evaluations_for, shown, snapshot, year_of};
@@ -29,9 +30,9 @@ pub enum LinkEnd {
     Served(u16),
     /// The input ended before a whole request, and nothing was written.
     Cut,
-    /// The link failed.
+    /// The link failed, and its count of faults rose.
     LinkFault,
-    /// Memory ran out, here or at the link.
+    /// Memory ran out, here or at the link, whose count of faults is as before.
     Memory,
 }
 
@@ -153,7 +154,9 @@ fn read_year(text: &[u8]) -> Option<u32>
 
 // Writes a whole message to a link.
 fn send<T: Sink>(link: &mut T, message: &Message) -> LinkEnd
-    ensures { Sends (T.tape link.old) (T.tape link.new) message.now result }
+    ensures sent { Sends (T.tape link.old) (T.tape link.new) message.now result }
+    ensures counted { IsCounted (T.tape link.old).faults (T.tape link.new).faults
+        (result ≡ LinkEnd.LinkFault) }
 {
     match write_all(link, &message.bytes) {
         Ok(()) => LinkEnd::Served(message.status.as_u16()),

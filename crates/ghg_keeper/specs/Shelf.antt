@@ -1,5 +1,5 @@
 -- What a keeper tells: a shelf, on which rows are kept.
-use Rattle.std.specs.Prelude.{◌≡◌, ◌⊎◌, ℕ, List, [], ◌∷◌, ◌++◌, Option, Result, IsErrOf, OnOk}
+use Rattle.std.specs.Prelude.{◌≡◌, ℕ, List, [], ◌∷◌, ◌++◌, Option, Result, IsErrOf, OnOk}
 use Rattle.ghg_outer.specs.Counts.{IsCounted}
 use Rattle.ghg_keeper.specs.declared.keeper.KeepError.{KeepError}
 use Rattle.ghg_keeper.specs.declared.keeper.KeepError.TheVariants.{Failed}
@@ -39,10 +39,6 @@ pub record Adds (before after : Shelf) (row : KeptRow) : Type 0 where
 abbrev pub StaysTold : {A : Type 0} → Shelf → Shelf → Result A KeepError → Type 0
 StaysTold before after result = before.tells → after.clean → OnOk result after.tells
 
--- the count of faults does not fall, and it rose where the call failed
+-- the count of faults rose where the call failed, and is as it was with any other answer
 abbrev pub CountsFaults : {A : Type 0} → Shelf → Shelf → Result A KeepError → Type 0
 CountsFaults before after result = IsCounted before.faults after.faults (IsErrOf result Failed)
-
--- a call with any other answer than a failure leaves the count of faults as it was
-abbrev pub StaysUnlessFailed : {A : Type 0} → Shelf → Shelf → Result A KeepError → Type 0
-StaysUnlessFailed before after result = IsErrOf result Failed ⊎ (after.faults ≡ before.faults)

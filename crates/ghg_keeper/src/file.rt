@@ -9,7 +9,7 @@ ghost use Rattle.ghg_keeper.specs.Files.{is_beside};
 ghost use Rattle.ghg_keeper.specs.Errors.{CountsRows, HasCause, InsertsRow, IsCount, IsKept, ReadsRow, Refuses, RefusesRow, keep_error};
 ghost use Rattle.ghg_keeper.specs.Id.{is_id};
 ghost use Rattle.ghg_keeper.specs.Listed.{IsBeforeOrAfter, IsSafe};
-ghost use Rattle.ghg_keeper.specs.Shelf.{Adds, CountsFaults, Keeps, StaysUnlessFailed};
+ghost use Rattle.ghg_keeper.specs.Shelf.{Adds, CountsFaults, Keeps};
 ghost use Rattle.ghg_keeper.specs.Texts.{count_text, insert_text, row_text};
 
 use crate::{KeepError, Keeper, KeptRow, SqlKeeper};
@@ -65,7 +65,6 @@ impl<'a> FileKeeper<'a> {
         ensures answer { result ≡ answer }
         ensures store { self.new.store ≡ self.old.store }
         ensures faults { IsCounted self.old.faults self.new.faults (IsErrOf answer KeepError.Failed) }
-        ensures stays { IsErrOf result KeepError.Failed ⊎ (self.new.faults ≡ self.old.faults) }
     {
         match answer {
             Err(KeepError::Failed) => {
@@ -91,7 +90,6 @@ impl Keeper for FileKeeper<'_> {
         // The name is that of another store's log or journal, which an open would write over.
         ensures beside { IsTrue (is_beside name.now) → IsErrOf result KeepError.Failed }
         ensures faults { CountsFaults (file_shelf self.old) (file_shelf self.new) result }
-        ensures stays { StaysUnlessFailed (file_shelf self.old) (file_shelf self.new) result }
     {
         if is_beside(name) {
             return self.passed(Err(KeepError::Failed));
@@ -113,7 +111,6 @@ impl Keeper for FileKeeper<'_> {
             × IfOk result (CountsRows old new)
             × HasCause result (IsTrue old.in_transaction) (RefusesRow count_text [] old new IsCount)) }
         ensures faults { CountsFaults (file_shelf self.old) (file_shelf self.new) result }
-        ensures stays { StaysUnlessFailed (file_shelf self.old) (file_shelf self.new) result }
     {
         let Some(store) = &mut self.store else {
             return self.passed(Err(KeepError::Failed));
@@ -133,7 +130,6 @@ impl Keeper for FileKeeper<'_> {
             × HasCause result (IsTrue old.in_transaction ⊎ (2 ^ 63 ≤ seq))
             (RefusesRow row_text (Int (pos seq) ∷ []) old new IsKept)) }
         ensures faults { CountsFaults (file_shelf self.old) (file_shelf self.new) result }
-        ensures stays { StaysUnlessFailed (file_shelf self.old) (file_shelf self.new) result }
     {
         let Some(store) = &mut self.store else {
             return self.passed(Err(KeepError::Failed));
@@ -154,7 +150,6 @@ impl Keeper for FileKeeper<'_> {
             × HasCause result (IsTrue old.in_transaction)
             (Refuses insert_text (Text id.now ∷ Blob body.now ∷ []) old new)) }
         ensures faults { CountsFaults (file_shelf self.old) (file_shelf self.new) result }
-        ensures stays { StaysUnlessFailed (file_shelf self.old) (file_shelf self.new) result }
     {
         let Some(store) = &mut self.store else {
             return self.passed(Err(KeepError::Failed));

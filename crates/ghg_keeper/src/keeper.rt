@@ -1,6 +1,6 @@
 ghost use Rattle.std.specs.Prelude.{◌≡◌, ◌-◌, ◌≤◌, length, slice_get, Some, IsTrue, IfOk, IfSome, OnOk, OnErr};
 ghost use Rattle.ghg_keeper.specs.Id.{is_id};
-ghost use Rattle.ghg_keeper.specs.Shelf.{Shelf, Adds, CountsFaults, Keeps, KeepsRows, StaysTold, StaysUnlessFailed};
+ghost use Rattle.ghg_keeper.specs.Shelf.{Shelf, Adds, CountsFaults, Keeps, KeepsRows, StaysTold};
 
 use crate::KeptRow;
 use sqlite::{Error, ErrorCode};
@@ -57,16 +57,14 @@ pub trait Keeper {
         ensures told { StaysTold (shelf self.old) (shelf self.new) result }
         ensures ok { OnOk result (IfSome (shelf self.new).name (λ used. used ≡ name.now)) }
         ensures err { OnErr result ((shelf self.new).name ≡ (shelf self.old).name) }
-        ensures faults { CountsFaults (shelf self.old) (shelf self.new) result }
-        ensures stays { StaysUnlessFailed (shelf self.old) (shelf self.new) result };
+        ensures faults { CountsFaults (shelf self.old) (shelf self.new) result };
 
     /// How many rows there are.
     fn count(&mut self) -> Result<u64, KeepError>
         ensures count { (shelf self.new).tells → IfOk result (λ n. n ≡ length (shelf self.old).rows) }
         ensures keeps { Keeps (shelf self.old) (shelf self.new) }
         ensures told { StaysTold (shelf self.old) (shelf self.new) result }
-        ensures faults { CountsFaults (shelf self.old) (shelf self.new) result }
-        ensures stays { StaysUnlessFailed (shelf self.old) (shelf self.new) result };
+        ensures faults { CountsFaults (shelf self.old) (shelf self.new) result };
 
     /// The row of this number, counted from 1.
     fn row(&mut self, seq: u64) -> Result<KeptRow, KeepError>
@@ -76,8 +74,7 @@ pub trait Keeper {
             → IfOk result (λ row. slice_get (shelf self.old).rows (seq - 1) ≡ Some row) }
         ensures keeps { Keeps (shelf self.old) (shelf self.new) }
         ensures told { StaysTold (shelf self.old) (shelf self.new) result }
-        ensures faults { CountsFaults (shelf self.old) (shelf self.new) result }
-        ensures stays { StaysUnlessFailed (shelf self.old) (shelf self.new) result };
+        ensures faults { CountsFaults (shelf self.old) (shelf self.new) result };
 
     /// Puts one row behind the others, and answers its number.
     fn append(&mut self, id: &[u8], body: &[u8]) -> Result<u64, KeepError>
@@ -87,6 +84,5 @@ pub trait Keeper {
         ensures number { (shelf self.new).tells → IfOk result (λ seq. seq ≡ length (shelf self.new).rows) }
         ensures err { OnErr result (Keeps (shelf self.old) (shelf self.new)) }
         ensures told { StaysTold (shelf self.old) (shelf self.new) result }
-        ensures faults { CountsFaults (shelf self.old) (shelf self.new) result }
-        ensures stays { StaysUnlessFailed (shelf self.old) (shelf self.new) result };
+        ensures faults { CountsFaults (shelf self.old) (shelf self.new) result };
 }

@@ -3,7 +3,7 @@ ghost use Rattle.std.specs.Prelude.{◌≡◌, ◌-◌, ◌≤◌, length, slice
 ghost use Rattle.ghg_outer.specs.Plans.{planned};
 ghost use Rattle.ghg_keeper.specs.Id.{is_id};
 ghost use Rattle.ghg_keeper.specs.Forms.{FollowsPlan, planned_shelf};
-ghost use Rattle.ghg_keeper.specs.Shelf.{Adds, CountsFaults, Keeps, KeepsRows, StaysUnlessFailed};
+ghost use Rattle.ghg_keeper.specs.Shelf.{Adds, CountsFaults, Keeps, KeepsRows};
 
 use crate::{KeepError, Keeper, KeptRow, SteadyKeeper};
 use ghg_outer::FaultPlan;
@@ -46,7 +46,6 @@ impl Keeper for MemoryKeeper {
         ensures ok { OnOk result (self.new.stored.name ≡ Some name.now) }
         ensures err { OnErr result (self.new.stored.name ≡ self.old.stored.name) }
         ensures faults { CountsFaults (planned_shelf self.old) (planned_shelf self.new) result }
-        ensures stays { StaysUnlessFailed (planned_shelf self.old) (planned_shelf self.new) result }
         ensures plan { FollowsPlan self.old.plan self.new.plan result }
     {
         if self.plan.next_call() {
@@ -59,7 +58,6 @@ impl Keeper for MemoryKeeper {
         ensures count { IfOk result (λ n. n ≡ length self.old.stored.rows) }
         ensures keeps { Keeps (planned_shelf self.old) (planned_shelf self.new) }
         ensures faults { CountsFaults (planned_shelf self.old) (planned_shelf self.new) result }
-        ensures stays { StaysUnlessFailed (planned_shelf self.old) (planned_shelf self.new) result }
         ensures plan { FollowsPlan self.old.plan self.new.plan result }
     {
         if self.plan.next_call() {
@@ -74,7 +72,6 @@ impl Keeper for MemoryKeeper {
         ensures row { IfOk result (λ row. slice_get self.old.stored.rows (seq - 1) ≡ Some row) }
         ensures keeps { Keeps (planned_shelf self.old) (planned_shelf self.new) }
         ensures faults { CountsFaults (planned_shelf self.old) (planned_shelf self.new) result }
-        ensures stays { StaysUnlessFailed (planned_shelf self.old) (planned_shelf self.new) result }
         ensures plan { FollowsPlan self.old.plan self.new.plan result }
     {
         if self.plan.next_call() {
@@ -90,7 +87,6 @@ impl Keeper for MemoryKeeper {
         ensures number { IfOk result (λ seq. seq ≡ length self.new.stored.rows) }
         ensures err { OnErr result (Keeps (planned_shelf self.old) (planned_shelf self.new)) }
         ensures faults { CountsFaults (planned_shelf self.old) (planned_shelf self.new) result }
-        ensures stays { StaysUnlessFailed (planned_shelf self.old) (planned_shelf self.new) result }
         ensures plan { FollowsPlan self.old.plan self.new.plan result }
     {
         if self.plan.next_call() {

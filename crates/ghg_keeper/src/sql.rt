@@ -3,7 +3,7 @@ ghost use Rattle.sqlite.specs.declared.types.Value.TheVariants.{Int, Text, Blob}
 ghost use Rattle.sqlite.specs.State.{HasCleanDisk};
 ghost use Rattle.ghg_outer.specs.Counts.{IsCounted};
 ghost use Rattle.ghg_keeper.specs.Id.{is_id};
-ghost use Rattle.ghg_keeper.specs.Shelf.{Adds, CountsFaults, Keeps, KeepsRows, StaysUnlessFailed};
+ghost use Rattle.ghg_keeper.specs.Shelf.{Adds, CountsFaults, Keeps, KeepsRows};
 ghost use Rattle.ghg_keeper.specs.Accepted.{accepted_schema, has_kept_table};
 ghost use Rattle.ghg_keeper.specs.Errors.{Acknowledges, CountsRows, HasAnother, HasCause, InsertsRow, IsCount, IsKept, ReadsRow, Refuses, RefusesRow, told_of};
 ghost use Rattle.ghg_keeper.specs.Listed.{IsAsBeforeOrMade, IsBeforeOrAfter, IsSafe};
@@ -67,7 +67,6 @@ impl<S: Alter> SqlKeeper<S> {
         ensures answer { result ≡ told_of answer }
         ensures same { self.new.connection ≡ self.old.connection }
         ensures faults { IsCounted self.old.faults self.new.faults (IsErrOf result KeepError.Failed) }
-        ensures stays { IsErrOf result KeepError.Failed ⊎ (self.new.faults ≡ self.old.faults) }
     {
         match answer {
             Ok(value) => Ok(value),
@@ -111,7 +110,6 @@ impl<S: Alter> Keeper for SqlKeeper<S> {
     fn attach(&mut self, name: &str) -> Result<(), KeepError>
         ensures rows { KeepsRows (kept_shelf S.Store self.old) (kept_shelf S.Store self.new) }
         ensures faults { CountsFaults (kept_shelf S.Store self.old) (kept_shelf S.Store self.new) result }
-        ensures stays { StaysUnlessFailed (kept_shelf S.Store self.old) (kept_shelf S.Store self.new) result }
         // Over a clean store the table is there once that is acknowledged.
         ensures made { (kept_shelf S.Store self.old).tells → HasCleanDisk (database S.Store self.new)
             → OnOk result ((database S.Store self.new).now.schema ≡ accepted_schema) }
@@ -143,7 +141,6 @@ impl<S: Alter> Keeper for SqlKeeper<S> {
             → IfOk result (λ n. n ≡ length (kept_shelf S.Store self.old).rows) }
         ensures keeps { Keeps (kept_shelf S.Store self.old) (kept_shelf S.Store self.new) }
         ensures faults { CountsFaults (kept_shelf S.Store self.old) (kept_shelf S.Store self.new) result }
-        ensures stays { StaysUnlessFailed (kept_shelf S.Store self.old) (kept_shelf S.Store self.new) result }
         ensures safe { IsSafe (database S.Store self.old) (database S.Store self.new) result
             (λ db. db ≡ (database S.Store self.old).now.trees) }
         ensures reads { IfOk result (CountsRows (database S.Store self.old) (database S.Store self.new)) }
@@ -166,7 +163,6 @@ impl<S: Alter> Keeper for SqlKeeper<S> {
             slice_get (kept_shelf S.Store self.old).rows (seq - 1) ≡ Some row) }
         ensures keeps { Keeps (kept_shelf S.Store self.old) (kept_shelf S.Store self.new) }
         ensures faults { CountsFaults (kept_shelf S.Store self.old) (kept_shelf S.Store self.new) result }
-        ensures stays { StaysUnlessFailed (kept_shelf S.Store self.old) (kept_shelf S.Store self.new) result }
         ensures safe { IsSafe (database S.Store self.old) (database S.Store self.new) result
             (λ db. db ≡ (database S.Store self.old).now.trees) }
         ensures reads { IfOk result (ReadsRow seq (database S.Store self.old) (database S.Store self.new)) }
@@ -195,7 +191,6 @@ impl<S: Alter> Keeper for SqlKeeper<S> {
             → IfOk result (λ seq. seq ≡ length (kept_shelf S.Store self.new).rows) }
         ensures err { OnErr result (Keeps (kept_shelf S.Store self.old) (kept_shelf S.Store self.new)) }
         ensures faults { CountsFaults (kept_shelf S.Store self.old) (kept_shelf S.Store self.new) result }
-        ensures stays { StaysUnlessFailed (kept_shelf S.Store self.old) (kept_shelf S.Store self.new) result }
         // A crash at the end of the call, with any answer, leaves the rows as they were, or with the new one.
         ensures safe { IsSafe (database S.Store self.old) (database S.Store self.new) result
             (IsBeforeOrAfter (database S.Store self.old).now id.now body.now) }

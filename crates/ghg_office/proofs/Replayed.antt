@@ -8,7 +8,8 @@ use Rattle.ghg_keeper.specs.declared.keeper.KeepError.{KeepError}
 use Rattle.ghg_keeper.specs.declared.keeper.KeepError.TheVariants as keep_error
 use Rattle.ghg_keeper.specs.declared.row.KeptRow.{KeptRow}
 use Rattle.ghg_keeper.specs.Shelf.{Keeps, Shelf}
-use Rattle.ghg_outer.specs.Counts.{IsCounted, raised}
+use Rattle.ghg_outer.specs.Counts.{IsCounted}
+use Rattle.ghg_outer.proofs.Counts.{counted_as, counted_none, counted_on}
 use Rattle.ghg_office.specs.declared.fault.OpenFault.{OpenFault}
 use Rattle.ghg_office.specs.declared.fault.OpenFault.TheVariants.{Kept, KeeperFault, Memory}
 use Rattle.ghg_office.specs.declared.reply.Reply.{Reply}
@@ -98,7 +99,7 @@ evaluations-append s (row ∷ front) back = omega (arith, evaluations-append (su
 pub record HasReplayed (before now : Shelf) (done : ℕ) (s : State) : Type 0 where
   pub keeps : Keeps before now
   pub tells : before.tells → now.clean → now.tells
-  pub faults : before.faults ≤ now.faults
+  pub faults : now.faults ≡ before.faults
   pub number : length s.accepted ≡ done
   pub reached : replayed s.accepted ≡ Ok s
   pub front : now.tells → s.accepted ≡ take done before.rows
@@ -113,7 +114,7 @@ keeps_on a b c h k = record {
   name = k.name ∙ h.name;
 }
 
-pub begins : (before now : Shelf) → Keeps before now → (before.tells → now.clean → now.tells) → before.faults ≤ now.faults
+pub begins : (before now : Shelf) → Keeps before now → (before.tells → now.clean → now.tells) → now.faults ≡ before.faults
     → HasReplayed before now 0 start
 begins before now keeps tells faults =
     record { keeps = keeps; tells = tells; faults = faults; number = refl; reached = refl; front = λ _. refl }
@@ -137,14 +138,14 @@ at_place : (rows : List KeptRow) (done : ℕ) (row : KeptRow) → slice_get rows
 at_place rows done row at = let place : done ≡ done + 1 - 1 = omega arith in ap (slice_get rows) place ∙ at
 
 pub one_more : (before now after : Shelf) (done : ℕ) (s t : State) (row : KeptRow) → HasReplayed before now done s → Keeps now after
-    → (now.tells → after.clean → after.tells) → now.faults ≤ after.faults → (after.tells → slice_get now.rows (done + 1 - 1) ≡ Some row) → taken (done + 1) (submitted s row.id row.body) ≡ Ok t
+    → (now.tells → after.clean → after.tells) → after.faults ≡ now.faults → (after.tells → slice_get now.rows (done + 1 - 1) ≡ Some row) → taken (done + 1) (submitted s row.id row.body) ≡ Ok t
     → HasReplayed before after (done + 1) t
 one_more before now after done s t row h keeps stays faults at e =
     let accepts = taken_accepts (done + 1) s t row e in
     record {
       keeps = keeps_on before now after h.keeps keeps;
       tells = λ told clean. stays (h.tells told (keeps.rows.clean clean)) clean;
-      faults = omega (arith, h.faults, faults);
+      faults = faults ∙ h.faults;
       number = ap length accepts.1 ∙ length_push s.accepted row ∙ ap (λ n. n + 1) h.number;
       reached = ap replayed accepts.1 ∙ reached_more s t s.accepted row done h.number h.reached e;
       front = λ told. accepts.1 ∙ front_more before.rows s.accepted done row (h.front (keeps.rows.told told))
@@ -241,16 +242,22 @@ all_had before now done s h count =
 pub replayed_in_force : (s : State) → replayed s.accepted ≡ Ok s → IsInForce s
 replayed_in_force s reached = subst IsInForce (replayed_state 1 start s s.accepted reached) (states_in_force s.accepted)
 
--- where the keeper failed after calls that did not, its count rose
-pub counted_on : (before now after : ℕ) (error : KeepError) → before ≤ now → IsCounted now after (IsErrOf {T = KeptRow} (Err error) keep_error.Failed)
+-- where the keeper has no answer after calls that did not fail
+pub counted_fault : (before now after : ℕ) (error : KeepError) → now ≡ before
+    → IsCounted now after (IsErrOf {T = KeptRow} (Err error) keep_error.Failed)
     → IsCounted before after (IsErrOf {T = State} (Err (keep_fault error)) KeeperFault)
-counted_on before now after keep_error.Failed h counted =
-    record { later = omega (arith, h, counted.later); rose = λ _. let rose : raised now ≤ after = counted.rose refl in omega (arith, h, rose) }
-counted_on before now after keep_error.Memory h counted = record { later = omega (arith, h, counted.later); rose = λ e. absurd (cc) }
+counted_fault before now after keep_error.Failed same counted =
+    counted_on before now after _ same (counted_as now after _ _ (λ _. refl) (λ _. refl) counted)
+counted_fault before now after keep_error.Memory same counted =
+    counted_on before now after _ same (counted_as now after _ _ (λ e. cc) (λ e. cc) counted)
 
 -- where a row that was kept is refused, or memory ran out, no call of the keeper failed
-pub counted_after : (before now after : ℕ) (wanted : Result State OpenFault) (s : State) (fault : OpenFault) → before ≤ now → now ≤ after → Takes wanted s (Err fault)
-    → IsCounted before after (IsErrOf {T = State} (Err fault) KeeperFault)
-counted_after before now after wanted s (Kept seq reply) h k takes = record { later = omega (arith, h, k); rose = λ e. absurd (cc) }
-counted_after before now after wanted s Memory h k takes = record { later = omega (arith, h, k); rose = λ e. absurd (cc) }
-counted_after before now after wanted s KeeperFault h k takes = absurd takes
+pub counted_after : (before after : ℕ) (wanted : Result State OpenFault) (s : State) (fault : OpenFault) → after ≡ before
+    → Takes wanted s (Err fault) → IsCounted before after (IsErrOf {T = State} (Err fault) KeeperFault)
+counted_after before after wanted s fault same takes =
+    subst (λ n. IsCounted before n (IsErrOf {T = State} (Err fault) KeeperFault)) (sym same) (counted_none before _ (other fault takes))
+  where
+    other : (fault : OpenFault) → Takes wanted s (Err fault) → IsErrOf {T = State} (Err fault) KeeperFault → ⊥
+    other (Kept seq reply) takes e = cc
+    other Memory takes e = cc
+    other KeeperFault takes e = absurd takes

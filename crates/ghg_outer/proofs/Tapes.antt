@@ -1,9 +1,9 @@
 -- What is read and written piece by piece, and prefixes of what is written.
-use Rattle.std.proofs.Common.{◌≡◌, ℕ, ◌+◌, ◌≤◌, List, [], ◌++◌, length, take, min, append-nil, length-append, refl, subst, sym, ◌∙◌, arith}
+use Rattle.std.proofs.Common.{◌≡◌, ℕ, ◌+◌, List, [], ◌++◌, length, take, min, append-nil, length-append, refl, subst, sym, ◌∙◌, arith}
 use Rattle.std.proofs.KnownBytes.{Appends-nil, Appends-trans, Consumes-nil, Consumes-trans, Keeps-refl, Keeps-trans}
 use Rattle.std.proofs.Math.Seq.{take-append-add, take-length}
 use Rattle.std.proofs.lemmas.List.{take-append-le, take_min}
-use Rattle.ghg_outer.specs.Tape.{Appends, AppendsPrefix, AppendsProperPrefix, Consumes, Rose, Tape}
+use Rattle.ghg_outer.specs.Tape.{Appends, AppendsPrefix, AppendsProperPrefix, Consumes, Tape}
 
 -- ---- reading
 
@@ -85,11 +85,3 @@ proper_behind a b c xs ys p q = record {
   short = omega (arith, q.short, length-append xs ys);
   wrote = rw take-append-add (appends_more a b c xs (take q.count ys) p q.wrote);
 }
-
--- ---- counts
-
-pub rose_later : (a b c : Tape) → a.faults ≤ b.faults → Rose b c → Rose a c
-rose_later a b c h rose = omega (arith, h, rose)
-
-pub rose_before : (a b c : Tape) → Rose a b → b.faults ≤ c.faults → Rose a c
-rose_before a b c rose h = omega (arith, h, rose)

@@ -6,11 +6,8 @@ use Rattle.std.specs.Prelude.{◌≡◌, ℕ, ◌+◌, ◌-◌, ◌^◌, ◌≤�
 abbrev pub raised : ℕ → ℕ
 raised count = min (count + 1) (2 ^ 64 - 1)
 
--- the count does not fall, and it rose where the call failed
+-- The count rose where the call failed, and is as it was with any other answer.
 pub record IsCounted (before now : ℕ) (failed : Type 0) : Type 0 where
   pub later : before ≤ now
   pub rose : failed → raised before ≤ now
-
--- the call failed, or the count is as it was
-abbrev pub StaysUnless : (before now : ℕ) (failed : Type 0) → Type 0
-StaysUnless before now failed = failed ⊎ (now ≡ before)
+  pub stays : failed ⊎ (now ≡ before)

@@ -1,7 +1,6 @@
 -- What an object of the outside tells: a tape, of which bytes are read and on which bytes are written.
 use Rattle.std.specs.Prelude.{◌≡◌, ℕ, ◌≤◌, ◌<◌, Bool, true, false, List, [], length, take, Option, Some, None, Result, MatchResult}
 use Rattle.std.specs.Io.KnownBytes as known
-use Rattle.ghg_outer.specs.Counts.{raised}
 
 -- The bytes that are left to be read, those that were taken, and those that were written, where they are
 -- known; how many calls failed; and whether a write takes memory, as one to a list that grows. An object
@@ -45,12 +44,6 @@ pub record AppendsProperPrefix (before after : Tape) (text : List ℕ) : Type 0 
 -- no known byte is left
 abbrev pub IsAtEnd : Tape → Type 0
 IsAtEnd tape = known.IsAtEnd tape.left
-
--- The count of faults is greater than it was, or stands at its last value.
--- At its last value every call meets this. So a premise that shuts faults out says that the count did not
--- rise, and never that it is the same as before.
-abbrev pub Rose : Tape → Tape → Type 0
-Rose before after = raised before.faults ≤ after.faults
 
 -- `read(buf)` consumed the n bytes that it gave at `Ok(n)`, and nothing at `Err`
 abbrev pub Reads : {E : Type 0} → Tape → Tape → Result ℕ E → List ℕ → Type 0

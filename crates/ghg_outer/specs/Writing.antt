@@ -1,13 +1,13 @@
 -- What is written of a whole text.
 use Rattle.std.specs.Prelude.{◌≡◌, true, List, ℕ, Result, MatchResult}
-use Rattle.ghg_outer.specs.Tape.{Appends, AppendsProperPrefix, Rose, Tape}
+use Rattle.ghg_outer.specs.Tape.{Appends, AppendsProperPrefix, Tape}
 use Rattle.ghg_outer.specs.declared.sink.WriteError.{WriteError}
-use Rattle.ghg_outer.specs.declared.sink.WriteError.TheVariants.{Failed, Memory}
+use Rattle.ghg_outer.specs.declared.sink.WriteError.TheVariants.{Memory}
 
--- The sink failed, where its count rose, or it grows and memory ran out, before all of the text was written.
+-- A proper prefix of the text was written. Then the sink failed, or memory ran out, which only one that grows
+-- takes.
 pub record StopsWriting (before after : Tape) (text : List ℕ) (error : WriteError) : Type 0 where
   pub wrote : AppendsProperPrefix before after text
-  pub cause : error ≡ Failed → Rose before after
   pub memory : error ≡ Memory → before.grows ≡ true
 
 -- all of the text was written, or that stopped before

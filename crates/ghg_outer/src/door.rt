@@ -1,5 +1,5 @@
 ghost use Rattle.std.specs.Prelude.{◌≡◌, IfOk, IsErr, OnErr, OnOk};
-ghost use Rattle.ghg_outer.specs.Counts.{IsCounted, StaysUnless};
+ghost use Rattle.ghg_outer.specs.Counts.{IsCounted};
 ghost use Rattle.ghg_outer.specs.Doors.{GivesLink, IsKept, Opens, Register, TakesBack};
 ghost use Rattle.ghg_outer.specs.Links.{IsFresh};
 
@@ -21,8 +21,6 @@ pub trait Door {
         ensures opened { OnOk result (Opens (Self.register self.old) (Self.register self.new) port) }
         ensures kept { OnErr result (IsKept (Self.register self.old) (Self.register self.new)) }
         ensures counted { IsCounted (Self.register self.old).faults (Self.register self.new).faults
-            (IsErr result) }
-        ensures stays { StaysUnless (Self.register self.old).faults (Self.register self.new).faults
             (IsErr result) };
 
     /// Gives the next connection, on which no call failed and nothing was taken or written.
@@ -31,8 +29,6 @@ pub trait Door {
         ensures given { OnOk result (GivesLink (Self.register self.old) (Self.register self.new)) }
         ensures kept { OnErr result (IsKept (Self.register self.old) (Self.register self.new)) }
         ensures counted { IsCounted (Self.register self.old).faults (Self.register self.new).faults
-            (IsErr result) }
-        ensures stays { StaysUnless (Self.register self.old).faults (Self.register self.new).faults
             (IsErr result) };
 
     /// Takes a connection back, and ends it.
@@ -41,6 +37,5 @@ pub trait Door {
     fn finish(&mut self, link: Self::Link) -> Result<(), AllocError>
         ensures finished { OnOk result (TakesBack (Self.register self.old) (Self.register self.new) link) }
         ensures kept { OnErr result (IsKept (Self.register self.old) (Self.register self.new)) }
-        ensures counted { IsCounted (Self.register self.old).faults (Self.register self.new).faults ⊥ }
-        ensures stays { (Self.register self.new).faults ≡ (Self.register self.old).faults };
+        ensures counted { IsCounted (Self.register self.old).faults (Self.register self.new).faults ⊥ };
 }

@@ -2,7 +2,7 @@
 //!
 //! Contracts see each object of the outside as a tape: what is left to be read, what was taken and what was
 //! written, where that is known, and how many calls failed. A read takes from the front of what is left, and
-//! a write appends. Neither does anything else, and a call fails only where the count rose.
+//! a write appends. Neither does anything else, and the count rises exactly where a call fails.
 //!
 //! A link is both a source and a sink, and a door gives links and takes them back.
 //!

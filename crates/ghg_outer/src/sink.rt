@@ -1,6 +1,6 @@
 ghost use Rattle.std.specs.Prelude.{◌≡◌, ◌<◌, ◌≤◌, true, length, IfOk, IsErrOf};
-ghost use Rattle.ghg_outer.specs.Counts.{StaysUnless};
-ghost use Rattle.ghg_outer.specs.Tape.{Rose, Writes};
+ghost use Rattle.ghg_outer.specs.Counts.{IsCounted};
+ghost use Rattle.ghg_outer.specs.Tape.{Writes};
 
 use crate::Told;
 
@@ -25,8 +25,7 @@ pub trait Sink: Told {
         ensures some { IfOk result (λ n. 0 < n) }
         ensures bound { IfOk result (λ n. n ≤ length piece.now) }
         ensures wrote { Writes (Self.tape self.old) (Self.tape self.new) result piece.now }
-        ensures failed { IsErrOf result WriteError.Failed → Rose (Self.tape self.old) (Self.tape self.new) }
-        ensures stays { StaysUnless (Self.tape self.old).faults (Self.tape self.new).faults
+        ensures counted { IsCounted (Self.tape self.old).faults (Self.tape self.new).faults
             (IsErrOf result WriteError.Failed) }
         ensures memory { IsErrOf result WriteError.Memory → (Self.tape self.old).grows ≡ true };
 }

@@ -3,8 +3,8 @@ ghost use Rattle.std.specs.Prelude.{◌≡◌, ◌≢◌, ◌<◌, ◌≤◌, fa
 ghost use Rattle.std.specs.Io.{ReadsAtMost, WritesAtMost};
 ghost use Rattle.std.specs.Io.KnownBytes.{ReadConsumes, WriteAppends};
 ghost use Rattle.std.specs.IoError.{error_kind};
-ghost use Rattle.ghg_outer.specs.Counts.{StaysUnless, raised};
-ghost use Rattle.ghg_outer.specs.Tape.{Rose, Writes};
+ghost use Rattle.ghg_outer.specs.Counts.{IsCounted, raised};
+ghost use Rattle.ghg_outer.specs.Tape.{Writes};
 
 use crate::{Failed, Sink, Source, Told, WriteError};
 use std::io;
@@ -117,9 +117,7 @@ impl<W: Write + Drop> Sink for OutputSink<W> {
         ensures bound { IfOk result (λ n. n ≤ length piece.now) }
         ensures wrote { Writes (⟦<OutputSink<W> as Told>⟧.tape self.old)
             (⟦<OutputSink<W> as Told>⟧.tape self.new) result piece.now }
-        ensures failed { IsErr result → Rose (⟦<OutputSink<W> as Told>⟧.tape self.old)
-            (⟦<OutputSink<W> as Told>⟧.tape self.new) }
-        ensures stays { StaysUnless (⟦<OutputSink<W> as Told>⟧.tape self.old).faults
+        ensures counted { IsCounted (⟦<OutputSink<W> as Told>⟧.tape self.old).faults
             (⟦<OutputSink<W> as Told>⟧.tape self.new).faults (IsErr result) }
         ensures only { IfErr result (λ error. error ≡ WriteError.Failed) }
     {

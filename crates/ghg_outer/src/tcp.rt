@@ -4,9 +4,9 @@ ghost use Rattle.std.specs.Duration.{as_nanos};
 ghost use Rattle.std.specs.Io.{ReadsAtMost, WritesAtMost};
 ghost use Rattle.std.specs.Io.KnownBytes.{ReadConsumes, WriteAppends};
 ghost use Rattle.std.specs.IoError.{error_kind};
-ghost use Rattle.ghg_outer.specs.Counts.{IsCounted, StaysUnless};
+ghost use Rattle.ghg_outer.specs.Counts.{IsCounted};
 ghost use Rattle.ghg_outer.specs.Doors.{IsKept, Opens};
-ghost use Rattle.ghg_outer.specs.Tape.{IsAtEnd, Reads, Rose, Writes};
+ghost use Rattle.ghg_outer.specs.Tape.{IsAtEnd, Reads, Writes};
 ghost use Rattle.ghg_outer.specs.Tcp.{IsShort};
 
 use crate::streams::{count_error, read_again, write_again};
@@ -62,9 +62,7 @@ impl<C: Clock + Drop, S: Read + OpenStream + Drop> Source for TcpLink<C, S> {
         ensures read { Reads (read_tape S.remaining self.old) (read_tape S.remaining self.new)
             result buf.new }
         ensures end { IfOk result (λ n. n ≡ 0 → IsAtEnd (read_tape S.remaining self.new)) }
-        ensures failed { IsErr result
-            → Rose (read_tape S.remaining self.old) (read_tape S.remaining self.new) }
-        ensures stays { StaysUnless (read_tape S.remaining self.old).faults
+        ensures counted { IsCounted (read_tape S.remaining self.old).faults
             (read_tape S.remaining self.new).faults (IsErr result) }
     {
         let began = Instant::now(&self.clock);
@@ -89,9 +87,7 @@ impl<C: Clock + Drop, S: Write + OpenStream + Drop> Sink for TcpLink<C, S> {
         ensures bound { IfOk result (λ n. n ≤ length piece.now) }
         ensures wrote { Writes (write_tape S.contents self.old) (write_tape S.contents self.new)
             result piece.now }
-        ensures failed { IsErr result
-            → Rose (write_tape S.contents self.old) (write_tape S.contents self.new) }
-        ensures stays { StaysUnless (write_tape S.contents self.old).faults
+        ensures counted { IsCounted (write_tape S.contents self.old).faults
             (write_tape S.contents self.new).faults (IsErr result) }
         ensures only { IfErr result (λ error. error ≡ WriteError.Failed) }
     {
@@ -150,8 +146,6 @@ impl<R: Net + Clock + Copy + Drop> Door for TcpDoor<R> {
         ensures kept { OnErr result (IsKept (tcp_register self.old) (tcp_register self.new)) }
         ensures counted { IsCounted (tcp_register self.old).faults (tcp_register self.new).faults
             (IsErr result) }
-        ensures stays { StaysUnless (tcp_register self.old).faults (tcp_register self.new).faults
-            (IsErr result) }
     {
         match TcpListener::bind(&self.runtime, (Ipv4Addr::LOCALHOST, port)) {
             Ok(listener) => {
@@ -179,7 +173,6 @@ impl<R: Net + Clock + Copy + Drop> Door for TcpDoor<R> {
     fn finish(&mut self, link: TcpLink<R, R::Stream>) -> Result<(), AllocError>
         ensures ok { IsOk result }
         ensures same { self.new ≡ self.old }
-        ensures stays { (tcp_register self.new).faults ≡ (tcp_register self.old).faults }
     {
         let mut stream = link.stream;
         let _ = stream.shutdown(Shutdown::Write);

@@ -1,6 +1,6 @@
 // Whole pieces.
 ghost use Rattle.std.specs.Prelude.{IsErrOf};
-ghost use Rattle.ghg_outer.specs.Counts.{StaysUnless};
+ghost use Rattle.ghg_outer.specs.Counts.{IsCounted};
 ghost use Rattle.ghg_outer.specs.Writing.{WritesAll};
 
 use crate::{Sink, WriteError};
@@ -9,7 +9,7 @@ use crate::{Sink, WriteError};
 /// `Failed` the count of faults is as before.
 pub fn write_all<W: Sink>(out: &mut W, piece: &[u8]) -> Result<(), WriteError>
     ensures written { WritesAll (W.tape out.old) (W.tape out.new) piece.now result }
-    ensures stays { StaysUnless (W.tape out.old).faults (W.tape out.new).faults
+    ensures counted { IsCounted (W.tape out.old).faults (W.tape out.new).faults
         (IsErrOf result WriteError.Failed) }
 {
     let mut at = 0;

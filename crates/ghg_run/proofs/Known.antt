@@ -1,7 +1,8 @@
 -- The statuses that runs end with.
-use Rattle.std.proofs.Common.{◌≡◌, ◌∙◌, ◌⊎◌, inl, inr, ℕ, true, List, Option, Some, None, refl, sym, subst}
+use Rattle.std.proofs.Common.{◌≡◌, ◌⊎◌, inl, inr, ℕ, true, List, Option, Some, None, Ok, refl, sym, subst}
+use Rattle.std.specs.Prelude.{IsErrOf}
 use Rattle.ghg_keeper.specs.Shelf.{Shelf}
-use Rattle.ghg_outer.specs.Tape.{Rose, Tape}
+use Rattle.ghg_outer.specs.Tape.{Tape}
 use Rattle.ghg_words.specs.declared.status.Status.{Status}
 use Rattle.ghg_words.specs.declared.status.Status.TheVariants.{Done, DoorFailed, InputFailed, OutputFailed, OutOfMemory, RowRefused, SpliceRefused, StoreFailed}
 use Rattle.ghg_session.specs.Writing.{Reports, StoppedWriting}
@@ -23,8 +24,8 @@ stopped_as : (before after : Tape) (line : List ℕ) (status : Status) (holds : 
     → StoppedWriting before after line status → holds OutputFailed → holds OutOfMemory → holds status
 stopped_as before after line status holds s output memory = by s.why
   where
-    by : ((status ≡ OutputFailed) × Rose before after) ⊎ ((status ≡ OutOfMemory) × (before.grows ≡ true)) → holds status
-    by (inl e) = subst holds (sym e.0) output
+    by : (status ≡ OutputFailed) ⊎ ((status ≡ OutOfMemory) × (before.grows ≡ true)) → holds status
+    by (inl e) = subst holds (sym e) output
     by (inr e) = subst holds (sym e.0) memory
 
 pub reported_as : (before after : Tape) (line : List ℕ) (due status : Status) (holds : Status → Type 0)
@@ -37,15 +38,6 @@ pub made_as : (before after : Tape) (text : List ℕ) (due status : Status) (hol
 made_as before after text due status holds (inl told) h output memory =
     reported_as before after text due status holds told h output memory
 made_as before after text due status holds (inr left) h output memory = subst holds (sym left.1) memory
-
-pub report_output : (before after : Tape) (line : List ℕ) (due status : Status) → Reports before after line due status
-    → (due ≡ OutputFailed → ⊥) → status ≡ OutputFailed → Rose before after
-report_output before after line due status (inl told) wrong is = absurd (wrong (sym told.1 ∙ is))
-report_output before after line due status (inr s) wrong is = by s.why
-  where
-    by : ((status ≡ OutputFailed) × Rose before after) ⊎ ((status ≡ OutOfMemory) × (before.grows ≡ true)) → Rose before after
-    by (inl e) = e.1
-    by (inr e) = absurd (let same : OutOfMemory ≡ OutputFailed = sym e.0 ∙ is in cc)
 
 -- ---- no office
 
@@ -92,22 +84,11 @@ module _ {service : Service} {before after : OfficeAt} {faults faults' : ℕ} {d
 
 -- ---- splicing
 
-made_output : (before after : Tape) (text : List ℕ) (due status : Status) → ReportsMade before after text due status
-    → (due ≡ OutputFailed → ⊥) → status ≡ OutputFailed → Rose before after
-made_output before after text due status (inl told) wrong is = report_output before after text due status told wrong is
-made_output before after text due status (inr left) wrong is = absurd (let same : OutOfMemory ≡ OutputFailed = sym left.1 ∙ is in cc)
-
 spliced_as : (s : Spliced) (before after : Tape) (status : Status) (holds : Status → Type 0) → ReportsSpliced s before after status
     → holds Done → holds SpliceRefused → holds OutputFailed → holds OutOfMemory → holds status
 spliced_as (Body text) before after status holds h done refused wrote memory = made_as before after text Done status holds h done wrote memory
 spliced_as (Refused refusal) before after status holds h done refused wrote memory =
     made_as before after (refusal_line refusal) SpliceRefused status holds h refused wrote memory
-
-pub spliced_output : (s : Spliced) (before after : Tape) (status : Status) → ReportsSpliced s before after status
-    → status ≡ OutputFailed → Rose before after
-spliced_output (Body text) before after status h = made_output before after text Done status h (λ e. cc)
-spliced_output (Refused refusal) before after status h =
-    made_output before after (refusal_line refusal) SpliceRefused status h (λ e. cc)
 
 pub spliced_input : (s : Spliced) (before after : Tape) (status : Status) → ReportsSpliced s before after status
     → status ≡ InputFailed → ⊥
@@ -118,24 +99,17 @@ pub spliced_nothing : (s : Spliced) (output : Tape) → ReportsSpliced s output 
 spliced_nothing (Body text) output = inr (refl, refl)
 spliced_nothing (Refused refusal) output = inr (refl, refl)
 
-module _ (before after : Tape) (status : Status) (s : StopsInSeries before after status) where
-  pub stops_input : status ≡ InputFailed → Rose before after
-  stops_input is = by s.why
-    where
-      by : ((status ≡ InputFailed) × Rose before after) ⊎ (status ≡ OutOfMemory) → Rose before after
-      by (inl e) = e.1
-      by (inr e) = absurd (let same : OutOfMemory ≡ InputFailed = sym e ∙ is in cc)
-
-  pub stops_as : (holds : Status → Type 0) → holds InputFailed → holds OutOfMemory → holds status
-  stops_as holds failed memory = by s.why
-    where
-      by : ((status ≡ InputFailed) × Rose before after) ⊎ (status ≡ OutOfMemory) → holds status
-      by (inl e) = subst holds (sym e.0) failed
-      by (inr e) = subst holds (sym e) memory
+stops_as : (before after : Tape) (status : Status) (holds : Status → Type 0) → StopsInSeries before after status
+    → holds InputFailed → holds OutOfMemory → holds status
+stops_as before after status holds s failed memory = by s.why
+  where
+    by : (status ≡ InputFailed) ⊎ (status ≡ OutOfMemory) → holds status
+    by (inl e) = subst holds (sym e) failed
+    by (inr e) = subst holds (sym e) memory
 
 pub stops_no_output : (before after : Tape) (status : Status) → StopsInSeries before after status → status ≡ OutputFailed → ⊥
 stops_no_output before after status s =
-    stops_as before after status s (λ t. t ≡ OutputFailed → ⊥) (λ e. cc) (λ e. cc)
+    stops_as before after status (λ t. t ≡ OutputFailed → ⊥) s (λ e. cc) (λ e. cc)
 
 pub splices_as : (splicing : Splicing) (input input' output output' : Tape) (status : Status) (holds : Status → Type 0)
     → Splices splicing input input' output output' status → holds Done → holds SpliceRefused → holds InputFailed
@@ -143,4 +117,8 @@ pub splices_as : (splicing : Splicing) (input input' output output' : Tape) (sta
 splices_as splicing input input' output output' status holds (inl read) done refused failed wrote memory =
     spliced_as (splice_of splicing.method splicing.name splicing.unit read.0) output output' status holds read.2 done refused wrote memory
 splices_as splicing input input' output output' status holds (inr stopped) done refused failed wrote memory =
-    stops_as input input' status stopped.0 holds failed memory
+    stops_as input input' status holds stopped.0 failed memory
+
+-- what has a value has no error
+pub no_error : {T E : Type 0} (value : T) (error : E) → IsErrOf {T = T} (Ok value) error → ⊥
+no_error value error is = cc

@@ -1,5 +1,5 @@
 -- Links that are served one after the other.
-use Rattle.std.proofs.Common.{◌≡◌, ◌∙◌, inl, ℕ, ◌+◌, ◌<◌, ◌≤◌, Bool, true, false, cond, List, [], ◌∷◌, ◌++◌, length, map, option_map, Option, Some, None, IfSome, append-nil, add-zero, add_assoc, append_assoc, length-append, refl, sym, ap, subst, arith}
+use Rattle.std.proofs.Common.{◌≡◌, ◌∙◌, ◌⊎◌, inl, inr, ℕ, ◌+◌, ◌<◌, ◌≤◌, Bool, true, false, cond, List, [], ◌∷◌, ◌++◌, length, map, option_map, Option, Some, None, IfSome, append-nil, add-zero, add_assoc, append_assoc, length-append, refl, sym, ap, subst, arith}
 use Rattle.std.specs.Option.{is_some}
 use Rattle.std.proofs.lemmas.Bool.{false≢true}
 use Rattle.std.proofs.lemmas.List.{map-append}
@@ -109,6 +109,27 @@ unavailable_more links one first before after h counted =
     by true e more = let rose = counted.rose e in rw more (omega (arith, h, rose))
     by false e more = rw more (omega (arith, h, counted.later))
 
+-- and failed only there
+counted_links : (links : List ServedLink) (one : ServedLink) (first before after : ℕ)
+    → raised_by (unavailable_count (links ++ one ∷ [])) first ≤ after
+    → IsCounted first before (0 < unavailable_count links) → IsCounted before after (is_unavailable one.due ≡ true)
+    → IsCounted first after (0 < unavailable_count (links ++ one ∷ []))
+counted_links links one first before after often counted last = record {
+  later = omega (arith, counted.later, last.later);
+  rose = λ some. omega (arith, often, some);
+  stays = by (is_unavailable one.due) refl counted.stays last.stays
+      (sum_by_push (λ (s : ServedLink). cond (is_unavailable s.due) 1 0) links one);
+}
+  where
+    by : (failed : Bool) → is_unavailable one.due ≡ failed
+        → (0 < unavailable_count links) ⊎ (before ≡ first) → (is_unavailable one.due ≡ true) ⊎ (after ≡ before)
+        → unavailable_count (links ++ one ∷ []) ≡ unavailable_count links + cond failed 1 0
+        → (0 < unavailable_count (links ++ one ∷ [])) ⊎ (after ≡ first)
+    by true e had has more = inl (omega (arith, more))
+    by false e (inl some) has more = inl (omega (arith, some, more))
+    by false e (inr same) (inl is) more = absurd (false≢true (sym e ∙ is))
+    by false e (inr same) (inr still) more = inr (still ∙ same)
+
 -- and that is never due where nothing is stored
 available_more : (links : List ServedLink) (one : ServedLink) → unavailable_count links ≡ 0
     → (is_unavailable one.due ≡ true → ⊥) → unavailable_count (links ++ one ∷ []) ≡ 0
@@ -130,9 +151,10 @@ pub record ServedSoFar (stored : Bool) (before after : Station) (number : ℕ) :
   pub finished : after.door.finished ≡ option_map (λ all. all ++ map (λ (s : ServedLink). s.link) links) before.door.finished
   pub given : after.door.given ≡ option_map (λ n. n + length links) before.door.given
   pub unavailable : raised_by (unavailable_count links) before.faults ≤ after.faults
+  pub counted : IsCounted before.faults after.faults (0 < unavailable_count links)
   pub available : stored ≡ false → unavailable_count links ≡ 0
 
-pub none_served : (stored : Bool) (a b : Station) → b.office ≡ a.office → a.faults ≤ b.faults → b.door.given ≡ a.door.given
+pub none_served : (stored : Bool) (a b : Station) → b.office ≡ a.office → b.faults ≡ a.faults → b.door.given ≡ a.door.given
     → b.door.finished ≡ a.door.finished → ServedSoFar stored a b 0
 none_served stored a b office counts given finished = record {
   links = [];
@@ -141,11 +163,12 @@ none_served stored a b office counts given finished = record {
   finished = finished ∙ sym (no_link_more a.door.finished);
   given = given ∙ sym (nothing_more a.door.given);
   unavailable = omega arith;
+  counted = record { later = omega arith; rose = λ some. omega arith; stays = inr counts };
   available = λ _. refl;
 }
 
 -- nothing was done since
-pub served_same : (stored : Bool) (a b c : Station) (number : ℕ) → ServedSoFar stored a b number → c.office ≡ b.office → b.faults ≤ c.faults
+pub served_same : (stored : Bool) (a b c : Station) (number : ℕ) → ServedSoFar stored a b number → c.office ≡ b.office → c.faults ≡ b.faults
     → c.door.given ≡ b.door.given → c.door.finished ≡ b.door.finished → ServedSoFar stored a c number
 served_same stored a b c number so_far office counts given finished = record {
   links = so_far.links;
@@ -154,6 +177,7 @@ served_same stored a b c number so_far office counts given finished = record {
   finished = finished ∙ so_far.finished;
   given = given ∙ so_far.given;
   unavailable = let before = so_far.unavailable in omega (arith, before, counts);
+  counted = subst (λ n. IsCounted a.faults n (0 < unavailable_count so_far.links)) (sym counts) so_far.counted;
   available = so_far.available;
 }
 
@@ -167,6 +191,12 @@ module _ (stored : Bool) (a b c : Station) (number : ℕ) (one : ServedLink) (so
   available_still plain = available_more so_far.links one (so_far.available plain)
       (λ e. false≢true (sym plain ∙ faults.store e))
 
+  unavailable_still : raised_by (unavailable_count (so_far.links ++ one ∷ [])) a.faults ≤ c.faults
+  unavailable_still = unavailable_more so_far.links one a.faults b.faults c.faults so_far.unavailable faults.counted
+
+  counted_still : IsCounted a.faults c.faults (0 < unavailable_count (so_far.links ++ one ∷ []))
+  counted_still = counted_links so_far.links one a.faults b.faults c.faults unavailable_still so_far.counted faults.counted
+
   pub one_more : c.door.finished ≡ option_map (λ links. links ++ one.link ∷ []) b.door.finished → ServedSoFar stored a c (number + 1)
   one_more finished = record {
     links = so_far.links ++ one ∷ [];
@@ -175,8 +205,8 @@ module _ (stored : Bool) (a b c : Station) (number : ℕ) (one : ServedLink) (so
     finished = rw map-append (finished ∙ ap (option_map (λ links. links ++ one.link ∷ [])) so_far.finished
         ∙ links_more (map (λ (s : ServedLink). s.link) so_far.links) (one.link ∷ []) a.door.finished);
     given = given_more;
-    unavailable = unavailable_more so_far.links one a.faults b.faults c.faults
-        so_far.unavailable faults.counted;
+    unavailable = unavailable_still;
+    counted = counted_still;
     available = available_still;
   }
 
@@ -190,8 +220,8 @@ module _ (stored : Bool) (a b c : Station) (number : ℕ) (one : ServedLink) (so
     finished = finished ∙ so_far.finished;
     given = given_more;
     ends = (omega (arith, fewer, so_far.number_is), inl refl);
-    unavailable = unavailable_more so_far.links one a.faults b.faults c.faults
-        so_far.unavailable faults.counted;
+    unavailable = unavailable_still;
+    counted = counted_still;
     available = λ none. available_still (store ∙ ap is_some none);
   }
 
@@ -209,23 +239,9 @@ serving_ends stored service a b number status so_far store ends =
       given = rw same so_far.given;
       ends = ends so_far.links so_far.number_is;
       unavailable = rw same so_far.unavailable;
+      counted = rw same so_far.counted;
       available = λ none. rw same (so_far.available (store ∙ ap is_some none));
     }
-
--- a count that is lower to begin with
-pub serving_since : (service : Service) (before after : OfficeAt) (lower faults faults' : ℕ) (door door' : Register Tape)
-    (status : Status) → lower ≤ faults → Serves service before after faults faults' door door' status
-    → Serves service before after lower faults' door door' status
-serving_since service before after lower faults faults' door door' status counts s = record {
-  taken = s.taken;
-  dropped = s.dropped;
-  serving = s.serving;
-  finished = s.finished;
-  given = s.given;
-  ends = s.ends;
-  unavailable = let later = s.unavailable in omega (arith, later, counts);
-  available = s.available;
-}
 
 pub port_stays : (port : ℕ) (before after : Option ℕ) → after ≡ before → IfSome before (λ p. p ≡ port) → IfSome after (λ p. p ≡ port)
 port_stays port before after e h = subst (λ (o : Option ℕ). IfSome o (λ p. p ≡ port)) (sym e) h

@@ -1,5 +1,5 @@
 -- Runs that begin with an office.
-use Rattle.std.proofs.Common.{inr, ◌≡◌, ◌∙◌, ℕ, ◌≤◌, Bool, true, List, Option, Some, None, IfSome, sym, subst, refl}
+use Rattle.std.proofs.Common.{inr, ◌≡◌, ◌∙◌, ℕ, Bool, true, List, Option, Some, None, IfSome, sym, subst, refl}
 use Rattle.std.specs.Option.{is_some}
 use Rattle.ghg_keeper.specs.declared.row.KeptRow.{KeptRow}
 use Rattle.ghg_keeper.specs.Shelf.{KeepsRows, Shelf}
@@ -15,7 +15,6 @@ use Rattle.ghg_words.specs.declared.status.Status.{Status}
 use Rattle.ghg_run.specs.Run.{Compiles, ServesAll}
 use Rattle.ghg_run.specs.Serve.{Serves, office_at}
 use Rattle.ghg_run.proofs.Held.{sound_replies}
-use Rattle.ghg_run.proofs.Links.{serving_since}
 use Rattle.ghg_run.specs.Opening.{Begins, IsInUse, IsKeptIn, RunsOffice}
 
 pub keeps_rows_more : (a b c : Shelf) → KeepsRows a b → KeepsRows b c → KeepsRows a c
@@ -80,10 +79,10 @@ pub served : (service : Service) (stored : Bool) (before mid after : Shelf) (ste
     (output between : Tape) (door door' : Register Tape) (status : Status) → stored ≡ is_some service.settings.store
     → Begins service.settings.store before mid steps first opened_steps × (between ≡ output)
     → IsKeptIn service.settings.store mid first.accepted → (stored ≡ true → KeepsAccepted mid after last.accepted)
-    → before.faults ≤ mid.faults
+    → mid.faults ≡ before.faults
     → Serves service (office_at first opened_steps) (office_at last steps') mid.faults after.faults door door' status
     → ServesAll service before after output between door door' steps steps' status
 served service stored before mid after steps opened_steps steps' first last output between door door' status e opened had keeps counts links =
-    let since = serving_since service (office_at first opened_steps) (office_at last steps') before.faults mid.faults after.faults door door' status counts links in
+    let since = subst (λ n. Serves service (office_at first opened_steps) (office_at last steps') n after.faults door door' status) counts links in
     inr (runs_office service.settings.store before mid after steps opened_steps first last _ opened.0 had (λ some. keeps (e ∙ some))
     (since, opened.1))

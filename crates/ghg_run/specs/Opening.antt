@@ -19,8 +19,8 @@ use Rattle.ghg_session.specs.Writing.{Reports}
 abbrev pub IsInUse : List ℕ → Shelf → Type 0
 IsInUse name shelf = IfSome shelf.name (λ used. used ≡ name)
 
--- The run begins with this office, when so many steps were taken. Without a store it accepted nothing so far. If one is
--- named, it accepted the rows that the store had, for no more steps than these ask for.
+-- The run begins with this office, when so many steps were taken. Without a store it accepted nothing so far.
+-- If one is named, it accepted the rows that the store had, for no more steps than these ask for.
 abbrev pub Begins : Option (List ℕ) → Shelf → Shelf → ℕ → State → ℕ → Type 0
 Begins None before after steps first opened_steps = (first ≡ start) × (opened_steps ≡ steps)
 Begins (Some name) before after steps first opened_steps =
@@ -78,8 +78,9 @@ BeginsNot (Some name) shelf shelf' output output' steps steps' status =
 
 -- ---- with a store or without
 
--- The run begins with an office, of which this holds, by its first state, the steps when it was opened and its
--- last state. If a store is named, the accepted submissions are kept in it in the end, whatever the status.
+-- The run begins with an office, of which this holds, by its first state, the steps when it was opened and
+-- its last state. If a store is named, the accepted submissions are kept in it in the end, whatever the
+-- status.
 pub record RunsOffice (store : Option (List ℕ)) (shelf shelf' : Shelf) (steps : ℕ)
     (holds : State → ℕ → State → Type 0) : Type 0 where
   pub first : State

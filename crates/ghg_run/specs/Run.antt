@@ -11,7 +11,7 @@ use Rattle.ghg_office.specs.Replays.{replay_evaluations}
 use Rattle.ghg_office.specs.Sound.{IsSoundReply}
 use Rattle.ghg_outer.specs.Counts.{IsCounted}
 use Rattle.ghg_outer.specs.Doors.{Register}
-use Rattle.ghg_outer.specs.Tape.{Rose, Tape}
+use Rattle.ghg_outer.specs.Tape.{Tape}
 use Rattle.ghg_script.specs.declared.command.Request.{Request}
 use Rattle.ghg_script.specs.declared.command.Request.TheVariants.{Submit, Query}
 use Rattle.ghg_script.specs.declared.script.TableQuery.{TableQuery}
@@ -64,16 +64,16 @@ Compiles store shelf shelf' input input' output output' steps steps' status =
     Session (protocol (is_some store)) first last input input' output output' opened_steps steps' status
     × HasSoundReplies (is_some store) first)
 
--- An office served connections, and wrote nothing to the output, or there was none, and no connection was
--- taken.
+-- An office served connections, and wrote nothing to the output. Or there was none: no connection was taken,
+-- and the keeper's count of faults rose exactly where the status says that.
 abbrev pub ServesAll : Service → Shelf → Shelf → Tape → Tape → Register Tape → Register Tape → ℕ → ℕ
     → Status → Type 0
 ServesAll service shelf shelf' output output' door door' steps steps' status =
-    (BeginsNot service.settings.store shelf shelf' output output' steps steps' status × (door' ≡ door))
+    (BeginsNot service.settings.store shelf shelf' output output' steps steps' status × (door' ≡ door)
+    × IsCounted shelf.faults shelf'.faults (status ≡ StoreFailed))
     ⊎ RunsOffice service.settings.store shelf shelf' steps (λ first opened_steps last.
-    Serves service (office_at first opened_steps) (office_at last steps') shelf.faults shelf'.faults door door'
-    status
-    × (output' ≡ output))
+    Serves service (office_at first opened_steps) (office_at last steps') shelf.faults shelf'.faults
+    door door' status × (output' ≡ output))
 
 -- The summary of the generated submissions was due, for no more steps than these ask for.
 abbrev pub Generates : Sample → Tape → Tape → ℕ → ℕ → Status → Type 0
@@ -89,11 +89,9 @@ asked_for words = command_in (map string_bytes words)
 
 -- the store that a command names
 abbrev pub store_in : Option Command → Option (List ℕ)
-store_in None = None
 store_in (Some (Compile settings)) = settings.store
 store_in (Some (Serve service)) = service.settings.store
-store_in (Some (Generate sample)) = None
-store_in (Some (Splice splicing)) = None
+store_in _ = None
 
 -- whether a command reads the input
 abbrev pub reads_input : Option Command → Bool
@@ -120,13 +118,15 @@ Runs (Some (Generate sample)) shelf shelf' input input' output output' door door
 Runs (Some (Splice splicing)) shelf shelf' input input' output output' door door' steps steps' status =
     Splices splicing input input' output output' status × (steps' ≡ steps)
 
--- A failure is told only if its count of faults rose. The counts of the keeper and of the door never fall.
-pub record IsCaused (shelf shelf' : Shelf) (input input' output output' : Tape) (door door' : Register Tape)
-    (status : Status) : Type 0 where
-  pub input_rose : status ≡ InputFailed → Rose input input'
-  pub output_rose : status ≡ OutputFailed → Rose output output'
-  pub keeper_rose : IsCounted shelf.faults shelf'.faults (status ≡ StoreFailed)
-  pub door_rose : IsCounted door.faults door'.faults (status ≡ DoorFailed)
+-- A count of faults rose exactly where the status is that failure. What the keeper fails at while connections
+-- are served is replied on them, and counted with them (`ServesAll`).
+pub record IsCaused (command : Option Command) (shelf shelf' : Shelf) (input input' output output' : Tape)
+    (door door' : Register Tape) (status : Status) : Type 0 where
+  pub input_counted : IsCounted input.faults input'.faults (status ≡ InputFailed)
+  pub output_counted : IsCounted output.faults output'.faults (status ≡ OutputFailed)
+  pub keeper_counted : opens_door command ≡ false
+      → IsCounted shelf.faults shelf'.faults (status ≡ StoreFailed)
+  pub door_counted : IsCounted door.faults door'.faults (status ≡ DoorFailed)
 
 -- A run did what the command asks for, with a status that has its cause, and answered the status's number.
 abbrev pub IsRun : Option Command → Shelf → Shelf → Tape → Tape → Tape → Tape → Register Tape → Register Tape
@@ -134,4 +134,4 @@ abbrev pub IsRun : Option Command → Shelf → Shelf → Tape → Tape → Tape
 IsRun command shelf shelf' input input' output output' door door' steps steps' code =
     (status : Status) × (code ≡ status_code status)
     × Runs command shelf shelf' input input' output output' door door' steps steps' status
-    × IsCaused shelf shelf' input input' output output' door door' status
+    × IsCaused command shelf shelf' input input' output output' door door' status

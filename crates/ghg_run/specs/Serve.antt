@@ -2,10 +2,10 @@
 use Rattle.std.specs.Prelude.{◌≡◌, ◌⊎◌, ℕ, ◌+◌, ◌-◌, ◌^◌, ◌<◌, ◌≤◌, min, List, [], ◌∷◌, ◌++◌, length, map, count_by, Option, None, option_map, IfSome}
 use Rattle.ghg_http.specs.declared.serve.LinkEnd.{LinkEnd}
 use Rattle.ghg_http.specs.Reply.{HttpReply}
-use Rattle.ghg_http.specs.Serve.{ServesLink, is_unavailable}
-use Rattle.ghg_http.specs.Serve.{snapshot as link_snapshot}
+use Rattle.ghg_http.specs.Serve.{ServesLink, is_unavailable, snapshot as link_snapshot}
 use Rattle.ghg_office.specs.Office.{State, requested}
 use Rattle.ghg_office.specs.Sound.{IsSoundReply}
+use Rattle.ghg_outer.specs.Counts.{IsCounted}
 use Rattle.ghg_outer.specs.Doors.{Register}
 use Rattle.ghg_outer.specs.Links.{IsFresh}
 use Rattle.ghg_outer.specs.Tape.{Tape}
@@ -88,6 +88,7 @@ pub record Serves (service : Service) (before after : OfficeAt) (faults faults' 
   pub given : door'.given ≡ option_map (λ n. n + length (taken ++ dropped)) door.given
   pub ends : EndsServing service door'.port taken dropped status
   -- The keeper failed at least as often as the reply that was due has status 503, however much of it was
-  -- written. Without a store no such reply was due.
+  -- written, and never where no such reply was due. Without a store none was.
   pub unavailable : raised_by (unavailable_count (taken ++ dropped)) faults ≤ faults'
+  pub counted : IsCounted faults faults' (0 < unavailable_count (taken ++ dropped))
   pub available : service.settings.store ≡ None → unavailable_count (taken ++ dropped) ≡ 0

@@ -1,6 +1,6 @@
 -- `splice`: the years that a series lacks are filled.
 use Rattle.std.specs.Prelude.{◌≡◌, ◌⊎◌, ℕ, ◌+◌, ◌≤◌, List, length}
-use Rattle.ghg_outer.specs.Tape.{Consumes, IsAtEnd, Rose, Tape}
+use Rattle.ghg_outer.specs.Tape.{Consumes, IsAtEnd, Tape}
 use Rattle.ghg_script.specs.Commands.{line_of}
 use Rattle.ghg_splice.specs.declared.refusal.SpliceRefusal.{SpliceRefusal}
 use Rattle.ghg_splice.specs.declared.splicing.Spliced.{Spliced}
@@ -19,12 +19,12 @@ pub record ReadsSeries (before after : Tape) (series : List ℕ) : Type 0 where
   pub few : length series ≤ max_body + 1
   pub whole : IsAtEnd after ⊎ (length series ≡ max_body + 1)
 
--- The input failed, where its count rose, or memory ran out before it was read to there.
+-- The input failed, or memory ran out, before it was read to there.
 pub record StopsInSeries (before after : Tape) (stop : Status) : Type 0 where
   pub text : List ℕ
   pub read : Consumes before after text
   pub few : length text ≤ max_body + 1
-  pub why : ((stop ≡ InputFailed) × Rose before after) ⊎ (stop ≡ OutOfMemory)
+  pub why : (stop ≡ InputFailed) ⊎ (stop ≡ OutOfMemory)
 
 abbrev pub refusal_line : SpliceRefusal → List ℕ
 refusal_line refusal = line_of (refusal_text refusal)

@@ -4,7 +4,7 @@ ghost use Rattle.std.specs.Prelude.{◌≡◌, ◌≤◌, ◌<◌, false, None};
 ghost use Rattle.std.specs.Option.{is_some};
 ghost use Rattle.ghg_run.specs.Run.{Generates, IsRun, asked_for, opens_door, reads_input, store_in};
 ghost use Rattle.ghg_run.specs.Serve.{register_of};
-ghost use Rattle.ghg_outer.specs.Tape.{Rose};
+ghost use Rattle.ghg_outer.specs.Counts.{IsCounted};
 
 use crate::opening::open_office;
 use crate::serving::serve_office;
@@ -166,7 +166,8 @@ fn generate<W: Sink, G: Gate, T: Threads + Sync, L: Ledger>(
 ) -> Status
     requires { (1 ≤ workers.now.count) × (workers.now.count ≤ 64) }
     ensures run { Generates sample.now (W.tape out.old) (W.tape out.new) steps.old steps.new result }
-    ensures output { result ≡ Status.OutputFailed → Rose (W.tape out.old) (W.tape out.new) }
+    ensures counted { IsCounted (W.tape out.old).faults (W.tape out.new).faults
+        (result ≡ Status.OutputFailed) }
 {
     match ghg_generator::generate(alloc, hasher, workers, sample.seed, sample.lines, steps) {
         Ok(summary) => report(out, &summary, Status::Done),

@@ -4,7 +4,6 @@ ghost use Rattle.std.specs.Prelude.{◌≡◌, ◌≤◌, IfOk, IsErrOf, None};
 ghost use Rattle.ghg_run.specs.Opening.{IsKeptIn, Opens, ReportsMade, kept_line};
 ghost use Rattle.ghg_office.specs.Laws.{IsInForce};
 ghost use Rattle.ghg_outer.specs.Counts.{IsCounted};
-ghost use Rattle.ghg_outer.specs.Tape.{Rose};
 
 use ghg_keeper::{KeepError, Keeper};
 use ghg_office::{Office, OpenFault, Reply, append_reply};
@@ -33,7 +32,8 @@ pub fn open_office<W: Sink, K: Keeper, G: Gate, T: Threads + Sync, L: Ledger>(
     requires { (1 ≤ environment.now.workers.count) × (environment.now.workers.count ≤ 64) }
     ensures opened { Opens store.now (K.shelf keeper.old) (K.shelf keeper.new)
         (W.tape out.old) (W.tape out.new) steps.old steps.new result }
-    ensures output { IsErrOf result Status.OutputFailed → Rose (W.tape out.old) (W.tape out.new) }
+    ensures output { IsCounted (W.tape out.old).faults (W.tape out.new).faults
+        (IsErrOf result Status.OutputFailed) }
     ensures counted { IsCounted (K.shelf keeper.old).faults (K.shelf keeper.new).faults
         (IsErrOf result Status.StoreFailed) }
     ensures in_force { IfOk result IsInForce }
@@ -67,7 +67,10 @@ pub fn open_office<W: Sink, K: Keeper, G: Gate, T: Threads + Sync, L: Ledger>(
 
 // Reports the kept row of this number as refused, with the reply to it.
 fn refuse_row<W: Sink>(alloc: Global, out: &mut W, seq: u64, reply: &Reply) -> Status
-    ensures { ReportsMade (W.tape out.old) (W.tape out.new) (kept_line seq reply.now) Status.RowRefused result }
+    ensures reported { ReportsMade (W.tape out.old) (W.tape out.new) (kept_line seq reply.now)
+        Status.RowRefused result }
+    ensures counted { IsCounted (W.tape out.old).faults (W.tape out.new).faults
+        (result ≡ Status.OutputFailed) }
 {
     let Ok(line) = kept_line(alloc, seq, reply) else {
         return Status::OutOfMemory;

@@ -44,7 +44,6 @@ pub fn serve_office<K: Keeper, D: Door, G: Gate, T: Threads + Sync, L: Ledger>(
         × (environment.now.stored ≡ true
         → KeepsAccepted (K.shelf keeper.old) (K.shelf keeper.new) last.accepted) }
     ensures unkept { environment.now.stored ≡ false → keeper.new ≡ keeper.old }
-    ensures counts { (K.shelf keeper.old).faults ≤ (K.shelf keeper.new).faults }
     ensures counted { IsCounted (D.register door.old).faults (D.register door.new).faults
         (result ≡ Status.DoorFailed) }
 {

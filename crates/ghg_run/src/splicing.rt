@@ -1,7 +1,7 @@
 //! The command `splice`.
 
-ghost use Rattle.std.specs.Prelude.{◌≡◌, IfOk, MatchResult};
-ghost use Rattle.ghg_outer.specs.Tape.{Rose};
+ghost use Rattle.std.specs.Prelude.{◌≡◌, IfOk, IsErrOf, MatchResult};
+ghost use Rattle.ghg_outer.specs.Counts.{IsCounted};
 ghost use Rattle.ghg_run.specs.Opening.{ReportsMade};
 ghost use Rattle.ghg_run.specs.Splicing.{ReadsSeries, ReportsSpliced, Splices, StopsInSeries, refusal_line};
 ghost use Rattle.ghg_splice.specs.Laws.{HoldsExactFractions};
@@ -23,8 +23,10 @@ pub fn splice<S: Source, W: Sink>(
 ) -> Status
     ensures run { Splices splicing.now (S.tape input.old) (S.tape input.new) (W.tape out.old)
         (W.tape out.new) result }
-    ensures input { result ≡ Status.InputFailed → Rose (S.tape input.old) (S.tape input.new) }
-    ensures output { result ≡ Status.OutputFailed → Rose (W.tape out.old) (W.tape out.new) }
+    ensures input { IsCounted (S.tape input.old).faults (S.tape input.new).faults
+        (result ≡ Status.InputFailed) }
+    ensures output { IsCounted (W.tape out.old).faults (W.tape out.new).faults
+        (result ≡ Status.OutputFailed) }
 {
     match read_series(alloc, input) {
         Ok(series) => report_spliced(alloc, splicing, &series, out),
@@ -34,8 +36,11 @@ pub fn splice<S: Source, W: Sink>(
 
 // Writes what splicing a series gives.
 fn report_spliced<W: Sink>(alloc: Global, splicing: &Splicing, series: &[u8], out: &mut W) -> Status
-    ensures told { ReportsSpliced (splice_of splicing.now.method splicing.now.name splicing.now.unit series.now)
+    ensures told { ReportsSpliced
+        (splice_of splicing.now.method splicing.now.name splicing.now.unit series.now)
         (W.tape out.old) (W.tape out.new) result }
+    ensures counted { IsCounted (W.tape out.old).faults (W.tape out.new).faults
+        (result ≡ Status.OutputFailed) }
     ensures holds { HoldsExactFractions splicing.now.method series.now }
 {
     match ghg_splice::splice(alloc, splicing.method, splicing.name, splicing.unit, series) {
@@ -50,9 +55,11 @@ const BLOCK: usize = 4096;
 
 // The input up to its end, or to one byte more than is spliced.
 fn read_series<S: Source>(alloc: Global, input: &mut S) -> Result<Vec<u8>, Status>
-    ensures { MatchResult result
+    ensures read { MatchResult result
         (λ series. ReadsSeries (S.tape input.old) (S.tape input.new) series.items)
         (StopsInSeries (S.tape input.old) (S.tape input.new)) }
+    ensures counted { IsCounted (S.tape input.old).faults (S.tape input.new).faults
+        (IsErrOf result Status.InputFailed) }
 {
     let mut series = Vec::new(alloc);
     let mut block = [0; BLOCK];
@@ -69,8 +76,10 @@ fn read_series<S: Source>(alloc: Global, input: &mut S) -> Result<Vec<u8>, Statu
 
 // Reports why the series is not spliced.
 fn refuse<W: Sink>(alloc: Global, out: &mut W, refusal: SpliceRefusal) -> Status
-    ensures { ReportsMade (W.tape out.old) (W.tape out.new) (refusal_line refusal) Status.SpliceRefused
-        result }
+    ensures reported { ReportsMade (W.tape out.old) (W.tape out.new) (refusal_line refusal)
+        Status.SpliceRefused result }
+    ensures counted { IsCounted (W.tape out.old).faults (W.tape out.new).faults
+        (result ≡ Status.OutputFailed) }
 {
     let Ok(line) = refusal_line(alloc, refusal) else {
         return Status::OutOfMemory;

@@ -56,8 +56,8 @@ fn end_of(
     end_with::<_, Brand>(rt, alloc, hasher, Blank::new(1), link)
 }
 
-/// The end of a link with these bytes, on which the call of this number fails, or none where it is 0, and what
-/// was written on it.
+/// The end of a link with these bytes, on which the call of this number fails, or none where it is 0, and
+/// what was written on it.
 pub(crate) fn end(
     rt: &(impl Abort + AllocGlobal + RandomSource + Threads + Sync),
     bytes: &[u8],

@@ -2,8 +2,8 @@
 use Rattle.std.proofs.Common.{◌≡◌, ℕ, ◌+◌, ◌≤◌, ◌⊎◌, inl, inr, Bool, true, false, List, [], ◌∷◌, ◌++◌, length, take, drop, append_assoc, append-nil, length-append, length-take, take-append-drop, refl, sym, ap, subst, ◌∙◌, arith, None, Some, Option, nat_le, option_map}
 use Rattle.std.proofs.lemmas.Option.{none-some}
 use Rattle.std.specs.Option.{option_map_or}
-use Rattle.ghg_outer.specs.Tape.{IsAtEnd, Rose, Tape}
-use Rattle.ghg_outer.proofs.Tapes.{consumes_more, rose_later}
+use Rattle.ghg_outer.specs.Tape.{IsAtEnd, Tape}
+use Rattle.ghg_outer.proofs.Tapes.{consumes_more}
 use Rattle.ghg_script.specs.declared.command.Command.{Command}
 use Rattle.ghg_script.specs.declared.command.Command.TheVariants as command
 use Rattle.ghg_script.specs.declared.command.Line.{Line}
@@ -11,7 +11,6 @@ use Rattle.ghg_script.specs.declared.command.Line.TheVariants as line
 use Rattle.ghg_script.specs.declared.command.Request.{Request}
 use Rattle.ghg_script.specs.declared.command.Request.TheVariants as request
 use Rattle.ghg_words.specs.declared.status.Status.{Status}
-use Rattle.ghg_words.specs.declared.status.Status.TheVariants.{InputFailed, OutOfMemory}
 use Rattle.ghg_script.specs.Commands.{Forms, IsTextOf, ParsesTexts, bodies, body_at, body_length, command_at, command_of, command_reach, commands_of, line_at, line_of, lines, longest_line, most_kept}
 use Rattle.ghg_script.specs.Reader.{Found, Missing, Stopped}
 use Rattle.ghg_script.proofs.Pieces.{whole_body}
@@ -148,12 +147,8 @@ module _ {Q : Type 0} (forms : Forms Q) where
     read = consumes_more a b c m.text s.text m.read s.read;
     none = no_body words id m.text s.text n m.each f s.none;
     near = near_body (m.text ++ s.text) words id s.text n (m.each s.text) f s.near;
-    why = by s.why;
+    why = s.why;
   }
-    where
-      by : ((stop ≡ InputFailed) × Rose b c) ⊎ (stop ≡ OutOfMemory) → ((stop ≡ InputFailed) × Rose a c) ⊎ (stop ≡ OutOfMemory)
-      by (inl e) = inl (e.0, rose_later a b c m.read.counts e.1)
-      by (inr e) = inr e
 
   -- ---- the texts of commands
 

@@ -2,8 +2,8 @@
 use Rattle.std.proofs.Common.{◌≡◌, ℕ, zero, suc, ◌+◌, ◌-◌, ◌≤◌, ◌<◌, Bool, true, false, not, ◌&&◌, ◌==◌, List, [], ◌∷◌, ◌++◌, length, take, length-append, length-take, refl, sym, ap, ◌∙◌, arith, inl, inr, Some, None, nat_le}
 use Rattle.std.proofs.lemmas.List.{take_at, drop_at}
 use Rattle.std.proofs.lemmas.List.Folds.{list_all-append}
-use Rattle.ghg_outer.specs.Tape.{Consumes, IsAtEnd, Rose, Tape}
-use Rattle.ghg_outer.proofs.Tapes.{consumes_more, consumes_no_more, rose_later}
+use Rattle.ghg_outer.specs.Tape.{Consumes, IsAtEnd, Tape}
+use Rattle.ghg_outer.proofs.Tapes.{consumes_more, consumes_no_more}
 use Rattle.ghg_words.specs.declared.status.Status.{Status}
 use Rattle.ghg_words.specs.declared.status.Status.TheVariants.{InputFailed, OutOfMemory}
 use Rattle.ghg_script.specs.Commands.{bodies, body_at, lacks, line_of, lines, longest_line, most_kept}
@@ -32,13 +32,13 @@ found_line a b c line p h short q =
 
 -- the source failed within the line
 pub stopped_in_line : (a b c : Tape) (line : List ℕ) (stop : Status) → Consumes a b line → lacks 10 line ≡ true
-    → length line ≤ longest_line + 1 → Consumes b c [] × Rose b c × (stop ≡ InputFailed) → Stopped lines a c stop
+    → length line ≤ longest_line + 1 → Consumes b c [] × (stop ≡ InputFailed) → Stopped lines a c stop
 stopped_in_line a b c line stop p h near s = record {
   text = line;
   read = consumes_no_more a b c line p s.0;
   none = line_cut line h;
   near = near;
-  why = inl (s.2, rose_later a b c p.counts s.1);
+  why = inl s.1;
 }
 
 -- ---- a body
@@ -98,14 +98,14 @@ body_ends a b c at count kept p q h end = record {
 }
 
 -- the source failed within the body
-pub body_fails : (a b c : Tape) (at count : ℕ) (kept : List ℕ) → TookPart a b at kept → Consumes b c [] → Rose b c → at < count
+pub body_fails : (a b c : Tape) (at count : ℕ) (kept : List ℕ) → TookPart a b at kept → Consumes b c [] → at < count
     → Stopped (bodies count) a c InputFailed
-body_fails a b c at count kept p q rose h = record {
+body_fails a b c at count kept p q h = record {
   text = p.text;
   read = consumes_no_more a b c p.text p.read q;
   none = short_body p.text count (omega (arith, h, p.whole));
   near = omega (arith, h, p.whole);
-  why = inl (refl, rose_later a b c p.read.counts rose);
+  why = inl refl;
 }
 
 -- out of memory within the body

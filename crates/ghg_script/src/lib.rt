@@ -1,9 +1,9 @@
 //! Scripts: commands, which are read from a source one by one.
 //!
 //! A script is a sequence of lines, some of which have a body behind them. What its lines may say is a
-//! [`Dialect`], and [`Script`] is that of submissions and requests for tables. [`next_command`] reads the next
-//! command and takes no byte behind it; of what is no command it takes no more than it takes to find that
-//! out. [`parses_texts`] says how the commands are written.
+//! [`Dialect`], and [`Script`] is that of submissions and requests for tables. [`next_command`] reads the
+//! next command and takes no byte behind it; of what is no command it takes no more than it takes to find
+//! that out. [`parses_texts`] says how the commands are written.
 #![tactic(auto)]
 
 mod command;

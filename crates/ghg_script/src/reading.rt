@@ -1,8 +1,9 @@
 //! Reads the commands of a script from a source, and takes no byte behind them.
 
-ghost use Rattle.std.specs.Prelude.{◌≡◌, ◌+◌, ◌-◌, ◌≤◌, [], ◌∷◌, ◌++◌, length, take, MatchOption, MatchResult};
+ghost use Rattle.std.specs.Prelude.{◌≡◌, ◌+◌, ◌-◌, ◌≤◌, [], ◌∷◌, ◌++◌, length, take, IsErrOf, MatchOption, MatchResult};
 ghost use Rattle.std.specs.Vec.{vec_capacity};
-ghost use Rattle.ghg_outer.specs.Tape.{Consumes, IsAtEnd, Rose};
+ghost use Rattle.ghg_outer.specs.Counts.{IsCounted};
+ghost use Rattle.ghg_outer.specs.Tape.{Consumes, IsAtEnd};
 ghost use Rattle.ghg_script.specs.Commands.{bodies, commands_of, lines, most_kept};
 ghost use Rattle.ghg_script.specs.Reader.{Found, Missing, Parses, Stopped};
 
@@ -24,7 +25,9 @@ pub fn next_command<Q: Drop, D: Dialect<Q>, S: Source>(
     alloc: Global,
     source: &mut S,
 ) -> Result<Option<Command<Request<Q>>>, Status>
-    ensures { Parses (commands_of D.forms) (S.tape source.old) (S.tape source.new) result }
+    ensures parsed { Parses (commands_of D.forms) (S.tape source.old) (S.tape source.new) result }
+    ensures counted { IsCounted (S.tape source.old).faults (S.tape source.new).faults
+        (IsErrOf result Status.InputFailed) }
 {
     let Some(text) = read_line(source)? else {
         return Ok(None);
@@ -51,10 +54,12 @@ const LINE_ROOM: usize = LONGEST_LINE + 1;
 
 // The next line without its line feed, or nothing where no line ends within its limit.
 fn read_line<S: Source>(source: &mut S) -> Result<Option<ArrayVec<u8, LINE_ROOM>>, Status>
-    ensures { MatchResult result
+    ensures parsed { MatchResult result
         (λ found. MatchOption found (Missing lines (S.tape source.old) (S.tape source.new))
         (λ line. Found lines (S.tape source.old) (S.tape source.new) line.items))
         (Stopped lines (S.tape source.old) (S.tape source.new)) }
+    ensures counted { IsCounted (S.tape source.old).faults (S.tape source.new).faults
+        (IsErrOf result Status.InputFailed) }
 {
     let mut line = ArrayVec::new();
     'bytes: while line.len() < LINE_ROOM {
@@ -69,12 +74,13 @@ fn read_line<S: Source>(source: &mut S) -> Result<Option<ArrayVec<u8, LINE_ROOM>
 
 // The next byte, or nothing at the end of the input.
 fn next_byte<S: Source>(source: &mut S) -> Result<Option<u8>, Status>
-    ensures { MatchResult result
+    ensures read { MatchResult result
         (λ next. MatchOption next
         (IsAtEnd (S.tape source.new) × Consumes (S.tape source.old) (S.tape source.new) [])
         (λ b. Consumes (S.tape source.old) (S.tape source.new) (b ∷ [])))
-        (λ stop. Consumes (S.tape source.old) (S.tape source.new) []
-        × Rose (S.tape source.old) (S.tape source.new) × (stop ≡ Status.InputFailed)) }
+        (λ stop. Consumes (S.tape source.old) (S.tape source.new) [] × (stop ≡ Status.InputFailed)) }
+    ensures counted { IsCounted (S.tape source.old).faults (S.tape source.new).faults
+        (IsErrOf result Status.InputFailed) }
 {
     let mut byte = [0];
     match source.read(&mut byte) {
@@ -94,10 +100,12 @@ fn read_body<S: Source>(
     source: &mut S,
     count: usize,
 ) -> Result<Option<Vec<u8>>, Status>
-    ensures { MatchResult result
+    ensures parsed { MatchResult result
         (λ found. MatchOption found (Missing (bodies count) (S.tape source.old) (S.tape source.new))
         (λ body. Found (bodies count) (S.tape source.old) (S.tape source.new) body.items))
         (Stopped (bodies count) (S.tape source.old) (S.tape source.new)) }
+    ensures counted { IsCounted (S.tape source.old).faults (S.tape source.new).faults
+        (IsErrOf result Status.InputFailed) }
 {
     let mut body = Vec::new(alloc);
     let mut block = [0; BLOCK];

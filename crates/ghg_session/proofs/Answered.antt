@@ -1,6 +1,6 @@
 -- A session that answered some requests, and how it goes on or ends then.
 use Rattle.std.proofs.Common.{◌≡◌, ℕ, ◌+◌, ◌≤◌, ◌<◌, ◌⊎◌, inl, inr, Bool, true, false, nat_lt, List, [], ◌∷◌, ◌++◌, length, take, append_assoc, append-nil, length-append, refl, sym, ap, subst, ◌∙◌, arith, None, Some, Option}
-use Rattle.ghg_outer.specs.Tape.{Appends, Consumes, IsAtEnd, Rose, Tape}
+use Rattle.ghg_outer.specs.Tape.{Appends, Consumes, IsAtEnd, Tape}
 use Rattle.ghg_outer.proofs.Tapes.{appends_more, appends_nothing, consumes_more, consumes_nothing}
 use Rattle.ghg_script.specs.declared.command.Command.TheVariants as command
 use Rattle.ghg_words.specs.declared.status.Status.{Status}
@@ -163,11 +163,11 @@ module _ {S R : Type 0} (p : Protocol S R) (quiet : S → R → List ℕ → Typ
       ends m.text [] a.answered same input' out now spent status m.read (appends_nothing out) (requests_of _ _ _ _ holds) a.spent
       a.repeats (by m.why (rw (← a.count) h, within))
     where
-      by : ((status ≡ InputFailed) × Rose mid input') ⊎ (status ≡ OutOfMemory)
+      by : (status ≡ InputFailed) ⊎ (status ≡ OutOfMemory)
           → StopsReading p (a.took ++ m.text) a.answered
           → EndsBy p now now input' output.grows (a.took ++ m.text) a.answered [] status
       by (inl e) within =
-          subst (EndsBy p now now input' output.grows (a.took ++ m.text) a.answered []) (sym e.0) (within, refl, refl)
+          subst (EndsBy p now now input' output.grows (a.took ++ m.text) a.answered []) (sym e) (within, refl, refl)
       by (inr e) within =
           subst (EndsBy p now now input' output.grows (a.took ++ m.text) a.answered []) (sym e) (inl (inl within, refl, refl))
 
@@ -200,9 +200,9 @@ module _ {S R : Type 0} (p : Protocol S R) (quiet : S → R → List ℕ → Typ
       off : BreaksOff p now last input' took a.answered (take s.wrote.count lines)
       off = record { lines = lines; due = due; count = s.wrote.count; short = s.wrote.short; prefix = refl }
 
-      by : ((status ≡ OutputFailed) × Rose out output') ⊎ ((status ≡ OutOfMemory) × (out.grows ≡ true))
+      by : (status ≡ OutputFailed) ⊎ ((status ≡ OutOfMemory) × (out.grows ≡ true))
           → EndsBy p now last input' output.grows took a.answered (take s.wrote.count lines) status
-      by (inl e) = subst (EndsBy p now last input' output.grows took a.answered (take s.wrote.count lines)) (sym e.0) off
+      by (inl e) = subst (EndsBy p now last input' output.grows took a.answered (take s.wrote.count lines)) (sym e) off
       by (inr e) = subst (EndsBy p now last input' output.grows took a.answered (take s.wrote.count lines)) (sym e.0)
           (inr (sym a.wrote.grows ∙ e.1, off))
 

@@ -1,7 +1,7 @@
 -- Texts that are written piece by piece, and where that stops.
 use Rattle.std.proofs.Common.{◌≡◌, ◌⊎◌, inl, inr, ℕ, true, List, ◌++◌, sym, ◌∙◌, Ok, Err, Result}
-use Rattle.ghg_outer.specs.Tape.{Appends, Rose, Tape}
-use Rattle.ghg_outer.proofs.Tapes.{appends_more, longer_proper, proper_behind, rose_later}
+use Rattle.ghg_outer.specs.Tape.{Appends, Tape}
+use Rattle.ghg_outer.proofs.Tapes.{appends_more, longer_proper, proper_behind}
 use Rattle.ghg_words.specs.declared.status.Status.{Status}
 use Rattle.ghg_words.specs.declared.status.Status.TheVariants.{OutputFailed, OutOfMemory}
 use Rattle.ghg_session.specs.Writing.{StoppedWriting, WritesAll}
@@ -15,9 +15,9 @@ stopped_later : (a b c : Tape) (xs ys : List ℕ) (stop : Status) → Appends a 
     → StoppedWriting a c (xs ++ ys) stop
 stopped_later a b c xs ys stop p s = record { wrote = proper_behind a b c xs ys p s.wrote; why = by s.why }
   where
-    by : ((stop ≡ OutputFailed) × Rose b c) ⊎ ((stop ≡ OutOfMemory) × (b.grows ≡ true))
-        → ((stop ≡ OutputFailed) × Rose a c) ⊎ ((stop ≡ OutOfMemory) × (a.grows ≡ true))
-    by (inl e) = inl (e.0, rose_later a b c p.counts e.1)
+    by : (stop ≡ OutputFailed) ⊎ ((stop ≡ OutOfMemory) × (b.grows ≡ true))
+        → (stop ≡ OutputFailed) ⊎ ((stop ≡ OutOfMemory) × (a.grows ≡ true))
+    by (inl e) = inl e
     by (inr e) = inr (e.0, sym p.grows ∙ e.1)
 
 pub writes_more : {T : Type 0} (a b c : Tape) (xs ys : List ℕ) (result : Result T Status) → Appends a b xs → WritesAll b c ys result

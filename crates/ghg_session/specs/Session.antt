@@ -140,7 +140,7 @@ pub record Session {State Request : Type 0} (p : Protocol State Request) (first 
 -- none of the requests that these bytes begin with is to be kept
 abbrev pub KeepsNone : {State Request : Type 0} → Protocol State Request → State → List ℕ → Type 0
 KeepsNone p s took =
-    EachReply p (λ now asked lines. (p.step now asked).is_kept ≡ false) s (reading_of p.commands took).requests
+    EachReply p (λ now asked _. (p.step now asked).is_kept ≡ false) s (reading_of p.commands took).requests
 
 -- ---- what is due of the bytes that are left to be read
 

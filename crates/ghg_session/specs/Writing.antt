@@ -1,14 +1,14 @@
 -- What calls that write to a sink leave of what was due.
 use Rattle.std.specs.Prelude.{◌≡◌, ◌⊎◌, ℕ, true, List, Result, MatchResult}
-use Rattle.ghg_outer.specs.Tape.{Appends, AppendsProperPrefix, Rose, Tape}
+use Rattle.ghg_outer.specs.Tape.{Appends, AppendsProperPrefix, Tape}
 use Rattle.ghg_words.specs.declared.status.Status.{Status}
 use Rattle.ghg_words.specs.declared.status.Status.TheVariants.{OutputFailed, OutOfMemory}
 
--- A proper prefix of the text was written. Then the sink failed, and its count rose, or memory ran out, which
--- only a sink that grows takes.
+-- A proper prefix of the text was written. Then the sink failed, or memory ran out, which only a sink that
+-- grows takes.
 pub record StoppedWriting (before after : Tape) (text : List ℕ) (status : Status) : Type 0 where
   pub wrote : AppendsProperPrefix before after text
-  pub why : ((status ≡ OutputFailed) × Rose before after) ⊎ ((status ≡ OutOfMemory) × (before.grows ≡ true))
+  pub why : (status ≡ OutputFailed) ⊎ ((status ≡ OutOfMemory) × (before.grows ≡ true))
 
 -- all of the text was written, or the call stopped before that
 abbrev pub WritesAll : {T : Type 0} → Tape → Tape → List ℕ → Result T Status → Type 0

@@ -1,9 +1,8 @@
 //! Answers a whole script.
 
-ghost use Rattle.std.specs.Prelude.{◌≡◌, ◌≤◌, true, false};
+ghost use Rattle.std.specs.Prelude.{◌≡◌, ◌≤◌, true, false, IsErrOf};
 ghost use Rattle.ghg_office.specs.Keeping.{KeepsAccepted, Lists};
 ghost use Rattle.ghg_outer.specs.Counts.{IsCounted};
-ghost use Rattle.ghg_outer.specs.Tape.{Rose};
 ghost use Rattle.ghg_session.specs.Replies.{office_step};
 ghost use Rattle.ghg_session.specs.Session.{KeepsNone, Session, bytes_of, protocol_of, wrong_line};
 ghost use Rattle.ghg_session.specs.Writing.{Reports, WritesAll};
@@ -51,16 +50,17 @@ pub fn answer_script<
         steps.old steps.new result)
         × (KeepsNone (protocol_of D.forms (office_step environment.now.stored)) office.old session.took
         → keeper.new ≡ keeper.old) }
-    // The input or the output failed only if its count of faults rose.
-    ensures input { result ≡ Status.InputFailed → Rose (S.tape input.old) (S.tape input.new) }
-    ensures output { result ≡ Status.OutputFailed → Rose (W.tape out.old) (W.tape out.new) }
+    // A count of faults rose exactly where the result is that failure.
+    ensures input { IsCounted (S.tape input.old).faults (S.tape input.new).faults
+        (result ≡ Status.InputFailed) }
+    ensures output { IsCounted (W.tape out.old).faults (W.tape out.new).faults
+        (result ≡ Status.OutputFailed) }
+    ensures counted { IsCounted (K.shelf keeper.old).faults (K.shelf keeper.new).faults
+        (result ≡ Status.StoreFailed) }
     // With every result the keeper's rows are the accepted submissions.
     ensures kept { environment.now.stored ≡ true
         → KeepsAccepted (K.shelf keeper.old) (K.shelf keeper.new) office.new.accepted }
     ensures untouched { environment.now.stored ≡ false → keeper.new ≡ keeper.old }
-    // The keeper failed only if its count of faults rose.
-    ensures counted { IsCounted (K.shelf keeper.old).faults (K.shelf keeper.new).faults
-        (result ≡ Status.StoreFailed) }
 {
     'commands: for done in 0..MOST_COMMANDS {
         match next_command::<TableQuery, D, S>(environment.alloc, input) {
@@ -84,7 +84,9 @@ pub fn answer_script<
 
 // Reports the command of this number as malformed.
 fn refuse<W: Sink>(out: &mut W, number: u32) -> Status
-    ensures { Reports (W.tape out.old) (W.tape out.new) (wrong_line number) Status.NoScript result }
+    ensures reported { Reports (W.tape out.old) (W.tape out.new) (wrong_line number) Status.NoScript result }
+    ensures counted { IsCounted (W.tape out.old).faults (W.tape out.new).faults
+        (result ≡ Status.OutputFailed) }
 {
     report(out, refusal(number).as_slice(), Status::NoScript)
 }
@@ -105,7 +107,9 @@ fn refusal(number: u32) -> ArrayVec<u8, 33>
 
 // Writes all lines.
 fn write_lines<W: Sink>(out: &mut W, lines: &Lines) -> Result<(), Status>
-    ensures { WritesAll (W.tape out.old) (W.tape out.new) (bytes_of lines.now) result }
+    ensures written { WritesAll (W.tape out.old) (W.tape out.new) (bytes_of lines.now) result }
+    ensures counted { IsCounted (W.tape out.old).faults (W.tape out.new).faults
+        (IsErrOf result Status.OutputFailed) }
 {
     match lines {
         Lines::Short(line) => write_all(out, line.as_slice()),

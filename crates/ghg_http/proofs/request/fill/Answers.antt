@@ -5,7 +5,7 @@ use Rattle.ghg_http.specs.Receive.{IsFilled}
 use Rattle.ghg_http.proofs.request.fill.Goals as goal
 
 pub loop-link-init : goal.loop-link-init
-loop-link-init g c = (grows_nothing _ _, inl refl, inl refl)
+loop-link-init g c = (grows_nothing _ _, inl refl, inl refl, refl)
 
 pub returns-in_err-receive-clause-stopped : goal.returns-in_err-receive-clause-stopped
 returns-in_err-receive-clause-stopped g c =
@@ -33,4 +33,5 @@ loop-link-preserved g c =
       grows_more _ _ _ _ _ _ c.loop-link.invariant.0 read.got,
       filled_more _ _ _ _ _ _ _ _ c.loop-link.invariant.0 room read.got read.count read.once,
       inr (omega (arith, room, read.count, read.bound, c.len-in-loop-link.ensures)),
+      grind (arith, c.loop-link.invariant.3, read.counted.stays),
     )

@@ -35,6 +35,7 @@ head-preserved g c =
       grows_more _ _ _ [] _ _ c.head.invariant.0 read.got,
       omega (arith, read.count, read.bound, c.len-room.ensures, c.head.invariant.1),
       prompt_more _ _ _ _ _ (inl head) read.got read.count read.once,
+      grind (arith, c.head.invariant.3, read.counted.stays),
     )
 
 pub returns-in-TooLarge-clause-request : goal.returns-in-TooLarge-clause-request

@@ -9,6 +9,6 @@ pieces-preserved g c =
     let written = rw take_rest at c.in-Ok.ensures.wrote in
     record {
       appended = rw (take-add c.pieces.at c.in-Ok.count c.args.piece.now) (appends_more _ _ _ _ _ c.pieces.invariant.appended written);
-      stays = grind (arith, c.pieces.invariant.stays, c.in-Ok.ensures.stays);
+      stays = grind (arith, c.pieces.invariant.stays, c.in-Ok.ensures.counted.stays);
       within = omega (arith, c.in-Ok.ensures.bound, length-drop c.pieces.at c.args.piece.now);
     }

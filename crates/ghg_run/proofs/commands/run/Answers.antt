@@ -1,30 +1,24 @@
-use Rattle.std.proofs.Common.{◌≡◌, ◌∙◌, inl, ap, sym, subst, refl, Some, None, Err, arith}
-use Rattle.ghg_outer.specs.Tape.{Rose, Tape}
-use Rattle.ghg_words.specs.declared.status.Status.TheVariants.{DoorFailed, InputFailed, OutputFailed, StoreFailed}
-use Rattle.ghg_run.specs.Serve.{register_of}
-use Rattle.ghg_run.proofs.Known.{made_as, no_input, no_keeper, no_output, not_opened_as, report_output, reported_as, session_no_door, splices_as}
+use Rattle.std.proofs.Common.{◌≡◌, ◌∙◌, inl, ap, sym, refl, Some}
+use Rattle.ghg_outer.specs.Tape.{Tape}
+use Rattle.ghg_outer.proofs.Counts.{count_stays, counted_none, counted_on, counted_told}
+use Rattle.ghg_words.specs.declared.status.Status.TheVariants.{DoorFailed, InputFailed, StoreFailed}
+use Rattle.ghg_run.proofs.Known.{made_as, no_error, no_input, no_output, not_opened_as, reported_as, session_no_door, splices_as}
 use Rattle.ghg_run.proofs.Stored.{compiled, served}
 use Rattle.ghg_run.proofs.commands.run.Goals as goal
 
 pub returns-in-None-clause-run : goal.returns-in-None-clause-run
 returns-in-None-clause-run g c =
     let none = sym c.read_command.ensures.command ∙ c.in-None.is in
-    let told = c.report.ensures in
+    let told = c.report.ensures.reported in
     rw none (
       c.report.result,
       c.code-in-None.ensures,
       (told, refl),
       record {
-        input_rose = λ is. absurd (reported_as _ _ _ _ _ (λ s. s ≡ InputFailed → ⊥) told (λ e. cc) (λ e. cc) (λ e. cc) is);
-        output_rose = report_output _ _ _ _ _ told (λ e. cc);
-        keeper_rose = record {
-          later = omega arith;
-          rose = λ is. absurd (reported_as _ _ _ _ _ (λ s. s ≡ StoreFailed → ⊥) told (λ e. cc) (λ e. cc) (λ e. cc) is);
-        };
-        door_rose = record {
-          later = omega arith;
-          rose = λ is. absurd (reported_as _ _ _ _ _ (λ s. s ≡ DoorFailed → ⊥) told (λ e. cc) (λ e. cc) (λ e. cc) is);
-        };
+        input_counted = counted_none _ _ (reported_as _ _ _ _ _ (λ s. s ≡ InputFailed → ⊥) told (λ e. cc) (λ e. cc) (λ e. cc));
+        output_counted = c.report.ensures.counted (λ e. cc);
+        keeper_counted = λ _. counted_none _ _ (reported_as _ _ _ _ _ (λ s. s ≡ StoreFailed → ⊥) told (λ e. cc) (λ e. cc) (λ e. cc));
+        door_counted = counted_none _ _ (reported_as _ _ _ _ _ (λ s. s ≡ DoorFailed → ⊥) told (λ e. cc) (λ e. cc) (λ e. cc));
       },
     )
 
@@ -42,16 +36,10 @@ returns-in-Ok-clause-run g c =
           c.in-Ok.office c.answer_script.new.office _ _ _ _ _ _ c.environment-environment.ensures.stored opened c.in-Ok.ensures.kept
           script.kept c.in-Ok.ensures.in_force script.session.0,
       record {
-        input_rose = script.input;
-        output_rose = subst (λ (o : Tape). c.answer_script.result ≡ OutputFailed → Rose o (g.W.Told.tape c.answer_script.new.out)) opened.1 script.output;
-        keeper_rose = record {
-          later = omega (arith, c.open_office.ensures.counted.later, script.counted.later);
-          rose = λ is. let rose = script.counted.rose is in omega (arith, c.open_office.ensures.counted.later, rose);
-        };
-        door_rose = record {
-          later = omega arith;
-          rose = λ is. absurd (session_no_door _ _ _ _ _ _ _ _ _ _ script.session.0 is);
-        };
+        input_counted = script.input;
+        output_counted = counted_on _ _ _ _ (ap (λ (o : Tape). o.faults) opened.1) script.output;
+        keeper_counted = λ _. counted_on _ _ _ _ (count_stays _ _ _ (no_error _ _) c.in-Ok.ensures.counted) script.counted;
+        door_counted = counted_none _ _ (session_no_door _ _ _ _ _ _ _ _ _ _ script.session.0);
       },
     )
 
@@ -64,13 +52,10 @@ returns-in-Err-clause-run g c =
       c.code-in-Err.ensures,
       inl (none, refl),
       record {
-        input_rose = λ is. absurd (not_opened_as _ _ _ _ _ _ _ _ (λ s. s ≡ InputFailed → ⊥) none (λ e. cc) (λ e. cc) (λ e. cc) (λ e. cc) is);
-        output_rose = λ is. c.in-Err.ensures.output (ap Err is);
-        keeper_rose = record { later = c.open_office.ensures.counted.later; rose = λ is. c.in-Err.ensures.counted.rose (ap Err is) };
-        door_rose = record {
-          later = omega arith;
-          rose = λ is. absurd (not_opened_as _ _ _ _ _ _ _ _ (λ s. s ≡ DoorFailed → ⊥) none (λ e. cc) (λ e. cc) (λ e. cc) (λ e. cc) is);
-        };
+        input_counted = counted_none _ _ (not_opened_as _ _ _ _ _ _ _ _ (λ s. s ≡ InputFailed → ⊥) none (λ e. cc) (λ e. cc) (λ e. cc) (λ e. cc));
+        output_counted = counted_told _ _ _ _ c.in-Err.ensures.output;
+        keeper_counted = λ _. counted_told _ _ _ _ c.in-Err.ensures.counted;
+        door_counted = counted_none _ _ (not_opened_as _ _ _ _ _ _ _ _ (λ s. s ≡ DoorFailed → ⊥) none (λ e. cc) (λ e. cc) (λ e. cc) (λ e. cc));
       },
     )
 
@@ -87,15 +72,12 @@ returns-in-Ok-open_office-clause-run g c =
       served c.in-Some-Serve.service c.environment-environment-in-Some-Serve.result.stored _
           (g.K.Keeper.shelf c.open_office-in-Some-Serve.new.keeper) _ _ _ _ c.in-Ok-open_office.office links.0 _ _ _ _ _
           c.environment-environment-in-Some-Serve.ensures.stored opened c.in-Ok-open_office.ensures.kept links.2
-          c.open_office-in-Some-Serve.ensures.counted.later links.1,
+          (count_stays _ _ _ (no_error _ _) c.in-Ok-open_office.ensures.counted) links.1,
       record {
-        input_rose = λ is. absurd (no_input links.1 is);
-        output_rose = λ is. absurd (no_output links.1 is);
-        keeper_rose = record {
-          later = omega (arith, c.open_office-in-Some-Serve.ensures.counted.later, c.serve_office.ensures.counts);
-          rose = λ is. absurd (no_keeper links.1 is);
-        };
-        door_rose = c.serve_office.ensures.counted;
+        input_counted = counted_none _ _ (no_input links.1);
+        output_counted = counted_on _ _ _ _ (ap (λ (o : Tape). o.faults) opened.1) (counted_none _ _ (no_output links.1));
+        keeper_counted = λ e. cc;
+        door_counted = c.serve_office.ensures.counted;
       },
     )
 
@@ -106,18 +88,12 @@ returns-in-Err-open_office-clause-run g c =
     rw command (
       c.in-Err-open_office.status,
       c.code-in-Err-open_office.ensures,
-      inl (none, refl),
+      inl (none, refl, counted_told _ _ _ _ c.in-Err-open_office.ensures.counted),
       record {
-        input_rose = λ is. absurd (not_opened_as _ _ _ _ _ _ _ _ (λ s. s ≡ InputFailed → ⊥) none (λ e. cc) (λ e. cc) (λ e. cc) (λ e. cc) is);
-        output_rose = λ is. c.in-Err-open_office.ensures.output (ap Err is);
-        keeper_rose = record {
-          later = c.open_office-in-Some-Serve.ensures.counted.later;
-          rose = λ is. c.in-Err-open_office.ensures.counted.rose (ap Err is);
-        };
-        door_rose = record {
-          later = omega arith;
-          rose = λ is. absurd (not_opened_as _ _ _ _ _ _ _ _ (λ s. s ≡ DoorFailed → ⊥) none (λ e. cc) (λ e. cc) (λ e. cc) (λ e. cc) is);
-        };
+        input_counted = counted_none _ _ (not_opened_as _ _ _ _ _ _ _ _ (λ s. s ≡ InputFailed → ⊥) none (λ e. cc) (λ e. cc) (λ e. cc) (λ e. cc));
+        output_counted = counted_told _ _ _ _ c.in-Err-open_office.ensures.output;
+        keeper_counted = λ e. cc;
+        door_counted = counted_none _ _ (not_opened_as _ _ _ _ _ _ _ _ (λ s. s ≡ DoorFailed → ⊥) none (λ e. cc) (λ e. cc) (λ e. cc) (λ e. cc));
       },
     )
 
@@ -132,16 +108,10 @@ returns-in-Some-Generate-clause-run g c =
       c.code-in-Some-Generate.ensures,
       c.generate.ensures.run,
       record {
-        input_rose = λ is. absurd (made_as _ _ _ _ _ (λ s. s ≡ InputFailed → ⊥) made (λ e. cc) (λ e. cc) (λ e. cc) is);
-        output_rose = c.generate.ensures.output;
-        keeper_rose = record {
-          later = omega arith;
-          rose = λ is. absurd (made_as _ _ _ _ _ (λ s. s ≡ StoreFailed → ⊥) made (λ e. cc) (λ e. cc) (λ e. cc) is);
-        };
-        door_rose = record {
-          later = omega arith;
-          rose = λ is. absurd (made_as _ _ _ _ _ (λ s. s ≡ DoorFailed → ⊥) made (λ e. cc) (λ e. cc) (λ e. cc) is);
-        };
+        input_counted = counted_none _ _ (made_as _ _ _ _ _ (λ s. s ≡ InputFailed → ⊥) made (λ e. cc) (λ e. cc) (λ e. cc));
+        output_counted = c.generate.ensures.counted;
+        keeper_counted = λ _. counted_none _ _ (made_as _ _ _ _ _ (λ s. s ≡ StoreFailed → ⊥) made (λ e. cc) (λ e. cc) (λ e. cc));
+        door_counted = counted_none _ _ (made_as _ _ _ _ _ (λ s. s ≡ DoorFailed → ⊥) made (λ e. cc) (λ e. cc) (λ e. cc));
       },
     )
 
@@ -154,15 +124,9 @@ returns-in-Some-Splice-clause-run g c =
       c.code-in-Some-Splice.ensures,
       (done, refl),
       record {
-        input_rose = c.splice.ensures.input;
-        output_rose = c.splice.ensures.output;
-        keeper_rose = record {
-          later = omega arith;
-          rose = λ is. absurd (splices_as _ _ _ _ _ _ (λ s. s ≡ StoreFailed → ⊥) done (λ e. cc) (λ e. cc) (λ e. cc) (λ e. cc) (λ e. cc) is);
-        };
-        door_rose = record {
-          later = omega arith;
-          rose = λ is. absurd (splices_as _ _ _ _ _ _ (λ s. s ≡ DoorFailed → ⊥) done (λ e. cc) (λ e. cc) (λ e. cc) (λ e. cc) (λ e. cc) is);
-        };
+        input_counted = c.splice.ensures.input;
+        output_counted = c.splice.ensures.output;
+        keeper_counted = λ _. counted_none _ _ (splices_as _ _ _ _ _ _ (λ s. s ≡ StoreFailed → ⊥) done (λ e. cc) (λ e. cc) (λ e. cc) (λ e. cc) (λ e. cc));
+        door_counted = counted_none _ _ (splices_as _ _ _ _ _ _ (λ s. s ≡ DoorFailed → ⊥) done (λ e. cc) (λ e. cc) (λ e. cc) (λ e. cc) (λ e. cc));
       },
     )

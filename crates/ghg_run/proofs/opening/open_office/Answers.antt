@@ -47,7 +47,7 @@ returns-in-Err-Kept-clause-opened g c =
         seq = c.in-Err-Kept.seq;
         reply = c.in-Err-Kept.reply;
         refused = replays.2;
-        told = c.refuse_row.ensures;
+        told = c.refuse_row.ensures.reported;
         used = stays_in_use c.as_str.result.now (g.K.Keeper.shelf c.attach.new.self) (g.K.Keeper.shelf c.reopen.new.keeper) c.reopen.ensures.keeps.name c.in-Ok.ensures.ok;
       });
       kept = keeps;

@@ -1,5 +1,7 @@
-use Rattle.std.proofs.Common.{◌∙◌, inr, [], ◌∷◌, ◌++◌, option_map, refl, sym, ap, arith}
+use Rattle.std.proofs.Common.{◌∙◌, inr, [], ◌∷◌, ◌++◌, option_map, refl, ap, arith}
+use Rattle.std.proofs.lemmas.Bool.{false≢true}
 use Rattle.std.proofs.lemmas.List.{nil_from_length}
+use Rattle.ghg_outer.proofs.Counts.{count_stays, counted_as, counted_none, counted_on}
 use Rattle.ghg_office.proofs.InForce.{requested_sound}
 use Rattle.ghg_session.proofs.Keeping.{keeps_listed, keeps_more}
 use Rattle.ghg_words.specs.declared.status.Status.TheVariants.{Done, DoorFailed, OutOfMemory}
@@ -13,7 +15,7 @@ pub returns-in_default-clause-links : goal.returns-in_default-clause-links
 returns-in_default-clause-links g c = (
   c.args.office,
   serving_ends _ _ (station (office_at c.args.office c.args.steps.now) (g.K.Keeper.shelf c.args.keeper.now).faults
-      (register_of g.D.Link.Told.tape (g.D.Door.register c.args.door.now))) _ 0 OutOfMemory (none_served _ _ _ refl (omega arith) refl refl) c.requires.store
+      (register_of g.D.Link.Told.tape (g.D.Door.register c.args.door.now))) _ 0 OutOfMemory (none_served _ _ _ refl refl refl refl) c.requires.store
       (λ links number. (omega (arith, number, c.requires.some), inr (nil_from_length links number, refl))),
   λ stored. keeps_listed _ _ (c.requires.same stored),
 )
@@ -22,7 +24,7 @@ pub returns-in-Err-clause-links : goal.returns-in-Err-clause-links
 returns-in-Err-clause-links g c =
     let told = tells_same g.D.Link.Told.tape (g.D.Door.register c.args.door.now) (g.D.Door.register c.listen.new.self) c.in-Err.ensures.kept in (
       c.args.office,
-      serving_ends _ _ _ _ 0 DoorFailed (none_served _ _ _ refl (omega arith) told.given_is told.finished_is) c.requires.store
+      serving_ends _ _ _ _ 0 DoorFailed (none_served _ _ _ refl refl told.given_is told.finished_is) c.requires.store
           (λ links number. (omega (arith, number, c.requires.some), refl)),
       λ stored. keeps_listed _ _ (c.requires.same stored),
     )
@@ -31,12 +33,11 @@ pub links-init : goal.links-init
 links-init g c =
     let told = tells_opened g.D.Link.Told.tape (g.D.Door.register c.args.door.now) (g.D.Door.register c.listen.new.self) _ c.in_default-listen.ensures.opened in
     record {
-      served = none_served _ _ _ refl (omega arith) told.0 told.1;
+      served = none_served _ _ _ refl refl told.0 told.1;
       in_force = c.requires.in_force;
       kept = λ stored. keeps_listed _ _ (c.requires.same stored);
       untouched = λ _. refl;
-      counts = omega arith;
-      door = c.listen.ensures.counted.later;
+      door = count_stays _ _ _ (λ e. cc) c.in_default-listen.ensures.counted;
       port = c.in_default-listen.ensures.opened.port_is;
     }
 
@@ -45,7 +46,7 @@ returns-in_default-next-clause-links g c =
     let told = tells_same g.D.Link.Told.tape (g.D.Door.register c.links.door) (g.D.Door.register c.next.new.self) c.in_default-next.ensures.kept in (
       c.links.office,
       serving_ends _ _ _ _ c.links._served DoorFailed
-          (served_same _ _ _ _ _ c.links.invariant.served refl (omega arith) told.given_is told.finished_is) c.requires.store
+          (served_same _ _ _ _ _ c.links.invariant.served refl refl told.given_is told.finished_is) c.requires.store
           (λ links number. (omega (arith, number, c.links-test.true), refl)),
       c.links.invariant.kept,
     )
@@ -96,8 +97,7 @@ links-preserved g c =
       in_force = link_stays _ _ _ _ c.serve_one.ensures.serves.1 c.links.invariant.in_force;
       kept = λ stored. keeps_more _ _ _ _ _ (c.links.invariant.kept stored) (c.serve_one.ensures.kept stored);
       untouched = λ none. c.serve_one.ensures.untouched none ∙ c.links.invariant.untouched none;
-      counts = omega (arith, c.links.invariant.counts, c.serve_one.ensures.serves.2.counted.later);
-      door = omega (arith, c.links.invariant.door, c.next.ensures.counted.later, c.finish.ensures.counted.later);
+      door = count_stays _ _ _ (λ e. e) c.finish.ensures.counted ∙ count_stays _ _ _ (λ e. cc) c.in-Ok-next.ensures.counted ∙ c.links.invariant.door;
       port = port_stays _ _ _ (taken.port_is ∙ given.port_is) c.links.invariant.port;
     }
 
@@ -112,24 +112,20 @@ returns-clause-links g c = (
 -- ---- the count of the door's faults
 
 pub returns-in-Err-clause-counted : goal.returns-in-Err-clause-counted
-returns-in-Err-clause-counted g c =
-    record { later = c.listen.ensures.counted.later; rose = λ _. c.in-Err.ensures.counted.rose refl }
+returns-in-Err-clause-counted g c = counted_as _ _ _ _ (λ _. refl) (λ _. refl) c.in-Err.ensures.counted
 
 pub returns-in_default-next-clause-counted : goal.returns-in_default-next-clause-counted
-returns-in_default-next-clause-counted g c = record {
-  later = omega (arith, c.links.invariant.door, c.next.ensures.counted.later);
-  rose = λ _. let rose = c.in_default-next.ensures.counted.rose refl in omega (arith, c.links.invariant.door, rose);
-}
+returns-in_default-next-clause-counted g c =
+    counted_on _ _ _ _ c.links.invariant.door (counted_as _ _ _ _ (λ _. refl) (λ _. refl) c.in_default-next.ensures.counted)
 
 pub returns-in-Err-finish-clause-counted : goal.returns-in-Err-finish-clause-counted
-returns-in-Err-finish-clause-counted g c = record {
-  later = omega (arith, c.links.invariant.door, c.next.ensures.counted.later, c.finish.ensures.counted.later);
-  rose = λ is. absurd (memory_no_door is);
-}
+returns-in-Err-finish-clause-counted g c =
+    counted_on _ _ _ _ (count_stays _ _ _ false≢true c.in-Ok-next.ensures.counted ∙ c.links.invariant.door)
+    (counted_as _ _ _ _ memory_no_door (λ e. absurd e) c.finish.ensures.counted)
 
 pub returns-in-Err-finish-clause-unkept : goal.returns-in-Err-finish-clause-unkept
 returns-in-Err-finish-clause-unkept g c =
     λ none. c.serve_one.ensures.untouched none ∙ c.links.invariant.untouched none
 
 pub returns-clause-counted : goal.returns-clause-counted
-returns-clause-counted g c = record { later = c.links.invariant.door; rose = λ is. absurd (done_no_door is) }
+returns-clause-counted g c = counted_on _ _ _ _ c.links.invariant.door (counted_none _ _ done_no_door)

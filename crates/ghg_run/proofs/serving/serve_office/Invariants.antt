@@ -1,4 +1,4 @@
-use Rattle.std.proofs.Common.{◌≡◌, ◌≤◌, true, false, IfSome}
+use Rattle.std.proofs.Common.{◌≡◌, true, false, IfSome}
 use Rattle.ghg_office.specs.Keeping.{KeepsAccepted}
 use Rattle.ghg_office.specs.Laws.{IsInForce}
 use Rattle.ghg_run.specs.Serve.{office_at, register_of}
@@ -16,7 +16,6 @@ invariant-links g l = record {
   kept : l.environment.stored ≡ true
       → KeepsAccepted (g.K.Keeper.shelf l.fn.keeper) (g.K.Keeper.shelf l.keeper) l.office.accepted;
   untouched : l.environment.stored ≡ false → l.keeper ≡ l.fn.keeper;
-  counts : (g.K.Keeper.shelf l.fn.keeper).faults ≤ (g.K.Keeper.shelf l.keeper).faults;
-  door : (g.D.Door.register l.fn.door).faults ≤ (g.D.Door.register l.door).faults;
+  door : (g.D.Door.register l.door).faults ≡ (g.D.Door.register l.fn.door).faults;
   port : IfSome (g.D.Door.register l.door).port (λ open_port. open_port ≡ l.service.port);
 }

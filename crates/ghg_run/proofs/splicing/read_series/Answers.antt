@@ -3,8 +3,8 @@ use Rattle.std.proofs.lemmas.Result.{err_from_is_err_and}
 use Rattle.ghg_outer.proofs.Tapes.{consumes_more}
 use Rattle.ghg_run.proofs.splicing.read_series.Goals as goal
 
-pub returns-in_err-extend_from_slice-in-Ok : goal.returns-in_err-extend_from_slice-in-Ok
-returns-in_err-extend_from_slice-in-Ok g c =
+pub returns-in_err-extend_from_slice-in-Ok-clause-read : goal.returns-in_err-extend_from_slice-in-Ok-clause-read
+returns-in_err-extend_from_slice-in-Ok-clause-read g c =
     let p = err_from_is_err_and c.from_residual.result c.from_residual.ensures.1 in
     let bound = c.in-Ok.ensures.bound in
     rw (p.1, p.2) (record {

@@ -6,6 +6,7 @@ use Rattle.ghg_script.proofs.reading.read_line.Given as goal
 abbrev pub invariant-bytes : goal.invariant-bytes
 invariant-bytes g l = record {
   read : Consumes (g.S.Told.tape l.fn.source) (g.S.Told.tape l.source) l.line.items;
+  stays : (g.S.Told.tape l.source).faults ≡ (g.S.Told.tape l.fn.source).faults;
   plain : lacks 10 l.line.items ≡ true;
   short : length l.line.items ≤ longest_line + 1;
 }

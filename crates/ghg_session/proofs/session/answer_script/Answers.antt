@@ -12,37 +12,39 @@ commands-init g c = record {
   session = begins _ _ _ _ _ _ _ refl;
   kept = λ stored. keeps_listed _ _ (c.requires.same stored);
   untouched = λ _. refl;
-  counts = omega arith;
+  input_stays = refl;
+  output_stays = refl;
+  keeper_stays = refl;
 }
 
 pub returns-in-Err-clause-session : goal.returns-in-Err-clause-session
 returns-in-Err-clause-session g c =
-    stops_reading _ _ _ _ _ _ _ _ _ _ _ _ c.commands.invariant.session _ _ c.commands-test.true c.in-Err.ensures
+    stops_reading _ _ _ _ _ _ _ _ _ _ _ _ c.commands.invariant.session _ _ c.commands-test.true c.in-Err.ensures.parsed
 
 pub returns-in-Ok-None-clause-session : goal.returns-in-Ok-None-clause-session
 returns-in-Ok-None-clause-session g c =
-    let missing = rw c.in-Ok-None.field-0-is at c.in-Ok-None.ensures in
+    let missing = rw c.in-Ok-None.field-0-is at c.in-Ok-None.ensures.parsed in
     refused _ _ _ _ _ _ _ _ _ _ _ _ c.commands.invariant.session missing.text _ _ _ missing.read
-    (malformed _ _ _ _ _ _ _ _ _ _ _ _ c.commands.invariant.session _ c.commands-test.true missing) c.refuse.ensures
+    (malformed _ _ _ _ _ _ _ _ _ _ _ _ c.commands.invariant.session _ c.commands-test.true missing) c.refuse.ensures.reported
 
 pub returns-in-Ok-Some-End-clause-session : goal.returns-in-Ok-Some-End-clause-session
 returns-in-Ok-Some-End-clause-session g c =
-    let found = rw (c.in-Ok-Some-End.field-0-is, c.in-Ok-Some-End.field-0-0-is) at c.in-Ok-Some-End.ensures in
+    let found = rw (c.in-Ok-Some-End.field-0-is, c.in-Ok-Some-End.field-0-0-is) at c.in-Ok-Some-End.ensures.parsed in
     ends_at_end _ _ _ _ _ _ _ _ _ _ _ _ c.commands.invariant.session _ c.commands-test.true found
 
 pub returns-in-Err-answer-clause-session : goal.returns-in-Err-answer-clause-session
 returns-in-Err-answer-clause-session g c =
-    let found = rw (c.in-Ok-Some-Request.field-0-is, c.in-Ok-Some-Request.field-0-0-is) at c.in-Ok-Some-Request.ensures in
+    let found = rw (c.in-Ok-Some-Request.field-0-is, c.in-Ok-Some-Request.field-0-0-is) at c.in-Ok-Some-Request.ensures.parsed in
     let left = c.in-Err-answer.ensures in
     rw left.undone (stops_undone _ _ _ _ _ _ _ _ _ _ _ _ c.commands.invariant.session _ _ _ _ _ c.commands-test.true (no_text _) found left.cause c.answer.ensures.steps
     (λ same quiet. c.answer.ensures.repeats quiet ∙ same))
 
 pub returns-in-Err-write_lines-clause-session : goal.returns-in-Err-write_lines-clause-session
 returns-in-Err-write_lines-clause-session g c =
-    let found = rw (c.in-Ok-Some-Request.field-0-is, c.in-Ok-Some-Request.field-0-0-is) at c.in-Ok-Some-Request.ensures in
+    let found = rw (c.in-Ok-Some-Request.field-0-is, c.in-Ok-Some-Request.field-0-0-is) at c.in-Ok-Some-Request.ensures.parsed in
     let answer = c.in-Ok.ensures in
     stops_in_reply _ _ _ _ _ _ _ _ _ _ _ _ c.commands.invariant.session _ _ _ _ _ _ _ c.commands-test.true (no_text _) found
-    (rw answer.lines at c.in-Err-write_lines.ensures) answer.after c.answer.ensures.steps (λ same quiet. c.answer.ensures.repeats quiet ∙ same)
+    (rw answer.lines at c.in-Err-write_lines.ensures.written) answer.after c.answer.ensures.steps (λ same quiet. c.answer.ensures.repeats quiet ∙ same)
 
 pub returns-in-Err-answer-clause-untouched : goal.returns-in-Err-answer-clause-untouched
 returns-in-Err-answer-clause-untouched g c =
@@ -54,15 +56,17 @@ returns-in-Err-write_lines-clause-untouched g c =
 
 pub commands-preserved : goal.commands-preserved
 commands-preserved g c =
-    let found = rw (c.in-Ok-Some-Request.field-0-is, c.in-Ok-Some-Request.field-0-0-is) at c.in-Ok-Some-Request.ensures in
+    let found = rw (c.in-Ok-Some-Request.field-0-is, c.in-Ok-Some-Request.field-0-0-is) at c.in-Ok-Some-Request.ensures.parsed in
     let answer = c.in-Ok.ensures in
     record {
       session = answers_one _ _ _ _ _ _ _ _ _ _ _ _ c.commands.invariant.session _ _ _ _ _ _ c.commands-test.true found
-          (rw answer.lines at c.in_default.ensures) answer.after c.answer.ensures.steps
+          (rw answer.lines at c.in_default.ensures.written) answer.after c.answer.ensures.steps
           (λ same quiet. c.answer.ensures.repeats quiet ∙ same);
       kept = λ stored. keeps_more _ _ _ _ _ (c.commands.invariant.kept stored) (c.answer.ensures.kept stored);
       untouched = λ stored. c.answer.ensures.repeats (unkept _ _ _ stored) ∙ c.commands.invariant.untouched stored;
-      counts = omega (arith, c.commands.invariant.counts, c.answer.ensures.counted.later);
+      input_stays = grind (arith, c.commands.invariant.input_stays, c.in-Ok-Some-Request.ensures.counted.stays);
+      output_stays = grind (arith, c.commands.invariant.output_stays, c.in_default.ensures.counted.stays);
+      keeper_stays = grind (arith, c.commands.invariant.keeper_stays, answer.counted.stays);
     }
 
 pub returns-clause-session : goal.returns-clause-session
@@ -70,4 +74,4 @@ returns-clause-session g c =
     let spent : most_commands ≤ c.commands.done = omega arith in
     let all : c.commands.done + 1 ≡ most_commands + 1 = omega arith in
     refused _ _ _ _ _ _ _ _ _ _ _ _ c.commands.invariant.session [] _ _ _ (consumes_nothing _)
-    (spent_all _ _ _ _ _ _ _ _ _ _ _ _ c.commands.invariant.session spent) (rw all c.refuse-2.ensures)
+    (spent_all _ _ _ _ _ _ _ _ _ _ _ _ c.commands.invariant.session spent) (rw all c.refuse-2.ensures.reported)

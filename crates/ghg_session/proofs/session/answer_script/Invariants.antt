@@ -1,4 +1,4 @@
-use Rattle.std.proofs.Common.{◌≡◌, ◌≤◌, true, false}
+use Rattle.std.proofs.Common.{◌≡◌, true, false}
 use Rattle.ghg_office.specs.Keeping.{KeepsAccepted}
 use Rattle.ghg_session.specs.Replies.{office_step}
 use Rattle.ghg_session.specs.Session.{protocol_of}
@@ -14,5 +14,7 @@ invariant-commands g l = record {
   kept : l.environment.stored ≡ true
       → KeepsAccepted (g.K.Keeper.shelf l.fn.keeper) (g.K.Keeper.shelf l.keeper) l.office.accepted;
   untouched : l.environment.stored ≡ false → l.keeper ≡ l.fn.keeper;
-  counts : (g.K.Keeper.shelf l.fn.keeper).faults ≤ (g.K.Keeper.shelf l.keeper).faults;
+  input_stays : (g.S.Told.tape l.input).faults ≡ (g.S.Told.tape l.fn.input).faults;
+  output_stays : (g.W.Told.tape l.out).faults ≡ (g.W.Told.tape l.fn.out).faults;
+  keeper_stays : (g.K.Keeper.shelf l.keeper).faults ≡ (g.K.Keeper.shelf l.fn.keeper).faults;
 }

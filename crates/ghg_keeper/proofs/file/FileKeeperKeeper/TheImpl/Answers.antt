@@ -9,7 +9,6 @@ attach-tells g c = record {
   ok = on_ok c.result tt;
   err = on_err c.result refl;
   faults = c.ensures.faults;
-  stays = c.ensures.stays;
 }
 
 pub count-tells : goal.count-tells
@@ -18,7 +17,6 @@ count-tells g c = record {
   told = λ h. absurd h;
   keeps = keeps_none c.args.self.now c.new.self.now;
   faults = c.ensures.faults;
-  stays = c.ensures.stays;
 }
 
 pub row-tells : goal.row-tells
@@ -27,7 +25,6 @@ row-tells g c = record {
   told = λ h. absurd h;
   keeps = keeps_none c.args.self.now c.new.self.now;
   faults = c.ensures.faults;
-  stays = c.ensures.stays;
 }
 
 pub append-tells : goal.append-tells
@@ -37,5 +34,4 @@ append-tells g c = record {
   told = λ h. absurd h;
   err = on_err c.result (keeps_none c.args.self.now c.new.self.now);
   faults = c.ensures.faults;
-  stays = c.ensures.stays;
 }

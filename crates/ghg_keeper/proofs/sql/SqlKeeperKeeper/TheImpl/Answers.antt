@@ -12,7 +12,6 @@ attach-tells g c = record {
   ok = on_ok c.result tt;
   err = on_err c.result refl;
   faults = c.ensures.faults;
-  stays = c.ensures.stays;
 }
 
 pub count-tells : goal.count-tells
@@ -22,7 +21,6 @@ count-tells g c = record {
   told = stays_told (database g.S.Store c.args.self.now) (database g.S.Store c.new.self.now) c.args.self.now.faults c.new.self.now.faults
       c.result c.ensures.safe;
   faults = c.ensures.faults;
-  stays = c.ensures.stays;
 }
 
 pub row-tells : goal.row-tells
@@ -32,7 +30,6 @@ row-tells g c = record {
   told = stays_told (database g.S.Store c.args.self.now) (database g.S.Store c.new.self.now) c.args.self.now.faults c.new.self.now.faults
       c.result c.ensures.safe;
   faults = c.ensures.faults;
-  stays = c.ensures.stays;
 }
 
 pub append-tells : goal.append-tells
@@ -43,5 +40,4 @@ append-tells g c = record {
   told = stays_told (database g.S.Store c.args.self.now) (database g.S.Store c.new.self.now) c.args.self.now.faults c.new.self.now.faults
       c.result c.ensures.safe;
   faults = c.ensures.faults;
-  stays = c.ensures.stays;
 }

@@ -4,6 +4,7 @@ use Rattle.ghg_definitions.specs.Data.{Data}
 use Rattle.ghg_data.specs.Changes.{applied}
 use Rattle.ghg_keeper.specs.declared.row.KeptRow.{KeptRow}
 use Rattle.ghg_office.specs.Office.{entered_by, submitted}
+use Rattle.ghg_outer.proofs.Counts.{counted_told}
 use Rattle.ghg_office.proofs.Calls.{is_appended, unstored}
 use Rattle.ghg_office.proofs.Entered.{accepted_answers, accepted_reply, counted, failed_answers, planned_answers}
 use Rattle.ghg_office.proofs.Reading.{spent_reading}
@@ -29,7 +30,7 @@ returns-in-Err-clause-answer g c = failed_answers _ c.in-Err.reply c.args.self.n
     (ap₂ (λ (m : Data) (l : List KeptRow). record { content = m; accepted = l }) c.prepare.ensures.content c.prepare.ensures.list ∙ c.self.view_is)
 
 pub returns-in-Err-clause-faults : goal.returns-in-Err-clause-faults
-returns-in-Err-clause-faults g c = record { later = c.in-Err.ensures.faults.later; rose = λ e. c.in-Err.ensures.faults.rose (ap Err e) }
+returns-in-Err-clause-faults g c = counted_told _ _ _ _ c.in-Err.ensures.faults
 
 pub returns-in-Err-clause-fault : goal.returns-in-Err-clause-fault
 returns-in-Err-clause-fault g c =

@@ -1,4 +1,4 @@
-use Rattle.std.proofs.Common.{arith, ap}
+use Rattle.std.proofs.Common.{arith, ap, inl, refl}
 use Rattle.std.proofs.lemmas.List.Elements.{All-tail}
 use Rattle.ghg_outer.specs.Doors.{IsFreshLink}
 use Rattle.ghg_outer.proofs.memory_door.MemoryDoorDoor.next.Goals as goal
@@ -16,4 +16,5 @@ returns-in-None-clause-counted c =
     record {
       later = omega (arith, before, listed, c.fail.ensures.faults.later);
       rose = λ _. omega (arith, before, listed, c.fail.ensures.faults.rose tt);
+      stays = inl refl;
     }
