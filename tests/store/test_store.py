@@ -173,24 +173,6 @@ class Kept(Stores):
             (self.room / path.name.replace("book", "copy")).write_bytes(path.read_bytes())
         self.assertEqual(self.run_with(GAS_THEN_CELLS, "--store", "copy.db"), (0, b"repeated 1\n" + CELLS))
 
-    def test_a_run_that_is_killed(self) -> None:
-        bodies = [HEADER + b"enter,activity,,A%d,1990,1,,,t,\n" % number for number in range(200)]
-        commands = [submit(b"s%d" % number, body) for number, body in enumerate(bodies, 1)]
-        with self.started() as process:
-            assert process.stdin and process.stdout
-            process.stdin.write(b"".join(commands))
-            process.stdin.flush()
-            replies = [process.stdout.readline() for _ in range(20)]
-            process.kill()
-        self.assertEqual(replies, [b"accepted %d\n" % number for number in range(1, 21)])
-        status, printed = self.run_with(session(*commands))
-        words = [line.split() for line in printed.splitlines()]
-        self.assertEqual((status, [int(number) for _, number in words]), (0, list(range(1, 201))))
-        kept = [word for word, _ in words].index(b"accepted") if b"accepted" in printed else 200
-        self.assertGreaterEqual(kept, 20)
-        self.assertEqual({word for word, _ in words[:kept]}, {b"repeated"})
-        self.assertEqual({word for word, _ in words[kept:]} - {b"accepted"}, set())
-
 
 class Refused(Stores):
     def test_words_that_are_no_command(self) -> None:
