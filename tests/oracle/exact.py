@@ -34,13 +34,15 @@ FRACTIONS = Fractions()
 
 
 @lru_cache(maxsize=None)
-def shares_around(half_life: int) -> tuple[Fraction, Fraction]:
-    """The multiples of 10^-12 next to the share that a year leaves: one where it is such a multiple."""
+def shares_around(tenths: int) -> tuple[Fraction, Fraction]:
+    """The multiples of 10^-12 next to the share that a year leaves: one where it is such a multiple. After ten
+    half-lives one part of 1024 is left.
+    """
     low, high = 0, SHARES
     while high - low > 1:
         middle = (low + high) // 2
-        low, high = (middle, high) if 2 * middle**half_life <= SHARES**half_life else (low, middle)
-    if 2 * low**half_life == SHARES**half_life:
+        low, high = (middle, high) if 1024 * middle**tenths <= SHARES**tenths else (low, middle)
+    if 1024 * low**tenths == SHARES**tenths:
         high = low
     return Fraction(low, SHARES), Fraction(high, SHARES)
 
@@ -66,7 +68,7 @@ class Choice:
     def choose(self, figure: Figure) -> Fraction:
         """A number of one record. Of the share that a half-life leaves, only its neighbours are known."""
         if figure.dimension == HALF_LIFE:
-            return self.between(*shares_around(figure.half_life))
+            return self.between(*shares_around(figure.tenths))
         return figure.value if self.is_central else self.between(figure.low, figure.high)
 
     def between(self, low: Fraction, high: Fraction) -> Fraction:

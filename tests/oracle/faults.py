@@ -9,6 +9,8 @@ JUNK = ("", " ", "x", "-", "NE", "C", "1e3", "-0", "+1", "1.5", "0.1234567890123
         "1899", "61", "1A", "0", "MB", "3B1", "yr", "kg", "pct", "Q10", "Q18", "sum", "decay", "GWP.CH4",
         "GWP.SF6", "A B", "A  B", "A A", "FC", "fc", "ABCDEFGHI", "A.NAME-THAT_IS.TOO-LONG-1", "enter", "é")
 MOST = "99999999999999"
+# Half-lives, of which each format has some.
+YEARS = ("0", "0.9", "1", "1.0", "1.50", "1.", ".5", "60", "60.0", "60.1", "61", "005", "05", "5.5 ", "-5", "NO")
 
 
 class Faults:
@@ -22,8 +24,8 @@ class Faults:
     def any(self) -> list[Row]:
         """Rows of one fault."""
         return self.random.choice((self.junk, self.junk, self.disorder, self.other_unit, self.misplaced_unit,
-                                   self.twice, self.absent, self.unsound, self.unsound_decay, self.unbound,
-                                   self.lone_uncertainty, self.long_span, self.cycle, self.overflow,
+                                   self.half_life, self.twice, self.absent, self.unsound, self.unsound_decay,
+                                   self.unbound, self.lone_uncertainty, self.long_span, self.cycle, self.overflow,
                                    self.overflow_of_totals))()
 
     def junk(self) -> list[Row]:
@@ -54,6 +56,12 @@ class Faults:
             return [row("enter", "activity", name="NEW", year="1990", value="12", unit=HALF_LIFE)]
         potential = self.random.choice(POTENTIALS)
         return [row("enter", "factor", name=potential, year="1901", value="12", unit="kg/TJ")]
+
+    def half_life(self) -> list[Row]:
+        """Rule 6: a half-life that no format has, or one of them alone, or with bounds."""
+        bounds = {"low": "1", "high": "60"} if self.changes.figures.chance(0.1) else {}
+        return [row("enter", "factor", name=self.changes.new_name("H"), year="1990",
+                    value=self.random.choice(YEARS), unit=HALF_LIFE, **bounds)]
 
     def twice(self) -> list[Row]:
         """Rule 9: what is there already."""

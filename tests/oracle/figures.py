@@ -41,7 +41,7 @@ class Figures:
     def figure(self, dimension: str) -> dict[str, str]:
         """The columns of a figure of a dimension. A round one may give ties and equal sizes."""
         if dimension == HALF_LIFE:
-            return dict(zip(NUMBER, (str(self.random.randint(1, 60)), "", "", HALF_LIFE)))
+            return dict(zip(NUMBER, (self.half_life(), "", "", HALF_LIFE)))
         unit = self.unit(dimension)
         if self.chance(0.04):
             return dict(zip(NUMBER, (self.random.choice(KEYS), "", "", unit)))
@@ -51,6 +51,10 @@ class Figures:
             share = Fraction(self.random.randrange(10**11, 10**12), 10**12)
         sign = 0 if self.chance(0.02) else -1 if self.chance(0.05) else 1
         return self.around(sign * share * 10**power / TABLES.units[unit].ratio, unit)
+
+    def half_life(self) -> str:
+        """Whole years, or years with a tenth."""
+        return decimal(self.random.randint(10, 600), 1) if self.chance(0.5) else str(self.random.randint(1, 60))
 
     def around(self, number: Fraction, unit: str) -> dict[str, str]:
         """The columns of a number, with bounds or without, to some places."""

@@ -93,10 +93,12 @@ def power(base: int, exponent: int, up: bool) -> int:
 
 
 @lru_cache(maxsize=None)
-def decay_bracket(half_life: int) -> Interval:
-    """Two shares, of which a year leaves one at least and the other at most."""
-    low = greatest(lambda share: 2 * power(share, half_life, True) <= SCALE)
-    high = greatest(lambda share: 2 * power(share, half_life, False) < SCALE) + 1
+def decay_bracket(tenths: int) -> Interval:
+    """Two shares, of which a year leaves one at least and the other at most, at a half-life in tenths of a year:
+    ten times its years leave one part of 2^10.
+    """
+    low = greatest(lambda share: 2**10 * power(share, tenths, True) <= SCALE)
+    high = greatest(lambda share: 2**10 * power(share, tenths, False) < SCALE) + 1
     return Interval(low, high)
 
 

@@ -6,7 +6,7 @@ from tests.limits import limit
 from tests.oracle.outcomes import Compilation
 from tests.oracle.printing import TABLES as PRINTED
 from tests.oracle.printing import Printer
-from tests.oracle.rows import HEADER, Refused, records_in, row_in
+from tests.oracle.rows import Refused, format_of, header_of, records_in, row_in
 from tests.oracle.tables import TABLES, Tables
 from tests.oracle.workbook import Records, Workbook, apply, judge
 
@@ -68,12 +68,12 @@ class Office:
 
     def with_rows(self, body: bytes) -> Records:
         """The records with the rows of a body applied, which break none of the rules 4 to 9."""
-        cut = records_in(body)
-        if not cut or cut[0] != HEADER:
+        cut, version = records_in(body), format_of(body)
+        if not cut or cut[0] != header_of(version):
             raise Refused("4 BadShape row 0")
         records = dict(self.records)
         for number, fields in enumerate(cut[1:], 1):
-            apply(records, row_in(number, fields, self.tables))
+            apply(records, row_in(number, fields, version, self.tables))
         return records
 
     def show(self, asked: Show) -> str:

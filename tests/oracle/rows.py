@@ -12,6 +12,7 @@ from tests.oracle.intervals import LIMIT, SCALE, Bounds, Interval, around, decay
 from tests.oracle.tables import HALF_LIFE, POTENTIALS, Tables
 
 HEADER = ["act", "kind", "subject", "name", "year", "value", "low", "high", "unit", "note"]
+FIRST_NAMES = {1: "act", 2: "act2"}
 ACTS = ("enter", "correct", "withdraw")
 KINDS = ("span", "activity", "factor", "line", "bind", "uncert")
 FORMS = ("activity", "factor", "line", "prev", "sum", "decay", "key")
@@ -19,7 +20,7 @@ ZERO_KEYS = ("NO", "NA", "IE")
 KEYS = ZERO_KEYS + ("NE",)
 
 FIRST_YEAR, LAST_YEAR = limit("first_year"), limit("last_year")
-LONGEST_HALF_LIFE = limit("half_life")
+HALF_LIVES = range(limit("shortest_half_life"), limit("longest_half_life") + 1)
 MOST_PERCENT = limit("percentage")
 MOST_IN_A_SUM = limit("sum")
 
@@ -29,7 +30,8 @@ WHOLE = r"-?[0-9]{1,%d}" % limit("digits")
 DECIMAL = re.compile(WHOLE + r"(\.[0-9]{1,%d})?" % limit("decimals"))
 PERCENTAGE = re.compile(WHOLE + r"(\.[0-9]{1,%d})?" % limit("percentage_decimals"))
 YEAR = re.compile(r"[0-9]{4}")
-WHOLE_YEARS = re.compile(r"[0-9]{1,2}")
+# A half-life as a format has it.
+YEARS = {1: re.compile(r"[0-9]{1,2}"), 2: re.compile(r"[0-9]{1,2}(\.[0-9])?")}
 
 
 class Refused(Exception):
@@ -45,19 +47,21 @@ class Span(NamedTuple):
 
 @dataclass(frozen=True)
 class Figure:
-    """An activity or a factor: a notation key, a value with bounds in the base unit, or a half-life."""
+    """An activity or a factor: a notation key, a value with bounds in the base unit, or a half-life in tenths
+    of a year.
+    """
     dimension: str
     key: str = ""
     value: Fraction = Fraction(0)
     low: Fraction = Fraction(0)
     high: Fraction = Fraction(0)
-    half_life: int = 0
+    tenths: int = 0
 
     @cached_property
     def bounds(self) -> Bounds:
         """The intervals of a value or a half-life."""
-        if self.half_life:
-            bracket = decay_bracket(self.half_life)
+        if self.tenths:
+            bracket = decay_bracket(self.tenths)
             return Bounds(bracket, bracket)
         return Bounds(around(self.value), Interval(around(self.low).low, around(self.high).high))
 
@@ -98,6 +102,16 @@ class Row(NamedTuple):
     record: Optional[Record]
 
 
+def format_of(body: bytes) -> int:
+    """The format that a body names with its first bytes, after one byte order mark."""
+    return 2 if body.removeprefix(b"\xef\xbb\xbf").startswith((b"act2,", b'"act2",')) else 1
+
+
+def header_of(version: int) -> list[str]:
+    """The header of a format."""
+    return [FIRST_NAMES[version], *HEADER[1:]]
+
+
 def records_in(body: bytes) -> list[list[str]]:
     """The records of a body. A field that is not UTF-8 holds what no text does."""
     text = body.decode("utf-8", "surrogateescape").removeprefix("\ufeff")
@@ -130,10 +144,11 @@ def is_percentage(text: str) -> bool:
 
 
 class RowReader:
-    """Reads one row of ten fields."""
+    """Reads one row of ten fields in a body of a format."""
 
-    def __init__(self, number: int, fields: list[str], tables: Tables) -> None:
+    def __init__(self, number: int, fields: list[str], version: int, tables: Tables) -> None:
         self.number = number
+        self.version = version
         self.of = dict(zip(HEADER, fields))
         self.tables = tables
 
@@ -202,9 +217,10 @@ class RowReader:
     def half_life(self) -> Figure:
         """The numbers of a half-life, which has no bounds."""
         value = self.of["value"]
+        is_right = bool(YEARS[self.version].fullmatch(value)) and 10 * Fraction(value) in HALF_LIVES
         self.need_numbers(year=is_year(self.of["year"]), low=self.of["low"] == "", high=self.of["high"] == "",
-                          value=bool(WHOLE_YEARS.fullmatch(value)) and 1 <= int(value) <= LONGEST_HALF_LIFE)
-        return Figure(HALF_LIFE, half_life=int(value))
+                          value=is_right)
+        return Figure(HALF_LIFE, tenths=int(10 * Fraction(value)))
 
     def bounded(self, dimension: str) -> Figure:
         """The numbers of a value, which is its own bounds where it has none."""
@@ -260,8 +276,8 @@ def is_text(fields: list[str]) -> bool:
     return not any("\ud800" <= letter <= "\udfff" for field in fields for letter in field)
 
 
-def row_in(number: int, fields: list[str], tables: Tables) -> Row:
+def row_in(number: int, fields: list[str], version: int, tables: Tables) -> Row:
     """The row of a number, or the first of the rules 4 to 7 that it breaks."""
     if len(fields) != len(HEADER) or not is_text(fields):
         raise Refused(f"4 BadShape row {number}")
-    return RowReader(number, fields, tables).row()
+    return RowReader(number, fields, version, tables).row()

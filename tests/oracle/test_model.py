@@ -12,8 +12,9 @@ from random import Random
 from typing import Callable, Iterator, NamedTuple
 
 from tests.oracle.comparing import first_difference, printed, script_in
-from tests.oracle.exact import FRACTIONS, Choice, Valuation, outside
+from tests.oracle.exact import FRACTIONS, Choice, Valuation, outside, shares_around
 from tests.oracle.expressions import Expression, Operation, Parameter, Scaling, value_of
+from tests.oracle.intervals import SCALE, decay_bracket
 from tests.oracle.model import Command, Office, commands_in, output_of
 from tests.oracle.tables import GASES, HALF_LIFE, TABLES, Equation, Tables
 from tests.oracle.workbooks import session_of
@@ -200,6 +201,17 @@ class Model(unittest.TestCase):
             with self.subTest(script.stem):
                 due = script.with_suffix(".out").read_bytes()
                 self.assertEqual(output_of(script.read_bytes()), due)
+
+    def test_decay_brackets(self) -> None:
+        """Each holds the share whose power by the tenths is one part of 1024, and both searches find it."""
+        for tenths in (*range(10, 61), *range(70, 600, 53), 599, 600):
+            low, high = decay_bracket(tenths)
+            self.assertLessEqual(1024 * low**tenths, SCALE**tenths)
+            self.assertLessEqual(SCALE**tenths, 1024 * high**tenths)
+            self.assertLessEqual(high, low + 1025)
+            least, greatest = (share * SCALE for share in shares_around(tenths))
+            self.assertTrue(low <= least <= greatest <= high, tenths)
+        self.assertEqual(decay_bracket(10), (SCALE // 2, SCALE // 2))
 
     def test_bounds_that_do_not_hold(self) -> None:
         """Of the worked session, 56.100 Gg are outside bounds that are a tonne too narrow."""

@@ -9,8 +9,8 @@ from tests.oracle.changes import Changes, Row
 from tests.oracle.faults import Faults
 from tests.oracle.model import Command, Office, Show, Submit
 from tests.oracle.printing import TABLES as PRINTED
-from tests.oracle.rows import HEADER
-from tests.oracle.tables import TABLES
+from tests.oracle.rows import HEADER, header_of
+from tests.oracle.tables import HALF_LIFE, TABLES
 from tests.oracle.workbook import Workbook
 
 # About as many as a session enters: so that some sessions in a row have all equations.
@@ -85,11 +85,17 @@ class Author:
         """The body that has rows."""
         text = io.StringIO(newline="")
         ends = self.random.choice(("\n", "\n", "\r\n"))
+        quotes = self.random.choice((csv.QUOTE_MINIMAL, csv.QUOTE_MINIMAL, csv.QUOTE_ALL))
+        csv.writer(text, quoting=quotes, lineterminator=ends).writerow(header_of(self.version_for(rows)))
         writer = csv.DictWriter(text, HEADER, restval="", lineterminator=ends)
-        writer.writeheader()
         for row in rows:
             writer.writerow({**row, "note": self.random.choice(NOTES)})
         return text.getvalue().encode("utf-8-sig" if self.random.random() < 0.1 else "utf-8")
+
+    def version_for(self, rows: list[Row]) -> int:
+        """The format of rows: most often the one that takes the half-lives among them."""
+        has_tenth = any(each.get("unit") == HALF_LIFE and "." in each.get("value", "") for each in rows)
+        return 2 if self.random.random() < (0.95 if has_tenth else 0.3) else 1
 
     def resubmit(self) -> None:
         """Sends what was accepted once more, or something else under its id, or under a bad id."""
@@ -98,10 +104,12 @@ class Author:
                                       Submit(b"x" * 41, kept.body))))
 
     def shapeless(self) -> bytes:
-        """Rule 4: a body without the header, or with a row that is none."""
-        header = ",".join(HEADER).encode()
-        return self.random.choice((b"", header.upper(), header + b",more\n", header + b"\nenter,span\n",
-                                   header + b"\n,,,,,,,,,,\n", header + b"\n\n\n,,,,,,,,,\xff\n"))
+        """Rule 4: a body without the header of its format, or with a row that is none."""
+        header = ",".join(header_of(self.random.choice((1, 2)))).encode()
+        return self.random.choice((
+            b"", header.upper(), header + b",more\n", header + b"\nenter,span\n", header + b"\n,,,,,,,,,,\n",
+            header + b"\n\n\n,,,,,,,,,\xff\n", b"\n" + header + b"\n", header.replace(b"act", b"act1"),
+            header.replace(b"act", b"act2"), b"\xef\xbb\xbf" * 2 + header))
 
     def year(self) -> int:
         """A year, which seldom lies outside the span."""
