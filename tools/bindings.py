@@ -375,7 +375,7 @@ def made_by_line(bound: Row, wanted: Parameter, book: Book) -> str | None:
 def way_to(wanted: Parameter, record: Row) -> str:
     """How a record that measures something else comes to what a parameter takes, where that is known."""
     unit, measures = record.field("unit"), vocabulary.record_of(wanted)
-    years = years_of_rate(record.field("value")) if measures == vocabulary.half_life() else None
+    years = years_of_rate(record) if measures == vocabulary.half_life() else None
     if years:
         return f"; of a yearly rate of {record.field('value')} write the half-life, {years} in yr, there"
     turned = units.upside_down(unit, measures)

@@ -25,6 +25,7 @@ class Book:
         self.years: dict[str, dict[str, dict[int, Row]]] = {"activity": {}, "factor": {}}
         self.bindings: dict[str, dict[str, Row]] = {}
         self.lines: dict[str, Row] = {}
+        self._taken: dict[tuple[str, str], list[Row]] | None = None
 
     def copy(self) -> "Book":
         """A book of its own with the same records."""
@@ -39,12 +40,12 @@ class Book:
 
     def apply(self, row: Row) -> None:
         """Applies an accepted row."""
-        key = row.key
-        if row.field("act") == "withdraw":
+        key, act = row.key, row.field("act")
+        if act == "withdraw":
             self.withdrawn[key] = row
             self._take_out(key)
             return
-        if row.field("act") == "enter":
+        if act == "enter":
             self.entered[key] = row
         self.rows[key] = row
         if key[0] in self.years:
@@ -53,6 +54,7 @@ class Book:
             self.lines[key[1]] = row
         elif key[0] == "bind":
             self.bindings.setdefault(key[1], {})[key[2]] = row
+            self._taken = None
 
     def _take_out(self, key: Key) -> None:
         self.rows.pop(key, None)
@@ -65,6 +67,7 @@ class Book:
             self.lines.pop(key[1], None)
         elif key[0] == "bind":
             self.bindings.get(key[1], {}).pop(key[2], None)
+            self._taken = None
 
     @property
     def span(self) -> tuple[int, int] | None:
@@ -127,15 +130,16 @@ class Book:
 
     def taken(self) -> dict[tuple[str, str], list[Row]]:
         """The activities and factors that lines take, as pairs of kind and name, each with the bindings
-        that take it.
+        that take it: made once, until another binding is in force.
         """
-        found: dict[tuple[str, str], list[Row]] = {}
-        for bound in self.bindings.values():
-            for row in bound.values():
-                record = record_taken_by(row)
-                if record:
-                    found.setdefault(record, []).append(row)
-        return found
+        if self._taken is None:
+            self._taken = {}
+            for bound in self.bindings.values():
+                for row in bound.values():
+                    record = record_taken_by(row)
+                    if record:
+                        self._taken.setdefault(record, []).append(row)
+        return self._taken
 
     def lines_taken(self) -> set[str]:
         """The lines that lines take."""

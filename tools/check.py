@@ -7,7 +7,7 @@ each fault is one that the program found.
 import collections
 import itertools
 
-from tools import bindings, explain, headers, limit_faults
+from tools import bindings, explain, headers, limit_faults, number_faults
 from tools.after import After
 from tools.ahead import Ahead
 from tools.asking import Asking
@@ -18,13 +18,14 @@ from tools.program import Program, Reply
 from tools.progress import Progress
 from tools.record_faults import exists
 from tools.refused import Refused
-from tools.sheets import COLUMNS, COLUMNS_OF_KEY, Key, Row, Sheet, joined
+from tools.sheets import COLUMNS_OF_KEY, HEADERS, Key, Row, Sheet, joined, version_of
 from tools.vocabulary import limit
 
-HEADER = joined(COLUMNS)
 # A row that no workbook has its line for. After it no body is accepted: what a row breaks by itself comes
 # first.
 NEVER_ACCEPTED = joined(["enter", "bind", "NO.SUCH.LINE.-.-.-.-.-", "X", "", "key", "NE", "", "", ""])
+# What stands in front of rows that are asked for, in each format.
+FRONTS = {version: joined(header) + b"\n" + NEVER_ACCEPTED + b"\n" for version, header in HEADERS.items()}
 OF_THE_ROW_ALONE = (4, 5, 6, 7)
 OF_A_ROW = (4, 5, 6, 7, 8, 9)
 
@@ -83,6 +84,8 @@ class Check:
         first = self.program.submit(lines_of(rows) if faults else sheet.data)
         reply, left = self.behind_header(sheet, rows, first)
         sheet.meant = left or sheet.rows
+        if reply and left and not reply.accepted:
+            reply, left = self.in_format_2(sheet, left, reply)
         if reply and reply.rule == 9 and self.is_copy(sheet):
             return
         tries = 0
@@ -120,7 +123,22 @@ class Check:
                 return None, None
             rows = left
             reply = self.program.submit(lines_of(rows))
+        sheet.version = version_of(rows[0].fields) if rows else 1
         return reply, rows
+
+    def in_format_2(self, sheet: Sheet, rows: list[Row], reply: Reply) -> tuple[Reply, list[Row]]:
+        """The reply to a file under the header of format 2, and its rows with it, if a half-life needs it and
+        the file has another. That is one fault.
+        """
+        told = (number_faults.half_life_with_a_point(self.asking(self.book), row) for row in rows[1:])
+        fault = next(filter(None, told), None)
+        if fault is None:
+            return reply, rows
+        header = Row(sheet, rows[0].line, joined(HEADERS[2]))
+        self.faults.append(fault)
+        self.cures.add_header(fault, header)
+        sheet.version = 2
+        return self.program.submit(lines_of([header, *rows[1:]])), [header, *rows[1:]]
 
     def take(self, sheet: Sheet, rows: list[Row] | None) -> None:
         """Keeps the rows of an accepted file, or marks those of one that no change helps."""
@@ -303,8 +321,7 @@ class Check:
         None of these bodies is accepted.
         """
         before = before or [[]] * len(rows)
-        front = HEADER + b"\n" + NEVER_ACCEPTED + b"\n"
-        bodies = (front + lines_of(others) + row.raw + b"\n" for row, others in zip(rows, before))
+        bodies = (FRONTS[row.sheet.version] + lines_of(others) + row.raw + b"\n" for row, others in zip(rows, before))
         replies = self.program.submit_all(bodies)
         for reply, others in zip(replies, before):
             if reply.rule in OF_A_ROW and reply.row != 2 + len(others):

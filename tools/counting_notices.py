@@ -321,9 +321,9 @@ def amounts_of(results: Results, row: Row) -> Amounts:
     bindings, code = results.bindings(row.field("name")), row.field("value")
     bound = [bindings[name] for name in amounts_taken(code)
              if name in bindings and bindings[name].field("value") != "key"]
-    bound = bound if code in TOGETHER else bound[:1]
-    found = {year: sum((results.taken(each, year) or ZERO for each in bound), ZERO) for year in results.years}
-    return found if bound else {}
+    taken = [results.taken_by_year(each) for each in (bound if code in TOGETHER else bound[:1])]
+    found = {year: sum((each.get(year) or ZERO for each in taken), ZERO) for year in results.years}
+    return found if taken else {}
 
 
 @functools.cache

@@ -26,12 +26,20 @@ class Cycle:
 
     def __init__(self, sheets: list[Sheet], results: Results) -> None:
         self.results, self.book = results, results.book
+        self.in_order = [row for sheet in sheets for row in sheet.meant[1:] if len(row.fields) == 10]
         self.rows: dict[tuple[str, ...], list[Row]] = {}
-        self.order: dict[int, int] = {}
-        for row in (row for sheet in sheets for row in sheet.meant[1:] if len(row.fields) == 10):
-            self.order[id(row)] = len(self.order)
+        for row in self.in_order:
             self.rows.setdefault(row.key, []).append(row)
-        self.spans = [self.order[id(row)] for row in self.rows.get(("span",), [])]
+
+    @functools.cached_property
+    def order(self) -> dict[int, int]:
+        """The place of each row."""
+        return {id(row): at for at, row in enumerate(self.in_order)}
+
+    @functools.cached_property
+    def spans(self) -> list[int]:
+        """The places of the rows of the span."""
+        return [self.order[id(row)] for row in self.rows.get(("span",), [])]
 
     @functools.cached_property
     def corrections(self) -> list[tuple[Row, Row]]:

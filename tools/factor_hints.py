@@ -273,7 +273,7 @@ def of_a_rate(odd: Odd) -> str | None:
     life = HUNDRED_LN_2 / odd.figure if odd.measures == DECAY else None
     if life is None or not odd.known.has(life, Number(1)):
         return None
-    return f"a rate of {plain(odd.figure)} % a year is a half-life of {plain(round(life))} years: is it the rate?"
+    return f"a rate of {plain(odd.figure)} % a year is a half-life of {plain(round(life, 1))} years: is it the rate?"
 
 
 def of_all_above(odd: Odd) -> str | None:

@@ -2,6 +2,7 @@
 off by a known ratio, and those that jump.
 """
 import decimal
+import functools
 import typing
 
 from tools import vocabulary
@@ -42,6 +43,7 @@ JUMP_OF_OTHERS = Number(5)
 OF_PLANTS = {"Q11", "Q12", "Q16", "Q17", "Q38", "Q39", "Q90", "Q99"}
 
 
+@functools.cache
 def factors(results: Results) -> list[tuple[Row, str, Row]]:
     """Each binding of a line with a factor, a rate, a half-life or a line that gives one, with the line and the
     parameter.
@@ -70,9 +72,9 @@ def unusual_factors(results: Results) -> list[Fault]:
         if known is None or not results.is_own(bound) or is_of_another_gas(line, bound):
             continue
         measures = vocabulary.parameters_of(line.field("value"))[parameter]["measures"]
-        figure: Number | None = None
+        figure, taken = None, results.taken_by_year(bound)
         for year in results.years:
-            before, figure = figure, results.taken(bound, year)
+            before, figure = figure, taken.get(year)
             is_new = figure and figure is not before
             odd = Odd(figure, known, line, parameter, measures, gas_of(line)) if figure and is_new else None
             if odd and is_odd(odd) and (is_beyond(odd) or is_whole(results, line)):
@@ -296,7 +298,8 @@ def years_with_swapped_digits(results: Results) -> list[Fault]:
     found = []
     for name in sorted(results.book.years["activity"]):
         numbers = results.numbers(name)
-        far = [at for at in range(1, len(numbers) - 1) if is_far(*(size for _, size in numbers[at - 1:at + 2]))]
+        sizes = [size for _, size in numbers]
+        far = [at for at, three in enumerate(zip(sizes, sizes[1:], sizes[2:]), 1) if is_far(*three)]
         rows = [row for row, _ in numbers] if far else []
         for at in far:
             meant, row = swapped_in_a_year(rows, at), rows[at]

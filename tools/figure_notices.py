@@ -146,10 +146,9 @@ def distances(records: list[Records]) -> Iterator[Fault]:
 
 def is_of_distances(row: Row) -> bool:
     """Tells whether the bounds of a figure that is not zero are the same but for their sign."""
-    low, high = row.field("low"), row.field("high")
-    if not low or row.field("value") in vocabulary.words()["keys"]:
+    if not row.field("low") or row.field("value") in vocabulary.words()["keys"]:
         return False
-    value, least, most = (decimal.Decimal(text) for text in (row.field("value"), low, high))
+    value, least, most = (decimal.Decimal(row.field(column)) for column in ("value", "low", "high"))
     return value != 0 and most > 0 and least == -most
 
 

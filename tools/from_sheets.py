@@ -1,6 +1,6 @@
 """Reads the sheets of a spreadsheet that hold rows, and writes each as a CSV file of a folder.
 
-A sheet of rows has a header with `act` and `kind` among its headings. What a cell holds is written as it
+A sheet of rows has a header with `act` or `act2` and `kind` among its headings. What a cell holds is written as it
 stands, since the program judges it. What a spreadsheet makes of rows is told with its place.
 """
 from __future__ import annotations
@@ -11,9 +11,9 @@ import pathlib
 import re
 import sys
 
-from tools import spreadsheet, template, vocabulary
+from tools import half_lives, spreadsheet, template, vocabulary
 from tools.faults import counted, shown
-from tools.sheets import COLUMNS, FolderFault, joined
+from tools.sheets import COLUMNS, FIRST_NAMES, FolderFault, joined, version_of
 from tools.spreadsheet import DATE, ERROR, NUMBER, TRUTH, UNSAVED, Cell, Grid, letters_of
 from tools.whole_files import differs, write_whole
 
@@ -37,7 +37,8 @@ class Rows:
 
     def __init__(self, grid: Grid, header: int) -> None:
         self.grid, self.header = grid, header
-        self.fields = [COLUMNS]
+        self.fields: list[list[str]] = []
+        self.version = 1
         self.faults: list[str] = []
         self.notes: list[str] = []
         self.formulas: list[str] = []
@@ -46,8 +47,9 @@ class Rows:
 
     @property
     def body(self) -> bytes:
-        """The rows as a file."""
-        return b"".join(joined(row) + b"\n" for row in self.fields)
+        """The rows as a file, under the header of the sheet's own format, or of the one that they need."""
+        header = half_lives.header_for(self.fields, self.version)
+        return b"".join(joined(row) + b"\n" for row in [header, *self.fields])
 
     def read(self) -> None:
         """Reads the header and the rows."""
@@ -73,7 +75,9 @@ class Rows:
         for row, cells in self.grid.rows():
             if row < self.header:
                 self.notes.append(f"{self.grid.place(row, min(cells))}: above the header; left out")
-        for column, cell in sorted(dict(self.grid.rows())[self.header].items()):
+        cells = dict(self.grid.rows())[self.header]
+        self.version = version_of(cell.text for cell in cells.values())
+        for column, cell in sorted(cells.items()):
             heading = plain(cell)
             if heading in self.column_of:
                 self.fault(self.header, column, "a second column with this heading; take one of them out")
@@ -155,8 +159,9 @@ class Rows:
 
 
 def plain(cell: Cell) -> str:
-    """A heading without case and blanks at its ends."""
-    return cell.text.strip().casefold()
+    """A heading without case and blanks at its ends; the first of any format as the name of its column."""
+    heading = cell.text.strip().casefold()
+    return COLUMNS[0] if heading in FIRST_NAMES.values() else heading
 
 
 def header_of(grid: Grid) -> int | None:
@@ -224,5 +229,5 @@ def run(arguments: argparse.Namespace) -> int:
     for name, sheet in files.items():
         replaced = ", in place of other rows" if differs(folder / name, sheet.body) else ""
         write_whole(folder / name, sheet.body)
-        print(f"{folder / name}: {counted(len(sheet.fields) - 1, 'row')}{replaced}")
+        print(f"{folder / name}: {counted(len(sheet.fields), 'row')}{replaced}")
     return 0

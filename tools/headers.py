@@ -6,10 +6,10 @@ import io
 import re
 from collections.abc import Sequence
 
-from tools import causes, sheets, vocabulary, wide_rows
+from tools import causes, half_lives, sheets, vocabulary, wide_rows
 from tools.faults import Fault, counted
 from tools.other_words import OTHER_COLUMNS, meant_by
-from tools.sheets import COLUMNS, COLUMN_AT, Row, Sheet, joined
+from tools.sheets import COLUMNS, COLUMN_AT, FIRST_NAMES, HEADERS, Row, Sheet, joined
 from tools.vocabulary import nearest
 
 HEADER = ",".join(COLUMNS)
@@ -58,7 +58,7 @@ def rows_as_meant(sheet: Sheet) -> list[Row]:
     """The rows after the header of a file that nothing was asked of yet, as they most likely are meant."""
     rows: list[Row] | None = close_quotes(sheet)[1]
     for _ in range(MOST_FAULTS):
-        if rows and rows[0].fields != COLUMNS:
+        if rows and rows[0].fields not in HEADERS.values():
             _, rows = explain(sheet, rows)
     return rows[1:] if rows else []
 
@@ -94,6 +94,8 @@ def of_rows(rows: list[Row]) -> tuple[str, list[Row] | None]:
         name = {";": "semicolons", "\t": "tabs", "|": "bars"}[between]
         cause = f"{name} between the fields; {SAVE}, and numbers with a point"
         return cause, [with_comma(row, between) for row in rows]
+    if rows[0].fields == HEADERS[2]:
+        return "an empty line in front of the header act2; take it out", list(rows)
     found = [at for at, row in enumerate(rows[:ROWS_IN_FRONT]) if is_like_a_header(row)]
     if found and found[0] > 0:
         cause = f"{counted(found[0], 'row')} in front of the header"
@@ -102,7 +104,9 @@ def of_rows(rows: list[Row]) -> tuple[str, list[Row] | None]:
     if len(names) > 10 and names[:10] == COLUMNS:
         return eleventh(rows)
     if names[0] in ACTS:
-        return f"no header; put a first row {HEADER} in front", [header_of(rows)] + rows
+        needed = half_lives.needed(rows)
+        cause = f"no header; put a first row {needed.decode()} in front"
+        return cause, [Row(rows[0].sheet, rows[0].line, needed), *rows]
     if sorted(names) == sorted(COLUMNS):
         return other_words(rows, names)
     return other_names(rows, names) if found else no_header(rows)
@@ -144,8 +148,11 @@ def unquoted(row: Row) -> Row:
 
 
 def bare(fields: list[str]) -> list[str]:
-    """Fields without unseen characters and without blanks at their ends, in lower case."""
-    return [re.sub(f"[{causes.UNSEEN}]", "", field).strip().casefold() for field in fields]
+    """Fields without unseen characters and without blanks at their ends, in lower case; and of each format the
+    first name of the header as that of its column.
+    """
+    names = [re.sub(f"[{causes.UNSEEN}]", "", field).strip().casefold() for field in fields]
+    return [COLUMNS[0] if name in FIRST_NAMES.values() else name for name in names]
 
 
 def is_like_a_header(row: Row) -> bool:
@@ -154,25 +161,26 @@ def is_like_a_header(row: Row) -> bool:
 
 
 def header_of(rows: list[Row]) -> Row:
-    """The right header at the place of the first row."""
-    return Row(rows[0].sheet, rows[0].line, joined(COLUMNS))
+    """The right header at the place of the first row, of the format that this means."""
+    return Row(rows[0].sheet, rows[0].line, joined(HEADERS[sheets.version_of(rows[0].fields)]))
 
 
 def other_words(rows: list[Row], names: list[str]) -> tuple[str, list[Row]]:
     """A header with the ten names in another case or order."""
     if names == COLUMNS and sum(field[:1].isspace() for field in rows[0].fields) > len(COLUMNS) // 2:
         return "a blank behind each comma; take these blanks out", [stripped(row) for row in rows]
+    header = header_of(rows)
     if names == COLUMNS:
-        odd = [field for field in rows[0].fields if field not in COLUMNS]
-        cause = f"the header is written {HEADER}"
+        odd = [(field, due) for field, due in zip(rows[0].fields, header.fields) if field != due]
+        cause = f"the header is written {header.raw.decode()}"
         if len(odd) == 1:
-            cause = f'the header has "{odd[0]}"; write {bare(odd)[0]}'
-        return cause, [header_of(rows)] + rows[1:]
+            cause = 'the header has "{}"; write {}'.format(*odd[0])
+        return cause, [header] + rows[1:]
     cause = "the columns stand in another order"
     placed = placed_by(rows, [names.index(column) for column in COLUMNS])
     if is_in_order(rows[1:], placed):
         cause, placed = "the header has another order than the rows, which stand in the right one", rows[1:]
-    return f"{cause}; the header is {HEADER}", [header_of(rows)] + placed
+    return f"{cause}; the header is {header.raw.decode()}", [header] + placed
 
 
 def placed_by(rows: list[Row], places: Sequence[int | None]) -> list[Row]:
@@ -241,7 +249,8 @@ def other_names(rows: list[Row], names: list[str]) -> tuple[str, list[Row]]:
         placed = rows[1:]
     elif found != sorted(found):
         lacks += ", and its columns stand in another order"
-    return f"{lacks}; it is {HEADER}", [header_of(rows)] + placed
+    header = header_of(rows)
+    return f"{lacks}; it is {header.raw.decode()}", [header] + placed
 
 
 def places_of_columns(names: list[str]) -> list[int | None]:
@@ -288,7 +297,9 @@ def with_columns(row: Row, places: Sequence[int | None]) -> Row:
 def no_header(rows: list[Row]) -> tuple[str, list[Row] | None]:
     """A first row that is no header. The rows after it are read where they begin with an act."""
     rest = rows[1:] if rows[1:] and bare(rows[1].fields)[0] in ACTS else None
-    return f"no header; the first row is {HEADER}", [header_of(rows)] + rest if rest else None
+    needed = half_lives.needed(rest or [])
+    header = Row(rows[0].sheet, rows[0].line, needed)
+    return f"no header; the first row is {needed.decode()}", [header, *rest] if rest else None
 
 
 def close_quotes(sheet: Sheet) -> tuple[list[Fault], list[Row]]:

@@ -38,6 +38,11 @@ class Cures:
             self.rows[key] = mended
             self.faults.append(fault)
 
+    def add_header(self, fault: Fault, header: Row) -> None:
+        """Keeps the header that a fault says to write."""
+        self.rows[id(header.sheet), header.line] = header
+        self.faults.append(fault)
+
     def add_of_file(self, fault: Fault) -> None:
         """Keeps a fault of a whole file, which is written without it; or leaves it if that is a choice."""
         if " or " in fault.cause:

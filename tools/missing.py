@@ -6,7 +6,7 @@ from __future__ import annotations
 import dataclasses
 from collections.abc import Iterable
 
-from tools import vocabulary
+from tools import half_lives, vocabulary
 from tools.faults import Fault
 from tools.sheets import Row, Sheet
 
@@ -59,13 +59,14 @@ def said(fault: Fault) -> Fault:
         return dataclasses.replace(fault, cause=WITHOUT, write=PERCENTAGES)
     note = f" ({row.field('note')})" if row.field("note") else ""
     cause = f"{row.field('kind')} {row.field('name')} has no figure yet{note}"
-    return dataclasses.replace(fault, cause=cause, write=what_to_write(row.field("unit")))
+    return dataclasses.replace(fault, cause=cause, write=what_to_write(row))
 
 
-def what_to_write(unit: str) -> str:
-    """What stands in a value of a unit."""
+def what_to_write(row: Row) -> str:
+    """What stands in the value of a row."""
+    unit = row.field("unit")
     if unit == vocabulary.HALF_LIFE_UNIT:
-        return f"a whole number of years from 1 to {vocabulary.limit('half_life')}"
+        return half_lives.form(row.sheet.version)
     number = "a ratio" if unit == "1" else f"a number in {unit}"
     return f"{number}, or a notation key ({vocabulary.listed(vocabulary.words()['keys'])})"
 

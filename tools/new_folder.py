@@ -21,7 +21,7 @@ import tempfile
 from tools import fuels, people_words, vocabulary
 from tools.faults import counted
 from tools.fuels import DEFAULTS
-from tools.sheets import COLUMNS, FolderFault, joined
+from tools.sheets import HEADERS, OF_TEMPLATES, FolderFault, joined
 
 TIER_1 = vocabulary.PATH.parent / "tier-1.csv"
 POTENTIALS = "potentials-fifth-assessment-report.csv"
@@ -258,7 +258,8 @@ def made_files(years: range, rows: list[dict[str, str]], has_uncertainties: bool
     uncertainties = empty_uncertainties(rows) if has_uncertainties else []
     parts = [[span, *potentials], factors, activities, lines_with_bindings(rows), uncertainties]
     files = ((name, part) for name, part in zip(FILES, parts) if part)
-    return {name: b"".join(joined(row) + LINE_END for row in [COLUMNS, *part]) for name, part in files}
+    return {name: b"".join(joined(row) + LINE_END for row in [HEADERS[OF_TEMPLATES], *part])
+            for name, part in files}
 
 
 def write_folder(folder: pathlib.Path, files: dict[str, bytes]) -> None:

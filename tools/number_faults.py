@@ -2,15 +2,15 @@
 import decimal
 import re
 
-from tools import causes, letters, units, vocabulary
+from tools import causes, half_lives, letters, units, vocabulary
 from tools.asking import Asking, cause_of
 from tools.basis_faults import other_basis
 from tools.causes import Mended
-from tools.faults import Explained, at_row, years_said
+from tools.faults import Explained, Fault, at_row, years_said
 from tools.parted_numbers import comma_in_quotes
 from tools.percent_faults import BOTH_SIDES, EXACT, both_sides, figure_of, percent_sign, written
-from tools.recognisers import LANDFILL, Recogniser, first_explained
-from tools.sheets import Row
+from tools.recognisers import HEADER_2, LANDFILL, Recogniser, first_explained
+from tools.sheets import HEADERS, Row, Sheet, joined
 from tools.vocabulary import HALF_LIFE_UNIT, limit, listed
 
 NO_FIGURE = {
@@ -209,18 +209,29 @@ def wrong_half_life(asking: Asking, row: Row, column: str) -> Explained:
     """A half-life, which has no bounds, or a bound of it."""
     if column != "value":
         return asking.filled(row, column, "a half-life has no bounds")
-    mended = without_years(causes.number(row.field(column)))
-    whole = re.fullmatch(r"0*(\d+)(\.0*)?", mended.text)
-    fraction = re.fullmatch(r"\d+\.\d+", mended.text)
-    form = f"a whole number of years from 1 to {limit('half_life')}"
+    mended, version = without_years(causes.number(row.field(column))), row.sheet.version
+    digits = re.fullmatch(r"0*(\d+(?:\.[1-9])?)(\.?0*)" if version > 1 else r"0*(\d+)(\.0*)?", mended.text)
+    form = half_lives.form(version)
     otherwise = f"no half-life; it is {form}"
     if row.field(column).strip().upper() in vocabulary.words()["keys"]:
         otherwise = f"a half-life has no notation key; it is {form}"
-    elif fraction and not whole:
-        otherwise = f"no half-life; it is {form}: {in_years(decimal.Decimal(mended.text))}"
+    elif re.fullmatch(r"\d+\.\d+", mended.text) and not digits:
+        otherwise = f"no half-life; it is {form}: {in_years(decimal.Decimal(mended.text), version)}"
     found = mended.causes or [f"a half-life is {form}"]
-    candidates = [(cause_of(found), whole.group(1), True)] if whole and mended.sure else []
+    candidates = [(cause_of(found), digits.group(1), True)] if digits and mended.sure else []
     return asking.first_taken(row, column, candidates, otherwise)
+
+
+def half_life_with_a_point(asking: Asking, row: Row) -> Fault | None:
+    """A half-life with a tenth of a year under the header of format 1, where the program takes it under that of
+    format 2; or None.
+    """
+    if row.sheet.version > 1 or not half_lives.has_tenth(row.fields) or asking.takes(row, "value"):
+        return None
+    other = Row(Sheet(row.sheet.name, joined(HEADERS[2])), row.line, row.raw)
+    if not asking.takes(other, "value"):
+        return None
+    return at_row(row, "a half-life with a point is of format 2", "value", "act2 in the header")
 
 
 def wrong_percentage(asking: Asking, row: Row, column: str) -> Explained:
@@ -458,11 +469,18 @@ def scaled(number: decimal.Decimal, least: decimal.Decimal, most: decimal.Decima
     return ""
 
 
-def in_years(figure: decimal.Decimal) -> str:
-    """How a figure with a fraction comes to whole years. One below a year is most likely a rate of decay."""
+def in_years(figure: decimal.Decimal, version: int) -> str:
+    """How a figure with a fraction comes to years as a format has them. One below a year is most likely a rate of
+    decay.
+    """
     if figure >= 1:
-        return f"round it to {figure:.0f}"
-    return f"of a rate k it is ln 2 / k, of {figure} rounded to {decimal.Decimal(2).ln() / figure:.0f}"
+        tenths = half_lives.rounded(figure, 2) if version == 1 else None
+        with_tenth = f", or write act2 in the header and {tenths} here" if tenths else ""
+        return f"round it to {half_lives.rounded(figure, version) or f'{figure:.0f}'}{with_tenth}"
+    if not figure:
+        return "of a rate k it is ln 2 / k"
+    life = decimal.Decimal(2).ln() / figure
+    return f"of a rate k it is ln 2 / k, of {figure} rounded to {half_lives.rounded(life, version) or f'{life:.0f}'}"
 
 
 def number_otherwise(column: str, text: str, row: Row) -> str:
@@ -545,9 +563,15 @@ NUMBERS = FIGURES + (
         "dates and errors of a spreadsheet", 'enter,activity,,COAL,2019,"1000,5",,,kt,',
         "a decimal comma; write 1000.5", "enter,activity,,COAL,2019,1000.5,,,kt,"),
     Recogniser(
-        wrong_half_life, "half-lives that are no whole years", "enter,factor,,WASTE.LIFE,2019,12.5,,,yr,",
-        "no half-life; it is a whole number of years from 1 to 60: round it to 12",
-        "enter,factor,,WASTE.LIFE,2019,12,,,yr,12.5", LANDFILL),
+        half_life_with_a_point, "half-lives with a point under the header of format 1",
+        "enter,factor,,WASTE.LIFE,2019,12.5,,,yr,",
+        "a half-life with a point is of format 2; write act2 in the header",
+        f"{HEADER_2}\nenter,factor,,WASTE.LIFE,2019,12.5,,,yr,", LANDFILL),
+    Recogniser(
+        wrong_half_life, "half-lives that are no years with one decimal at most",
+        f"{HEADER_2}\nenter,factor,,WASTE.LIFE,2019,12.55,,,yr,",
+        "no half-life; it is a number of years from 1 to 60 with at most one decimal: round it to 12.6",
+        "enter,factor,,WASTE.LIFE,2019,12,,,yr,12.55", LANDFILL),
     Recogniser(
         wrong_percentage, "percentages with a sign, or two in one field",
         "enter,uncert,,COWS.CH4,,3 %,20,,,", "a percent sign; write 3",

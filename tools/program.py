@@ -4,6 +4,7 @@ The program answers command by command, and a refused submission changes nothing
 is submitted again, changed, to the same process, and nothing has to be submitted twice.
 """
 import dataclasses
+import itertools
 import os
 import pathlib
 import re
@@ -156,7 +157,7 @@ class Program:
         first = self._line()
         if first == "no table":
             return None
-        return [self._line() for _ in range(int(first.split()[-1]))]
+        return self._lines(int(first.split()[-1]))
 
     def _replies(self, bodies: list[bytes]) -> list[Reply]:
         self._flush()
@@ -178,10 +179,13 @@ class Program:
             raise self._ended() from error
 
     def _line(self) -> str:
-        line = self.output.readline()
-        if not line.endswith(b"\n"):
+        return self._lines(1)[0]
+
+    def _lines(self, count: int) -> list[str]:
+        text = b"".join(itertools.islice(self.output, count))
+        if text.count(b"\n") < count:
             raise self._ended()
-        return line[:-1].decode("ascii", "backslashreplace")
+        return text.decode("ascii", "backslashreplace").split("\n")[:-1]
 
     def _ended(self) -> ProgramFailed:
         return ProgramFailed(f"the program ended with status {self.process.wait()} before it had answered")

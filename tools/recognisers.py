@@ -9,8 +9,9 @@ import dataclasses
 import typing
 
 from tools.faults import Explained
+from tools.sheets import HEADERS
 
-HEADER = "act,kind,subject,name,year,value,low,high,unit,note"
+HEADER, HEADER_2 = (",".join(header) for header in HEADERS.values())
 # How a row of an example begins that takes a row of the inventory out.
 OUT = "-"
 # The fields that tell which row of the inventory a row of an example stands in place of.
@@ -94,7 +95,8 @@ class Recogniser:
 
     `told` are the words of the page. The rows of an example change the inventory `base`: each stands in place
     of the row with the same first five fields, else after all; one that begins with OUT takes out the rows
-    that begin like the rest of it; and an empty line begins the next file. `says` is a part of the line that
+    that begin like the rest of it; a first one that is the header of format 2 is that of the inventory; and an
+    empty line begins the next file. `says` is a part of the line that
     `check` prints of the example. The rows of `right` make an inventory of which nothing is told.
     """
     function: collections.abc.Callable[..., typing.Any]
@@ -119,13 +121,15 @@ def first_explained(recognisers: tuple[Recogniser, ...], *given: typing.Any) -> 
 def files_of(base: str, example: str) -> list[str]:
     """The files of an inventory, changed by the rows of an example."""
     first, *further = example.strip("\n").split("\n\n")
-    rows = base.splitlines()
-    for row in first.splitlines():
+    rows, changes = base.splitlines(), first.splitlines()
+    header = changes.pop(0) if changes[:1] == [HEADER_2] else HEADER
+    for row in changes:
         if row.startswith(OUT):
             rows = [other for other in rows if not other.startswith(row.removeprefix(OUT))]
         else:
             rows = with_row(rows, row)
-    return ["\n".join([HEADER, *body, ""]) for body in (rows, *map(str.splitlines, further))]
+    later = [[HEADER, *part.splitlines(), ""] for part in further]
+    return ["\n".join(body) for body in ([header, *rows, ""], *later)]
 
 
 def with_row(rows: list[str], row: str) -> list[str]:

@@ -109,8 +109,8 @@ def blank_between(results: Results) -> list[Fault]:
     for row in results.lines:
         name = row.field("name")
         known = results.series(name)
-        blank = [year for year in results.years if known and min(known) < year < max(known)
-                 and year not in known]
+        first, last = min(known, default=0), max(known, default=0)
+        blank = [year for year in results.years if first < year < last and year not in known]
         if not blank:
             continue
         for bound in results.bindings(name).values():
@@ -126,9 +126,11 @@ def blank_at_the_edges(results: Results) -> list[Fault]:
     found, taken = [], results.book.taken()
     for name in sorted(results.book.years["activity"]):
         records = results.records("activity", name)
+        blank = [year for year, row in records.items() if is_not_estimated(row) and not row.has_other_figure]
+        if not blank:
+            continue
         known = [year for year, row in records.items() if NUMBER.fullmatch(row.field("value"))]
-        blank = [year for year, row in records.items() if is_not_estimated(row) and not row.has_other_figure
-                 and known and not min(known) < year < max(known)]
+        blank = [year for year in blank if known and not min(known) < year < max(known)]
         if blank and len(known) >= FEWEST_YEARS and len(blank) < len(known) and ("activity", name) in taken:
             lines = sorted({bound.field("subject") for bound in taken["activity", name]})
             said = f"activity {name} is NE in {years_said(blank)}, and has figures in {years_said(known)}; what line"
@@ -473,9 +475,12 @@ def is_return(results: Results, name: str, year: int) -> bool:
 def exceptional(results: Results, name: str, year: int) -> decimal.Decimal:
     """How many times the usual change of an activity its change to a year is, or zero where that is usual."""
     changes = changes_of(results, name)
+    change = changes[year]
+    if change <= MOST_CHANGE:
+        return ZERO
     others = sorted(change for other, change in changes.items() if other != year)
-    middle, change = others[len(others) // 2] if others else ZERO, changes[year]
-    return change / (middle + LEAST_CHANGE) if change > max(MOST_CHANGE, EXCEPTIONAL * middle) else ZERO
+    middle = others[len(others) // 2] if others else ZERO
+    return change / (middle + LEAST_CHANGE) if change > EXCEPTIONAL * middle else ZERO
 
 
 @functools.cache
@@ -486,8 +491,9 @@ def changes_of(results: Results, name: str) -> dict[int, decimal.Decimal]:
     rows = results.book.years["activity"].get(name, {})
     known = [year for year, row in rows.items() if NUMBER.fullmatch(row.field("value"))]
     first, last = min(known, default=0), max(known, default=0)
-    inner = [year for year in results.years[1:] if first < year <= last and {year - 1, year} <= rows.keys()]
-    return {year: apart(rows[year - 1], rows[year]) if year in inner else ZERO for year in results.years[1:]}
+    return {year: apart(rows[year - 1], rows[year])
+            if first < year <= last and year - 1 in rows and year in rows else ZERO
+            for year in results.years[1:]}
 
 
 def apart(one: Row, other: Row) -> decimal.Decimal:
@@ -543,9 +549,10 @@ def years_alike(results: Results) -> list[Fault]:
     pairs: dict[tuple[int, int], list[tuple[Row, Row]]] = {}
     for years in results.book.years["activity"].values():
         own = {year: row for year, row in years.items() if year in results.years}
-        counts = collections.Counter(row.field("value") for row in own.values())
+        values = {year: row.field("value") for year, row in own.items()}
+        counts = collections.Counter(values.values())
         for year, row in own.items():
-            others = len(counts) - (counts[row.field("value")] == 1)
+            others = len(counts) - (counts[values[year]] == 1)
             if year - 1 in own and others > 1:
                 pairs.setdefault((id(row.sheet), year), []).append((own[year - 1], row))
     found = []

@@ -64,18 +64,20 @@ class Results:
 
     def taken(self, bound: Row, year: int) -> Figure:
         """What a parameter takes in a year: a half-life where it is a yearly decay factor."""
+        return self.taken_by_year(bound).get(year)
+
+    @functools.cache
+    def taken_by_year(self, bound: Row) -> dict[int, Figure]:
+        """What a parameter takes in each year in which there is a record for it."""
         form = bound.field("value")
         if form in KIND_TAKEN:
-            record = self.records(KIND_TAKEN[form], bound.field("low")).get(year)
-            return figure_of(record) if record else None
+            records = self.records(KIND_TAKEN[form], bound.field("low"))
+            return {year: figure_of(record) for year, record in records.items()}
         if form == "key":
-            return None if bound.field("low") == "NE" else ZERO
-        if form == "prev" and year == self.years[0]:
-            return ZERO
-        if form in ("line", "prev", "sum"):
-            at = year - 1 if form == "prev" else year
-            return total(self.cells.get((line, at)) for line in lines_taken_by(bound))
-        return None
+            return dict.fromkeys(self.years, None if bound.field("low") == "NE" else ZERO)
+        lines, before = lines_taken_by(bound), int(form == "prev")
+        found = {year: total(self.cells.get((line, year - before)) for line in lines) for year in self.years}
+        return {**found, self.years[0]: ZERO} if before else found
 
     def record(self, bound: Row, year: int) -> Row | None:
         """The record that a binding takes in a year, or None where it takes no figure or there is none."""
@@ -86,10 +88,12 @@ class Results:
     @functools.cache
     def records(self, kind: str, name: str) -> dict[int, Row]:
         """The record that an activity or a factor has in each year of the span that it has one in."""
+        rows = sorted(self.book.years[kind].get(name, {}).items())
+        if kind == "activity":
+            return {year: row for year, row in rows if year in self.years}
         found: dict[int, Row] = {}
-        for start, row in sorted(self.book.years[kind].get(name, {}).items()):
-            until = self.years[-1] if kind == "factor" else min(start, self.years[-1])
-            found.update(dict.fromkeys(range(max(start, self.years[0]), until + 1), row))
+        for start, row in rows:
+            found.update(dict.fromkeys(range(max(start, self.years[0]), self.years[-1] + 1), row))
         return found
 
     @functools.cache

@@ -14,6 +14,11 @@ LINE_END = re.compile(rb"\r\n|\r|\n")
 
 COLUMNS = ["act", "kind", "subject", "name", "year", "value", "low", "high", "unit", "note"]
 COLUMN_AT = {column: at for at, column in enumerate(COLUMNS)}
+# The first name of the header, by the format of the file. All else in the header is equal.
+FIRST_NAMES = {1: "act", 2: "act2"}
+HEADERS = {version: [name, *COLUMNS[1:]] for version, name in FIRST_NAMES.items()}
+# The format of what the tools give to be filled in.
+OF_TEMPLATES = 2
 # The columns that name a record, of each kind; of any other kind all that may.
 COLUMNS_OF_KEY: dict[str, list[str]] = {
     "span": [], "activity": ["name", "year"], "factor": ["name", "year"], "line": ["name"],
@@ -26,7 +31,7 @@ KEY_AT = {kind: [COLUMN_AT[column] for column in columns] for kind, columns in C
 # The files that spreadsheets keep, and text files that may hold rows; how a header or a row of an act begins.
 SPREADSHEETS = {".xlsx", ".xlsm", ".xlsb", ".xls", ".ods", ".numbers"}
 OTHER_TEXTS = {".txt", ".tsv", ".tab"}
-BEGIN_OF_ROWS = re.compile(r"[\s\"]*(act|enter|correct|withdraw)\"?[,;\t|]", re.IGNORECASE)
+BEGIN_OF_ROWS = re.compile(r"[\s\"]*(act2?|enter|correct|withdraw)\"?[,;\t|]", re.IGNORECASE)
 
 # What names a record: its kind, and what it has in the columns of COLUMNS_OF_KEY.
 Key = tuple[str, ...]
@@ -70,8 +75,10 @@ class Row:
 
     def field(self, column: str) -> str:
         """The field of a column by its name, or nothing where the row is too short."""
-        at, fields = COLUMN_AT[column], self.fields
-        return fields[at] if at < len(fields) else ""
+        try:
+            return self.fields[COLUMN_AT[column]]
+        except IndexError:
+            return ""
 
     def with_fields(self, **changed: str) -> "Row":
         """The same row with other fields, at the same place."""
@@ -85,12 +92,13 @@ class Row:
 
 class Sheet:
     """A file of a folder: the name to show for it, its bytes and its rows, of which the first is the
-    header; and these rows as they are read without what is wrong with the file.
+    header; these rows as they are read without what is wrong with the file; and the format of its header.
     """
 
     def __init__(self, name: str, data: bytes) -> None:
         self.name, self.data = name, data
         self.rows = self.meant = split(self, data)
+        self.version = version_of(self.rows[0].fields) if self.rows else 1
 
     def rows_above(self, line: int) -> Iterator[Row]:
         """The rows above a line up to the header, the nearest first."""
@@ -101,6 +109,12 @@ class Sheet:
         """The rows below a line, the nearest first."""
         for at in range(bisect.bisect_right(self.meant, line, key=lambda row: row.line), len(self.meant)):
             yield self.meant[at]
+
+
+def version_of(header: Iterable[str]) -> int:
+    """The format of a header: that whose first name it has, also with blanks or in capitals."""
+    names = [name.strip().casefold() for name in header]
+    return next((version for version, name in FIRST_NAMES.items() if version > 1 and name in names), 1)
 
 
 def joined(fields: Iterable[str]) -> bytes:

@@ -187,9 +187,9 @@ def write_plot(path: str, splicing: Splicing) -> None:
     columns = [COLUMN_AT[column] for column in ("value", "low", "high")]
     known = [[row.fields[at] or row.field("value") for at in columns] for row in splicing.y.figures.values()]
     filled = [[fields[at] for at in columns] for fields in splicing.rows.values()]
-    parts = [pictures.Points(name, list(years), [tuple(map(float, point)) for point in points])
-             for name, years, points in (("figures", splicing.y.figures, known),
-                                         (f"filled, {splicing.method}", splicing.rows, filled))]
+    parts = [pictures.Points(name, years, [tuple(map(float, point)) for point in points])
+             for name, years, points in (("figures", list(splicing.y.figures), known),
+                                         (f"filled, {splicing.method}", list(splicing.rows), filled))]
     text = pictures.Pictures().points(splicing.y.name, parts, splicing.y.unit)
     write_whole(pathlib.Path(path), text.encode())
 

@@ -4,7 +4,7 @@ from __future__ import annotations
 import pathlib
 
 from tools import vocabulary
-from tools.sheets import COLUMN_AT, COLUMNS, FolderFault
+from tools.sheets import COLUMN_AT, COLUMNS, HEADERS, OF_TEMPLATES, FolderFault
 from tools.spreadsheet import Grid
 from tools.xlsx import Spreadsheet
 
@@ -62,7 +62,7 @@ def is_list(grid: Grid) -> bool:
 def add_rows(book: Spreadsheet, name: str, kinds: list[str]) -> None:
     """Adds an empty sheet of rows with its lists."""
     widths = {COLUMN_AT[column] + 1: width for column, width in WIDTHS.items()}
-    sheet = book.add(name, COLUMNS, widths, ABOUT[name])
+    sheet = book.add(name, HEADERS[OF_TEMPLATES], widths, ABOUT[name])
     for column, words in (("act", vocabulary.words()["acts"]), ("kind", kinds)):
         book.choose(sheet, COLUMN_AT[column] + 1, LAST_ROW, f'"{",".join(words)}"', True)
     for column in COLUMNS:

@@ -28,14 +28,14 @@ def rows_of_defaults() -> set[tuple[str, ...]]:
 
 def is_unchecked(row: Row) -> bool:
     """Tells whether a factor is an unchecked row of defaults/."""
-    is_one = row.field("kind") == "factor" and row.field("note").endswith(UNCHECKED)
+    is_one = row.field("note").endswith(UNCHECKED)
     return is_one and tuple(map(row.field, COLUMNS_ALIKE)) in rows_of_defaults()
 
 
 def unchecked_defaults(book: Book) -> list[Fault]:
     """The factors that lines or totals take and that are unchecked rows of defaults/: once for all of them."""
     taken = book.taken()
-    rows = [row for key, row in book.rows.items() if is_unchecked(row)
+    rows = [row for key, row in book.rows.items() if key[0] == "factor" and is_unchecked(row)
             and (key[1].startswith("GWP.") or (key[0], key[1]) in taken)]
     if not rows:
         return []

@@ -3,12 +3,12 @@ import decimal
 import fractions
 import re
 
-from tools import causes, units, vocabulary
+from tools import causes, half_lives, units, vocabulary
 from tools.asking import Asking, base_unit, cause_of
 from tools.basis_faults import of_basis
 from tools.faults import Explained, at_row
 from tools.sheets import Row
-from tools.vocabulary import HALF_LIFE_UNIT, limit, listed, nearest
+from tools.vocabulary import HALF_LIFE_UNIT, listed, nearest
 
 
 def wrong_unit(asking: Asking, row: Row, column: str) -> Explained:
@@ -55,7 +55,7 @@ def rate_of_decay(asking: Asking, row: Row, text: str) -> Explained | None:
     forms = {form for _, form in asking.parameters_that_take(row)}
     if forms and "decay" not in forms:
         return None
-    years = years_of_rate(row.field("value"), reading.size)
+    years = years_of_rate(row, reading.size)
     half_life = row.with_fields(value=years or "1", low="", high="", unit=HALF_LIFE_UNIT)
     if not asking.takes(half_life, None):
         return None
@@ -63,7 +63,8 @@ def rate_of_decay(asking: Asking, row: Row, text: str) -> Explained | None:
     if reading.size == fractions.Fraction(1, 100) and not rate.endswith("%"):
         rate += "%"
     value = f"ln 2 / {rate} = {years}" if years else "ln 2 / k"
-    write = f"the unit is {HALF_LIFE_UNIT}, the value the half-life {value} in whole years"
+    whole = "whole " if row.sheet.version == 1 else ""
+    write = f"the unit is {HALF_LIFE_UNIT}, the value the half-life {value} in {whole}years"
     if row.field("low") or row.field("high"):
         write += ", and low and high are empty"
     if not forms:
@@ -84,10 +85,11 @@ def unit_beside(row: Row, measures: str | None = None) -> tuple[str | None, str 
     return None, None
 
 
-def years_of_rate(text: str, size: fractions.Fraction | int = 1) -> str | None:
-    """The whole years of the half-life of a yearly rate of decay in a unit of a size, or None where a text
-    is no such rate.
+def years_of_rate(row: Row, size: fractions.Fraction | int = 1) -> str | None:
+    """The half-life of a yearly rate of decay in a unit of a size, as the format of its row has it, or None where
+    the value is no such rate.
     """
+    text = row.field("value")
     percent = text.strip().endswith("%")
     mended = causes.number(text.strip().removesuffix("%").rstrip())
     if not mended.sure or not re.fullmatch(r"\d{1,9}(\.\d+)?|\.\d+", mended.text):
@@ -96,8 +98,7 @@ def years_of_rate(text: str, size: fractions.Fraction | int = 1) -> str | None:
     rate = decimal.Decimal(mended.text) * share.numerator / share.denominator
     if not 0 < rate < 1:
         return None
-    years = decimal.Decimal(2).ln() / rate
-    return f"{years:.0f}" if round(years) in range(1, int(limit("half_life")) + 1) else None
+    return half_lives.rounded(decimal.Decimal(2).ln() / rate, row.sheet.version)
 
 
 def unit_otherwise(text: str, meant: units.Meant | None, measures: str | None) -> str:

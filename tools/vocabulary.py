@@ -63,6 +63,7 @@ class Equation(typing.TypedDict):
 class Words(typing.TypedDict):
     """The facts of tools/facts.json that the tools read."""
     header: list[str]
+    formats: list[str]
     acts: list[str]
     kinds: list[str]
     forms: list[str]
@@ -123,12 +124,14 @@ def same_code(code: str) -> str | None:
     return next((known for known in categories() if plain(known) == plain(code)), None)
 
 
+@functools.cache
 def volume_of_equation(code: str) -> str | None:
     """The volume of the Guidelines that an equation is of, or None where it is of none."""
     found = re.match(r"Volume (\d)", equations()[code]["source"])
     return found.group(1) if found else None
 
 
+@functools.cache
 def elsewhere(code: str, equation: str) -> tuple[str, str, str] | None:
     """What the code of a line of an equation is in other guidelines, with that code and the one here; or
     None.

@@ -10,7 +10,7 @@ import dataclasses
 import decimal
 import re
 
-from tools import causes, spreadsheet, vocabulary
+from tools import causes, half_lives, spreadsheet, vocabulary
 from tools.asking import TOTAL
 from tools.faults import shown, years_said
 from tools.other_words import OTHER_KINDS, meant_by
@@ -345,9 +345,11 @@ class Reader:
             figures[HIGH] = written(EXACT.add(value, above))
         file = "" if self.made.file == self.grid.name else f"{self.made.file} "
         note = f"{series.note}; {file}{places[VALUE]}" if series.note else f"{file}{places[VALUE]}"
-        self.made.rows.append(joined([
-            "enter", series.kind, "", series.name, str(year), figures[VALUE], figures.get(LOW, ""),
-            figures.get(HIGH, ""), series.unit, " ".join(note.split())]))
+        fields = ["enter", series.kind, "", series.name, str(year), figures[VALUE], figures.get(LOW, ""),
+                  figures.get(HIGH, ""), series.unit, " ".join(note.split())]
+        if half_lives.has_tenth(fields):
+            self.made.rows[0] = joined(half_lives.header_for([fields]))
+        self.made.rows.append(joined(fields))
         self.made.places.append({**series.places, **places})
         self.made.lines.append(self.grid.line(*cells[VALUE]))
 

@@ -9,7 +9,7 @@ from tools import vocabulary
 from tools.fuels import DEFAULTS
 from tools.new_folder import tier_1
 from tools.row_templates import TEMPLATES
-from tools.sheets import COLUMNS
+from tools.sheets import HEADERS, OF_TEMPLATES
 from tools.vocabulary import Parameter
 
 PARTS = ["units", "categories", "equations", "parameters", "templates", "defaults"]
@@ -21,6 +21,7 @@ MEASURED_YEARLY = {
 }
 # The line of the year before that such a parameter takes: the line itself, or that of the stock.
 LINE_OF_LAST_YEAR = {"Q91": "NAME", "Q92": "STOCK"}
+HEADER = ",".join(HEADERS[OF_TEMPLATES])
 
 # A word, what is said of it, and what else it is found by: of a default factor its file.
 Item = tuple[str, str, str]
@@ -150,14 +151,14 @@ def print_equation(code: str) -> None:
             given = f"by decay, of a factor in {vocabulary.HALF_LIFE_UNIT}"
         print(f"  {parameter['name']:8} {parameter['measures']}, {given}")
     rows = [sample(code, parameter) for parameter in equation["parameters"]]
-    print(f"\n{','.join(COLUMNS)}\nenter,line,CATEGORY,NAME,,{code},,,,")
+    print(f"\n{HEADER}\nenter,line,CATEGORY,NAME,,{code},,,,")
     print("\n".join([bound for bound, _ in rows] + [figure for _, figure in rows if figure]))
 
 
 def print_template(name: str) -> None:
     """A template with what to know of it."""
     template = TEMPLATES[name]
-    print(f"{name}: {template.title}\n{template.about}\n\n{','.join(COLUMNS)}")
+    print(f"{name}: {template.title}\n{template.about}\n\n{HEADER}")
     print("\n".join(template.rows))
 
 

@@ -100,7 +100,7 @@ class Recipes(unittest.TestCase):
         self.assertEqual(len(searches), 2)
         for search in searches:
             found = subprocess.run(shlex.split(search), cwd=TOP, capture_output=True).stdout.decode("utf-8")
-            self.assertGreater(len({line.partition(":")[0] for line in found.splitlines()}), 30, search)
+            self.assertGreater(len({line.partition(":")[0] for line in found.splitlines()}), 25, search)
 
     def test_places_are_counted(self) -> None:
         counted = {head: part for head, part in recipes().items() if "| File | Places |" in part}

@@ -7,6 +7,7 @@ HERE = pathlib.Path(__file__).resolve().parent
 TOP = HERE.parent.parent
 PROGRAM = os.environ.get("GHG_PROGRAM") or str(TOP / "crates/ghg/out/ghg")
 HEADER = "act,kind,subject,name,year,value,low,high,unit,note\n"
+HEADER_2 = HEADER.replace("act", "act2", 1)
 
 
 def workbook(*words: str | pathlib.Path, cwd: pathlib.Path | str = TOP) -> subprocess.CompletedProcess[str]:

@@ -67,7 +67,7 @@ class Defaults(unittest.TestCase):
             half_life = decimal.Decimal(2).ln() / rate
             self.assertIn(f"ln 2 / k is {half_life:.2f} years", row["note"])
             columns = [row[column] for column in ("value", "low", "high", "unit")]
-            self.assertEqual(columns, [f"{half_life:.0f}", "", "", "yr"])
+            self.assertEqual(columns, [f"{half_life:.1f}", "", "", "yr"])
 
 
 if __name__ == "__main__":

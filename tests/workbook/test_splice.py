@@ -18,7 +18,8 @@ BY_B = "A --method overlap --by B"
 FILLED = {
     "between two years": (
         A, "A --method linear", "A,1991,20.000000000000,19.333333333333,21.333333333334,TJ,linear"
-        "|A,1992,30.000000000000,29.666666666666,30.666666666667,TJ,linear", "A in TJ, linear: 1991 to 1992 from 1990 and 1993"),
+        "|A,1992,30.000000000000,29.666666666666,30.666666666667,TJ,linear",
+        "A in TJ, linear: 1991 to 1992 from 1990 and 1993"),
     "by another series": (
         B, "A --method surrogate --by B", "A,1990,40.000000000000,32.000000000000,48.000000000000,TJ,surrogate",
         "A in TJ, surrogate: 1990 from activity B of these years, and from both in 1991"),
@@ -30,7 +31,8 @@ FILLED = {
         "A,1990,67.500000000000,67.500000000000,67.500000000000,TJ,surrogate",
         "A in TJ, surrogate: 1990 from factor F of these years, and from both in 1992"),
     "years that are left": (
-        B, "A --method linear", None, "A, not filled: 1990 and 1993, which no two years with figures enclose: extrapolation"),
+        B, "A --method linear", None,
+        "A, not filled: 1990 and 1993, which no two years with figures enclose: extrapolation"),
     "a year in which the other series lacks": (
         B, BY_B, "A,1990,50.000000000000,46.000000000000,54.000000000000,TJ,overlap",
         "A, not filled: 1993, in which B has no figure"),
@@ -40,14 +42,17 @@ REFUSED = {
     "two units": (
         f"{A}|activity,,A,1995,1,,,GJ", "A --method linear",
         '1.csv:9 unit "GJ": A is in TJ at 1.csv:7; a series is spliced in one unit: correct either'),
-    "two units of the other series": (f"{B}|activity,,B,1995,1,,,kt", BY_B, '1.csv:12 unit "kt": B is in t at 1.csv:9; a'),
+    "two units of the other series": (
+        f"{B}|activity,,B,1995,1,,,kt", BY_B, '1.csv:12 unit "kt": B is in t at 1.csv:9; a'),
     "a factor": (A, "EF --method linear", "EF is a factor: a factor holds from its year until its next record, so"),
     "no such activity": (A, "A1 --method linear", "there is no activity A1; near to it: A"),
     "no figure": ("activity,,A,1990,NE,,,TJ", "A --method linear", "A has no figure"),
     "no two years": (
-        "activity,,A,1990,10,,,TJ", "A --method linear", "linear needs two years with figures, and A has 1990; extrapolation"),
+        "activity,,A,1990,10,,,TJ", "A --method linear",
+        "linear needs two years with figures, and A has 1990; extrapolation"),
     "no year with both": (
-        f"{A}|activity,,B,1991,1,,,t", BY_B, "no year has figures of both A and B; overlap needs one that has: enter one"),
+        f"{A}|activity,,B,1991,1,,,t", BY_B,
+        "no year has figures of both A and B; overlap needs one that has: enter one"),
     "a range that holds zero": (
         f"{A}|activity,,B,1991,1,,,t|activity,,B,1993,0,-1,1,t", BY_B,
         "1.csv:10: B may be zero in 1993, and overlap divides by it; correct its bounds, or take another series"),

@@ -1,11 +1,13 @@
 """The vocabulary against the program: each word of it is one of the program's, and measures what it says."""
+import decimal
 import subprocess
 import unittest
 
-from tests.workbook.running import HEADER, TOP, session, workbook
-from tools import vocabulary
+from tests.workbook.running import HEADER, HEADER_2, TOP, session, workbook
+from tools import half_lives, sheets, vocabulary
 
 SPAN = HEADER + "enter,span,,,2019,2020,2019,,,\n"
+TENTH = decimal.Decimal("0.1")
 
 
 def replies(*bodies: str) -> list[str]:
@@ -104,6 +106,25 @@ class Words(unittest.TestCase):
                 HEADER + f"enter,span,,,1950,{1950 + limits['span'] + more},1950,,,\n"]
             self.assertEqual([reply.split()[0] for reply in replies(*bodies)], [due] * len(bodies))
 
+    def test_headers_are_those_of_the_program(self) -> None:
+        words = vocabulary.words()
+        self.assertEqual(words["header"], sheets.COLUMNS)
+        self.assertEqual(words["formats"], list(sheets.FIRST_NAMES.values()))
+        for version, header in sheets.HEADERS.items():
+            self.assertEqual(replies(",".join(header) + "\n"), ["accepted 1"], version)
+
+    def test_half_lives_are_those_of_the_program(self) -> None:
+        whole, others = ["1", "12", "60"], ["1.0", "1.5", "59.9", "60.0"]
+        for version, due in ((1, whole), (2, [*whole, *others])):
+            years = [*whole, *others, "0", "0.9", "60.1", "61", "1.50", "NO"]
+            bodies = [",".join(sheets.HEADERS[version]) + f"\nenter,factor,,H{at},2019,{value},,,yr,\n"
+                      for at, value in enumerate(years)]
+            wrong = "refused 6 BadNumber row 1 column value"
+            self.assertEqual([value for value, reply in zip(years, replies(*bodies)) if reply != wrong], due)
+            shortest, longest = half_lives.limits()
+            self.assertEqual([half_lives.rounded(figure, version) is not None for figure in (
+                shortest, longest, shortest / 2 - TENTH, longest + 1)], [True, True, False, False])
+
     def test_file_is_what_the_code_says(self) -> None:
         made = subprocess.run([TOP / "tools/facts"], capture_output=True, check=True).stdout
         self.assertEqual(made, vocabulary.PATH.read_bytes())
@@ -150,7 +171,7 @@ class Search(unittest.TestCase):
     def test_templates_are_rows_that_the_program_takes(self) -> None:
         filled = {"CATEGORY": "RA", "YEAR,VALUE,LOW,HIGH": "2020,1,0.5,2", "YEAR,VALUE,,": "2020,1,,"}
         for code in [code for code in ("Q10", "Q39", "Q63", "Q91") if code in bindable()]:
-            body = HEADER + workbook("words", code).stdout.split(HEADER)[1]
+            body = HEADER_2 + workbook("words", code).stdout.split(HEADER_2)[1]
             for blank, text in filled.items():
                 body = body.replace(blank, text)
             if ",line,LINE," in body:

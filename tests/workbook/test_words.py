@@ -5,7 +5,7 @@ import contextlib
 import io
 import unittest
 
-from tests.workbook.running import HEADER, TOP, session, workbook
+from tests.workbook.running import HEADER, HEADER_2, TOP, session, workbook
 from tools import people_words, wordlist
 from tools.row_templates import TEMPLATES
 
@@ -110,7 +110,7 @@ class Templates(unittest.TestCase):
         for name in TEMPLATES:
             shown = workbook("words", "templates", name).stdout
             self.assertTrue(shown.startswith(f"{name}: {TEMPLATES[name].title}\n"), shown)
-            bodies = [HEADER + shown.split(HEADER)[1]]
+            bodies = [HEADER_2 + shown.split(HEADER_2)[1]]
             bodies = [span, *bodies] if name != "span" else bodies
             bodies = [line, *bodies] if name in OF_RECORDS else bodies
             for blank, text in FILLED.items():
