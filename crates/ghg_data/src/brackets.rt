@@ -1,4 +1,4 @@
-//! Brackets of decay factors, each computed once.
+//! The brackets of decay factors that a book keeps.
 
 ghost use Rattle.std.specs.Prelude.{◌≡◌, IfSome};
 ghost use Rattle.std.specs.List.{AllByRecursion};
@@ -18,7 +18,7 @@ struct Bracket {
     ghost right: { factor ≡ decay_bounds half_life },
 }
 
-/// The brackets of the half-lives that the rows of submissions named. There are few of them.
+/// The brackets of half-lives that rows of submissions named, by use. There are few of them.
 #[derive(Drop)]
 pub(crate) struct Brackets {
     kept: Vec<Bracket>,

@@ -67,4 +67,4 @@ bracket_of parts exponent = record {
 
 -- the bracket of the yearly decay factor for a half-life in tenths of a year
 abbrev pub decay_bounds : ℕ → Bounds
-decay_bounds tenths = bracket_of most_parts tenths
+decay_bounds tenths = bracket_of 1_024 tenths

@@ -6,8 +6,8 @@ ghost use Rattle.ghg_units.specs.Format.{after_mark, format_in};
 // How UTF-8 writes a byte order mark.
 const MARK: [u8; 3] = [0xEF, 0xBB, 0xBF];
 
-/// The format that a body's header names, after one byte order mark if there is one: 2 where its first name is
-/// `act2`, with quotes or without, and otherwise 1. It takes no memory.
+/// The format that a body's header names, after one byte order mark if there is one: 2 where its first
+/// name is `act2`, with quotes or without, and otherwise 1. It takes no memory.
 pub fn format_of(body: &[u8]) -> u32
     ensures { result ≡ format_in body.now }
 {

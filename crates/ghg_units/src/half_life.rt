@@ -13,8 +13,8 @@ pub const SHORTEST_HALF_LIFE: u32 = 10;
 pub const LONGEST_HALF_LIFE: u32 = 600;
 
 /// The half-life, in tenths of a year, that a text writes in a body of a format: in format 1 whole years from
-/// 1 to 60, in one or two digits; in format 2 these, or these with a point and one digit. `None` exactly where
-/// the text is no such half-life.
+/// 1 to 60, in one or two digits; in format 2 these, or these with a point and one digit. `None` exactly
+/// where the text is no such half-life.
 #[tactic(auto, unfolding(crate::specs::HalfLife::half_life_in))]
 pub fn read_half_life(format: u32, text: &[u8]) -> Option<u32>
     ensures reads { result ≡ half_life_in format text.now }
