@@ -71,8 +71,8 @@ session_no_door p first last input input' output output' steps steps' status s i
     absurd (subst (EndsBy p (state_after p first s.answered) last input' output.grows s.took s.answered s.part) is s.ends)
 
 -- and a serving not at the input, the output or the keeper
-module _ {service : Service} {before after : OfficeAt} {faults faults' : ℕ} {door door' : Register Tape} {status : Status}
-    (s : Serves service before after faults faults' door door' status) where
+module _ {service : Service} {before after : OfficeAt} {door door' : Register Tape} {status : Status}
+    (s : Serves service before after door door' status) where
   pub no_input : status ≡ InputFailed → ⊥
   no_input is = absurd (subst (EndsServing service door'.port s.taken s.dropped) is s.ends)
 

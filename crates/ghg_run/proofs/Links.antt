@@ -1,26 +1,21 @@
 -- Links that are served one after the other.
-use Rattle.std.proofs.Common.{◌≡◌, ◌∙◌, ◌⊎◌, inl, inr, ℕ, ◌+◌, ◌<◌, ◌≤◌, Bool, true, false, cond, List, [], ◌∷◌, ◌++◌, length, map, option_map, Option, Some, None, IfSome, append-nil, add-zero, add_assoc, append_assoc, length-append, refl, sym, ap, subst, arith}
+use Rattle.std.proofs.Common.{◌≡◌, ◌∙◌, inl, ℕ, ◌+◌, ◌<◌, ◌≤◌, Bool, List, [], ◌∷◌, ◌++◌, length, map, option_map, Option, Some, None, IfSome, append-nil, add-zero, add_assoc, append_assoc, length-append, refl, sym, ap, subst, arith}
 use Rattle.std.specs.Option.{is_some}
-use Rattle.std.proofs.lemmas.Bool.{false≢true}
 use Rattle.std.proofs.lemmas.List.{map-append}
-use Rattle.std.proofs.lemmas.List.Sums.{sum_by_push}
-use Rattle.ghg_http.specs.Serve.{TellsFaults, is_unavailable}
-use Rattle.ghg_outer.specs.Counts.{IsCounted}
 use Rattle.ghg_outer.specs.Doors.{GivesLink, IsKept, Opens, Register, TakesBack}
 use Rattle.ghg_outer.specs.Tape.{Tape}
 use Rattle.ghg_words.specs.declared.command.Service.{Service}
 use Rattle.ghg_words.specs.declared.status.Status.{Status}
 use Rattle.ghg_words.specs.declared.status.Status.TheVariants.{OutOfMemory}
-use Rattle.ghg_run.specs.Serve.{EndsServing, IsServing, OfficeAt, ServedLink, Serves, ServesNew, raised_by, register_of, unavailable_count}
+use Rattle.ghg_run.specs.Serve.{EndsServing, IsServing, OfficeAt, ServedLink, Serves, ServesNew, register_of}
 
--- what a serving acts on: the office, the count of the keeper's faults and what the door tells
+-- what a serving acts on: the office, and what the door tells
 pub record Station : Type 0 where
   pub office : OfficeAt
-  pub faults : ℕ
   pub door : Register Tape
 
-abbrev pub station : OfficeAt → ℕ → Register Tape → Station
-station office faults door = record { office = office; faults = faults; door = door }
+abbrev pub station : OfficeAt → Register Tape → Station
+station office door = record { office = office; door = door }
 
 -- ---- what a door tells, with each link by what that tells
 
@@ -89,158 +84,81 @@ links_more xs ys (Some links) = ap Some (append_assoc links xs ys)
 
 -- ---- a serving
 
-pub serving_more : (a b c : OfficeAt) (links : List ServedLink) (one : ServedLink) → IsServing a links b → ServesNew b one c
-    → IsServing a (links ++ one ∷ []) c
-serving_more a b c [] one e s = (c, subst (λ (o : OfficeAt). ServesNew o one c) e s, refl)
-serving_more a b c (first ∷ links) one all s = (all.0, all.1, serving_more all.0 b c links one all.2 s)
-
--- the keeper failed at least as often as that reply was due
-unavailable_more : (links : List ServedLink) (one : ServedLink) (first before after : ℕ)
-    → raised_by (unavailable_count links) first ≤ before
-    → IsCounted before after (is_unavailable one.due ≡ true)
-    → raised_by (unavailable_count (links ++ one ∷ [])) first ≤ after
-unavailable_more links one first before after h counted =
-    let more = sum_by_push (λ (s : ServedLink). cond (is_unavailable s.due) 1 0) links one in
-    by (is_unavailable one.due) refl more
-  where
-    by : (failed : Bool) → is_unavailable one.due ≡ failed
-        → unavailable_count (links ++ one ∷ []) ≡ unavailable_count links + cond failed 1 0
-        → raised_by (unavailable_count (links ++ one ∷ [])) first ≤ after
-    by true e more = let rose = counted.rose e in rw more (omega (arith, h, rose))
-    by false e more = rw more (omega (arith, h, counted.later))
-
--- and failed only there
-counted_links : (links : List ServedLink) (one : ServedLink) (first before after : ℕ)
-    → raised_by (unavailable_count (links ++ one ∷ [])) first ≤ after
-    → IsCounted first before (0 < unavailable_count links) → IsCounted before after (is_unavailable one.due ≡ true)
-    → IsCounted first after (0 < unavailable_count (links ++ one ∷ []))
-counted_links links one first before after often counted last = record {
-  later = omega (arith, counted.later, last.later);
-  rose = λ some. omega (arith, often, some);
-  stays = by (is_unavailable one.due) refl counted.stays last.stays
-      (sum_by_push (λ (s : ServedLink). cond (is_unavailable s.due) 1 0) links one);
-}
-  where
-    by : (failed : Bool) → is_unavailable one.due ≡ failed
-        → (0 < unavailable_count links) ⊎ (before ≡ first) → (is_unavailable one.due ≡ true) ⊎ (after ≡ before)
-        → unavailable_count (links ++ one ∷ []) ≡ unavailable_count links + cond failed 1 0
-        → (0 < unavailable_count (links ++ one ∷ [])) ⊎ (after ≡ first)
-    by true e had has more = inl (omega (arith, more))
-    by false e (inl some) has more = inl (omega (arith, some, more))
-    by false e (inr same) (inl is) more = absurd (false≢true (sym e ∙ is))
-    by false e (inr same) (inr still) more = inr (still ∙ same)
-
--- and that is never due where nothing is stored
-available_more : (links : List ServedLink) (one : ServedLink) → unavailable_count links ≡ 0
-    → (is_unavailable one.due ≡ true → ⊥) → unavailable_count (links ++ one ∷ []) ≡ 0
-available_more links one none other =
-    by (is_unavailable one.due) refl
-    (sum_by_push (λ (s : ServedLink). cond (is_unavailable s.due) 1 0) links one)
-  where
-    by : (failed : Bool) → is_unavailable one.due ≡ failed
-        → unavailable_count (links ++ one ∷ []) ≡ unavailable_count links + cond failed 1 0
-        → unavailable_count (links ++ one ∷ []) ≡ 0
-    by true e more = absurd (other e)
-    by false e more = omega (arith, none, more)
+pub serving_more : (stored : Bool) (a b c : OfficeAt) (links : List ServedLink) (one : ServedLink) → IsServing stored a links b
+    → ServesNew stored b one c → IsServing stored a (links ++ one ∷ []) c
+serving_more stored a b c [] one e s = (c, subst (λ (o : OfficeAt). ServesNew stored o one c) e s, refl)
+serving_more stored a b c (first ∷ links) one all s = (all.0, all.1, serving_more stored all.0 b c links one all.2 s)
 
 -- what was done so far, where submissions are stored or not
 pub record ServedSoFar (stored : Bool) (before after : Station) (number : ℕ) : Type 0 where
   pub links : List ServedLink
   pub number_is : length links ≡ number
-  pub serving : IsServing before.office links after.office
+  pub serving : IsServing stored before.office links after.office
   pub finished : after.door.finished ≡ option_map (λ all. all ++ map (λ (s : ServedLink). s.link) links) before.door.finished
   pub given : after.door.given ≡ option_map (λ n. n + length links) before.door.given
-  pub unavailable : raised_by (unavailable_count links) before.faults ≤ after.faults
-  pub counted : IsCounted before.faults after.faults (0 < unavailable_count links)
-  pub available : stored ≡ false → unavailable_count links ≡ 0
 
-pub none_served : (stored : Bool) (a b : Station) → b.office ≡ a.office → b.faults ≡ a.faults → b.door.given ≡ a.door.given
+pub none_served : (stored : Bool) (a b : Station) → b.office ≡ a.office → b.door.given ≡ a.door.given
     → b.door.finished ≡ a.door.finished → ServedSoFar stored a b 0
-none_served stored a b office counts given finished = record {
+none_served stored a b office given finished = record {
   links = [];
   number_is = refl;
   serving = office;
   finished = finished ∙ sym (no_link_more a.door.finished);
   given = given ∙ sym (nothing_more a.door.given);
-  unavailable = omega arith;
-  counted = record { later = omega arith; rose = λ some. omega arith; stays = inr counts };
-  available = λ _. refl;
 }
 
 -- nothing was done since
-pub served_same : (stored : Bool) (a b c : Station) (number : ℕ) → ServedSoFar stored a b number → c.office ≡ b.office → c.faults ≡ b.faults
+pub served_same : (stored : Bool) (a b c : Station) (number : ℕ) → ServedSoFar stored a b number → c.office ≡ b.office
     → c.door.given ≡ b.door.given → c.door.finished ≡ b.door.finished → ServedSoFar stored a c number
-served_same stored a b c number so_far office counts given finished = record {
+served_same stored a b c number so_far office given finished = record {
   links = so_far.links;
   number_is = so_far.number_is;
-  serving = subst (IsServing a.office so_far.links) (sym office) so_far.serving;
+  serving = subst (IsServing stored a.office so_far.links) (sym office) so_far.serving;
   finished = finished ∙ so_far.finished;
   given = given ∙ so_far.given;
-  unavailable = let before = so_far.unavailable in omega (arith, before, counts);
-  counted = subst (λ n. IsCounted a.faults n (0 < unavailable_count so_far.links)) (sym counts) so_far.counted;
-  available = so_far.available;
 }
 
 module _ (stored : Bool) (a b c : Station) (number : ℕ) (one : ServedLink) (so_far : ServedSoFar stored a b number)
-    (s : ServesNew b.office one c.office) (given : c.door.given ≡ option_map (λ n. n + 1) b.door.given)
-    (faults : TellsFaults one.due stored b.faults c.faults) where
+    (s : ServesNew stored b.office one c.office) (given : c.door.given ≡ option_map (λ n. n + 1) b.door.given) where
   given_more : c.door.given ≡ option_map (λ n. n + length (so_far.links ++ one ∷ [])) a.door.given
   given_more = rw length-append (given ∙ ap (option_map (λ n. n + 1)) so_far.given ∙ counted_more (length so_far.links) 1 a.door.given)
-
-  available_still : stored ≡ false → unavailable_count (so_far.links ++ one ∷ []) ≡ 0
-  available_still plain = available_more so_far.links one (so_far.available plain)
-      (λ e. false≢true (sym plain ∙ faults.store e))
-
-  unavailable_still : raised_by (unavailable_count (so_far.links ++ one ∷ [])) a.faults ≤ c.faults
-  unavailable_still = unavailable_more so_far.links one a.faults b.faults c.faults so_far.unavailable faults.counted
-
-  counted_still : IsCounted a.faults c.faults (0 < unavailable_count (so_far.links ++ one ∷ []))
-  counted_still = counted_links so_far.links one a.faults b.faults c.faults unavailable_still so_far.counted faults.counted
 
   pub one_more : c.door.finished ≡ option_map (λ links. links ++ one.link ∷ []) b.door.finished → ServedSoFar stored a c (number + 1)
   one_more finished = record {
     links = so_far.links ++ one ∷ [];
     number_is = length-append so_far.links (one ∷ []) ∙ ap (λ n. n + 1) so_far.number_is;
-    serving = serving_more a.office b.office c.office so_far.links one so_far.serving s;
+    serving = serving_more stored a.office b.office c.office so_far.links one so_far.serving s;
     finished = rw map-append (finished ∙ ap (option_map (λ links. links ++ one.link ∷ [])) so_far.finished
         ∙ links_more (map (λ (s : ServedLink). s.link) so_far.links) (one.link ∷ []) a.door.finished);
     given = given_more;
-    unavailable = unavailable_still;
-    counted = counted_still;
-    available = available_still;
   }
 
   -- the link could not be taken back
   pub serving_drops : (service : Service) → stored ≡ is_some service.settings.store → c.door.finished ≡ b.door.finished
-      → number < service.connections → Serves service a.office c.office a.faults c.faults a.door c.door OutOfMemory
+      → number < service.connections → Serves service a.office c.office a.door c.door OutOfMemory
   serving_drops service store finished fewer = record {
     taken = so_far.links;
     dropped = one ∷ [];
-    serving = serving_more a.office b.office c.office so_far.links one so_far.serving s;
+    serving = subst (λ kept. IsServing kept a.office (so_far.links ++ one ∷ []) c.office) store
+        (serving_more stored a.office b.office c.office so_far.links one so_far.serving s);
     finished = finished ∙ so_far.finished;
     given = given_more;
     ends = (omega (arith, fewer, so_far.number_is), inl refl);
-    unavailable = unavailable_still;
-    counted = counted_still;
-    available = λ none. available_still (store ∙ ap is_some none);
   }
 
 pub serving_ends : (stored : Bool) (service : Service) (a b : Station) (number : ℕ) (status : Status) → ServedSoFar stored a b number
     → stored ≡ is_some service.settings.store
     → ((links : List ServedLink) → length links ≡ number → EndsServing service b.door.port links [] status)
-    → Serves service a.office b.office a.faults b.faults a.door b.door status
+    → Serves service a.office b.office a.door b.door status
 serving_ends stored service a b number status so_far store ends =
     let same : so_far.links ++ [] ≡ so_far.links = append-nil so_far.links in
     record {
       taken = so_far.links;
       dropped = [];
-      serving = rw same so_far.serving;
+      serving = rw same (subst (λ kept. IsServing kept a.office so_far.links b.office) store so_far.serving);
       finished = so_far.finished;
       given = rw same so_far.given;
       ends = ends so_far.links so_far.number_is;
-      unavailable = rw same so_far.unavailable;
-      counted = rw same so_far.counted;
-      available = λ none. rw same (so_far.available (store ∙ ap is_some none));
     }
 
 pub port_stays : (port : ℕ) (before after : Option ℕ) → after ≡ before → IfSome before (λ p. p ≡ port) → IfSome after (λ p. p ≡ port)

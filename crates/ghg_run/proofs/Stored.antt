@@ -80,9 +80,9 @@ pub served : (service : Service) (stored : Bool) (before mid after : Shelf) (ste
     → Begins service.settings.store before mid steps first opened_steps × (between ≡ output)
     → IsKeptIn service.settings.store mid first.accepted → (stored ≡ true → KeepsAccepted mid after last.accepted)
     → mid.faults ≡ before.faults
-    → Serves service (office_at first opened_steps) (office_at last steps') mid.faults after.faults door door' status
+    → Serves service (office_at first opened_steps mid.faults) (office_at last steps' after.faults) door door' status
     → ServesAll service before after output between door door' steps steps' status
 served service stored before mid after steps opened_steps steps' first last output between door door' status e opened had keeps counts links =
-    let since = subst (λ n. Serves service (office_at first opened_steps) (office_at last steps') n after.faults door door' status) counts links in
+    let since = subst (λ n. Serves service (office_at first opened_steps n) (office_at last steps' after.faults) door door' status) counts links in
     inr (runs_office service.settings.store before mid after steps opened_steps first last _ opened.0 had (λ some. keeps (e ∙ some))
     (since, opened.1))

@@ -72,7 +72,7 @@ ServesAll service shelf shelf' output output' door door' steps steps' status =
     (BeginsNot service.settings.store shelf shelf' output output' steps steps' status × (door' ≡ door)
     × IsCounted shelf.faults shelf'.faults (status ≡ StoreFailed))
     ⊎ RunsOffice service.settings.store shelf shelf' steps (λ first opened_steps last.
-    Serves service (office_at first opened_steps) (office_at last steps') shelf.faults shelf'.faults
+    Serves service (office_at first opened_steps shelf.faults) (office_at last steps' shelf'.faults)
     door door' status × (output' ≡ output))
 
 -- The summary of the generated submissions was due, for no more steps than these ask for.
@@ -119,7 +119,7 @@ Runs (Some (Splice splicing)) shelf shelf' input input' output output' door door
     Splices splicing input input' output output' status × (steps' ≡ steps)
 
 -- A count of faults rose exactly where the status is that failure. What the keeper fails at while connections
--- are served is replied on them, and counted with them (`ServesAll`).
+-- are served is replied on them, and counted with each (`ServesNew`).
 pub record IsCaused (command : Option Command) (shelf shelf' : Shelf) (input input' output output' : Tape)
     (door door' : Register Tape) (status : Status) : Type 0 where
   pub input_counted : IsCounted input.faults input'.faults (status ≡ InputFailed)

@@ -1,11 +1,11 @@
 -- `serve`: connections are served.
-use Rattle.std.specs.Prelude.{◌≡◌, ◌⊎◌, ℕ, ◌+◌, ◌-◌, ◌^◌, ◌<◌, ◌≤◌, min, List, [], ◌∷◌, ◌++◌, length, map, count_by, Option, None, option_map, IfSome}
+use Rattle.std.specs.Prelude.{◌≡◌, ◌⊎◌, ℕ, ◌+◌, ◌<◌, Bool, List, [], ◌∷◌, ◌++◌, length, map, Option, option_map, IfSome}
+use Rattle.std.specs.Option.{is_some}
 use Rattle.ghg_http.specs.declared.serve.LinkEnd.{LinkEnd}
 use Rattle.ghg_http.specs.Reply.{HttpReply}
-use Rattle.ghg_http.specs.Serve.{ServesLink, is_unavailable, snapshot as link_snapshot}
+use Rattle.ghg_http.specs.Serve.{ServesLink, TellsFaults, snapshot as link_snapshot}
 use Rattle.ghg_office.specs.Office.{State, requested}
 use Rattle.ghg_office.specs.Sound.{IsSoundReply}
-use Rattle.ghg_outer.specs.Counts.{IsCounted}
 use Rattle.ghg_outer.specs.Doors.{Register}
 use Rattle.ghg_outer.specs.Links.{IsFresh}
 use Rattle.ghg_outer.specs.Tape.{Tape}
@@ -21,40 +21,38 @@ pub record ServedLink : Type 0 where
   pub due : Option HttpReply
   pub end : LinkEnd
 
--- the office between two links: its state, and the steps that were taken so far
+-- the office between two links: its state, the steps that were taken so far, and the count of the keeper's
+-- faults
 pub record OfficeAt : Type 0 where
   pub state : State
   pub steps : ℕ
+  pub faults : ℕ
 
--- A new link was served: no call had failed on it, nothing was taken from it and nothing was written to it.
-pub record ServesNew (before : OfficeAt) (served : ServedLink) (after : OfficeAt) : Type 0 where
+-- A new link was served, with a store or without: no call had failed on it, nothing was taken from it and
+-- nothing was written to it.
+pub record ServesNew (stored : Bool) (before : OfficeAt) (served : ServedLink) (after : OfficeAt)
+    : Type 0 where
   pub new : Tape
   pub fresh : IsFresh new
   pub serves : ServesLink (link_snapshot before.state new before.steps)
       (link_snapshot after.state served.link after.steps) served.due served.end
+  -- The keeper failed exactly where the reply that was due says so, however much of it was written.
+  pub keeper : TellsFaults served.due stored before.faults after.faults
   -- In each table that may be asked for, the bounds hold the exact values of the nodes of the data then in
   -- force, wherever the inputs are within their supplied bounds.
   pub bounds : (name : List ℕ) (year : ℕ)
       → IsSoundReply before.state name year (requested before.state name year)
 
 -- The links are a serving: each takes the office before it to the one after it.
-abbrev pub IsServing : OfficeAt → List ServedLink → OfficeAt → Type 0
-IsServing before [] after = after ≡ before
-IsServing before (served ∷ rest) after =
-    (between : OfficeAt) × ServesNew before served between × IsServing between rest after
-
--- on how many links the reply that was due is that the keeper failed
-abbrev pub unavailable_count : List ServedLink → ℕ
-unavailable_count served = count_by (λ s. is_unavailable s.due) served
-
--- a count of faults that rose so often, or its last value
-abbrev pub raised_by : ℕ → ℕ → ℕ
-raised_by times count = min (count + times) (2 ^ 64 - 1)
+abbrev pub IsServing : Bool → OfficeAt → List ServedLink → OfficeAt → Type 0
+IsServing stored before [] after = after ≡ before
+IsServing stored before (served ∷ rest) after =
+    (between : OfficeAt) × ServesNew stored before served between × IsServing stored between rest after
 
 -- ---- a whole serving
 
-abbrev pub office_at : State → ℕ → OfficeAt
-office_at state steps = record { state = state; steps = steps }
+abbrev pub office_at : State → ℕ → ℕ → OfficeAt
+office_at state steps faults = record { state = state; steps = steps; faults = faults }
 
 -- what a door tells, with each link by what that tells
 abbrev pub register_of : {Link : Type 0} → (Link → Tape) → Register Link → Register Tape
@@ -77,18 +75,13 @@ EndsServing service port taken dropped OutOfMemory =
     (length taken < service.connections) × ((length dropped ≡ 1) ⊎ ((taken ≡ []) × (dropped ≡ [])))
 EndsServing service port taken dropped _ = ⊥
 
--- An office served links. The counts are those of the keeper's faults.
-pub record Serves (service : Service) (before after : OfficeAt) (faults faults' : ℕ)
-    (door door' : Register Tape) (status : Status) : Type 0 where
+-- An office served links.
+pub record Serves (service : Service) (before after : OfficeAt) (door door' : Register Tape)
+    (status : Status) : Type 0 where
   -- the links that the door took back, in their order, and the one that was dropped
   pub taken : List ServedLink
   pub dropped : List ServedLink
-  pub serving : IsServing before (taken ++ dropped) after
+  pub serving : IsServing (is_some service.settings.store) before (taken ++ dropped) after
   pub finished : door'.finished ≡ option_map (λ links. links ++ map (λ s. s.link) taken) door.finished
   pub given : door'.given ≡ option_map (λ n. n + length (taken ++ dropped)) door.given
   pub ends : EndsServing service door'.port taken dropped status
-  -- The keeper failed at least as often as the reply that was due has status 503, however much of it was
-  -- written, and never where no such reply was due. Without a store none was.
-  pub unavailable : raised_by (unavailable_count (taken ++ dropped)) faults ≤ faults'
-  pub counted : IsCounted faults faults' (0 < unavailable_count (taken ++ dropped))
-  pub available : service.settings.store ≡ None → unavailable_count (taken ++ dropped) ≡ 0

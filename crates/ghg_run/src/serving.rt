@@ -37,8 +37,9 @@ pub fn serve_office<K: Keeper, D: Door, G: Gate, T: Threads + Sync, L: Ledger>(
     requires in_force { IsInForce office }
     requires store { environment.now.stored ≡ is_some service.now.settings.store }
     requires same { environment.now.stored ≡ true → Lists (K.shelf keeper.old) office.accepted }
-    ensures links { (last : State) × Serves service.now (office_at office steps.old)
-        (office_at last steps.new) (K.shelf keeper.old).faults (K.shelf keeper.new).faults
+    ensures links { (last : State)
+        × Serves service.now (office_at office steps.old (K.shelf keeper.old).faults)
+        (office_at last steps.new (K.shelf keeper.new).faults)
         (register_of D.Link.Told.tape (D.register door.old))
         (register_of D.Link.Told.tape (D.register door.new)) result
         × (environment.now.stored ≡ true

@@ -14,8 +14,8 @@ use Rattle.ghg_run.proofs.serving.serve_office.Goals as goal
 pub returns-in_default-clause-links : goal.returns-in_default-clause-links
 returns-in_default-clause-links g c = (
   c.args.office,
-  serving_ends _ _ (station (office_at c.args.office c.args.steps.now) (g.K.Keeper.shelf c.args.keeper.now).faults
-      (register_of g.D.Link.Told.tape (g.D.Door.register c.args.door.now))) _ 0 OutOfMemory (none_served _ _ _ refl refl refl refl) c.requires.store
+  serving_ends _ _ (station (office_at c.args.office c.args.steps.now (g.K.Keeper.shelf c.args.keeper.now).faults)
+      (register_of g.D.Link.Told.tape (g.D.Door.register c.args.door.now))) _ 0 OutOfMemory (none_served _ _ _ refl refl refl) c.requires.store
       (λ links number. (omega (arith, number, c.requires.some), inr (nil_from_length links number, refl))),
   λ stored. keeps_listed _ _ (c.requires.same stored),
 )
@@ -24,7 +24,7 @@ pub returns-in-Err-clause-links : goal.returns-in-Err-clause-links
 returns-in-Err-clause-links g c =
     let told = tells_same g.D.Link.Told.tape (g.D.Door.register c.args.door.now) (g.D.Door.register c.listen.new.self) c.in-Err.ensures.kept in (
       c.args.office,
-      serving_ends _ _ _ _ 0 DoorFailed (none_served _ _ _ refl refl told.given_is told.finished_is) c.requires.store
+      serving_ends _ _ _ _ 0 DoorFailed (none_served _ _ _ refl told.given_is told.finished_is) c.requires.store
           (λ links number. (omega (arith, number, c.requires.some), refl)),
       λ stored. keeps_listed _ _ (c.requires.same stored),
     )
@@ -33,7 +33,7 @@ pub links-init : goal.links-init
 links-init g c =
     let told = tells_opened g.D.Link.Told.tape (g.D.Door.register c.args.door.now) (g.D.Door.register c.listen.new.self) _ c.in_default-listen.ensures.opened in
     record {
-      served = none_served _ _ _ refl refl told.0 told.1;
+      served = none_served _ _ _ refl told.0 told.1;
       in_force = c.requires.in_force;
       kept = λ stored. keeps_listed _ _ (c.requires.same stored);
       untouched = λ _. refl;
@@ -46,7 +46,7 @@ returns-in_default-next-clause-links g c =
     let told = tells_same g.D.Link.Told.tape (g.D.Door.register c.links.door) (g.D.Door.register c.next.new.self) c.in_default-next.ensures.kept in (
       c.links.office,
       serving_ends _ _ _ _ c.links._served DoorFailed
-          (served_same _ _ _ _ _ c.links.invariant.served refl refl told.given_is told.finished_is) c.requires.store
+          (served_same _ _ _ _ _ c.links.invariant.served refl told.given_is told.finished_is) c.requires.store
           (λ links number. (omega (arith, number, c.links-test.true), refl)),
       c.links.invariant.kept,
     )
@@ -67,9 +67,10 @@ returns-in-Err-finish-clause-links g c =
             new = g.D.Link.Told.tape c.in-Ok-next.link;
             fresh = c.in-Ok-next.ensures.fresh;
             serves = c.serve_one.ensures.serves.1;
+            keeper = c.serve_one.ensures.serves.2;
             bounds = requested_sound _ c.links.invariant.in_force;
           })
-          (same.given_is ∙ given.given_is) c.serve_one.ensures.serves.2 c.args.service.now
+          (same.given_is ∙ given.given_is) c.args.service.now
           c.requires.store (same.finished_is ∙ given.finished_is) c.links-test.true,
       λ stored. keeps_more _ _ _ _ _ (c.links.invariant.kept stored) (c.serve_one.ensures.kept stored),
     )
@@ -90,9 +91,10 @@ links-preserved g c =
             new = g.D.Link.Told.tape c.in-Ok-next.link;
             fresh = c.in-Ok-next.ensures.fresh;
             serves = c.serve_one.ensures.serves.1;
+            keeper = c.serve_one.ensures.serves.2;
             bounds = requested_sound _ c.links.invariant.in_force;
           })
-          (taken.given_is ∙ given.given_is) c.serve_one.ensures.serves.2
+          (taken.given_is ∙ given.given_is)
           (taken.finished_is ∙ ap (option_map (λ links. links ++ g.D.Link.Told.tape c.serve_one.new.link ∷ [])) given.finished_is);
       in_force = link_stays _ _ _ _ c.serve_one.ensures.serves.1 c.links.invariant.in_force;
       kept = λ stored. keeps_more _ _ _ _ _ (c.links.invariant.kept stored) (c.serve_one.ensures.kept stored);

@@ -8,9 +8,9 @@ use Rattle.ghg_run.proofs.serving.serve_office.Given as goal
 abbrev pub invariant-links : goal.invariant-links
 invariant-links g l = record {
   served : ServedSoFar l.environment.stored
-      (station (office_at l.fn.office l.fn.steps) (g.K.Keeper.shelf l.fn.keeper).faults
+      (station (office_at l.fn.office l.fn.steps (g.K.Keeper.shelf l.fn.keeper).faults)
       (register_of g.D.Link.Told.tape (g.D.Door.register l.fn.door)))
-      (station (office_at l.office l.steps) (g.K.Keeper.shelf l.keeper).faults
+      (station (office_at l.office l.steps (g.K.Keeper.shelf l.keeper).faults)
       (register_of g.D.Link.Told.tape (g.D.Door.register l.door))) l._served;
   in_force : IsInForce l.office;
   kept : l.environment.stored ≡ true
