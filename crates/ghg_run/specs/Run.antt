@@ -120,8 +120,8 @@ Runs (Some (Splice splicing)) shelf shelf' input input' output output' door door
 
 -- A count of faults rose exactly where the status is that failure. What the keeper fails at while connections
 -- are served is replied on them, and counted with each (`ServesNew`).
-pub record IsCaused (command : Option Command) (shelf shelf' : Shelf) (input input' output output' : Tape)
-    (door door' : Register Tape) (status : Status) : Type 0 where
+pub record FaultsAreCounted (command : Option Command) (shelf shelf' : Shelf)
+    (input input' output output' : Tape) (door door' : Register Tape) (status : Status) : Type 0 where
   pub input_counted : IsCounted input.faults input'.faults (status ≡ InputFailed)
   pub output_counted : IsCounted output.faults output'.faults (status ≡ OutputFailed)
   pub keeper_counted : opens_door command ≡ false
@@ -134,4 +134,4 @@ abbrev pub IsRun : Option Command → Shelf → Shelf → Tape → Tape → Tape
 IsRun command shelf shelf' input input' output output' door door' steps steps' code =
     (status : Status) × (code ≡ status_code status)
     × Runs command shelf shelf' input input' output output' door door' steps steps' status
-    × IsCaused command shelf shelf' input input' output output' door door' status
+    × FaultsAreCounted command shelf shelf' input input' output output' door door' status
