@@ -3,5 +3,9 @@ pub mod Meanings
 pub mod Texts
 pub mod Effects
 pub mod Safe
+pub mod Making
+pub mod Moving
+pub mod Course
+pub mod Shelves
 pub mod Ids
 pub mod Files

@@ -1,4 +1,4 @@
--- The table of the kept submissions.
+-- The tables of the kept submissions: `accepted` of the first version of a store, and `accepted2`.
 use Rattle.std.specs.Prelude.{true, false, ◌&&◌, ◌==◌, [], ◌∷◌, Some, codes, ℕ, List, Bool}
 use Rattle.std.specs.List.{list_any}
 use Rattle.sqlite.specs.Collation.TheVariants.{Binary}
@@ -12,9 +12,12 @@ use Rattle.sqlite.specs.Kind.{Kind}
 use Rattle.sqlite.specs.Kind.TheVariants.{Integer, Text, Any}
 use Rattle.sqlite.specs.Change.{created}
 
--- the table's number in a store that had no other
+-- the tables' numbers in a store that had no other
 abbrev pub accepted_tree : ℕ
 accepted_tree = 0
+
+abbrev pub second_tree : ℕ
+second_tree = 2
 
 -- a column without a default
 abbrev pub column_of : List ℕ → Kind → Bool → Column
@@ -45,14 +48,27 @@ accepted = record {
   is_counted = false;
 }
 
+-- accepted2(seq INTEGER PRIMARY KEY, id TEXT UNIQUE NOT NULL, format INTEGER NOT NULL, body BLOB NOT NULL)
+abbrev pub second : Table
+second = record accepted {
+  name = codes "accepted2";
+  tree = 2;
+  columns = column_of (codes "seq") Integer false ∷ column_of (codes "id") Text true
+      ∷ column_of (codes "format") Integer true ∷ column_of (codes "body") Any true ∷ [];
+}
+
 abbrev pub no_schema : Schema
 no_schema = record { tables = []; indexes = []; views = [] }
 
--- the table and its automatic index, in a store that had no object
+-- the first table and its automatic index, in a store that had no object
 abbrev pub accepted_schema : Schema
 accepted_schema = created no_schema accepted
 
--- ---- whether a store has it
+-- both tables, the first made before the second
+abbrev pub both_schema : Schema
+both_schema = created accepted_schema second
+
+-- ---- whether a store has them
 
 abbrev pub is_integer : Kind → Bool
 is_integer Integer = true
@@ -76,20 +92,40 @@ is_id column = same_name column.name (codes "id") && is_text column.kind && colu
 abbrev pub is_body : Column → Bool
 is_body column = same_name column.name (codes "body") && is_any column.kind && column.not_null
 
+abbrev pub is_format : Column → Bool
+is_format column = same_name column.name (codes "format") && is_integer column.kind && column.not_null
+
 abbrev pub are_kept_columns : List Column → Bool
 are_kept_columns (seq ∷ id ∷ body ∷ []) = is_seq seq && is_id id && is_body body
 are_kept_columns _ = false
+
+abbrev pub are_second_columns : List Column → Bool
+are_second_columns (seq ∷ id ∷ format ∷ body ∷ []) =
+    is_seq seq && is_id id && is_format format && is_body body
+are_second_columns _ = false
 
 -- no id stands twice, and nothing else must be unique
 abbrev pub has_unique_id : List (List ℕ) → Bool
 has_unique_id ((place ∷ []) ∷ []) = place == 2
 has_unique_id _ = false
 
--- the table of kept submissions, with the first column as its primary key
+-- a table of kept submissions, with the first column as its primary key
+abbrev pub is_keyed : Table → Bool
+is_keyed table = is_key table.key 0 && has_unique_id table.uniques
+
 abbrev pub is_kept_table : Table → Bool
 is_kept_table table =
-    same_name table.name (codes "accepted") && are_kept_columns table.columns && is_key table.key 0
-    && has_unique_id table.uniques
+    same_name table.name (codes "accepted") && are_kept_columns table.columns && is_keyed table
 
-abbrev pub has_kept_table : Schema → Bool
-has_kept_table schema = list_any is_kept_table schema.tables
+abbrev pub is_second_table : Table → Bool
+is_second_table table =
+    same_name table.name (codes "accepted2") && are_second_columns table.columns && is_keyed table
+
+abbrev pub has_first : Schema → Bool
+has_first schema = list_any is_kept_table schema.tables
+
+abbrev pub has_second : Schema → Bool
+has_second schema = list_any is_second_table schema.tables
+
+abbrev pub has_kept_tables : Schema → Bool
+has_kept_tables schema = has_first schema && has_second schema

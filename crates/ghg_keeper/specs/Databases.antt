@@ -1,4 +1,5 @@
 -- What a keeper over a database shows.
+use Rattle.std.specs.Prelude.{◌≡◌, Bool, true, Result, OnOk}
 use Rattle.sqlite_trees.specs.declared.store.Store.{Ghosts}
 use Rattle.sqlite.specs.State.{State}
 use Rattle.sqlite.specs.Held.{Held, state}
@@ -16,4 +17,13 @@ database store keeper = state store (held keeper)
 
 -- what the keeper tells
 abbrev pub kept_shelf : {S : Type 0} → Ghosts S → SqlKeeper S → Shelf
-kept_shelf store keeper = sql_shelf (database store keeper) keeper.faults
+kept_shelf store keeper = sql_shelf keeper.is_attached (database store keeper) keeper.faults
+
+-- whether an `attach` of it has answered Ok
+abbrev pub attached : {S : Type 0} → SqlKeeper S → Bool
+attached keeper = keeper.is_attached
+
+-- a call that has an answer was one of an attached keeper, and leaves it so
+abbrev pub StaysAttached : {S A E : Type 0} → SqlKeeper S → SqlKeeper S → Result A E → Type 0
+StaysAttached before after result =
+    (attached after ≡ attached before) × OnOk result (attached before ≡ true)

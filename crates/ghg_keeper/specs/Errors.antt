@@ -1,13 +1,13 @@
 -- What a keeper tells of the answers and the errors of a database.
-use Rattle.std.specs.Prelude.{◌≡◌, ◌≢◌, ◌⊎◌, false, ℕ, ◌-◌, ◌<◌, ◌^◌, pos, unsigned_abs, List, [], ◌∷◌, Result, Ok, Err, IfErr, IsUtf8}
+use Rattle.std.specs.Prelude.{◌≡◌, ◌≢◌, ◌⊎◌, Bool, false, IsTrue, ℕ, ◌-◌, ◌<◌, ◌^◌, pos, unsigned_abs, List, [], ◌∷◌, Result, Ok, Err, IfErr, IsUtf8}
 use Rattle.sqlite.specs.declared.error.Error.{Error}
 use Rattle.sqlite.specs.declared.error.Error.TheVariants.{SqliteFailure}
 use Rattle.sqlite.specs.declared.error.ErrorCode.TheVariants.{OutOfMemory}
 use Rattle.sqlite.specs.declared.types.Value.TheVariants.{Int, Text, Blob}
 use Rattle.sqlite.specs.Order.{Row, column}
 use Rattle.sqlite.specs.State.{State, HasCleanDisk, Executes, QueriesRow}
-use Rattle.ghg_keeper.specs.Accepted.{has_kept_table}
-use Rattle.ghg_keeper.specs.Texts.{count_text, create_text, insert_text, row_text}
+use Rattle.ghg_units.specs.Format.{format_in}
+use Rattle.ghg_keeper.specs.Texts.{count_text, insert_text, row_text}
 use Rattle.ghg_keeper.specs.declared.keeper.KeepError.{KeepError}
 use Rattle.ghg_keeper.specs.declared.keeper.KeepError.TheVariants.{Failed, Memory}
 use Rattle.ghg_keeper.specs.declared.row.KeptRow.{KeptRow}
@@ -35,7 +35,8 @@ ReadsRow seq old new kept = ShowsRow row_text (Int (pos seq) ∷ []) old new
 -- a row was inserted, and the database gave it this number
 abbrev pub InsertsRow : List ℕ → List ℕ → State → State → ℕ → Type 0
 InsertsRow id body old new seq =
-    Acknowledges insert_text (Text id ∷ Blob body ∷ []) old new × (seq ≡ unsigned_abs new.last_rowid)
+    Acknowledges insert_text (Text id ∷ Int (pos (format_in body)) ∷ Blob body ∷ []) old new
+    × (seq ≡ unsigned_abs new.last_rowid)
 
 -- ---- errors
 
@@ -54,14 +55,13 @@ abbrev pub HasCause : {A : Type 0} → Result A KeepError → Type 0 → (Error 
 HasCause result Fails Refuses =
     IfErr result (λ why. ((why ≡ Failed) × Fails) ⊎ ((e : Error) × Refuses e × (why ≡ keep_error e)))
 
+-- a keeper over this database is not attached, or a transaction is open
+abbrev pub IsNotReady : Bool → State → Type 0
+IsNotReady is_attached s = (is_attached ≡ false) ⊎ IsTrue s.in_transaction
+
 -- the statement was refused with this error
 abbrev pub Refuses : List ℕ → Row → State → State → Error → Type 0
 Refuses sql params old new e = HasCleanDisk new → Executes sql params old new (Err e)
-
--- the statement was acknowledged, and the table of that name is another one
-abbrev pub HasAnother : State → State → Type 0
-HasAnother old new =
-    Acknowledges create_text [] old new × (has_kept_table new.now.schema ≡ false)
 
 -- the query was refused with this error, or a row that it showed could not be read for it
 abbrev pub RefusesRow : List ℕ → Row → State → State → (Row → Type 0) → Error → Type 0

@@ -3,7 +3,7 @@ use Rattle.std.specs.Prelude.{ℕ, Bool, ◌==◌, ◌||◌, List, [], codes, No
 use Rattle.std.specs.List.{ends_with}
 use Rattle.sqlite.specs.Files.{over_files}
 use Rattle.sqlite.specs.State.{State}
-use Rattle.ghg_keeper.specs.Databases.{database, kept_shelf}
+use Rattle.ghg_keeper.specs.Databases.{attached, database, kept_shelf}
 use Rattle.ghg_keeper.specs.declared.file.FileKeeper.{FileKeeper}
 use Rattle.ghg_keeper.specs.declared.keeper.KeepError.{KeepError}
 use Rattle.ghg_keeper.specs.declared.keeper.KeepError.TheVariants.{Failed}
@@ -25,10 +25,11 @@ IsPassed before after result does = MatchOption before.store (IsErrOf result Fai
 abbrev pub IsStored : FileKeeper → (State → Type 0) → Type 0
 IsStored keeper holds = IsSomeAnd keeper.store (λ store. holds (database over_files store))
 
--- this holds of the database in use, before and after a call, where one was in use
-abbrev pub IsHandedOn : FileKeeper → FileKeeper → (State → State → Type 0) → Type 0
+-- this holds of whether the store in use was attached, and of its database before and after a call, where one
+-- was in use
+abbrev pub IsHandedOn : FileKeeper → FileKeeper → (Bool → State → State → Type 0) → Type 0
 IsHandedOn before after does = MatchOption before.store ⊤
-    (λ old. IsStored after (λ new. does (database over_files old) new))
+    (λ old. IsStored after (λ new. does (attached old) (database over_files old) new))
 
 -- the name of a file that SQLite keeps beside a database: its log, the index of that, or its journal
 abbrev pub is_beside : List ℕ → Bool

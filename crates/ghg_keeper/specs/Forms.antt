@@ -18,7 +18,14 @@ pub record PlannedKeeper : Type 0 where
 
 -- they tell all of it
 abbrev pub stored_shelf : Stored → ℕ → Shelf
-stored_shelf s faults = record { clean = ⊤; tells = ⊤; sure = λ t. t; rows = s.rows; name = s.name; faults = faults }
+stored_shelf s faults = record {
+  clean = ⊤;
+  tells = ⊤;
+  sure = λ t. t;
+  rows = s.rows;
+  name = s.name;
+  faults = faults;
+}
 
 abbrev pub planned_shelf : PlannedKeeper → Shelf
 planned_shelf k = stored_shelf k.stored k.plan.faults

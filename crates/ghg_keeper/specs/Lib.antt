@@ -1,9 +1,11 @@
 pub mod Accepted
+pub mod Course
 pub mod Databases
 pub mod Errors
 pub mod Files
 pub mod Forms
 pub mod Id
 pub mod Listed
+pub mod Moving
 pub mod Shelf
 pub mod Texts

@@ -6,8 +6,8 @@ use Rattle.ghg_keeper.specs.declared.keeper.KeepError.TheVariants.{Failed}
 use Rattle.ghg_keeper.specs.declared.row.KeptRow.{KeptRow}
 
 -- Whether no wrong answer of what is below the store was taken as true; whether the rows are told, which they
--- are only then; the rows, the oldest first, of which nothing is said where they are not told; the name of the
--- store in use, where that is told; and how many calls failed.
+-- are only then; the rows, the oldest first, of which nothing is said where they are not told; the name of
+-- the store in use, where that is told; and how many calls failed.
 pub record Shelf : Type 1 where
   pub clean : Type 0
   pub tells : Type 0

@@ -3,10 +3,11 @@ ghost use Rattle.std.specs.Prelude.{◌≡◌, ◌⊎◌, ◌-◌, ◌≤◌, �
 ghost use Rattle.sqlite.specs.declared.types.Value.TheVariants.{Int, Text, Blob};
 ghost use Rattle.sqlite.specs.Files.{over_files};
 ghost use Rattle.ghg_outer.specs.Counts.{IsCounted};
-ghost use Rattle.ghg_keeper.specs.Accepted.{has_kept_table};
+ghost use Rattle.ghg_units.specs.Format.{format_in};
+ghost use Rattle.ghg_keeper.specs.Accepted.{has_kept_tables};
 ghost use Rattle.ghg_keeper.specs.Databases.{database};
 ghost use Rattle.ghg_keeper.specs.Files.{is_beside};
-ghost use Rattle.ghg_keeper.specs.Errors.{CountsRows, HasCause, InsertsRow, IsCount, IsKept, ReadsRow, Refuses, RefusesRow, keep_error};
+ghost use Rattle.ghg_keeper.specs.Errors.{CountsRows, HasCause, InsertsRow, IsCount, IsKept, IsNotReady, ReadsRow, Refuses, RefusesRow, keep_error};
 ghost use Rattle.ghg_keeper.specs.Id.{is_id};
 ghost use Rattle.ghg_keeper.specs.Listed.{IsBeforeOrAfter, IsSafe};
 ghost use Rattle.ghg_keeper.specs.Shelf.{Adds, CountsFaults, Keeps};
@@ -16,7 +17,7 @@ use crate::{KeepError, Keeper, KeptRow, SqlKeeper};
 use sqlite::{Alter, Connection, Error, File, FileStore};
 use std::rt::HostRuntime;
 
-/// Rows in the table of a database file, which `attach` opens, or makes where there is none. That call and
+/// Rows in the tables of a database file, which `attach` opens, or makes where there is none. That call and
 /// each later one are passed to a [`SqlKeeper`] over the file.
 ///
 /// It is part of the trusted edge and tells nothing of its rows. It is proved what each call does with the
@@ -82,8 +83,8 @@ impl Keeper for FileKeeper<'_> {
     ghost shelf = { file_shelf };
 
     fn attach(&mut self, name: &str) -> Result<(), KeepError>
-        // The store in use has the table.
-        ensures used { OnOk result (IsStored self.new (λ now. IsTrue (has_kept_table now.now.schema))) }
+        // The store in use has the tables.
+        ensures used { OnOk result (IsStored self.new (λ now. IsTrue (has_kept_tables now.now.schema))) }
         ensures err { OnErr result (self.new.store ≡ self.old.store) }
         // This is the name of a store in memory, and of no file.
         ensures memory { name.now ≡ codes ":memory:" → IsErrOf result KeepError.Failed }
@@ -106,10 +107,10 @@ impl Keeper for FileKeeper<'_> {
     fn count(&mut self) -> Result<u64, KeepError>
         ensures passed { IsPassed self.old self.new result (λ before after.
             (after.tells → IfOk result (λ n. n ≡ length before.rows)) × Keeps before after) }
-        ensures handed_on { IsHandedOn self.old self.new (λ old new.
+        ensures handed_on { IsHandedOn self.old self.new (λ attached old new.
             IsSafe old new result (λ db. db ≡ old.now.trees)
             × IfOk result (CountsRows old new)
-            × HasCause result (IsTrue old.in_transaction) (RefusesRow count_text [] old new IsCount)) }
+            × HasCause result (IsNotReady attached old) (RefusesRow count_text [] old new IsCount)) }
         ensures faults { CountsFaults (file_shelf self.old) (file_shelf self.new) result }
     {
         let Some(store) = &mut self.store else {
@@ -124,10 +125,10 @@ impl Keeper for FileKeeper<'_> {
         ensures passed { IsPassed self.old self.new result (λ before after.
             (after.tells → IfOk result (λ row. slice_get before.rows (seq - 1) ≡ Some row))
             × Keeps before after) }
-        ensures handed_on { IsHandedOn self.old self.new (λ old new.
+        ensures handed_on { IsHandedOn self.old self.new (λ attached old new.
             IsSafe old new result (λ db. db ≡ old.now.trees)
             × IfOk result (ReadsRow seq old new)
-            × HasCause result (IsTrue old.in_transaction ⊎ (2 ^ 63 ≤ seq))
+            × HasCause result (IsNotReady attached old ⊎ (2 ^ 63 ≤ seq))
             (RefusesRow row_text (Int (pos seq) ∷ []) old new IsKept)) }
         ensures faults { CountsFaults (file_shelf self.old) (file_shelf self.new) result }
     {
@@ -144,11 +145,12 @@ impl Keeper for FileKeeper<'_> {
             OnOk result (Adds before after (record { id = id.now; body = body.now }))
             × (after.tells → IfOk result (λ seq. seq ≡ length after.rows))
             × OnErr result (Keeps before after)) }
-        ensures handed_on { IsHandedOn self.old self.new (λ old new.
+        ensures handed_on { IsHandedOn self.old self.new (λ attached old new.
             IsSafe old new result (IsBeforeOrAfter old.now id.now body.now)
             × IfOk result (InsertsRow id.now body.now old new)
-            × HasCause result (IsTrue old.in_transaction)
-            (Refuses insert_text (Text id.now ∷ Blob body.now ∷ []) old new)) }
+            × HasCause result (IsNotReady attached old)
+            (Refuses insert_text (Text id.now ∷ Int (pos (format_in body.now)) ∷ Blob body.now ∷ []) old
+            new)) }
         ensures faults { CountsFaults (file_shelf self.old) (file_shelf self.new) result }
     {
         let Some(store) = &mut self.store else {
@@ -167,16 +169,16 @@ fn is_beside(name: &str) -> bool
     name.ends_with(b"-wal") || name.ends_with(b"-shm") || name.ends_with(b"-journal")
 }
 
-// A keeper over the database file of this name, which has its table.
+// A keeper over the database file of this name, which has its tables.
 fn opened(rt: &HostRuntime, name: &str) -> Result<SqlKeeper<FileStore<File>>, KeepError>
     ensures memory { name.now ≡ codes ":memory:" → IsErrOf result KeepError.Failed }
     ensures table { IfOk result
-        (λ keeper. IsTrue (has_kept_table (database over_files keeper).now.schema)) }
+        (λ keeper. IsTrue (has_kept_tables (database over_files keeper).now.schema)) }
 {
     attached(Connection::open(rt, name), name)
 }
 
-// A keeper over a connection that was opened, which has its table. It is over any store, since a proof goes
+// A keeper over a connection that was opened, which has its tables. It is over any store, since a proof goes
 // over all parts of what a function owns.
 fn attached<S: Alter + Drop>(
     opening: Result<Connection<S>, Error>,
@@ -184,7 +186,7 @@ fn attached<S: Alter + Drop>(
 ) -> Result<SqlKeeper<S>, KeepError>
     ensures unopened { IfErr opening (λ error. result ≡ Err (keep_error error)) }
     ensures table { IfOk result
-        (λ keeper. IsTrue (has_kept_table (database S.Store keeper).now.schema)) }
+        (λ keeper. IsTrue (has_kept_tables (database S.Store keeper).now.schema)) }
 {
     let mut keeper = SqlKeeper::over(opening?);
     keeper.attach(name)?;

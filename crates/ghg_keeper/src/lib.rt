@@ -3,7 +3,9 @@
 
 mod file;
 mod keeper;
+mod laws;
 mod memory;
+mod moves;
 mod row;
 mod sql;
 mod statements;
@@ -12,6 +14,7 @@ mod table;
 
 pub use file::FileKeeper;
 pub use keeper::{KeepError, Keeper, MAX_ID_LEN};
+pub use laws::limit_is_number;
 pub use memory::MemoryKeeper;
 pub use row::KeptRow;
 pub use sql::SqlKeeper;

@@ -1,29 +1,36 @@
-ghost use Rattle.std.specs.Prelude.{◌≡◌, ◌⊎◌, ◌-◌, ◌≤◌, ◌^◌, pos, [], ◌∷◌, length, slice_get, Some, IsTrue, IfOk, IfErr, IsErrOf, OnOk, OnErr};
+ghost use Rattle.std.specs.Prelude.{◌≡◌, ◌⊎◌, ◌-◌, ◌≤◌, ◌^◌, pos, [], ◌∷◌, length, slice_get, Some, Ok, Err, IsTrue, IfOk, IfErr, IsErrOf, OnOk, OnErr, false, true};
 ghost use Rattle.sqlite.specs.declared.types.Value.TheVariants.{Int, Text, Blob};
 ghost use Rattle.sqlite.specs.State.{HasCleanDisk};
 ghost use Rattle.ghg_outer.specs.Counts.{IsCounted};
 ghost use Rattle.ghg_keeper.specs.Id.{is_id};
-ghost use Rattle.ghg_keeper.specs.Shelf.{Adds, CountsFaults, Keeps, KeepsRows};
-ghost use Rattle.ghg_keeper.specs.Accepted.{accepted_schema, has_kept_table};
-ghost use Rattle.ghg_keeper.specs.Errors.{Acknowledges, CountsRows, HasAnother, HasCause, InsertsRow, IsCount, IsKept, ReadsRow, Refuses, RefusesRow, told_of};
-ghost use Rattle.ghg_keeper.specs.Listed.{IsAsBeforeOrMade, IsBeforeOrAfter, IsSafe};
-ghost use Rattle.ghg_keeper.specs.Texts.{count_text, create_text, insert_text, row_text};
+ghost use Rattle.ghg_keeper.specs.Shelf.{Adds, CountsFaults, Keeps, KeepsRows, StaysTold};
+ghost use Rattle.ghg_units.specs.Format.{format_in};
+ghost use Rattle.ghg_keeper.specs.Accepted.{has_kept_tables};
+ghost use Rattle.ghg_keeper.specs.Course.{LacksTable, Prepares};
+ghost use Rattle.ghg_keeper.specs.Errors.{CountsRows, HasCause, InsertsRow, IsCount, IsKept, IsNotReady, ReadsRow, Refuses, RefusesRow, told_of};
+ghost use Rattle.ghg_keeper.specs.Listed.{IsBeforeOrAfter, IsSafe, IsSafeAs, ListsStore};
+ghost use Rattle.ghg_keeper.specs.Moving.{IsBeforeOrMoved, IsReady};
+ghost use Rattle.ghg_keeper.specs.Texts.{count_text, insert_text, row_text};
 
-use crate::statements::{MOST, count_rows, insert_row, kept_count, kept_row, make_table, read_row};
-use crate::table::has_kept_table;
+use crate::moves::prepare;
+use crate::statements::{MOST, count_rows, insert_row, kept_count, kept_row, read_row};
+use crate::table::has_kept_tables;
 use crate::{KeepError, Keeper, KeptRow};
 use sqlite::{Alter, Connection, Error, FileStore, Files};
 use sqlite_disk::Disk;
 
-/// Rows in the table `accepted(seq INTEGER PRIMARY KEY, id TEXT UNIQUE NOT NULL, body BLOB NOT NULL)` of a
-/// database, over any store: a file or memory.
+/// Rows in a table of a database, over any store: a file or memory. The table is `accepted2`, with columns
+/// `seq INTEGER PRIMARY KEY`, `id TEXT UNIQUE NOT NULL`, `format INTEGER NOT NULL` and `body BLOB NOT NULL`.
+/// A store of the first version has its rows in the table `accepted`, which lacks the format, and `attach`
+/// moves them from there. Until that has answered Ok each other call fails.
 ///
-/// It tells its rows while its store is clean, has no object beside the table, and numbers the rows from 1
-/// on. A statement that is refused for another cause than memory is counted as a fault, and so are a row that
-/// is not there and a transaction that somebody left open.
+/// It tells its rows while its store is clean, has no object beside the two tables, has rows in one of them
+/// alone, and numbers them from 1 on. A statement that is refused for another cause than memory is counted as
+/// a fault, and so are a row that is not there and a transaction that somebody left open.
 #[derive(Drop)]
 pub struct SqlKeeper<S: Alter> {
     connection: Connection<S>,
+    is_attached: bool,
     faults: u64,
 }
 
@@ -37,6 +44,7 @@ impl<S: Alter> SqlKeeper<S> {
     {
         SqlKeeper {
             connection,
+            is_attached: false,
             faults: 0,
         }
     }
@@ -47,6 +55,7 @@ impl<S: Alter> SqlKeeper<S> {
     {
         let SqlKeeper {
             connection,
+            is_attached: _,
             faults: _,
         } = self;
         connection
@@ -56,6 +65,7 @@ impl<S: Alter> SqlKeeper<S> {
     fn fault(&mut self) -> KeepError
         ensures result { result ≡ KeepError.Failed }
         ensures same { self.new.connection ≡ self.old.connection }
+        ensures attached { self.new.is_attached ≡ self.old.is_attached }
         ensures faults { IsCounted self.old.faults self.new.faults (result ≡ KeepError.Failed) }
     {
         self.faults = self.faults.saturating_add(1);
@@ -66,6 +76,7 @@ impl<S: Alter> SqlKeeper<S> {
     fn told<T>(&mut self, answer: Result<T, Error>) -> Result<T, KeepError>
         ensures answer { result ≡ told_of answer }
         ensures same { self.new.connection ≡ self.old.connection }
+        ensures attached { self.new.is_attached ≡ self.old.is_attached }
         ensures faults { IsCounted self.old.faults self.new.faults (IsErrOf result KeepError.Failed) }
     {
         match answer {
@@ -101,42 +112,54 @@ impl<D: Disk + Drop> SqlKeeper<FileStore<D>> {
 }
 
 impl<S: Alter> Keeper for SqlKeeper<S> {
-    ghost use Rattle.ghg_keeper.specs.Databases.{database, kept_shelf};
+    ghost use Rattle.ghg_keeper.specs.Databases.{StaysAttached, attached, database, held, kept_shelf};
 
     ghost shelf = { kept_shelf S.Store };
 
-    /// Makes the table where the store has none, and does not look at the name. A store whose table of that
-    /// name is another one is refused, and stays as it is.
+    /// Makes each table where the store has none, and moves the rows of the first one to the second in one
+    /// transaction. It does not look at the name. A store that has rows in both, or another table of one of
+    /// the two names, is refused, and its rows stay as they are.
     fn attach(&mut self, name: &str) -> Result<(), KeepError>
         ensures rows { KeepsRows (kept_shelf S.Store self.old) (kept_shelf S.Store self.new) }
+        ensures told { StaysTold (kept_shelf S.Store self.old) (kept_shelf S.Store self.new) result }
         ensures faults { CountsFaults (kept_shelf S.Store self.old) (kept_shelf S.Store self.new) result }
-        // Over a clean store the table is there once that is acknowledged.
-        ensures made { (kept_shelf S.Store self.old).tells → HasCleanDisk (database S.Store self.new)
-            → OnOk result ((database S.Store self.new).now.schema ≡ accepted_schema) }
-        // Over any store there is a table of that name, and with the columns of kept submissions.
-        ensures table { OnOk result (IsTrue (has_kept_table (database S.Store self.new).now.schema)) }
-        ensures runs { OnOk result
-            (Acknowledges create_text [] (database S.Store self.old) (database S.Store self.new)) }
-        ensures safe { IsSafe (database S.Store self.old) (database S.Store self.new) result
-            (IsAsBeforeOrMade (database S.Store self.old).now) }
+        // The keeper is attached once that is acknowledged, and else it is as it was.
+        ensures attached { OnOk result (attached self.new ≡ true) }
+        ensures err { OnErr result (attached self.new ≡ attached self.old) }
+        // Over any store there are tables of both names, and with the columns of kept submissions.
+        ensures tables { OnOk result (IsTrue (has_kept_tables (database S.Store self.new).now.schema)) }
+        // The first attach that is acknowledged leaves the first of the two empty.
+        ensures moved { attached self.old ≡ false → HasCleanDisk (database S.Store self.new)
+            → OnOk result (IsReady (database S.Store self.new)) }
+        // The first attach that is acknowledged ran all of this, and a later one runs nothing.
+        ensures runs { attached self.old ≡ false
+            → OnOk result (Prepares S.Store (held self.old) (held self.new) (Ok tt)) }
+        ensures again { attached self.old ≡ true → held self.new ≡ held self.old }
+        // A crash at the end of the call, with any answer, leaves the list as it was, in one of the tables.
+        ensures safe { IsSafeAs ListsStore (database S.Store self.old) (database S.Store self.new) result
+            (IsBeforeOrMoved (database S.Store self.old).now) }
         ensures cause { HasCause result
             (IsTrue (database S.Store self.old).in_transaction
-            ⊎ HasAnother (database S.Store self.old) (database S.Store self.new))
-            (Refuses create_text [] (database S.Store self.old) (database S.Store self.new)) }
+            ⊎ LacksTable S.Store (attached self.old) (held self.old) (held self.new))
+            (λ e. (attached self.old ≡ false) × Prepares S.Store (held self.old) (held self.new) (Err e)) }
     {
         let _ = name;
         if !self.connection.is_autocommit() {
             return Err(self.fault());
         }
-        let made = make_table(&mut self.connection);
-        match self.told(made) {
-            Ok(_) if has_kept_table(self.connection.schema()) => Ok(()),
-            Ok(_) => Err(self.fault()),
-            Err(why) => Err(why),
+        if !self.is_attached {
+            let prepared = prepare(&mut self.connection);
+            self.told(prepared)?;
         }
+        if !has_kept_tables(self.connection.schema()) {
+            return Err(self.fault());
+        }
+        self.is_attached = true;
+        Ok(())
     }
 
     fn count(&mut self) -> Result<u64, KeepError>
+        ensures attached { StaysAttached self.old self.new result }
         ensures count { (kept_shelf S.Store self.new).tells
             → IfOk result (λ n. n ≡ length (kept_shelf S.Store self.old).rows) }
         ensures keeps { Keeps (kept_shelf S.Store self.old) (kept_shelf S.Store self.new) }
@@ -144,10 +167,10 @@ impl<S: Alter> Keeper for SqlKeeper<S> {
         ensures safe { IsSafe (database S.Store self.old) (database S.Store self.new) result
             (λ db. db ≡ (database S.Store self.old).now.trees) }
         ensures reads { IfOk result (CountsRows (database S.Store self.old) (database S.Store self.new)) }
-        ensures cause { HasCause result (IsTrue (database S.Store self.old).in_transaction)
+        ensures cause { HasCause result (IsNotReady (attached self.old) (database S.Store self.old))
             (RefusesRow count_text [] (database S.Store self.old) (database S.Store self.new) IsCount) }
     {
-        if !self.connection.is_autocommit() {
+        if !self.is_attached || !self.connection.is_autocommit() {
             return Err(self.fault());
         }
         match count_rows(&mut self.connection) {
@@ -159,6 +182,7 @@ impl<S: Alter> Keeper for SqlKeeper<S> {
     /// A row that is not there is a fault, so any number from 1 on may be asked for.
     fn row(&mut self, seq: u64) -> Result<KeptRow, KeepError>
         requires { 1 ≤ seq }
+        ensures attached { StaysAttached self.old self.new result }
         ensures row { (kept_shelf S.Store self.new).tells → IfOk result (λ row.
             slice_get (kept_shelf S.Store self.old).rows (seq - 1) ≡ Some row) }
         ensures keeps { Keeps (kept_shelf S.Store self.old) (kept_shelf S.Store self.new) }
@@ -167,11 +191,11 @@ impl<S: Alter> Keeper for SqlKeeper<S> {
             (λ db. db ≡ (database S.Store self.old).now.trees) }
         ensures reads { IfOk result (ReadsRow seq (database S.Store self.old) (database S.Store self.new)) }
         ensures cause { HasCause result
-            (IsTrue (database S.Store self.old).in_transaction ⊎ (2 ^ 63 ≤ seq))
+            (IsNotReady (attached self.old) (database S.Store self.old) ⊎ (2 ^ 63 ≤ seq))
             (RefusesRow row_text (Int (pos seq) ∷ []) (database S.Store self.old)
             (database S.Store self.new) IsKept) }
     {
-        if seq > MOST || !self.connection.is_autocommit() {
+        if !self.is_attached || seq > MOST || !self.connection.is_autocommit() {
             return Err(self.fault());
         }
         match read_row(&mut self.connection, seq) {
@@ -185,6 +209,7 @@ impl<S: Alter> Keeper for SqlKeeper<S> {
 
     fn append(&mut self, id: &[u8], body: &[u8]) -> Result<u64, KeepError>
         requires { IsTrue (is_id id.now) }
+        ensures attached { StaysAttached self.old self.new result }
         ensures ok { OnOk result (Adds (kept_shelf S.Store self.old) (kept_shelf S.Store self.new)
             (record { id = id.now; body = body.now })) }
         ensures number { (kept_shelf S.Store self.new).tells
@@ -197,14 +222,15 @@ impl<S: Alter> Keeper for SqlKeeper<S> {
         // An acknowledged row was inserted, also where no rows are told, and got the number that is answered.
         ensures runs { IfOk result
             (InsertsRow id.now body.now (database S.Store self.old) (database S.Store self.new)) }
-        ensures cause { HasCause result (IsTrue (database S.Store self.old).in_transaction)
-            (Refuses insert_text (Text id.now ∷ Blob body.now ∷ []) (database S.Store self.old)
+        ensures cause { HasCause result (IsNotReady (attached self.old) (database S.Store self.old))
+            (Refuses insert_text (Text id.now ∷ Int (pos (format_in body.now)) ∷ Blob body.now ∷ [])
+            (database S.Store self.old)
             (database S.Store self.new)) }
     {
         let Ok(id) = std::str::from_utf8(id) else {
             return Err(self.fault());
         };
-        if !self.connection.is_autocommit() {
+        if !self.is_attached || !self.connection.is_autocommit() {
             return Err(self.fault());
         }
         match insert_row(&mut self.connection, id, body) {

@@ -3,51 +3,35 @@ ghost use Rattle.std.specs.Prelude.{◌≡◌, ◌≢◌, ◌+◌, ◌-◌, ◌<
 ghost use Rattle.sqlite_sql.specs.Aggregate.{count};
 ghost use Rattle.sqlite.specs.Order.{column};
 ghost use Rattle.sqlite.specs.declared.types.Value.TheVariants.{Int, Text as Words, Blob};
-ghost use Rattle.sqlite.specs.State.{HasCleanDisk, Executes, QueriesRow};
+ghost use Rattle.sqlite.specs.State.{CommitsBy, HasCleanDisk, Executes, QueriesRow, Survives};
 ghost use Rattle.sqlite.specs.Held.{state};
-ghost use Rattle.ghg_keeper.specs.Accepted.{accepted_schema};
+ghost use Rattle.ghg_units.specs.Format.{format_in};
+ghost use Rattle.ghg_keeper.specs.Accepted.{second_tree};
 ghost use Rattle.ghg_keeper.specs.Errors.{IsCount, IsKept};
-ghost use Rattle.ghg_keeper.specs.Listed.{TellsRows, IsAtRest, Stays, KeepsTable, Appends, IsSafe, IsAsBeforeOrMade, IsBeforeOrAfter, table_rows};
-ghost use Rattle.ghg_keeper.specs.Texts.{count_text, create_text, insert_text, row_text};
+ghost use Rattle.ghg_keeper.specs.Listed.{TellsRows, IsAtRest, Stays, Appends, IsSafe, IsBeforeOrAfter};
+ghost use Rattle.ghg_keeper.specs.Moving.{CommitsNone, Rests};
+ghost use Rattle.ghg_keeper.specs.Texts.{count_text, insert_text, row_text};
 
 use crate::KeptRow;
-use ghg_units::Text;
+use ghg_units::{Text, format_of};
 use sqlite::{Alter, Connection, Error, ErrorCode, Row, params};
 
 /// The greatest number of a row, and the greatest count that SQL tells.
 pub(crate) const MOST: u64 = 9_223_372_036_854_775_807;
 
-/// Makes the table where the store has none.
-pub(crate) fn make_table<S: Alter>(connection: &mut Connection<S>) -> Result<usize, Error>
-    requires { IsAtRest (state S.Store connection.old) }
-    ensures keeps { KeepsTable (state S.Store connection.old) (state S.Store connection.new) }
-    // Over a clean store the table is there once that is acknowledged.
-    ensures made { TellsRows (state S.Store connection.old) → HasCleanDisk (state S.Store connection.new)
-        → OnOk result ((state S.Store connection.new).now.schema ≡ accepted_schema) }
-    ensures safe { IsSafe (state S.Store connection.old) (state S.Store connection.new) result
-        (IsAsBeforeOrMade (state S.Store connection.old).now) }
-    ensures runs { HasCleanDisk (state S.Store connection.new)
-        → Executes create_text [] (state S.Store connection.old) (state S.Store connection.new) result }
-{
-    connection.execute(
-        "CREATE TABLE IF NOT EXISTS accepted(\
-            seq INTEGER PRIMARY KEY, id TEXT UNIQUE NOT NULL, body BLOB NOT NULL)",
-        &[],
-    )
-}
-
 /// The number of rows, as SQL counts them.
 pub(crate) fn count_rows<S: Alter>(connection: &mut Connection<S>) -> Result<Row, Error>
-    requires { IsAtRest (state S.Store connection.old) }
+    requires { Rests (state S.Store connection.old) }
     ensures stays { Stays (state S.Store connection.old) (state S.Store connection.new) }
-    ensures count { TellsRows (state S.Store connection.new)
-        → IfOk result (λ row. row ≡ count (length (table_rows (state S.Store connection.old).now)) ∷ []) }
+    ensures count { TellsRows (state S.Store connection.new) → IfOk result
+        (λ row. row ≡ count (length ((state S.Store connection.old).now.trees second_tree)) ∷ []) }
     ensures safe { IsSafe (state S.Store connection.old) (state S.Store connection.new) result
         (λ db. db ≡ (state S.Store connection.old).now.trees) }
+    ensures survives { Survives (state S.Store connection.old) (state S.Store connection.new) CommitsNone }
     ensures reads { HasCleanDisk (state S.Store connection.new)
         → QueriesRow count_text [] (state S.Store connection.old) (state S.Store connection.new) result }
 {
-    connection.query_row("SELECT count(*) FROM accepted", &[])
+    connection.query_row("SELECT count(*) FROM accepted2", &[])
 }
 
 /// The id and the body of the row with this number.
@@ -57,8 +41,8 @@ pub(crate) fn read_row<S: Alter>(connection: &mut Connection<S>, seq: u64) -> Re
     requires to { seq < 2 ^ 63 }
     ensures stays { Stays (state S.Store connection.old) (state S.Store connection.new) }
     ensures row { TellsRows (state S.Store connection.new) → IfOk result (λ row. (r : _)
-        × (slice_get (table_rows (state S.Store connection.old).now) (seq - 1) ≡ Some r)
-        × (row ≡ column r 2 ∷ column r 3 ∷ [])) }
+        × (slice_get ((state S.Store connection.old).now.trees second_tree) (seq - 1) ≡ Some r)
+        × (row ≡ column r 2 ∷ column r 4 ∷ [])) }
     ensures safe { IsSafe (state S.Store connection.old) (state S.Store connection.new) result
         (λ db. db ≡ (state S.Store connection.old).now.trees) }
     ensures reads { HasCleanDisk (state S.Store connection.new)
@@ -66,7 +50,7 @@ pub(crate) fn read_row<S: Alter>(connection: &mut Connection<S>, seq: u64) -> Re
         (state S.Store connection.new) result }
 {
     connection.query_row(
-        "SELECT id, body FROM accepted WHERE seq = ?1",
+        "SELECT id, body FROM accepted2 WHERE seq = ?1",
         params![seq as i64],
     )
 }
@@ -84,12 +68,29 @@ pub(crate) fn insert_row<S: Alter>(
     ensures safe { IsSafe (state S.Store connection.old) (state S.Store connection.new) result
         (IsBeforeOrAfter (state S.Store connection.old).now id.now body.now) }
     ensures runs { HasCleanDisk (state S.Store connection.new)
-        → Executes insert_text (Words id.now ∷ Blob body.now ∷ []) (state S.Store connection.old)
+        → Executes insert_text (Words id.now ∷ Int (pos (format_in body.now)) ∷ Blob body.now ∷ []) (state
+        S.Store connection.old)
         (state S.Store connection.new) result }
 {
+    put_row(connection, id, body)
+}
+
+/// Puts one row behind the others.
+pub(crate) fn put_row<S: Alter>(
+    connection: &mut Connection<S>,
+    id: &str,
+    body: &[u8],
+) -> Result<usize, Error>
+    ensures runs { HasCleanDisk (state S.Store connection.new)
+        → Executes insert_text (Words id.now ∷ Int (pos (format_in body.now)) ∷ Blob body.now ∷ []) (state
+        S.Store connection.old) (state S.Store connection.new) result }
+    ensures survives { Survives (state S.Store connection.old) (state S.Store connection.new)
+        (CommitsBy insert_text (Words id.now ∷ Int (pos (format_in body.now)) ∷ Blob body.now ∷ []) (state
+        S.Store connection.old)) }
+{
     connection.execute(
-        "INSERT INTO accepted(id, body) VALUES (?1, ?2)",
-        params![id, body],
+        "INSERT INTO accepted2(id, format, body) VALUES (?1, ?2, ?3)",
+        params![id, format_of(body), body],
     )
 }
 

@@ -1,17 +1,30 @@
-//! Whether a store has the table of kept submissions.
+//! Whether a store has the tables of kept submissions.
 ghost use Rattle.std.specs.Prelude.{◌≡◌};
-ghost use Rattle.ghg_keeper.specs.Accepted.{are_kept_columns, has_kept_table, has_unique_id, is_body, is_id, is_kept_table, is_seq};
+ghost use Rattle.ghg_keeper.specs.Accepted.{are_kept_columns, are_second_columns, has_first, has_kept_tables, has_second, has_unique_id, is_body, is_format, is_id, is_kept_table, is_keyed, is_second_table, is_seq};
 
 use sqlite_items::Items;
 use sqlite_schema::names::same_name;
 use sqlite_schema::schema::{Column, Kind, Schema, Table};
 
-/// Whether there is a table of that name with the columns of kept submissions.
-pub(crate) fn has_kept_table(schema: &Schema) -> bool
-    ensures { result ≡ has_kept_table schema.now }
+/// Whether there are tables of both names with the columns of kept submissions.
+pub(crate) fn has_kept_tables(schema: &Schema) -> bool
+    ensures { result ≡ has_kept_tables schema.now }
+{
+    has_first(schema) && has_second(schema)
+}
+
+fn has_first(schema: &Schema) -> bool
+    ensures { result ≡ has_first schema.now }
 {
     let tables = schema.tables.as_slice();
     tables.iter().any(|table| is_kept_table(table))
+}
+
+fn has_second(schema: &Schema) -> bool
+    ensures { result ≡ has_second schema.now }
+{
+    let tables = schema.tables.as_slice();
+    tables.iter().any(|table| is_second_table(table))
 }
 
 fn is_kept_table(table: &Table) -> bool
@@ -19,8 +32,21 @@ fn is_kept_table(table: &Table) -> bool
 {
     same_name(table.name.as_slice(), b"accepted")
         && are_kept_columns(table.columns.as_slice())
-        && matches!(table.key, Some(0))
-        && has_unique_id(table.uniques.as_slice())
+        && is_keyed(table)
+}
+
+fn is_second_table(table: &Table) -> bool
+    ensures { result ≡ is_second_table table.now }
+{
+    same_name(table.name.as_slice(), b"accepted2")
+        && are_second_columns(table.columns.as_slice())
+        && is_keyed(table)
+}
+
+fn is_keyed(table: &Table) -> bool
+    ensures { result ≡ is_keyed table.now }
+{
+    matches!(table.key, Some(0)) && has_unique_id(table.uniques.as_slice())
 }
 
 fn are_kept_columns(columns: &[Column]) -> bool
@@ -28,6 +54,15 @@ fn are_kept_columns(columns: &[Column]) -> bool
 {
     match columns {
         [seq, id, body] => is_seq(seq) && is_id(id) && is_body(body),
+        _ => false,
+    }
+}
+
+fn are_second_columns(columns: &[Column]) -> bool
+    ensures { result ≡ are_second_columns columns.now }
+{
+    match columns {
+        [seq, id, format, body] => is_seq(seq) && is_id(id) && is_format(format) && is_body(body),
         _ => false,
     }
 }
@@ -42,6 +77,14 @@ fn is_id(column: &Column) -> bool
     ensures { result ≡ is_id column.now }
 {
     same_name(column.name.as_slice(), b"id") && matches!(column.kind, Kind::Text) && column.not_null
+}
+
+fn is_format(column: &Column) -> bool
+    ensures { result ≡ is_format column.now }
+{
+    same_name(column.name.as_slice(), b"format")
+        && matches!(column.kind, Kind::Integer)
+        && column.not_null
 }
 
 fn is_body(column: &Column) -> bool
