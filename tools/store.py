@@ -10,12 +10,16 @@ import pathlib
 import shutil
 import sqlite3
 import tempfile
+import typing
 
 from tools.sheets import FolderFault, Sheet
 
 # While a run writes, a copy may have one half of a change. It is made again then, so often.
 MOST_TRIES = 5
-QUERY = "select seq, id, body from accepted order by seq"
+# The table of a store, and that of a store that no run has moved yet. Of the two one at least is empty.
+TABLES = ("accepted2", "accepted")
+IS_THERE = "select count(*) from sqlite_master where type = 'table' and name = ?"
+QUERY = "select seq, id, body from {} order by seq"
 
 
 class StoreFault(FolderFault):
@@ -30,9 +34,15 @@ def submissions(path: pathlib.Path) -> list[Sheet]:
         copy = copied(path, pathlib.Path(room))
         try:
             with contextlib.closing(sqlite3.connect(copy)) as store:
-                rows = store.execute(QUERY).fetchall()
+                found = {table: store.execute(QUERY.format(table)).fetchall() for table in TABLES
+                         if store.execute(IS_THERE, [table]).fetchone() != (0,)}
         except sqlite3.Error as error:
             raise StoreFault(f"{path} is no store of submissions: {error}") from error
+    if not found:
+        raise StoreFault(f"{path} is no store of submissions: it has no table {TABLES[0]}")
+    if all(found.get(table) for table in TABLES):
+        raise StoreFault(f"{path} has rows in {' and in '.join(TABLES)}; go back to a backup")
+    rows: list[typing.Any] = next(filter(None, found.values()), [])
     for number, (seq, name, body) in enumerate(rows, 1):
         if seq != number or not isinstance(name, str) or not isinstance(body, bytes):
             raise StoreFault(f"{path}: row {seq} is none that the program wrote; go back to a backup")

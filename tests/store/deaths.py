@@ -18,7 +18,8 @@ import time
 import typing
 
 from tests.service.serving import HEADER, PROGRAM, SECONDS, Service, post, read_to_the_end, reply
-from tests.store.test_store import TABLE, make, rows_of, session, submit
+from tests.store.test_store import session, submit
+from tests.store.versions import TABLE, make, rows_of
 
 NAME = "book.db"
 # How many lives a store has, and how many submissions it is sent at most in one, and before the first.

@@ -15,14 +15,16 @@ import unittest
 from collections.abc import Callable, Sequence
 
 from tests.service.serving import GAS, HEADER, PROGRAM, SECONDS
+from tests.store.versions import TABLE, TABLE_1, Submitted, all_rows, list_of, make, rows_of, submissions, with_format
 from tests.workbook.test_country import files, script
 
-TABLE = "CREATE TABLE accepted(seq INTEGER PRIMARY KEY, id TEXT UNIQUE NOT NULL, body BLOB NOT NULL)"
+DUMPS = pathlib.Path(__file__).resolve().parent
 CELLS = b"""table cells 1990 rows 2
 code,category,equation,gas,unit,value,low,high
 ELEC.GAS,1A1a,Q10,CO2,Gg,56.100,54.300,58.300
 """
 POTENTIAL = HEADER + b"enter,factor,,GWP.CO2,1990,1,,,1,\n"
+HALF_LIFE = HEADER.replace(b"act", b"act2", 1) + b"enter,factor,,WOOD,1990,1.5,,,yr,\n"
 
 
 def submit(name: bytes, body: bytes) -> bytes:
@@ -36,22 +38,6 @@ def session(*commands: bytes) -> bytes:
 
 
 GAS_THEN_CELLS = session(submit(b"a", GAS), b"SHOW cells 1990\n")
-
-
-def rows_of(path: pathlib.Path) -> list[tuple[int, str, bytes]]:
-    """The rows of a store."""
-    with contextlib.closing(sqlite3.connect(path)) as connection:
-        return connection.execute("SELECT seq, id, body FROM accepted ORDER BY seq").fetchall()
-
-
-def make(path: pathlib.Path, *statements: str, rows: Sequence[tuple[object, ...]] = ()) -> None:
-    """Makes a database by these statements, and puts rows into its table."""
-    with contextlib.closing(sqlite3.connect(path)) as connection, connection:
-        connection.execute("PRAGMA synchronous = OFF")
-        for statement in statements:
-            connection.execute(statement)
-        if rows:
-            connection.executemany("INSERT INTO accepted VALUES (?, ?, ?)", rows)
 
 
 def without_room() -> None:
@@ -101,11 +87,13 @@ class Kept(Stores):
     def test_table_is_the_one_of_the_page(self) -> None:
         self.run_with(session())
         with contextlib.closing(sqlite3.connect(self.store)) as connection:
-            columns = connection.execute("PRAGMA table_info(accepted)").fetchall()
+            columns = {table: connection.execute(f"PRAGMA table_info({table})").fetchall()
+                       for table in ("accepted", "accepted2")}
             names = connection.execute("SELECT name FROM sqlite_master WHERE type = 'table'").fetchall()
-        self.assertEqual(names, [("accepted",)])
-        self.assertEqual([column[1:4] + column[5:] for column in columns], [
-            ("seq", "INTEGER", 0, 1), ("id", "TEXT", 1, 0), ("body", "BLOB", 1, 0)])
+        self.assertEqual(sorted(names), [("accepted",), ("accepted2",)])
+        seq, id_, body = ("seq", "INTEGER", 0, 1), ("id", "TEXT", 1, 0), ("body", "BLOB", 1, 0)
+        self.assertEqual({table: [column[1:4] + column[5:] for column in of] for table, of in columns.items()}, {
+            "accepted": [seq, id_, body], "accepted2": [seq, id_, ("format", "INTEGER", 1, 0), body]})
 
     def test_refused_and_repeated_are_not_kept(self) -> None:
         given = session(submit(b"a", GAS), submit(b"a", GAS), submit(b"a", POTENTIAL), submit(b"b", GAS),
@@ -145,7 +133,7 @@ class Kept(Stores):
     @unittest.skipUnless(os.access("/usr/bin/sqlite3", os.X_OK), "there is no sqlite3")
     def test_the_tool_sqlite3_reads_a_store(self) -> None:
         self.run_with(session(submit(b"a", GAS), submit(b"c", POTENTIAL), submit(b"b", HEADER)))
-        query = "select seq, id, length(body) from accepted"
+        query = "select seq, id, length(body) from accepted2"
         ran = subprocess.run(["/usr/bin/sqlite3", "-init", "/dev/null", "book.db", query], cwd=self.room,
                              stdin=subprocess.DEVNULL, capture_output=True, timeout=SECONDS, check=False)
         self.assertEqual((ran.returncode, ran.stdout), (0, b"1|a|291\n2|c|86\n3|b|52\n"))
@@ -172,6 +160,24 @@ class Kept(Stores):
         for path in self.room.glob("book.db*"):
             (self.room / path.name.replace("book", "copy")).write_bytes(path.read_bytes())
         self.assertEqual(self.run_with(GAS_THEN_CELLS, "--store", "copy.db"), (0, b"repeated 1\n" + CELLS))
+
+    def test_a_run_that_is_killed(self) -> None:
+        bodies = [HEADER + b"enter,activity,,A%d,1990,1,,,t,\n" % number for number in range(200)]
+        commands = [submit(b"s%d" % number, body) for number, body in enumerate(bodies, 1)]
+        with self.started() as process:
+            assert process.stdin and process.stdout
+            process.stdin.write(b"".join(commands))
+            process.stdin.flush()
+            replies = [process.stdout.readline() for _ in range(20)]
+            process.kill()
+        self.assertEqual(replies, [b"accepted %d\n" % number for number in range(1, 21)])
+        status, printed = self.run_with(session(*commands))
+        words = [line.split() for line in printed.splitlines()]
+        self.assertEqual((status, [int(number) for _, number in words]), (0, list(range(1, 201))))
+        kept = [word for word, _ in words].index(b"accepted") if b"accepted" in printed else 200
+        self.assertGreaterEqual(kept, 20)
+        self.assertEqual({word for word, _ in words[:kept]}, {b"repeated"})
+        self.assertEqual({word for word, _ in words[kept:]} - {b"accepted"}, set())
 
 
 class Refused(Stores):
@@ -269,48 +275,58 @@ class Refused(Stores):
 
     def test_another_table_of_that_name(self) -> None:
         seq, id_, body = "seq INTEGER PRIMARY KEY", "id TEXT UNIQUE NOT NULL", "body BLOB NOT NULL"
-        empty: list[tuple[object, ...]] = []
-        kept: list[tuple[object, ...]] = [(1, "a", GAS)]
-        for columns in ("(a, b, c)", "(seq, id, body)",
-                        f"(seq INTEGER, {id_}, {body})", f"(seq INTEGER UNIQUE, {id_}, {body})",
-                        f"(seq INT PRIMARY KEY, {id_}, {body})",
-                        f"({seq}, id TEXT NOT NULL, {body})", f"({seq}, id TEXT UNIQUE, {body})",
-                        f"({seq}, id BLOB UNIQUE NOT NULL, {body})",
-                        f"({seq}, id TEXT NOT NULL, {body}, UNIQUE (id, body))",
-                        f"({seq}, {id_}, body BLOB)", f"({seq}, {id_}, body BLOB UNIQUE NOT NULL)",
-                        f"({seq}, {id_}, body TEXT NOT NULL)", f"({seq}, {id_}, words BLOB NOT NULL)",
-                        f"({seq}, {id_}, {body}) STRICT", f"({seq}, {id_}, {body}) WITHOUT ROWID"):
-            for rows in (empty, kept):
-                self.is_refused_as_it_is(f"CREATE TABLE accepted{columns}", rows)
-        self.is_refused_as_it_is(f"CREATE TABLE accepted({seq}, {body}, {id_})", [(1, GAS, "a")])
-        for columns in (f"{seq}, {id_}", f"{seq}, {id_}, {body}, note TEXT"):
-            self.is_refused_as_it_is(f"CREATE TABLE accepted({columns})", [])
+        kept: Submitted = (1, "a", GAS)
+        for name, more, row in (("accepted", "", kept), ("accepted2", " format INTEGER NOT NULL,", with_format(kept))):
+            for columns in (f"(a, b,{more and ' c,'} d)", f"(seq, id,{more and ' format,'} body)",
+                            f"(seq INTEGER, {id_},{more} {body})", f"(seq INTEGER UNIQUE, {id_},{more} {body})",
+                            f"(seq INT PRIMARY KEY, {id_},{more} {body})",
+                            f"({seq}, id TEXT NOT NULL,{more} {body})", f"({seq}, id TEXT UNIQUE,{more} {body})",
+                            f"({seq}, id BLOB UNIQUE NOT NULL,{more} {body})",
+                            f"({seq}, id TEXT NOT NULL,{more} {body}, UNIQUE (id, body))",
+                            f"({seq}, {id_},{more} body BLOB)", f"({seq}, {id_},{more} body BLOB UNIQUE NOT NULL)",
+                            f"({seq}, {id_},{more} body TEXT NOT NULL)", f"({seq}, {id_},{more} words BLOB NOT NULL)",
+                            f"({seq}, {id_},{more} {body}) STRICT", f"({seq}, {id_},{more} {body}) WITHOUT ROWID"):
+                self.is_refused_as_it_is(name, columns, [])
+                self.is_refused_as_it_is(name, columns, [row])
+            for columns in (f"{seq}, {id_}", f"{seq}, {id_},{more} {body}, note TEXT"):
+                self.is_refused_as_it_is(name, f"({columns})", [])
+        self.is_refused_as_it_is("accepted", f"({seq}, {body}, {id_})", [(1, GAS, "a")])
+        for form in ("format NOT NULL", "format TEXT NOT NULL", "format INTEGER"):
+            self.is_refused_as_it_is("accepted2", f"({seq}, {id_}, {form}, {body})", [with_format(kept)])
 
     def test_a_table_with_more_than_columns(self) -> None:
-        for more in ("CREATE TRIGGER t AFTER INSERT ON accepted BEGIN DELETE FROM accepted; END",
-                     "CREATE INDEX i ON accepted(length(body))"):
-            self.is_refused_as_it_is(TABLE, [], more)
-            self.is_refused_as_it_is(TABLE, [(1, "a", GAS)], more)
+        columns = TABLE.removeprefix("CREATE TABLE accepted2")
+        for more in ("CREATE TRIGGER t AFTER INSERT ON accepted2 BEGIN DELETE FROM accepted2; END",
+                     "CREATE INDEX i ON accepted2(length(body))"):
+            self.is_refused_as_it_is("accepted2", columns, [], more)
+            self.is_refused_as_it_is("accepted2", columns, [with_format((1, "a", GAS))], more)
 
-    def is_refused_as_it_is(self, table: str, rows: Sequence[tuple[object, ...]], *more: str) -> None:
-        """Makes a store of this table and these rows, and looks that a run fails and changes neither."""
+    def is_refused_as_it_is(self, name: str, columns: str, rows: Sequence[tuple[object, ...]], *more: str) -> None:
+        """Makes a store with this table and these rows, and looks that a run fails and changes neither."""
         self.store.unlink(missing_ok=True)
-        make(self.store, table, rows=rows)
-        make(self.store, *more)
+        table = f"CREATE TABLE {name}{columns}"
+        make(self.store, table)
+        with contextlib.closing(sqlite3.connect(self.store)) as connection, connection:
+            for row in rows:
+                connection.execute(f"INSERT INTO {name} VALUES ({', '.join('?' * len(row))})", row)
+            for statement in more:
+                connection.execute(statement)
         self.assertEqual(self.run_with(GAS_THEN_CELLS), (6, b""), table)
         with contextlib.closing(sqlite3.connect(self.store)) as connection:
-            tables = connection.execute("SELECT sql FROM sqlite_master WHERE type = 'table'")
-            self.assertEqual(tables.fetchall(), [(table,)])
-            self.assertEqual(connection.execute("SELECT * FROM accepted").fetchall(), rows)
+            there = connection.execute("SELECT sql FROM sqlite_master WHERE type = 'table' AND name = ?", [name])
+            self.assertEqual(there.fetchall(), [(table,)])
+        self.assertEqual(all_rows(self.store, name), list(rows))
 
     def test_what_else_a_table_says_is_not_compared(self) -> None:
         seq, id_, body = "seq INTEGER PRIMARY KEY", "id TEXT UNIQUE NOT NULL", "body BLOB NOT NULL"
-        for columns in (f"SEQ INTEGER PRIMARY KEY AUTOINCREMENT, {id_}, {body}",
-                        f"{seq}, id VARCHAR(40) COLLATE NOCASE UNIQUE NOT NULL, {body}",
-                        f"{seq}, {id_}, body NOT NULL", f"{seq}, {id_} DEFAULT 'x', {body} DEFAULT x'00'",
-                        f"{seq}, {id_}, {body}, CHECK (length(id) > 0)"):
+        form = "format INTEGER NOT NULL"
+        for columns in (f"SEQ INTEGER PRIMARY KEY AUTOINCREMENT, {id_}, {form}, {body}",
+                        f"{seq}, id VARCHAR(40) COLLATE NOCASE UNIQUE NOT NULL, {form}, {body}",
+                        f"{seq}, {id_}, {form}, body NOT NULL",
+                        f"{seq}, {id_} DEFAULT 'x', {form} DEFAULT 7, {body} DEFAULT x'00'",
+                        f"{seq}, {id_}, {form}, {body}, CHECK (length(id) > 0)"):
             self.store.unlink(missing_ok=True)
-            make(self.store, f"CREATE TABLE accepted({columns})", "CREATE UNIQUE INDEX i ON accepted(body)",
+            make(self.store, f"CREATE TABLE accepted2({columns})", "CREATE UNIQUE INDEX i ON accepted2(body)",
                  "CREATE TABLE other(a)")
             self.assertEqual(self.run_with(GAS_THEN_CELLS), (0, b"accepted 1\n" + CELLS), columns)
             self.assertEqual(rows_of(self.store), [(1, "a", GAS)])
@@ -324,11 +340,101 @@ class Refused(Stores):
             self.assertEqual(rows_of(self.store), [(1, "a", GAS)])
 
     def test_a_view_of_that_name(self) -> None:
-        make(self.store, "CREATE VIEW accepted AS SELECT 1 AS seq, 'a' AS id, x'00' AS body")
+        for name, more in (("accepted", ""), ("accepted2", " 1 AS format,")):
+            self.store.unlink(missing_ok=True)
+            make(self.store, f"CREATE VIEW {name} AS SELECT 1 AS seq, 'a' AS id,{more} x'00' AS body")
+            self.assertEqual(self.run_with(GAS_THEN_CELLS), (6, b""))
+            with contextlib.closing(sqlite3.connect(self.store)) as connection:
+                objects = connection.execute("SELECT type, name FROM sqlite_master").fetchall()
+            self.assertIn(("view", name), objects)
+
+
+class Moved(Stores):
+    """Stores of version 1, whose rows the first run moves."""
+
+    def is_moved(self, rows: list[Submitted]) -> None:
+        """Looks that a store has these rows in the table of version 2 alone, and answers each once more."""
+        self.assertEqual(rows_of(self.store), rows)
+        self.assertEqual(all_rows(self.store, "accepted"), [])
+        again = session(*(submit(name.encode(), body) for _, name, body in rows))
+        self.assertEqual(self.run_with(again), (0, b"".join(b"repeated %d\n" % seq for seq, _, _ in rows)))
+        self.assertEqual(rows_of(self.store), rows)
+
+    def test_stores_kept_as_text(self) -> None:
+        due: dict[str, list[Submitted]] = {"without-rows": [], "with-a-row": [(1, "a", GAS)]}
+        self.assertEqual(sorted(path.stem for path in DUMPS.glob("*.sql")), sorted(f"version-1-{name}" for name in due))
+        for name, rows in due.items():
+            with self.subTest(name):
+                self.store.unlink(missing_ok=True)
+                with contextlib.closing(sqlite3.connect(self.store)) as connection:
+                    connection.executescript((DUMPS / f"version-1-{name}.sql").read_text("utf-8"))
+                self.assertEqual(list_of(self.store), rows)
+                self.assertEqual(self.run_with(session()), (0, b""))
+                self.is_moved(rows)
+                number = len(rows) + 1
+                further = self.run_with(session(submit(b"c", POTENTIAL)))
+                self.assertEqual(further, (0, b"accepted %d\n" % number))
+                self.assertEqual(rows_of(self.store), [*rows, (number, "c", POTENTIAL)])
+
+    def test_each_row_has_the_format_of_its_body(self) -> None:
+        marked = b"\xef\xbb\xbf" + HALF_LIFE.replace(b"WOOD", b"FOOD")
+        quoted = HALF_LIFE.replace(b"WOOD", b"PAPER").replace(b"act2", b'"act2"')
+        bodies = [GAS, HALF_LIFE, POTENTIAL, marked, quoted]
+        rows = [(seq, f"s{seq}", body) for seq, body in enumerate(bodies, 1)]
+        make(self.store, TABLE_1, rows_1=rows)
+        self.assertEqual(self.run_with(b"SHOW cells 1990\nEND\n"), (0, CELLS))
+        self.assertEqual([row[2] for row in all_rows(self.store, "accepted2")], [1, 2, 1, 2, 2])
+        self.is_moved(rows)
+
+    def test_two_thousand_rows(self) -> None:
+        rows = list(submissions(2000))
+        make(self.store, TABLE_1, rows_1=rows)
+        status, printed = self.run_with(b"SHOW summary 2020\nEND\n")
+        self.assertEqual(status, 0)
+        self.is_moved(rows)
+        whole = session(*(submit(name.encode(), body) for _, name, body in rows), b"SHOW summary 2020\n")
+        fresh = self.run_with(whole, "--workers", "1")
+        self.assertEqual(fresh, (0, b"".join(b"accepted %d\n" % seq for seq, _, _ in rows) + printed))
+
+    def test_rows_in_both_tables(self) -> None:
+        rows: list[Submitted] = [(1, "a", GAS)]
+        make(self.store, TABLE_1, TABLE, rows=rows, rows_1=rows)
+        before = self.store.read_bytes()
+        self.assertEqual(self.run_with(session(submit(b"a", GAS))), (6, b""))
+        self.assertEqual(self.store.read_bytes(), before)
+        self.assertEqual((all_rows(self.store, "accepted"), rows_of(self.store)), (rows, rows))
+
+    def test_empty_tables_beside_one_with_rows(self) -> None:
+        rows: list[Submitted] = [(1, "a", GAS), (2, "c", POTENTIAL)]
+        none: list[Submitted] = []
+        for of_1, of_2 in ((rows, none), (none, rows)):
+            self.store.unlink(missing_ok=True)
+            make(self.store, TABLE, TABLE_1, rows=of_2, rows_1=of_1)
+            self.assertEqual(self.run_with(session()), (0, b""))
+            self.is_moved(rows)
+
+    def test_a_gap_in_the_numbers(self) -> None:
+        rows: list[Submitted] = [(1, "a", GAS), (3, "c", POTENTIAL)]
+        make(self.store, TABLE_1, rows_1=rows)
         self.assertEqual(self.run_with(GAS_THEN_CELLS), (6, b""))
-        with contextlib.closing(sqlite3.connect(self.store)) as connection:
-            objects = connection.execute("SELECT type, name FROM sqlite_master").fetchall()
-        self.assertEqual(objects, [("view", "accepted")])
+        self.assertEqual(all_rows(self.store, "accepted"), rows)
+        self.assertEqual(all_rows(self.store, "accepted2"), [])
+
+    def test_a_kept_row_that_is_refused(self) -> None:
+        rows: list[Submitted] = [(1, "a", GAS), (2, "b", GAS)]
+        make(self.store, TABLE_1, rows_1=rows)
+        for _ in range(2):
+            self.assertEqual(self.run_with(GAS_THEN_CELLS), (9, b"kept row 2 refused 9 Exists row 1\n"))
+            self.assertEqual(list_of(self.store), rows)
+
+    def test_a_disk_without_room(self) -> None:
+        rows: list[Submitted] = [(1, "a", GAS), *((seq, f"n{seq}", HEADER + b"\n" * (1 << 19)) for seq in range(2, 8))]
+        make(self.store, TABLE_1, rows_1=rows)
+        self.assertEqual(self.run_with(session(), before=without_room), (6, b""))
+        self.assertEqual(list_of(self.store), rows)
+        self.assertEqual(all_rows(self.store, "accepted2"), [])
+        self.assertEqual(self.run_with(session()), (0, b""))
+        self.is_moved(rows)
 
 
 if __name__ == "__main__":

@@ -17,6 +17,8 @@ from tools.sheets import read_folders
 
 COUNTRY = ["examples/fuel-combustion", "examples/small-country", "examples/waste", "examples/uncertainties"]
 MADE = "CREATE TABLE accepted(seq INTEGER PRIMARY KEY, id TEXT UNIQUE NOT NULL, body BLOB NOT NULL)"
+MADE_2 = ("CREATE TABLE accepted2(seq INTEGER PRIMARY KEY, id TEXT UNIQUE NOT NULL, format INTEGER NOT NULL, "
+          "body BLOB NOT NULL)")
 SPAN = f"{HEADER}enter,span,,,2019,2021,2019,,,\n".encode()
 
 
@@ -50,8 +52,14 @@ class Stores(Rooms):
             book.executemany("INSERT INTO accepted VALUES (?, ?, ?)", rows)
         return str(path)
 
+    def kept_in_format(self, rows: list[tuple[typing.Any, ...]], path: str) -> None:
+        """Puts rows into the table of version 2 of a store."""
+        with contextlib.closing(sqlite3.connect(path)) as book, book:
+            book.execute(MADE_2)
+            book.executemany("INSERT INTO accepted2 VALUES (?, ?, ?, ?)", rows)
+
     def by_the_program(self, folders: list[str]) -> str:
-        """A store that the program wrote."""
+        """A store that the program wrote, whose rows stand in its log."""
         subprocess.run([PROGRAM, "compile", "--store", "book.db"], input=script_of(folders), cwd=self.room,
                        check=True, capture_output=True)
         return str(self.room / "book.db")
@@ -59,7 +67,7 @@ class Stores(Rooms):
     def test_the_tables_of_the_country_and_no_byte_changes(self) -> None:
         path = self.by_the_program(COUNTRY)
         before = self.bytes_there()
-        self.assertGreater(len(before["book.db"]), 100_000)
+        self.assertGreater(len(before["book.db-wal"]), 100_000)
         with tempfile.TemporaryDirectory() as out:
             ran = workbook("tables", "--store", path, "2020", "-o", out)
             self.assertEqual(ran.returncode, 0, ran.stderr)
@@ -94,7 +102,7 @@ class Stores(Rooms):
         (self.room / "empty.db").write_bytes(b"")
         for name, due in (("no-such.db", "is no file"), (".", "is no file"),
                           ("text.db", "is no store of submissions: file is not a database"),
-                          ("empty.db", "is no store of submissions: no such table: accepted")):
+                          ("empty.db", "is no store of submissions: it has no table accepted2")):
             ran = workbook("check", "--store", str(self.room / name))
             said = f"./workbook: {self.room / name} {due}\n"
             self.assertEqual((ran.returncode, ran.stdout, ran.stderr), (2, "", said))
@@ -110,6 +118,25 @@ class Stores(Rooms):
             due = f"row {rows[-1][0]} is none that the program wrote; go back to a backup"
             self.assertEqual(ran.stderr, f"./workbook: {path}: {due}\n")
             (self.room / "book.db").unlink()
+
+    def test_the_tables_of_both_versions(self) -> None:
+        rows: list[tuple[typing.Any, ...]] = [(1, "a", SPAN)]
+        of_2: list[tuple[typing.Any, ...]] = [(1, "a", 1, SPAN)]
+        none: list[tuple[typing.Any, ...]] = []
+        for first, second in ((rows, none), (none, of_2), (none, none)):
+            path = pathlib.Path(self.kept(first))
+            self.kept_in_format(second, str(path))
+            kept = [(sheet.name, sheet.data) for sheet in store.submissions(path)]
+            self.assertEqual(kept, [("book.db/a", SPAN)] if first or second else [])
+            path.unlink()
+        path = pathlib.Path(self.kept(rows))
+        self.kept_in_format(of_2, str(path))
+        with self.assertRaisesRegex(store.StoreFault, "book.db has rows in accepted2 and in accepted; go back"):
+            store.submissions(path)
+        path.unlink()
+        self.kept_in_format(of_2, str(path))
+        self.assertEqual(workbook("check", "--store", path, "--no-warnings").stdout,
+                         "1 file: 0 faults, 0 warnings\n")
 
     def test_a_store_without_submissions(self) -> None:
         path = self.kept([])

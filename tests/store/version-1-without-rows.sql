@@ -1,0 +1,4 @@
+-- A store of version 1 without rows.
+BEGIN TRANSACTION;
+CREATE TABLE accepted(seq INTEGER PRIMARY KEY, id TEXT UNIQUE NOT NULL, body BLOB NOT NULL);
+COMMIT;
