@@ -5,6 +5,7 @@ pub mod Gathering
 pub mod Analyses
 pub mod Assessed
 pub mod Tables
+pub mod Values
 pub mod Names
 pub mod Laws
 pub mod SoundTexts

@@ -19,7 +19,7 @@ use std::alloc::AllocError;
 
 /// Appends a number of hundredths with two decimals.
 #[tactic(auto, unfolding(crate::specs::Texts::hundredths_text))]
-pub(crate) fn append_hundredths(out: &mut Vec<u8>, n: i128) -> Result<(), AllocError>
+pub fn append_hundredths(out: &mut Vec<u8>, n: i128) -> Result<(), AllocError>
     ensures { OnOk result (out.new.items ≡ out.old.items ++ hundredths_text n) }
 {
     write_fixed(out, n, 2)
@@ -27,7 +27,7 @@ pub(crate) fn append_hundredths(out: &mut Vec<u8>, n: i128) -> Result<(), AllocE
 
 /// The same, and a comma.
 #[tactic(auto, unfolding(crate::specs::Texts::field))]
-pub(crate) fn append_hundredths_field(out: &mut Vec<u8>, n: i128) -> Result<(), AllocError>
+pub fn append_hundredths_field(out: &mut Vec<u8>, n: i128) -> Result<(), AllocError>
     ensures { OnOk result (out.new.items ≡ out.old.items ++ field (hundredths_text n)) }
 {
     append_hundredths(out, n)?;
@@ -67,7 +67,7 @@ pub(crate) fn append_tonnes(out: &mut Vec<u8>, n: i128) -> Result<(), AllocError
 
 /// The same, and a comma.
 #[tactic(auto, unfolding(crate::specs::Texts::field))]
-pub(crate) fn append_tonnes_field(out: &mut Vec<u8>, n: i128) -> Result<(), AllocError>
+pub fn append_tonnes_field(out: &mut Vec<u8>, n: i128) -> Result<(), AllocError>
     ensures { OnOk result (out.new.items ≡ out.old.items ++ field (tonnes_text n)) }
 {
     append_tonnes(out, n)?;

@@ -16,7 +16,7 @@ use std::collections::BTreeMap;
 
 /// The category at which a line stands and the gas that it emits; `None` exactly where the line is not
 /// present, or gives something else.
-pub(crate) fn emission<R: Records>(records: &R, name: &Name) -> Option<(Category, Gas)>
+pub fn emission<R: Records>(records: &R, name: &Name) -> Option<(Category, Gas)>
     ensures { result ≡ emission (R.content records.now) name.now }
 {
     let (category, id) = records.line(name)?;

@@ -54,8 +54,8 @@ pub(crate) fn print_uncertainty<C: Cells>(
     Ok(Text::new(out))
 }
 
-// The lines in the tree that emit a gas, by name.
-fn emitters<C: Cells>(alloc: Global, cells: &C) -> Result<Vec<Name>, AllocError>
+/// The lines in the tree that emit a gas, by name. The only error is that memory ran out.
+pub fn emitters<C: Cells>(alloc: Global, cells: &C) -> Result<Vec<Name>, AllocError>
     ensures lines { IfOk result (λ lines. lines.items ≡ emitters (C.content cells.now)) }
     ensures few { IfOk result (λ lines. length lines.items ≤ most_lines) }
 {
@@ -121,8 +121,8 @@ fn append_emitter<C: Cells>(
     }
 }
 
-// The percentages of a line's activity and factor, in hundredths; `None` exactly where it has no record.
-fn uncertainty<R: Records>(records: &R, line: &Name) -> Option<(u32, u32)>
+/// The percentages of a line's activity and factor, in hundredths; `None` exactly where it has no record.
+pub fn uncertainty<R: Records>(records: &R, line: &Name) -> Option<(u32, u32)>
     ensures value { result ≡ uncertainty (R.content records.now) line.now }
     ensures small { IfSome result (λ p. (p.0 ≤ GREATEST_UNCERTAINTY) × (p.1 ≤ GREATEST_UNCERTAINTY)) }
 {
@@ -151,8 +151,9 @@ fn append_uncertainty(
     Ok(())
 }
 
+/// Appends the name of a line, where it stands and what it emits.
 #[tactic(auto, unfolding(crate::specs::Analyses::emission_words))]
-fn append_emission_words(
+pub fn append_emission_words(
     out: &mut Vec<u8>,
     name: &Name,
     pair: (Category, Gas),
@@ -203,9 +204,9 @@ fn append_record(out: &mut Vec<u8>, activity: u32, factor: u32) -> Result<(), Al
     append_hundredths(out, i128::from(high))
 }
 
-// What a line emits in a year, in tonnes of CO2 equivalent; a blank counts as zero.
+/// What a line emits in a year, in tonnes of CO2 equivalent; a blank counts as zero.
 #[tactic(auto, unfolding(crate::specs::Tables::line_tonnes))]
-fn line_tonnes<C: Cells>(cells: &C, name: &Name, year: u32) -> i128
+pub fn line_tonnes<C: Cells>(cells: &C, name: &Name, year: u32) -> i128
     ensures value { result ≡ line_tonnes (compilation (C.content cells.now)) year name.now }
     ensures small { unsigned_abs result ≤ amount_limit }
 {
