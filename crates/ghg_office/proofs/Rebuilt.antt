@@ -1,11 +1,16 @@
 -- A state is what its accepted list leads to.
 use Rattle.std.proofs.Common.{◌≡◌, ◌+◌, ◌++◌, ◌∙◌, ℕ, List, [], ◌∷◌, length, Ok, inl, inr, refl, sym, ap, subst}
+use Rattle.ghg_affected.specs.Affected.{affected_nodes}
+use Rattle.ghg_definitions.specs.Data.{Data}
 use Rattle.ghg_keeper.specs.declared.row.KeptRow.{KeptRow}
-use Rattle.ghg_office.specs.declared.reply.Reply.TheVariants.{Accepted}
+use Rattle.ghg_office.specs.declared.reply.Reply.{Reply}
+use Rattle.ghg_office.specs.declared.reply.Reply.TheVariants.{Accepted, Repeated, Refused, Table, NoTable, KeeperFault, Memory}
 use Rattle.ghg_office.specs.Laws.{AcceptedListsRebuildStates, AreAccepted, IsRebuilt, ReplaysRebuildStates, state_after_all}
-use Rattle.ghg_office.specs.Office.{State, start, submitted}
+use Rattle.ghg_office.specs.Office.{IsRead, State, entered_by, start, submitted}
 use Rattle.ghg_office.specs.Replays.{replayed_from}
+use Rattle.ghg_office.specs.Replies.{Answers}
 use Rattle.ghg_office.proofs.Cases.{IsAccepted, submitted_cases}
+use Rattle.ghg_office.proofs.Entered.{accepted_answers}
 use Rattle.ghg_office.proofs.InForce.{reached}
 
 -- one more submission, at the end
@@ -43,8 +48,32 @@ module _ (s : State) (id body : List ℕ) (rebuilt : IsRebuilt s) where
     | inr new ↦ accepted_rebuilt new
   ]
 
+-- whatever is answered, the state after it is rebuilt
+pub answered_rebuilt : (s after : State) (id body : List ℕ) (reply : Reply) → Answers (submitted s id body) reply s after → IsRebuilt s → IsRebuilt after
+answered_rebuilt s after id body KeeperFault same rebuilt = subst IsRebuilt (sym same) rebuilt
+answered_rebuilt s after id body Memory same rebuilt = subst IsRebuilt (sym same) rebuilt
+answered_rebuilt s after id body (Accepted seq cells) made rebuilt = subst IsRebuilt (sym made.1) (submitted_rebuilt s id body rebuilt)
+answered_rebuilt s after id body (Repeated seq) made rebuilt = subst IsRebuilt (sym made.1) (submitted_rebuilt s id body rebuilt)
+answered_rebuilt s after id body (Refused rule) made rebuilt = subst IsRebuilt (sym made.1) (submitted_rebuilt s id body rebuilt)
+answered_rebuilt s after id body (Table text) made rebuilt = subst IsRebuilt (sym made.1) (submitted_rebuilt s id body rebuilt)
+answered_rebuilt s after id body NoTable made rebuilt = subst IsRebuilt (sym made.1) (submitted_rebuilt s id body rebuilt)
+
+-- and so is the state after what breaks no rule
+pub next_rebuilt : (s : State) (id body : List ℕ) (m n : Data) (list : List KeptRow) → IsRebuilt s → IsRead s id body → entered_by s body ≡ Ok m
+    → n ≡ m → list ≡ s.accepted ++ (record { id = id; body = body } ∷ []) → IsRebuilt (record { content = n; accepted = list })
+next_rebuilt s id body m n list rebuilt read made is more =
+    answered_rebuilt s (record { content = n; accepted = list }) id body (Accepted (length s.accepted + 1) (length (affected_nodes s.content m)))
+    (accepted_answers s id body m n (length s.accepted + 1) (length (affected_nodes s.content m)) list read made is refl refl more) rebuilt
+
+-- what leaves the state leaves it rebuilt
+pub still_rebuilt : (before after : State) → after ≡ before → IsRebuilt before → IsRebuilt after
+still_rebuilt before after same rebuilt = subst IsRebuilt (sym same) rebuilt
+
+pub start_rebuilt : IsRebuilt start
+start_rebuilt = record { whole = tt; same = refl }
+
 pub lists_rebuild : AcceptedListsRebuildStates
-lists_rebuild given = reached IsRebuilt (λ s id body h. submitted_rebuilt s id body h) start given (record { whole = tt; same = refl })
+lists_rebuild given = reached IsRebuilt (λ s id body h. submitted_rebuilt s id body h) start given start_rebuilt
 
 -- rows that are accepted one after the other are replayed whole
 accepted_replayed : (seq : ℕ) (s : State) (rows : List KeptRow) → AreAccepted s rows → replayed_from seq s rows ≡ Ok (state_after_all s rows)

@@ -59,6 +59,13 @@ impl Accepted {
         Some((index as u64 + 1, body))
     }
 
+    /// How many submissions there are.
+    pub(crate) fn len(&self) -> u64
+        ensures { result ≡ length self.now.list }
+    {
+        self.bodies.len() as u64
+    }
+
     /// How many bytes the bodies have.
     pub(crate) fn kept_bytes(&self) -> u64
         ensures sum { result ≡ kept_bytes self.now.list }

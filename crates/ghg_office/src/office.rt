@@ -1,6 +1,6 @@
 //! The office.
 
-ghost use Rattle.std.specs.Prelude.{◌≡◌, ◌≢◌, ◌≤◌, ◌+◌, true, false, IsErrOf, IfOk, IfErr};
+ghost use Rattle.std.specs.Prelude.{◌≡◌, ◌≢◌, ◌≤◌, ◌+◌, true, false, length, IsErrOf, IfOk, IfErr};
 ghost use Rattle.ghg_definitions.specs.Compilation.{compilation, is_year_of};
 ghost use Rattle.ghg_definitions.specs.Data.{span};
 ghost use Rattle.ghg_outer.specs.Counts.{IsCounted};
@@ -10,7 +10,7 @@ ghost use Rattle.ghg_office.specs.Office.{IsRead, evaluations, requested, start,
 ghost use Rattle.ghg_office.specs.Keeping.{HadRows, KeepsAccepted, Lists, is_to_append};
 ghost use Rattle.ghg_office.specs.Replays.{IsReplay, Takes, replay_evaluations, replayed, taken};
 ghost use Rattle.ghg_office.specs.Replies.{Answers, Shows, is_failure, reply_of};
-ghost use Rattle.ghg_office.specs.Laws.{IsInForce};
+ghost use Rattle.ghg_office.specs.Laws.{IsInForce, IsRebuilt};
 ghost use Rattle.ghg_office.specs.Sound.{IsSoundReply};
 
 use crate::accepted::Accepted;
@@ -43,6 +43,8 @@ struct NewSubmission<'a> {
 }
 
 /// The workbook in force and the submissions that were accepted. Contracts see the two.
+///
+/// The accepted submissions, entered in their order into an office without data, lead to this workbook.
 #[derive(Drop)]
 pub struct Office {
     engine: Engine,
@@ -51,6 +53,7 @@ pub struct Office {
 
 impl Model for Office {
     ghost use Rattle.ghg_office.specs.Office.{State, state_code};
+    ghost use Rattle.ghg_office.specs.Laws.{IsRebuilt};
     ghost use Rattle.std.specs.Coded.{codes};
 
     ghost Value = { State };
@@ -58,6 +61,8 @@ impl Model for Office {
     ghost coded = { state_code (Prim.hlevel codes) (Prim.hlevel codes) };
 
     ghost view = { λ o. record { content = o.engine.content; accepted = o.accepted.list } };
+
+    ghost invariant = { λ o. IsRebuilt (record { content = o.engine.content; accepted = o.accepted.list }) };
 }
 
 impl Office {
@@ -302,6 +307,21 @@ impl Office {
             Ok(text) => Reply::Table(text),
             Err(_) => Reply::Memory,
         }
+    }
+
+    /// How many submissions were accepted. They lead to the data in force from an office without data.
+    pub fn accepted(&self) -> u64
+        ensures count { result ≡ length self.now.accepted }
+        ensures rebuilt { IsRebuilt self.now }
+    {
+        self.accepted.len()
+    }
+
+    /// The engine with the data in force and their compilation.
+    pub fn engine(&self) -> &Engine
+        ensures { result.now.content ≡ self.now.content }
+    {
+        &self.engine
     }
 
     /// What tables print of a node: its value by the data in force, and a blank where it is no node.

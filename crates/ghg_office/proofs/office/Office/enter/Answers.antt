@@ -1,4 +1,4 @@
-use Rattle.std.proofs.Common.{◌+◌, sym, ◌∙◌, ◌++◌, ◌∷◌, [], ap, ap₂, length, List, Err}
+use Rattle.std.proofs.Common.{◌+◌, sym, ◌∙◌, ◌++◌, ◌∷◌, [], ap, ap₂, subst, length, List, Err}
 use Rattle.std.proofs.lemmas.Result.{err_from_is_err_and}
 use Rattle.ghg_definitions.specs.Data.{Data}
 use Rattle.ghg_data.specs.Changes.{applied}
@@ -7,7 +7,9 @@ use Rattle.ghg_office.specs.Office.{entered_by, submitted}
 use Rattle.ghg_outer.proofs.Counts.{counted_told}
 use Rattle.ghg_office.proofs.Calls.{is_appended, unstored}
 use Rattle.ghg_office.proofs.Entered.{accepted_answers, accepted_reply, counted, failed_answers, planned_answers}
+use Rattle.ghg_office.specs.Laws.{IsRebuilt}
 use Rattle.ghg_office.proofs.Reading.{spent_reading}
+use Rattle.ghg_office.proofs.Rebuilt.{next_rebuilt, still_rebuilt}
 use Rattle.ghg_office.proofs.office.Office.enter.Goals as goal
 
 pub returns-in_err-proposal-clause-answer : goal.returns-in_err-proposal-clause-answer
@@ -62,3 +64,19 @@ returns-in-Ok-clause-untouched g c =
     let made = ap (λ s. entered_by s c.args.submission.body.now) (sym c.self.view_is) ∙ c.in_ok-proposal.ensures.entered in
     λ none. c.in-Ok.ensures.untouched (unstored c.args.stored (submitted c.args.self.now c.args.submission.id c.args.submission.body.now)
     (accepted_reply c.args.self.now c.args.submission.id c.args.submission.body.now _ c.requires.read made) none)
+
+pub invariant_of-self : goal.invariant_of-self
+invariant_of-self g c =
+    still_rebuilt _ _ (ap₂ (λ (m : Data) (l : List KeptRow). record { content = m; accepted = l }) c.prepare.ensures.content c.prepare.ensures.list) c.self.invariant
+
+pub invariant_of-self-in-Err : goal.invariant_of-self-in-Err
+invariant_of-self-in-Err g c =
+    still_rebuilt _ _ (ap₂ (λ (m : Data) (l : List KeptRow). record { content = m; accepted = l }) c.prepare.ensures.content c.prepare.ensures.list) c.self.invariant
+
+pub invariant_of-self-in-Ok : goal.invariant_of-self-in-Ok
+invariant_of-self-in-Ok g c =
+    let made = ap (λ s. entered_by s c.args.submission.body.now) (sym c.self.view_is) ∙ c.in_ok-proposal.ensures.entered in
+    let list = c.prepare.ensures.list ∙ ap (λ s. s.accepted) c.self.view_is in
+    next_rebuilt c.args.self.now c.args.submission.id c.args.submission.body.now _ _ _ (subst IsRebuilt c.self.view_is c.self.invariant) c.requires.read made
+    (c.accept.ensures.made ∙ ap (λ m. applied m c.in_ok-proposal.proposal.edits) c.prepare.ensures.content)
+    (c.push-seq.ensures.list ∙ ap₂ (λ l b. l ++ (record { id = c.args.submission.id; body = b } ∷ [])) list c.in-Ok.ensures.copy)
