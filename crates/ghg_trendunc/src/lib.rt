@@ -1,0 +1,13 @@
+//! The uncertainty of a trend, by propagation of errors.
+//!
+//! Source: 2006 IPCC Guidelines, Volume 1, Chapter 3, Table 3.2. Uncertainties of a line are in hundredths of
+//! a percent, and what they make of the trend is in millionths of a percent.
+#![tactic(auto)]
+
+mod laws;
+mod lines;
+mod totals;
+
+pub use laws::trend_totals_hold_roots;
+pub use lines::{TrendShare, sides};
+pub use totals::{Sides, trend_total};
