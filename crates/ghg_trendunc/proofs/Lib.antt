@@ -1,3 +1,4 @@
 pub mod Amounts
 pub mod Millionths
 pub mod Held
+pub mod Sums

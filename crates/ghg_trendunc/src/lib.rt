@@ -6,8 +6,10 @@
 
 mod laws;
 mod lines;
+mod printing;
 mod totals;
 
 pub use laws::trend_totals_hold_roots;
 pub use lines::{TrendShare, sides};
+pub use printing::print_trend;
 pub use totals::{Sides, trend_total};
