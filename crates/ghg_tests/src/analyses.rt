@@ -3,6 +3,7 @@
 use crate::cases::check;
 use ghg_interval::Interval;
 use ghg_roots::{decay_bracket, sqrt_bracket};
+use ghg_trendunc::{Sides, TrendShare, sides, trend_total};
 use ghg_uncertainty::{Share, TotalUncertainty, combined, total};
 
 // A whole number, and the two between which its root is. 25 and 0 are squares.
@@ -96,4 +97,86 @@ fn errors_of_a_sum_propagate(rt: HostRuntime) {
     );
     check(&rt, is_undefined(total(&[PLANT, AWAY])), "a sum of zero");
     check(&rt, is_undefined(total(&[])), "no amounts");
+}
+
+// ---- the trend
+
+// A line that is its whole sum, of which 10 percent more are emitted than in the base year.
+const RISING: TrendShare = TrendShare {
+    base: 100_000,
+    now: 110_000,
+    activity: 300,
+    factor: 400,
+};
+
+// A line that stays while another, of the same size in the base year, doubles.
+const STEADY: TrendShare = TrendShare {
+    base: 100_000,
+    now: 100_000,
+    activity: 0,
+    factor: 1_000,
+};
+
+const DOUBLED: TrendShare = TrendShare {
+    base: 100_000,
+    now: 200_000,
+    activity: 0,
+    factor: 1_000,
+};
+
+// 1.1 times 3 percent; a line that is the whole sum does not move the trend.
+const OF_ONE: Sides = Sides {
+    k_low: 0,
+    k_high: 0,
+    j_low: 3_300_000,
+    j_high: 3_300_000,
+};
+
+// 100 · 10000 / (200 · 20100) times 10 percent is 2.487562189.. percent.
+const OF_TWO: Sides = Sides {
+    k_low: 2_487_562,
+    k_high: 2_487_563,
+    j_low: 0,
+    j_high: 0,
+};
+
+// 3.3 percent times the root of two is 4.666904.. percent; 2.487562 and 2.487563 times it are 3.517943.. and
+// 3.517945.. percent.
+#[test]
+fn errors_of_a_trend_propagate(rt: HostRuntime) {
+    let one = sides(&RISING, 100_000, 110_000);
+    check(&rt, one == Some(OF_ONE), "a line that is the sum");
+    let steady = sides(&STEADY, 200_000, 300_000);
+    let doubled = sides(&DOUBLED, 200_000, 300_000);
+    check(&rt, steady == Some(OF_TWO), "a line that stays");
+    check(&rt, doubled == Some(OF_TWO), "a line that doubles");
+    check(
+        &rt,
+        trend_total(&[OF_ONE]) == (4_666_904, 4_666_905),
+        "one line",
+    );
+    check(
+        &rt,
+        trend_total(&[OF_TWO, OF_TWO]) == (3_517_943, 3_517_946),
+        "two lines",
+    );
+    check(&rt, trend_total(&[]) == (0, 0), "no lines");
+}
+
+// A base year that sums to zero, or would with one percent more of the line, and a side of 44 million
+// percent.
+#[test]
+fn lines_without_a_trend_have_no_sides(rt: HostRuntime) {
+    check(&rt, sides(&RISING, 0, 110_000).is_none(), "a sum of zero");
+    check(
+        &rt,
+        sides(&RISING, -1_000, 110_000).is_none(),
+        "a sum of zero with a percent more",
+    );
+    check(&rt, sides(&RISING, 0, 0).is_none(), "no sums");
+    check(
+        &rt,
+        sides(&RISING, 1, 110_000).is_none(),
+        "too large a part",
+    );
 }
