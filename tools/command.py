@@ -130,9 +130,9 @@ def add_tables(commands: Commands) -> None:
     made.add_argument("years", nargs="+", type=read_years, metavar="YEAR", help=year)
     where = "the folder to write the files to, or one file .xlsx; without it the tables are printed"
     made.add_argument("-o", "--output", metavar="OUT", help=where)
-    one = f"one table only, of {', '.join(vocabulary.words()['tables'])}; may be given again"
+    one = f"one table only, of {', '.join(vocabulary.tables())}; may be given again"
     table = made.add_argument("--table", action="append", metavar="TABLE", help=one)
-    completion.complete(table, vocabulary.words()["tables"])
+    completion.complete(table, vocabulary.tables())
     made.add_argument("--partial", action="store_true", help="write the tables also where a file is refused")
 
 

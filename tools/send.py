@@ -20,7 +20,8 @@ from tools.sheets import Sheet, read_folders
 from tools.tables import said_of
 from tools.vocabulary import limit
 
-LONGEST_ID, DIGITS = 40, 12
+# The digits at the end of an id, which tell bodies apart.
+DIGITS = 12
 # Where a submission has to be sent again, that is done after so many seconds.
 PAUSES = (1, 2, 4, 8, 16)
 ACCEPTED, REPEATED, KEEPER_FAULT, NO_MEMORY = 201, 200, 503, 507
@@ -70,7 +71,7 @@ def id_of(sheet: Sheet) -> str:
     """The id of a file: its name without its ending, and the first digits of the hash of its content."""
     name = re.sub(r"[^A-Za-z0-9._-]+", "-", pathlib.PurePath(sheet.name).stem)
     digits = hashlib.sha256(sheet.data).hexdigest()[:DIGITS]
-    return f"{name[:LONGEST_ID - DIGITS - 1]}-{digits}"
+    return f"{name[:int(limit('id')) - DIGITS - 1]}-{digits}"
 
 
 def sent(service: Service, sheet: Sheet) -> Answer:

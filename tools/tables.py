@@ -83,7 +83,7 @@ def run_of_service(service: Service, arguments: argparse.Namespace) -> int:
 
 def show_all(program: Program | Service, accepted: list[Sheet], arguments: argparse.Namespace) -> bool:
     """Writes the tables of the years where all of them are there, and tells whether they are."""
-    names = arguments.table or vocabulary.words()["tables"]
+    names = arguments.table or vocabulary.tables()
     shown = read_tables(program, names, arguments.years, arguments.quiet)
     missing = [key for key, lines in shown.items() if lines is None]
     if missing:
@@ -108,7 +108,7 @@ def read_tables(program: Program | Service, names: list[str], years: list[int],
 
 def said_of_missing(names: list[str], year: object, accepted: list[Sheet]) -> str:
     """Why the program has none of some tables of a year."""
-    known = vocabulary.words()["tables"]
+    known = vocabulary.tables()
     unknown = [name for name in names if name not in known]
     if unknown:
         return f"there is no table {listed(unknown)}; the tables are {listed(known, 'and')}"

@@ -17,21 +17,13 @@ OF_ALL_YEARS = "series"
 # Columns of codes, with the heading of what is written beside them.
 NAMES = {"category": "category name", "equation": "equation name"}
 TEXTS = {"code", "category", "equation", "gas", "unit", "item", "flag", "key"}
-# The units of the figures of each table; in `cells` the unit is a column.
-EQUIVALENT, PERCENT = "Gg CO2 eq", "percent"
-BOUNDED = {"value": EQUIVALENT, "low": EQUIVALENT, "high": EQUIVALENT}
-SHARES = {"value": EQUIVALENT, "base": EQUIVALENT, "trend": PERCENT, "share": PERCENT, "cumulative": PERCENT}
-UNITS = {
-    "summary": BOUNDED,
-    "series": {f"{total}{bound}": EQUIVALENT for total in ("total", "gross")
-               for bound in ("", "_low", "_high")},
-    "reference": {"value": "Gg CO2, or percent"},
-    "uncertainty": {"value": EQUIVALENT, "activity": PERCENT, "factor": PERCENT, "combined_low": PERCENT,
-                    "combined_high": PERCENT},
-    "level": SHARES,
-    "trend": SHARES,
-    "checks": {"previous": EQUIVALENT, "value": EQUIVALENT, "change": PERCENT},
+# The units of the columns of figures, in each table but these: in `cells` the unit is a column.
+COLUMNS = {
+    "Gg CO2 eq": "value low high base previous total total_low total_high gross gross_low gross_high",
+    "percent": "activity factor combined_low combined_high trend share cumulative change",
 }
+UNITS = {column: unit for unit, columns in COLUMNS.items() for column in columns.split()}
+OTHER_UNITS = {"cells": {"value": None, "low": None, "high": None}, "reference": {"value": "Gg CO2, or percent"}}
 NUMBER = re.compile(r"-?\d+(?:\.\d+)?")
 WIDTHS = {"code": 26, "category name": 40, "equation name": 40}
 NARROWEST = 14
@@ -46,7 +38,7 @@ def name_of(column: str, code: str) -> str:
 
 def with_unit(table: str, column: str) -> str:
     """A heading: a column with the unit of its figures, if it has one."""
-    unit = UNITS.get(table, {}).get(column)
+    unit = OTHER_UNITS.get(table, {}).get(column, UNITS.get(column))
     return f"{column} ({unit})" if unit else column
 
 
@@ -102,7 +94,7 @@ def check_place(path: pathlib.Path) -> None:
         names = spreadsheet.library(".xlsx", f"to write {path}").load_workbook(path, read_only=True).sheetnames
     except (zipfile.BadZipFile, KeyError, ValueError) as error:
         raise FolderFault(f"{path} is there already, and is no file of tables; name another file") from error
-    other = next((name for name in names if name not in vocabulary.words()["tables"]), None)
+    other = next((name for name in names if name not in vocabulary.tables()), None)
     if other is not None:
         raise FolderFault(f"{path} has the sheet {other}, and is no file of tables; name another file")
 

@@ -60,6 +60,12 @@ class Equation(typing.TypedDict):
     about: str
 
 
+class Table(typing.TypedDict):
+    """A table of a year, with its header; the rest of it is for pages."""
+    name: str
+    header: str
+
+
 class Words(typing.TypedDict):
     """The facts of tools/facts.json that the tools read."""
     header: list[str]
@@ -70,7 +76,7 @@ class Words(typing.TypedDict):
     keys: list[str]
     key_names: dict[str, str]
     potentials: list[str]
-    tables: list[str]
+    tables: list[Table]
     limits: dict[str, str]
     units: list[Unit]
     categories: list[Category]
@@ -82,6 +88,11 @@ def words() -> Words:
     """The whole vocabulary."""
     facts: Words = json.loads(PATH.read_text(encoding="utf-8"))
     return facts
+
+
+def tables() -> list[str]:
+    """The name of each table."""
+    return [table["name"] for table in words()["tables"]]
 
 
 def limit(name: str) -> str:

@@ -1,5 +1,6 @@
-"""The text of the eight tables."""
-from typing import Iterable, Iterator, NamedTuple, Optional, Sequence
+"""The text of the tables."""
+import inspect
+from typing import Callable, Iterable, Iterator, NamedTuple, Optional, Sequence
 
 from tests.oracle.intervals import Bounds, Interval, ceiling, nearest, root_bracket
 from tests.oracle.outcomes import EQUIVALENT, GROSS, LINE, TOTAL, Compilation, Outcome, known
@@ -195,6 +196,6 @@ def shared(sizes: dict[Pair, int]) -> Iterator[tuple[Pair, Sequence[str]]]:
         before += size
 
 
-TABLES = {"cells": Printer.cells, "summary": Printer.summary, "series": Printer.series,
-          "reference": Printer.reference, "uncertainty": Printer.uncertainty, "level": Printer.level,
-          "trend": Printer.trend, "checks": Printer.checks}
+# Each generator of the printer is a table, by its name.
+TABLES: dict[str, Callable[[Printer], Iterator[list[str]]]] = {
+    name: printed for name, printed in vars(Printer).items() if inspect.isgeneratorfunction(printed)}

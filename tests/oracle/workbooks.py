@@ -117,7 +117,7 @@ class Author:
         return years[-1] + 1 if self.random.random() < 0.05 else self.random.choice(years)
 
     def show_all(self) -> None:
-        """Asks for the eight tables of a year, and for what is none."""
+        """Asks for each table of a year, and for what is none."""
         year = self.year()
         for table in PRINTED:
             self.send(Show(table, year))

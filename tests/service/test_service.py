@@ -315,7 +315,7 @@ class Links(unittest.TestCase):
     def test_a_client_that_closes_while_its_reply_is_written(self) -> None:
         rows = [HEADER, b"enter,span,,,1990,1990,1990,,,\nenter,activity,,A,1990,1,,,TJ,\n"
                 b"enter,factor,,F,1990,1000,,,kg/TJ,\n"]
-        names = [b"L%023d" % number for number in range(5000)]
+        names = [b"L%023d" % number for number in range(limit("lines"))]
         rows += [b"enter,line,1A1a,%b,,Q10,,,,\nenter,bind,%b,FC,,activity,A,,,\n"
                  b"enter,bind,%b,EF,,factor,F,,,\n" % (name, name, name) for name in names]
         lines = [b"%b,1A1a,Q10,CO2,Gg,0.001,0.001,0.001\n" % name for name in names]

@@ -52,7 +52,7 @@ class Completion(unittest.TestCase):
             self.assertEqual(completed("zsh", line), due, line)
 
     def test_the_words_are_those_of_the_vocabulary(self) -> None:
-        self.assertEqual(completed("bash", "./workbook tables f --table "), vocabulary.words()["tables"])
+        self.assertEqual(completed("bash", "./workbook tables f --table "), vocabulary.tables())
 
 
 if __name__ == "__main__":

@@ -35,7 +35,7 @@ class Country(unittest.TestCase):
         self.assertNotIn("no line takes", ran.stdout)
 
     def test_tables_are_those_of_the_program(self) -> None:
-        names = vocabulary.words()["tables"]
+        names = vocabulary.tables()
         printed = session(script(*(f"{name} 2020" for name in names))).decode()
         due = printed.split(f"accepted {len(files())}\n")[1]
         with tempfile.TemporaryDirectory() as out:
@@ -52,7 +52,7 @@ class Country(unittest.TestCase):
 
     def test_tables_are_those_that_are_stored(self) -> None:
         stored = {path.name: path.read_text() for path in sorted((TOP / "tests/country").glob("*.csv"))}
-        self.assertEqual(sorted(stored), sorted(f"{name}-2020.csv" for name in vocabulary.words()["tables"]))
+        self.assertEqual(sorted(stored), sorted(f"{name}-2020.csv" for name in vocabulary.tables()))
         for name, due in stored.items():
             ran = workbook("tables", *COUNTRY, "2020", "--table", name.removesuffix("-2020.csv"))
             self.assertEqual(ran.stdout, due, name)

@@ -27,7 +27,7 @@ class Refused(unittest.TestCase):
         with tempfile.TemporaryDirectory() as out:
             ran = workbook("tables", PLANTS, "2020", "-o", out, "--partial")
             written = sorted(path.name for path in pathlib.Path(out).iterdir())
-        self.assertEqual(written, sorted(f"{name}-2020.csv" for name in vocabulary.words()["tables"]))
+        self.assertEqual(written, sorted(f"{name}-2020.csv" for name in vocabulary.tables()))
         self.assertEqual(ran.returncode, 1)
 
     def test_an_open_quote_that_takes_in_rows(self) -> None:

@@ -84,8 +84,10 @@ class Words(unittest.TestCase):
             self.assertEqual(replies(HEADER + f"{act},,,,,,,,,\n"), [unknown_kind])
         for kind in words["kinds"]:
             self.assertNotEqual(replies(HEADER + f"enter,{kind},,,,,,,,\n"), [unknown_kind])
-        script = SPAN_SCRIPT + "".join(f"SHOW {table} 2020\n" for table in words["tables"]) + "END\n"
-        self.assertNotIn("no table", session(script.encode()).decode())
+        script = SPAN_SCRIPT + "".join(f"SHOW {table} 2020\n" for table in vocabulary.tables()) + "END\n"
+        shown = session(script.encode()).decode().splitlines()
+        for table in words["tables"]:
+            self.assertIn(table["header"], shown)
         keys = [f"enter,activity,,A{at},2020,{key},,,t,\n" for at, key in enumerate(words["keys"])]
         self.accepted(HEADER + "".join(keys))
         self.accepted(HEADER + "".join(f"enter,factor,,{name},2020,1,,,1,\n" for name in words["potentials"]))

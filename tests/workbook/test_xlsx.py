@@ -52,7 +52,7 @@ class Files(unittest.TestCase):
 
     def test_tables_are_those_that_are_printed(self) -> None:
         book = load(self.tables())
-        self.assertEqual(book.sheetnames, vocabulary.words()["tables"])
+        self.assertEqual(book.sheetnames, vocabulary.tables())
         for sheet in book:
             found: dict[str, list[str]] = {}
             headings = [cell.value for cell in sheet[1]]
