@@ -23,7 +23,10 @@ COLUMNS = {
     "percent": "activity factor combined_low combined_high trend share cumulative change",
 }
 UNITS = {column: unit for unit, columns in COLUMNS.items() for column in columns.split()}
-OTHER_UNITS = {"cells": {"value": None, "low": None, "high": None}, "reference": {"value": "Gg CO2, or percent"}}
+OTHER_UNITS: dict[str, dict[str, str | None]] = {
+    "cells": {"value": None, "low": None, "high": None},
+    "reference": {"value": "Gg CO2, or percent"},
+}
 NUMBER = re.compile(r"-?\d+(?:\.\d+)?")
 WIDTHS = {"code": 26, "category name": 40, "equation name": 40}
 NARROWEST = 14
