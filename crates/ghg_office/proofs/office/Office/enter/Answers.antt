@@ -69,10 +69,6 @@ pub invariant_of-self : goal.invariant_of-self
 invariant_of-self g c =
     still_rebuilt _ _ (ap₂ (λ (m : Data) (l : List KeptRow). record { content = m; accepted = l }) c.prepare.ensures.content c.prepare.ensures.list) c.self.invariant
 
-pub invariant_of-self-in-Err : goal.invariant_of-self-in-Err
-invariant_of-self-in-Err g c =
-    still_rebuilt _ _ (ap₂ (λ (m : Data) (l : List KeptRow). record { content = m; accepted = l }) c.prepare.ensures.content c.prepare.ensures.list) c.self.invariant
-
 pub invariant_of-self-in-Ok : goal.invariant_of-self-in-Ok
 invariant_of-self-in-Ok g c =
     let made = ap (λ s. entered_by s c.args.submission.body.now) (sym c.self.view_is) ∙ c.in_ok-proposal.ensures.entered in
