@@ -21,6 +21,8 @@ NET_OF_GROSS = {
     "0.95": "OIL COAL LIGNITE COKE ANTHRACITE DIESEL GASOLINE PETROL KEROSENE NAPHTHA", "0.9": "GAS LNG",
 }
 GASES = ("CO2", "CH4", "N2O", "CF4", "C2F6")
+# Gases that no equation gives.
+NO_EQUATIONS = ("NOx", "SO2", "NMVOC")
 ELEMENTS = ("C", "N", "N2O-N", "CH4-C")
 # What is measured of energy in a denominator: a figure for one of a gross one is divided.
 PER_ENERGY = ("emission factor of fuel", "carbon content of fuel")
@@ -31,6 +33,9 @@ TO_20_C = {NORMAL: "1.07", STANDARD: "1.02"}
 # The organic matter of wastewater and the CH4 that it yields are both of one oxygen demand (Volume 5, Table 6.2).
 OF_DEMAND, DEMANDS = {("Q98", "BO"), ("Q100", "TOW"), ("Q100", "S")}, ("BOD", "COD")
 YIELDS = "0.6 for one of BOD, 0.25 for one of COD"
+DAYS_OF_A_YEAR, OF_CROPS = 365, "mass per area and day"
+# The units of gas by the cubic metres of which a kilogram each makes one.
+OF_VOLUMES = {"kg-gas": 1, "t-gas": 1000, "Gg-gas": 1000000}
 # What timber takes up as logs in a stack and under its bark, to solid volume over bark.
 OF_TIMBER = {STACKED: "about 0.7", UNDER_BARK: "about 1.15"}
 
@@ -95,7 +100,7 @@ def gross_values(asked: Asked) -> Told | None:
 
 def net_values(asked: Asked) -> Told | None:
     """A figure of net calorific values, which is right."""
-    if NET not in asked.words.numerator + asked.words.denominator or not asked.meant:
+    if NET not in asked.words.numerator + asked.words.denominator or not asked.meant or not asked.is_read:
         return None
     return Told(f"energy is of net calorific values here: the unit is written {asked.meant.word}", True)
 
@@ -151,7 +156,7 @@ def other_gases_of_factors(asked: Asked) -> Told | None:
     for said in asked.words.numerator:
         for taker in asked.takers:
             due = unit_bases.taken_by(*taker) or ""
-            if {said, due} <= set(GASES + ELEMENTS) and said != due and (said, due) not in SAME:
+            if {said, due} <= set(GASES + ELEMENTS + NO_EQUATIONS) and said != due and (said, due) not in SAME:
                 others = vocabulary.equations_alike(taker[0], said)
                 gives = f" ({others[0]} gives {said})" if others else ""
                 return Told(f"{unit_bases.said(said)}, and {said_of(taker)} takes {unit_bases.said(due)}{gives}; "
@@ -247,6 +252,53 @@ def volumes_of_timber(asked: Asked) -> Told | None:
     return Told(f"{said[0]}, and {asked.taker} solid volume over bark: {asked.write(how)}")
 
 
+def other_periods(asked: Asked) -> Told | None:
+    """A figure of a year where one of a day is due, or the other way round."""
+    said = units.read(asked.words.bare)
+    due = units.read(base_unit(asked.measures)) if asked.measures else None
+    if said is None or due is None or not asked.takers:
+        return None
+    days = said.powers.get("days", 0), due.powers.get("days", 0)
+    of_both = [{what: power for what, power in reading.measured.items() if what != "days"}
+               for reading in (said, due)]
+    if of_both[0] != of_both[1] or days not in ((-1, 0), (0, -1)):
+        return None
+    size = said.size / due.size
+    if days == (-1, 0):
+        how = asked.write(f"multiply by {units.written(size * DAYS_OF_A_YEAR)}")
+        return Told(f"of a day, and {asked.taker} that of a year: {how}")
+    if said.powers.get("years") != -1:
+        return None
+    divided = f"multiply by {units.written(size)} and divide by" if size != 1 else "divide by"
+    of = "the days of cultivation" if asked.measures == OF_CROPS else str(DAYS_OF_A_YEAR)
+    return Told(f"of a year, and {asked.taker} that of a day: {asked.write(f'{divided} {of}')}")
+
+
+def volumes_of_gas(asked: Asked) -> Told | None:
+    """A volume of CH4, or of gas with CH4 in it, where its mass is due."""
+    said = units.read(asked.words.bare)
+    is_volume = said is not None and said.measured == {"volume": 1}
+    takers = [said_of(taker) for taker in asked.takers if unit_bases.taken_by(*taker) == "CH4"]
+    if said is None or not is_volume or asked.measures != "gas" or not takers:
+        return None
+    word, size = max(((word, size) for word, size in OF_VOLUMES.items() if size <= said.size),
+                     key=lambda pair: pair[1], default=("kg-gas", 1))
+    kilograms = "0.716" if NORMAL in asked.words.numerator else "0.67"
+    times = units.written(said.size / size * fractions.Fraction(kilograms))
+    cause = f"a volume, and {takers[0]} takes the mass of CH4: multiply by {times}"
+    return Told(f"{cause}, and by the share of CH4 in it, as 0.5 of biogas, and write {word}")
+
+
+def masses_of_gas(asked: Asked) -> Told | None:
+    """A mass of CH4 for one of coal, where its volume is due."""
+    said = units.read(asked.words.bare)
+    if said is None or said.powers.get("mass") != 0 or said.measured or asked.measures != "volume of gas per tonne":
+        return None
+    kilograms = said.size * 1000 / fractions.Fraction("0.67")
+    cause = f"a mass, and {asked.taker} the volume of CH4, of 0.67 kg in a m3"
+    return Told(f"{cause}: {asked.write(f'multiply by {units.written(kilograms)}')}")
+
+
 def unknown_words(asked: Asked) -> Told | None:
     """Words beside a unit of which it is not known whether they change the figure."""
     def is_harmless(word: str) -> bool:
@@ -263,7 +315,7 @@ def right_substances(asked: Asked) -> Told | None:
     """A unit that says what its parameter takes: the figure is right."""
     for said in asked.words.numerator:
         takers = [taker for due, taker in asked.due() if said == due or (said, due) in SAME]
-        if takers and asked.meant and asked.measures not in SAID_BY_UNITS:
+        if takers and asked.meant and asked.is_read and asked.measures not in SAID_BY_UNITS:
             cause = f"{takers[0]} takes {unit_bases.said(said)}, as here: the unit is written {asked.meant.word}"
             return Told(cause, True)
     return None
@@ -319,6 +371,26 @@ enter,factor,,YIELD,2019,0.6,,,kg/kg,
 enter,factor,,LAGOON,2019,0.8,,,1,
 enter,activity,,LOAD,2019,50,,,kt,
 enter,activity,,LOAD,2020,52,,,kt,
+"""
+# The effluent of a town, beside a right inventory.
+EFFLUENT = """\
+enter,line,4D1,TOWN.N,,Q102,,,,
+enter,bind,TOWN.N,P,,activity,PEOPLE,,,
+enter,bind,TOWN.N,PR,,factor,PROTEIN,,,
+enter,bind,TOWN.N,FNPR,,factor,TOWN.FNPR,,,
+enter,bind,TOWN.N,FNON,,factor,TOWN.FNON,,,
+enter,bind,TOWN.N,FIND,,factor,TOWN.FIND,,,
+enter,bind,TOWN.N,NS,,key,NO,,,
+enter,line,4D1,TOWN.N2O,,Q103,,,,
+enter,bind,TOWN.N2O,N,,line,TOWN.N,,,
+enter,bind,TOWN.N2O,EF,,factor,TOWN.EF,,,
+enter,factor,,TOWN.FNPR,2019,0.16,,,kg/kg,
+enter,factor,,TOWN.FNON,2019,1.1,,,1,
+enter,factor,,TOWN.FIND,2019,1.25,,,1,
+enter,factor,,TOWN.EF,2019,0.005,,,kg/kg,
+enter,activity,,PEOPLE,2019,310000,,,person,
+enter,activity,,PEOPLE,2020,312000,,,person,
+enter,activity,,PEOPLE,2021,313000,,,person,
 """
 LOGS = """\
 enter,span,,,2019,2020,2019,,,
@@ -407,6 +479,23 @@ RECOGNISERS = (
         "enter,activity,,LOGS,2019,2100,,,m3 under bark,",
         "under bark, and H of Q80 takes solid volume over bark: multiply by about 1.15, and write m3",
         "enter,activity,,LOGS,2019,2415,,,m3,2100 under bark", LOGS),
+    Recogniser(
+        other_periods, "a figure of a day for one of a year, and the other way round",
+        EFFLUENT + "enter,factor,,PROTEIN,2019,90,,,g protein/person/day,",
+        "of a day, and PR of Q102 takes that of a year: multiply by 0.365, and write kg/person",
+        EFFLUENT + "enter,factor,,PROTEIN,2019,32.85,,,kg/person,90 g a day"),
+    Recogniser(
+        volumes_of_gas, "a volume of CH4 for its mass",
+        "enter,bind,MILL.CH4,R,,activity,FLARED,,,\nenter,activity,,FLARED,2019,2100,,,thousand m3,\n"
+        "enter,activity,,FLARED,2020,2150,,,thousand m3,",
+        "a volume, and R of Q100 takes the mass of CH4: multiply by 0.67, and by the share of CH4 in it",
+        "enter,bind,MILL.CH4,R,,activity,FLARED,,,\nenter,activity,,FLARED,2019,1407,,,t-gas,2100 m3\n"
+        "enter,activity,,FLARED,2020,1440,,,t-gas,", WATER),
+    Recogniser(
+        masses_of_gas, "a mass of CH4 for its volume, of coal mines",
+        "enter,factor,,MINE.EF,2019,12.06,,,kg CH4/t,",
+        "a mass, and EF of Q14 takes the volume of CH4, of 0.67 kg in a m3: multiply by 1.49254, and write m3/t",
+        "enter,factor,,MINE.EF,2019,18,,,m3/t,12.06 kg", KILNS),
     Recogniser(
         unknown_words, "a word that may change the figure",
         "enter,activity,,COAL,2019,1000,,,kt (screened),",

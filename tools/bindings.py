@@ -392,6 +392,10 @@ def way_to(wanted: Parameter, record: Row) -> str:
     known = vocabulary.units_that_measure(measures)
     if len(known) == 1 and known[0].startswith(f"{unit}/"):
         return f"; write {known[0]} there"
+    if (unit, measures) == ("g/person/day", "mass per person and year"):
+        return "; multiply by 0.365, and write kg/person there"
+    if (vocabulary.measured_by(unit), measures) == ("mass", "volume"):
+        return "; divide by the density in t/m3, as about 0.86 of crude oil, and write m3 there"
     makes = vocabulary.made_of(vocabulary.measured_by(unit), measures)
     if not makes:
         return ""

@@ -154,6 +154,8 @@ def two_in_one(asking: Asking, row: Row, column: str) -> Explained | None:
         return at_row(row, "two bounds in one field", at, where), changed
     if other:
         return None
+    if row.field("low") and row.field("high"):
+        return None
     changed = changed.with_fields(value=low)
     changed.has_other_figure = True
     cause = f"two bounds and no value; write the value between them here, and {where}"

@@ -21,6 +21,7 @@ SPELLINGS = {
          "unterer untere unteren nedre undre onderste alempi",
     EQUIVALENTS: "equivalence",
     "CO2": "co2", "CH4": "ch4", "N2O": "n2o", "CF4": "cf4", "C2F6": "c2f6", "N2O-N": "n2o-n",
+    "NOx": "nox no2", "SO2": "so2 sox", "NMVOC": "nmvoc nmvocs voc",
     "CH4-C": "ch4-c", "C": "c carbon co2-c kohlenstoff carbone carbono",
     "N": "n nitrogen urea-n nh4-n no3-n azote stickstoff nitrogeno azoto azot",
     "NH3": "nh3", "NH3-N": "nh3-n", "NO3": "no3",
