@@ -69,7 +69,8 @@ def other_codes(book: Book) -> Iterator[Fault]:
     for row in by_place(book):
         code, equation = row.field("subject"), row.field("value")
         other = vocabulary.elsewhere(code, equation)
-        same_volume = vocabulary.volume_of_category(code) == vocabulary.volume_of_equation(equation)
+        volume = vocabulary.volume_of_category(code)
+        same_volume = volume in (None, vocabulary.volume_of_equation(equation))
         if other and same_volume and not row.has_other_figure and code not in vocabulary.places_of(equation):
             what = vocabulary.categories()[code]["name"]
             yield warn(row, f"line {row.field('name')} at {code} ({what}) has {equation}; {other[0]}")

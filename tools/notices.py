@@ -85,6 +85,9 @@ def other_name(book: Book, kind: str, name: str) -> str:
     potential = vocabulary.potential_like(name)
     if kind == "factor" and potential:
         return f"; is it {potential}?"
+    own, other = set(book.years[kind][name]), "activity" if kind == "factor" else "factor"
+    if (other, name) in book.taken() and name in book.years[other] and not own & set(book.years[other][name]):
+        return f"; is it the {other}, which has no record of {years_said(own)}?"
     near, lacking = taken_like(book, kind, name)
     of = f", which has no record of {years_said(lacking)}" if lacking else ""
     return f"; is it {near}{of}?" if near else ""

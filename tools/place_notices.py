@@ -84,6 +84,34 @@ def other_sources(results: Results) -> Iterator[Fault]:
             yield warn(row, f"{of} has {equation} ({what}), which is of {listed(at)}; is the category another?")
 
 
+def gases_apart(results: Results) -> Iterator[Fault]:
+    """Lines of one fuel and of different gases at different categories, but for CO2 of biomass at MC: the one
+    that stands alone, or else the last one.
+    """
+    fuels: dict[tuple[str, str], list[Row]] = {}
+    for row in results.lines:
+        bound = results.bindings(row.field("name")).get("FC")
+        is_memo = row.field("subject") == "MC" or row.has_other_figure
+        if row.field("value") in OF_FUELS and bound and bound.field("value") != "key" and not is_memo:
+            fuels.setdefault((bound.field("value"), bound.field("low")), []).append(row)
+    for (kind, fuel), rows in fuels.items():
+        codes = collections.Counter(row.field("subject") for row in rows)
+        if len(codes) != 2 or len({row.field("value") for row in rows}) < len(rows):
+            continue
+        alone = min(reversed(rows), key=lambda row: codes[row.field("subject")])
+        others = [row for row in rows if row.field("subject") != alone.field("subject")]
+        names, code = [row.field("name") for row in others], others[0].field("subject")
+        are = f"line{'s' * (len(names) > 1)} {listed(names, 'and')} at {code}"
+        said = f"line {alone.field('name')} at {alone.field('subject')} ({category_of(alone)}) takes {kind} {fuel}"
+        yield warn(alone, f"{said}, and so do{'es' * (len(names) == 1)} {are} ({category_of(others[0])}); "
+                          "where is that fuel burnt?")
+
+
+def category_of(row: Row) -> str:
+    """The name of the category of a line."""
+    return str(vocabulary.categories()[row.field("subject")]["name"])
+
+
 def manure_for_enteric(results: Results) -> Iterator[Fault]:
     """Lines of enteric fermentation at the category of manure by their names, or the other way round."""
     for row in results.lines:
@@ -586,6 +614,11 @@ enter,activity,,EAF.STEEL,2020,910,,,kt,
 enter,activity,,EAF.STEEL,2021,905,,,kt,
 """
 
+METHANE = """\
+enter,line,{},COAL.CH4,,Q11,,,,
+enter,bind,COAL.CH4,FC,,line,COAL.TJ,,,
+enter,bind,COAL.CH4,EF,,factor,COAL.CH4.EF,,,
+enter,factor,,COAL.CH4.EF,2019,1,,,kg/TJ,"""
 RECOGNISERS: tuple[Recogniser, ...] = (
     Recogniser(
         animals_of_others, "what is of other animals by its name",
@@ -603,6 +636,11 @@ RECOGNISERS: tuple[Recogniser, ...] = (
         other_sources, "a line at a category whose source another equation is of",
         example=MINE.format("1B2"), right=MINE.format("1B1"),
         says="line MINE.CH4 at 1B2 (Oil and natural gas) has Q14 (Coal mined, to CH4), which is of 1B1"),
+    Recogniser(
+        gases_apart, "the gases of one fuel at different categories",
+        example=METHANE.format("1A2"), right=METHANE.format("1A1a"),
+        says="line COAL.CH4 at 1A2 (Manufacturing industries and construction) takes line COAL.TJ, and so does line "
+             "COAL.CO2 at 1A1a"),
     Recogniser(
         manure_for_enteric, "enteric fermentation at the category of manure, and the other way round",
         example="enter,line,3A2,COWS.ENTERIC,,Q55,,,,\nenter,bind,COWS.ENTERIC,N,,activity,COWS,,,\n"

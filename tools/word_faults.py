@@ -248,9 +248,10 @@ def wrong_category(asking: Asking, row: Row, column: str) -> Explained:
         candidates.append(("letters in place of digits", digits, True))
     if re.match(r"([^0-9]|1).*(international|bunker)", bare.text, re.IGNORECASE):
         candidates.append(("international transport is at MB here", "MB", True))
-    other = None
-    if code not in vocabulary.categories():
-        other = vocabulary.elsewhere(code_in_front(bare.text), row.field("value").strip().upper())
+    other, equation = None, row.field("value").strip().upper()
+    places = vocabulary.places_of(equation)
+    if code not in vocabulary.categories() or not places & set(vocabulary.leaves_under(code)):
+        other = vocabulary.elsewhere(code_in_front(bare.text), equation)
     candidates += [one for one in alone(bare.text, vocabulary.leaves(), "a code without its name")
                    if not other or is_of_leaf(other, one[1], row.field("value"))]
     named = {leaf: vocabulary.categories()[leaf]["name"] for leaf in vocabulary.leaves()}
