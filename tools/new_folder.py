@@ -32,6 +32,7 @@ FILES = ["1-years-and-potentials.csv", "2-factors.csv", "3-activities.csv", "4-l
 WHOLE = (FILES[0], FILES[3])
 # The volumes whose factors have a region or a climate at the end of their names.
 WITH_REGIONS = ("volume-4", "volume-5")
+CATEGORIES = "./workbook words categories lists them"
 NO_TIER_1 = "no equation of tier 1 is known, and no line is made"
 UNCERTAINTY = "value: percent of the activity data; low: percent of the emission factor"
 
@@ -107,10 +108,14 @@ def choose(word: str, found: dict[str, Choice]) -> list[str]:
 
 
 def said_of_no_category(text: str) -> str:
-    """That there is no category of a code, and of one of fluorinated gases what to enter."""
+    """That there is no category of a code, and what to write in place of one that divides a leaf, or what to
+    enter of fluorinated gases.
+    """
     if "other-gases" in (people_words.of(vocabulary.plain(text)) or []):
         return f"no equation emits the gases of {text}; ./workbook words templates other-gases shows what to do"
-    return f"there is no category {text}; ./workbook words categories lists them"
+    undivided = next((leaf for leaf in vocabulary.leaves() if vocabulary.divides(text, leaf)), None)
+    instead = f"this tree has {undivided} undivided; write {undivided}" if undivided else CATEGORIES
+    return f"there is no category {text}; {instead}"
 
 
 def terms_of(leaf: str, words: str, is_alone: bool) -> list[str]:
@@ -204,11 +209,18 @@ def tell_without_default(word: str) -> None:
     begins = [placed(target, leaf or "", "") for target in targets if target.endswith(".TERM")]
     known = list(dict.fromkeys(name.removeprefix(begin) for name in default_files()
                                for begin in begins if name.startswith(begin)))
+    unknown = []
     for term in filter(None, terms.upper().split(",")):
         if known and not any(said_of_default(begin + term) for begin in begins):
             near = [fuel for part in fuels.words_of(term) for fuel in fuels.WORDS[part] if fuel in known]
-            near = near or vocabulary.nearest(term, known, 3) or ["./workbook words defaults lists all"]
-            print(f"{leaf}: defaults/ has nothing of {term}; near it: {', '.join(near)}", file=sys.stderr)
+            near = near or vocabulary.nearest(term, known, 3)
+            if near:
+                print(f"{leaf}: defaults/ has nothing of {term}; near it: {', '.join(near)}", file=sys.stderr)
+            else:
+                unknown.append(term)
+    if unknown:
+        print(f"{leaf}: defaults/ has nothing of {vocabulary.listed(unknown, 'and')}; "
+              "./workbook words defaults lists all", file=sys.stderr)
 
 
 def empty_uncertainties(rows: list[dict[str, str]]) -> list[list[str]]:
@@ -226,7 +238,9 @@ def check_names(rows: list[dict[str, str]], needed: list[Figure]) -> None:
     double += [figure.name for figure in filter(None, map(figure_of, rows))
                if units[figure.kind, figure.name] != figure.unit]
     if double:
-        raise FolderFault(f"the name {double[0]} would mean two things; write other names after the colon")
+        leaves = dict.fromkeys(row["category"] for row in rows if double[0] in (row["line"], row["target"]))
+        raise FolderFault(f"the name {double[0]} would mean two things at {vocabulary.listed(list(leaves), 'and')}; "
+                          "write other names after the colon")
     most = int(vocabulary.limit("name"))
     names = [row["line"] for row in rows] + [figure.name for figure in needed]
     long = max(names, key=len)

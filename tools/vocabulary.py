@@ -135,6 +135,12 @@ def same_code(code: str) -> str | None:
     return next((known for known in categories() if plain(known) == plain(code)), None)
 
 
+def divides(text: str, leaf: str) -> bool:
+    """Tells whether a code is a part of a leaf, as 1A1ai is of 1A1a; 2B10 is none of 2B1."""
+    parts, of_leaf = (re.findall("[0-9]+|[a-z]", code.casefold()) for code in (text, leaf))
+    return parts[:len(of_leaf)] == of_leaf
+
+
 @functools.cache
 def volume_of_equation(code: str) -> str | None:
     """The volume of the Guidelines that an equation is of, or None where it is of none."""

@@ -258,7 +258,7 @@ def wrong_category(asking: Asking, row: Row, column: str) -> Explained:
     candidates += called(bare.text, named, "the code of the category stands here")
     for word in [word for word in vocabulary.categories() if word.casefold() == code.casefold()]:
         candidates.append((cause_of(bare.causes + [f"the code is written {word}"]), word, True))
-    for leaf in [leaf for leaf in vocabulary.leaves() if divides(bare.text, leaf)]:
+    for leaf in [leaf for leaf in vocabulary.leaves() if vocabulary.divides(bare.text, leaf)]:
         if not other or is_of_leaf(other, leaf, row.field("value")):
             candidates.append((f"this tree has {leaf} undivided", leaf, True))
     candidates += [(other[0], other[2], True)] if other else []
@@ -328,12 +328,6 @@ def code_in_front(text: str) -> str:
     parts = text.replace(".", "").split()
     behind = itertools.takewhile(lambda part: len(part) < 3 or part.casefold() == "iii", parts[1:])
     return "".join([*parts[:1], *behind])
-
-
-def divides(text: str, leaf: str) -> bool:
-    """Tells whether a code is a part of a leaf, as 1A1ai is of 1A1a; 2B10 is none of 2B1."""
-    parts, of_leaf = (re.findall("[0-9]+|[a-z]", code.casefold()) for code in (text, leaf))
-    return parts[:len(of_leaf)] == of_leaf
 
 
 def is_of_leaf(other: tuple[str, str, str], leaf: str, equation: str) -> bool:

@@ -13,6 +13,7 @@ REFUSED = {
     ("--first", "2020", "--last", "2019", "--categories", "2A1"): "2020 to 2019 is no span of years",
     ("--first", "1900", "--last", "2100", "--categories", "2A1"): "1900 to 2100 is no span of years",
     (*SPAN, "--categories", "9Z"): "there is no category 9Z; ./workbook words categories lists them",
+    (*SPAN, "--categories", "1.B.1.a"): "there is no category 1.B.1.a; this tree has 1B1 undivided; write 1B1",
     (*SPAN, "--categories", "1C"): "no line is made, and no folder",
     (*SPAN, "--categories", "2.F.1"): "no equation emits the gases of 2.F.1; ./workbook words templates other-gases",
     (*SPAN, "--categories", "2B3=NONE"): '"NONE" is no notation key: NO, NA, IE or NE',
@@ -22,8 +23,8 @@ REFUSED = {
     (*SPAN, "--categories", "3A1:COWS,"): '"" is no name',
     (*SPAN, "--categories", "3A1:1COW"): '"1COW" is no name',
     (*SPAN, "--categories", "1A4a:COKE.OF.REFINERY"): "the name COKE.OF.REFINERY.1A4A.CO2 would have 25",
-    (*SPAN, "--categories", "2A1", "2A2:CEMENT"): "the name CEMENT.CO2 would mean two things",
-    (*SPAN, "--categories", "1B2:COWS", "3A1:COWS"): "the name COWS would mean two things",
+    (*SPAN, "--categories", "2A1", "2A2:CEMENT"): "the name CEMENT.CO2 would mean two things at 2A1 and 2A2",
+    (*SPAN, "--categories", "1B2:COWS", "3A1:COWS"): "the name COWS would mean two things at 1B2 and 3A1",
 }
 
 
