@@ -12,7 +12,7 @@ import sys
 from collections.abc import Iterator, Sequence
 from typing import Any
 
-from tools import check, vocabulary
+from tools import check, libraries, vocabulary
 from tools.complete import GAP, matrix, read_cells, without_line
 from tools.faults import counted
 from tools.given_away import warnings_of
@@ -27,7 +27,7 @@ from tools.whole_files import check_place
 
 TEMPLATES = pathlib.Path(__file__).resolve().parent / "templates"
 # The Debian packages of the libraries that the report is made with.
-PACKAGES = {"jinja2": "python3-jinja2", "matplotlib": "python3-matplotlib"}
+LIBRARIES = ("jinja2", "matplotlib")
 NATIONAL, GROSS = "0", "gross"
 # The codes whose totals make the areas of the trend, and how many bars a picture has at the most.
 PARTS = ["1", "2", "3A", "3B", "3C", "3D", "4", "5"]
@@ -316,7 +316,7 @@ def needed(module: str, command: str = "report") -> Any:
         return importlib.import_module(module)
     except ImportError as error:
         need = f"{command} needs the library {module}"
-        raise FolderFault(f"{need}; install it: apt install {PACKAGES[module]}") from error
+        raise FolderFault(f"{need}; {libraries.install(module)}") from error
 
 
 def gases_apart(path: str, inventory: Inventory) -> tuple[dict[str, Any], dict[str, list[Row]]]:
@@ -380,7 +380,7 @@ def warned(program: Program, checked: check.Check, left: list[tuple[str, str]]) 
 
 def run(arguments: argparse.Namespace) -> int:
     """Writes the report, and answers the status: 1 where there are faults or is no such year."""
-    for module in PACKAGES:
+    for module in LIBRARIES:
         needed(module)
     output = pathlib.Path(arguments.output)
     check_place(output)

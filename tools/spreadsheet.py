@@ -18,6 +18,7 @@ import warnings
 import zipfile
 from collections.abc import Iterator
 
+from tools import libraries
 from tools.sheets import FolderFault
 
 NUMBER, TEXT, DATE, TRUTH, ERROR = "number", "text", "date", "truth value", "error"
@@ -28,10 +29,7 @@ ERRORS = re.compile(r"#(DIV/0!|REF!|N/A|NAME\?|VALUE!|NUM!|NULL!|SPILL!|CALC!)|E
 DIGITS = 15
 MOST_CELLS = 2_000_000
 MOST_ROWS = 1 << 31
-LIBRARIES = {
-    ".xlsx": ("openpyxl", "python3-openpyxl"), ".xlsm": ("openpyxl", "python3-openpyxl"),
-    ".ods": ("odf.opendocument", "python3-odf"),
-}
+LIBRARIES = {".xlsx": "openpyxl", ".xlsm": "openpyxl", ".ods": "odf.opendocument"}
 # A file of an old spreadsheet, or one that a password protects.
 OLD_OR_LOCKED = b"\xd0\xcf\x11\xe0"
 SEPARATORS = ",;\t|"
@@ -170,12 +168,12 @@ def read(path: pathlib.Path) -> list[Grid]:
 
 def library(ending: str, what_for: str) -> typing.Any:
     """The library for files with an ending. What is to be done is said where it is not installed."""
-    module, package = LIBRARIES[ending]
+    module = LIBRARIES[ending]
     try:
         return importlib.import_module(module)
     except ImportError as error:
         need = f"{what_for} the Python library {module.split('.', maxsplit=1)[0]} is needed"
-        raise SpreadsheetFault(f"{need}; install it: apt install {package}") from error
+        raise SpreadsheetFault(f"{need}; {libraries.install(module)}") from error
 
 
 def read_with(reader: typing.Callable[[pathlib.Path], list[Grid]], path: pathlib.Path) -> list[Grid]:

@@ -12,7 +12,7 @@ import typing
 import unittest
 from unittest import mock
 
-from tools import spreadsheet
+from tools import libraries, spreadsheet
 from tools.spreadsheet import DATE, ERROR, NUMBER, TEXT, TRUTH, UNSAVED, Area, Cell
 from tools.whole_files import write_whole
 
@@ -119,8 +119,14 @@ class Cells(Files):
         with mock.patch("importlib.import_module", side_effect=ImportError):
             with self.assertRaises(spreadsheet.SpreadsheetFault) as raised:
                 spreadsheet.read(self.room / "a.xlsx")
-        self.assertTrue(str(raised.exception).endswith(
-            "a.xlsx the Python library openpyxl is needed; install it: apt install python3-openpyxl"))
+        self.assertIn("a.xlsx the Python library openpyxl is needed; install it: apt install python3-openpyxl",
+                      str(raised.exception))
+
+    def test_a_python_that_is_not_that_of_debian(self) -> None:
+        with mock.patch("sys.prefix", "/home/venv"), mock.patch("sys.executable", "/home/venv/bin/python3"):
+            self.assertEqual(libraries.install("odf.opendocument"), (
+                "install it: apt install python3-odf for the Python of Debian, and for this one "
+                "/home/venv/bin/python3 -m pip install odfpy"))
 
     def test_a_damaged_file(self) -> None:
         made(self.room / "a.xlsx")
