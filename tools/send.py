@@ -15,7 +15,7 @@ from tools import headers
 from tools.check import Check
 from tools.faults import Fault, counted, in_order
 from tools.program import Program, ProgramFailed, Reply, found_program, read_reply
-from tools.service import Answer, Service, ServiceFault
+from tools.service import NOT_REACHED, Answer, Service, ServiceFault
 from tools.sheets import Sheet, read_folders
 from tools.tables import said_of
 from tools.vocabulary import limit
@@ -24,12 +24,13 @@ from tools.vocabulary import limit
 DIGITS = 12
 # Where a submission has to be sent again, that is done after so many seconds.
 PAUSES = (1, 2, 4, 8, 16)
-ACCEPTED, REPEATED, KEEPER_FAULT, NO_MEMORY = 201, 200, 503, 507
+ACCEPTED, REPEATED, NO_MEMORY = 201, 200, 507
+KEEPER_FAULT = Answer(503, "keeper fault")
 ID_REUSED, TOO_LONG, REFUSED = 409, 413, 422
 
 
 class SendAgain(ServiceFault):
-    """A submission of which nobody knows whether it acted, or whose store failed."""
+    """A submission of which nobody knows whether it acted, whose store failed, or that did not reach it."""
 
 
 def run(arguments: argparse.Namespace) -> int:
@@ -75,8 +76,8 @@ def id_of(sheet: Sheet) -> str:
 
 
 def sent(service: Service, sheet: Sheet) -> Answer:
-    """The answer to a file: accepted, repeated or refused. It is sent again after a pause if the store failed
-    or no whole reply came; it acts once.
+    """The answer to a file: accepted, repeated or refused. It is sent again after a pause if the store failed,
+    the service was not reached or no whole reply came; it acts once.
     """
     for pause in PAUSES:
         try:
@@ -97,8 +98,10 @@ def sent_once(service: Service, sheet: Sheet) -> Answer:
         raise SendAgain(str(service.fault(error))) from error
     except OSError as error:
         raise service.fault(error) from error
-    if answer.status == KEEPER_FAULT:
+    if answer == KEEPER_FAULT:
         raise SendAgain(f"{service.shown} answers 503 {answer.text}: its store failed, look at its disk")
+    if answer.status in NOT_REACHED:
+        raise SendAgain(str(service.other(answer)))
     return judged(service, sheet, answer)
 
 

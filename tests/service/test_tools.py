@@ -31,10 +31,13 @@ def url_of(service: Service) -> str:
 
 
 class Answers:
-    """A server that gives these answers in turn, each a status and a text, or None for none."""
+    """A server that gives these answers in turn, each a status and a text, or None for none. It may tell
+    another length than they have.
+    """
 
-    def __init__(self, *answers: tuple[int, str] | None, kind: str = "application/json") -> None:
-        self.answers, self.kind = list(answers), kind
+    def __init__(self, *answers: tuple[int, str] | None, kind: str = "application/json",
+                 length: int | None = None) -> None:
+        self.answers, self.kind, self.length = list(answers), kind, length
         self.paths: list[str] = []
 
     def __enter__(self) -> "Answers":
@@ -62,6 +65,8 @@ class Answers:
                     text = json.dumps({"reply": answer[1]}) if "json" in answers.kind else answer[1]
                     self.send_response(answer[0])
                     self.send_header("Content-Type", answers.kind)
+                    if answers.length is not None:
+                        self.send_header("Content-Length", str(answers.length))
                     self.end_headers()
                     self.wfile.write(text.encode())
 
@@ -172,6 +177,22 @@ class Send(Folders):
         self.assertEqual((status, printed[-1]), (0, "1 file: 0 accepted, 1 in force before"))
         self.assertEqual(len(said), 1)
         self.assertIn("does not answer: no whole reply", said[0])
+
+    def test_a_service_that_the_server_in_front_does_not_reach(self) -> None:
+        self.put(gas=GAS)
+        for status in (502, 503, 504):
+            with mock.patch("time.sleep"), Answers((status, "Bad Gateway"), (201, "accepted 1")) as server:
+                done, _, said = self.run_here(server.url)
+            self.assertEqual((done, said), (0, [
+                f"gas.csv: {server.url} answers {status} Bad Gateway; the server in front of the service does not "
+                "reach it: look whether it runs; it is sent again in 1 s"]))
+
+    def test_replies_that_do_not_end(self) -> None:
+        for length, limit_of_seconds, due in ((99, 60, "before the connection ended"), (99, 0, "within 0 seconds")):
+            with Answers((200, "a,b\n"), kind="text/csv", length=length) as server:
+                with mock.patch("tools.service.IN_ALL", limit_of_seconds):
+                    with self.assertRaisesRegex(ServiceFault, f"no whole reply came {due}"):
+                        Asked(server.url).show("cells", 1990)
 
     def test_answers_that_end_the_sending(self) -> None:
         self.put(gas=GAS)
