@@ -61,9 +61,10 @@ class Rows:
         self.tell_gathered("formula", self.formulas, "the values that the file has are taken")
         decimals = vocabulary.limit("decimals")
         self.tell_gathered("number", self.rounded, f"more than {decimals} decimals; rounded to {decimals}")
-        if len(self.body) > int(vocabulary.limit("body").replace(",", "")):
-            what = f"{len(self.body):,} bytes of rows, and at most {vocabulary.limit('body')} are taken"
-            self.fault(self.header, 1, f"{what}; divide this sheet in two")
+        length, most = len(self.body), int(vocabulary.limit("body").replace(",", ""))
+        if length > most:
+            what = f"{length:,} bytes of rows, and at most {vocabulary.limit('body')} are taken"
+            self.fault(self.header, 1, f"{what}; divide its rows among {-(-length // most)} sheets")
 
     def fault(self, row: int, column: int, cause: str) -> None:
         """Tells what cannot be read, with the text that stands there."""

@@ -233,11 +233,14 @@ def without_potential(book: Book, refused: Refused) -> list[Fault]:
 
 
 def without_uncertainty(book: Book, refused: Refused) -> list[Fault]:
-    """The lines of the tree that emit a gas and have no uncertainty, where others have one."""
+    """The lines of the tree that emit a gas and have no uncertainty, where others have one. One that is a
+    notation key in all its parameters has no value.
+    """
     emitting = [row for rows in emitted(book).values() for row in rows if row.field("subject") not in MEMOS]
     known = {key[1] for key in book.rows if key[0] == "uncert"}
     lacking = [row for row in emitting if row.field("name") not in known]
-    lacking = [row for row in lacking if not refused.that_sets(("uncert", row.field("name")))]
+    lacking = [row for row in lacking if not refused.that_sets(("uncert", row.field("name")))
+               and any(bound.field("value") != "key" for bound in book.bindings.get(row.field("name"), {}).values())]
     if not known or not lacking:
         return []
     lines = f"{counted(len(lacking), 'line')} {'has' if len(lacking) == 1 else 'have'} no uncertainty"

@@ -225,12 +225,19 @@ def read_xlsx(path: pathlib.Path) -> list[Grid]:
     """The sheets of an .xlsx file. Its formulas are read beside their values."""
     openpyxl = importlib.import_module("openpyxl")
     valued = openpyxl.load_workbook(path, data_only=True)
-    written = openpyxl.load_workbook(path)
+    written = openpyxl.load_workbook(path) if has_formulas(path) else valued
     try:
         return [grid_of_xlsx(sheet, written[sheet.title]) for sheet in valued.worksheets]
     finally:
         valued.close()
         written.close()
+
+
+def has_formulas(path: pathlib.Path) -> bool:
+    """Tells whether a part of an .xlsx file has a formula, or something that begins as one."""
+    with zipfile.ZipFile(path) as parts:
+        return any(re.search(rb"<(\w+:)?f\b", parts.read(name)) for name in parts.namelist()
+                   if name.endswith(".xml"))
 
 
 def grid_of_xlsx(sheet: typing.Any, written: typing.Any) -> Grid:

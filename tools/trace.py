@@ -137,8 +137,7 @@ def conversion(unit: str) -> str:
     base = vocabulary.units_that_measure(found["measures"])[0] if found else unit
     if found is None or base == unit:
         return ""
-    ratio = f"{found['over']}" if found["under"] == 1 else f"{found['over']}/{found['under']}"
-    return f"1 {unit} is {ratio} {base}".removesuffix(" 1")
+    return f"1 {unit} is {vocabulary.of_base(found)} {base}".removesuffix(" 1")
 
 
 def said_of_note(note: str) -> str:

@@ -1,5 +1,6 @@
 """The words of the program, out of tools/facts.json, and the nearest of them to a text."""
 import csv
+import decimal
 import difflib
 import functools
 import json
@@ -183,6 +184,13 @@ def leaves_under(code: str) -> list[str]:
 def units_that_measure(measures: str | None) -> list[str]:
     """The words of all units of one dimension, the base unit first."""
     return [word for word, unit in units().items() if unit["measures"] == measures]
+
+
+def of_base(unit: Unit) -> str:
+    """How many of the base unit one of a unit is: a decimal if it is 1 or more, else a fraction."""
+    if unit["under"] == 1 or unit["over"] < unit["under"]:
+        return f"{unit['over']}" if unit["under"] == 1 else f"{unit['over']}/{unit['under']}"
+    return format(decimal.Decimal(unit["over"]) / unit["under"], "f")
 
 
 def measured_by(word: str) -> str | None:

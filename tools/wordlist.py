@@ -31,9 +31,8 @@ def units() -> Iterator[Item]:
     """Each unit with what it measures, and what people write for it."""
     for word, unit in vocabulary.units().items():
         base = vocabulary.units_that_measure(unit["measures"])[0]
-        ratio = f"{unit['over']}" if unit["under"] == 1 else f"{unit['over']}/{unit['under']}"
-        of_base = "" if word == base else f", {ratio} {base}"
-        yield word, f"{unit['measures']}{of_base}", readings.spellings(word)
+        said = "" if word == base else f", {vocabulary.of_base(unit)} {base}"
+        yield word, f"{unit['measures']}{said}", readings.spellings(word)
 
 
 def categories() -> Iterator[Item]:

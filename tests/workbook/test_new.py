@@ -1,11 +1,14 @@
 """`new` makes a folder in which all that is missing are the figures."""
 import csv
+import itertools
 import pathlib
+import re
 import tempfile
 import unittest
 
 from tests.workbook.running import workbook
 from tools import new_folder, vocabulary
+from tools.place_notices import words_of_parameters
 
 SPAN = ("--first", "2019", "--last", "2020")
 # What cannot be carried out, and what is said of it.
@@ -76,6 +79,14 @@ class New(unittest.TestCase):
         shown = workbook("tables", self.folder, "2020", "--table", "cells").stdout
         self.assertNotIn(",NE", shown)
         self.assertEqual(set(leaves) - without, {line.split(",")[1] for line in shown.splitlines()[1:]})
+
+    def test_no_name_is_that_of_another_parameter(self) -> None:
+        for row in itertools.chain.from_iterable(new_folder.tier_1().values()):
+            words = words_of_parameters(row["equation"])
+            parts = set(re.split("[ ._-]", row["target"]))
+            if row["form"] in ("activity", "factor", "line", "sum") and not parts & words.get(row["parameter"], set()):
+                others = [other for other, own in words.items() if row["parameter"] in words and parts & own]
+                self.assertEqual(others, [], row)
 
     def test_categories_with_a_notation_key_need_no_figure(self) -> None:
         for key in vocabulary.words()["keys"]:
