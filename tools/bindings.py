@@ -400,4 +400,4 @@ def way_to(wanted: Parameter, record: Row) -> str:
     if not makes:
         return ""
     of_it = vocabulary.equations()[makes[0]]["computes"]
-    return f"; a line of {makes[0]} ({of_it}) makes it, to take here as line: ./workbook words {makes[0]} shows its rows"
+    return f"; a line of {makes[0]} ({of_it}) makes it, to take as line: ./workbook words {makes[0]} shows its rows"

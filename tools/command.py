@@ -17,7 +17,7 @@ from tools.progress import Progress
 from tools.program import Program, ProgramFailed, found_program
 from tools.service import Service
 from tools.sheets import FolderFault, Sheet, read_folders
-from tools.sources import FOLDER, add_sources, service_of, sheets_of
+from tools.sources import FOLDER, add_sources, service_of, sheets_of, years_in
 from tools.given_away import warnings_of
 from tools.notices import warn_left
 
@@ -144,16 +144,9 @@ def read_year(text: str) -> int:
     return int(text)
 
 
-def years_of(text: str) -> list[int] | None:
-    """The years that a word names, as 2020 or 2000-2011; or None."""
-    found = re.fullmatch("([0-9]{4})(?:-([0-9]{4}))?", text)
-    first, last = (found.group(1), found.group(2) or found.group(1)) if found else ("1", "0")
-    return list(range(int(first), int(last) + 1)) or None
-
-
 def read_years(text: str) -> list[int]:
     """Years of tables, which stand after the folders."""
-    return years_of(text) or [read_year(text)]
+    return years_in(text) or [read_year(text)]
 
 
 def add_complete(commands: Commands) -> None:
@@ -374,8 +367,8 @@ def of_sources(run: OnProgram, run_of_service: OnService) -> Function:
 def run_tables(arguments: argparse.Namespace) -> int:
     """Writes the tables of years. Of the words after the folders, all are years that can be."""
     folders, years = arguments.folders, arguments.years
-    while folders and years_of(folders[-1]) and not os.path.isdir(folders[-1]):
-        years.insert(0, years_of(folders.pop()))
+    while folders and years_in(folders[-1]) and not os.path.isdir(folders[-1]):
+        years.insert(0, years_in(folders.pop()))
     arguments.years = sorted({year for found in years for year in found})
     return of_sources(tables.run, tables.run_of_service)(arguments)
 

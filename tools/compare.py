@@ -21,6 +21,7 @@ from tools.printed import Printed, by_size, difference, figure, percent
 from tools.program import Program, found_program
 from tools.results import figure_of
 from tools.sheets import FolderFault, Key, Row, Sheet, read_folders
+from tools.sources import years_in
 from tools.store import submissions
 from tools.tables import say_lacking, submit_all
 from tools.trace import said_of_category, said_of_note
@@ -226,12 +227,13 @@ def text_of(found: dict[str, Any]) -> Iterator[str]:
 def of_store(path: str, words: list[str]) -> tuple[Files, Files, list[int]]:
     """What a store had accepted as of two submissions, and the years, out of the words of the command."""
     kept = submissions(pathlib.Path(path))
-    numbers = [int(word) for word in words if re.fullmatch("[0-9]{1,9}", word)]
-    if len(numbers) < 2 or len(numbers) != len(words) or max(numbers[:2]) > len(kept):
+    numbers = [int(word) for word in words[:2] if re.fullmatch("[0-9]{1,9}", word)]
+    years = [years_in(word) for word in words[2:]]
+    if len(numbers) < 2 or not all(years) or max(numbers) > len(kept):
         due = f"the numbers of two submissions of {path}, of which the last is {len(kept)}, and years"
         raise FolderFault(f"with --store the words are {due}")
-    before, after, *years = numbers
-    return ([path], kept[:before]), ([path], kept[:after]), years
+    before, after = numbers
+    return ([path], kept[:before]), ([path], kept[:after]), sorted({year for found in years for year in found})
 
 
 def divided(words: list[str]) -> tuple[Files, Files, list[int]]:
@@ -239,9 +241,9 @@ def divided(words: list[str]) -> tuple[Files, Files, list[int]]:
     if words.count(FOR_BETWEEN) != 1:
         raise FolderFault(f"{BETWEEN} has to stand once, between the folders of the two states")
     at = words.index(FOR_BETWEEN)
-    before, after, years = words[:at], words[at + 1:], []
-    while len(after) > 1 and re.fullmatch("[0-9]{4}", after[-1]):
-        years.append(int(after.pop()))
+    before, after, years = words[:at], words[at + 1:], list[int]()
+    while len(after) > 1 and years_in(after[-1]):
+        years += years_in(after.pop())
     if not before or not after:
         raise FolderFault(f"a folder has to stand on both sides of {BETWEEN}")
     return (before, named_in_full(before)), (after, named_in_full(after)), sorted(set(years))

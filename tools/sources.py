@@ -3,6 +3,7 @@ from __future__ import annotations
 
 import argparse
 import pathlib
+import re
 
 from tools.service import Service
 from tools.sheets import FolderFault, Sheet, read_folders
@@ -16,6 +17,12 @@ STORE = "the store of submissions FILE, which is only read; the files of folders
 URL = "the running service at URL, as http://127.0.0.1:8000, in place of folders"
 NOTHING = "nothing to read; give a folder, --store FILE or --url URL"
 ALONE = "--url stands without folders and without --store: a service has its submissions itself"
+
+
+def years_in(text: str) -> list[int]:
+    """The years that a word names, as 2020 or 2000-2011; or none."""
+    found = re.fullmatch("([0-9]{4})(?:-([0-9]{4}))?", text)
+    return list(range(int(found.group(1)), int(found.group(2) or found.group(1)) + 1)) if found else []
 
 
 def add_sources(made: argparse.ArgumentParser) -> None:

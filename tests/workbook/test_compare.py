@@ -188,6 +188,8 @@ national total in Gg of CO2 equivalent:
             ("examples/how-to", "--"): "a folder has to stand on both sides of --",
             ("examples/how-to", "--", "examples/how-to", "2017", "2018"):
                 "there is no 2017 in both states: both have 2018 to 2020",
+            ("examples/how-to", "--", "examples/how-to", "2016-2018"):
+                "there is no 2016 to 2017 in both states: both have 2018 to 2020",
             ("examples/how-to", "--", "no-such-folder"): "no-such-folder is no folder",
         }.items():
             ran = workbook("compare", *words)

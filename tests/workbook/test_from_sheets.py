@@ -185,7 +185,8 @@ class FromSheets(unittest.TestCase):
     def test_a_sheet_of_four_mebibytes(self) -> None:
         rows = [changed(year=year, note="n" * 30000) for year in range(1900, 2041)]
         made = self.read(self.saved(self.book({"Data": [COLUMNS, *rows]})))
-        self.assertIn(f"bytes of rows, and at most {limit('body'):,} are taken; divide its rows among 2 sheets", made.stdout)
+        due = f"bytes of rows, and at most {limit('body'):,} are taken; divide its rows among 2 sheets"
+        self.assertIn(due, made.stdout)
 
     def test_other_files_are_left_alone(self) -> None:
         self.folder.mkdir()
