@@ -232,6 +232,12 @@ def without_potential(book: Book, refused: Refused) -> list[Fault]:
     return found
 
 
+def has_keys_alone(book: Book, line: Row) -> bool:
+    """Whether each parameter of a line is a notation key."""
+    bindings = book.bindings.get(line.field("name"), {}).values()
+    return bool(bindings) and all(bound.field("value") == "key" for bound in bindings)
+
+
 def without_uncertainty(book: Book, refused: Refused) -> list[Fault]:
     """The lines of the tree that emit a gas and have no uncertainty, where others have one. One that is a
     notation key in all its parameters has no value.
@@ -239,8 +245,8 @@ def without_uncertainty(book: Book, refused: Refused) -> list[Fault]:
     emitting = [row for rows in emitted(book).values() for row in rows if row.field("subject") not in MEMOS]
     known = {key[1] for key in book.rows if key[0] == "uncert"}
     lacking = [row for row in emitting if row.field("name") not in known]
-    lacking = [row for row in lacking if not refused.that_sets(("uncert", row.field("name")))
-               and any(bound.field("value") != "key" for bound in book.bindings.get(row.field("name"), {}).values())]
+    lacking = [row for row in lacking
+               if not refused.that_sets(("uncert", row.field("name"))) and not has_keys_alone(book, row)]
     if not known or not lacking:
         return []
     lines = f"{counted(len(lacking), 'line')} {'has' if len(lacking) == 1 else 'have'} no uncertainty"
