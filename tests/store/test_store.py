@@ -311,11 +311,13 @@ class Refused(Stores):
                 connection.execute(f"INSERT INTO {name} VALUES ({', '.join('?' * len(row))})", row)
             for statement in more:
                 connection.execute(statement)
+        before = all_rows(self.store, name)
+        self.assertEqual(len(before), len(rows))
         self.assertEqual(self.run_with(GAS_THEN_CELLS), (6, b""), table)
         with contextlib.closing(sqlite3.connect(self.store)) as connection:
             there = connection.execute("SELECT sql FROM sqlite_master WHERE type = 'table' AND name = ?", [name])
             self.assertEqual(there.fetchall(), [(table,)])
-        self.assertEqual(all_rows(self.store, name), list(rows))
+        self.assertEqual(all_rows(self.store, name), before)
 
     def test_what_else_a_table_says_is_not_compared(self) -> None:
         seq, id_, body = "seq INTEGER PRIMARY KEY", "id TEXT UNIQUE NOT NULL", "body BLOB NOT NULL"
