@@ -11,7 +11,4 @@ mod dispatch;
 mod fugitive;
 mod reference;
 
-pub use combustion::{q10, q11, q12, q13};
 pub use dispatch::evaluate;
-pub use fugitive::{q14, q15, q16, q17};
-pub use reference::{q20, q21, q22, q23, q24, q25, q26};

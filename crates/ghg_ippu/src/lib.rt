@@ -12,8 +12,4 @@ mod metals;
 mod minerals;
 mod products;
 
-pub use chemicals::{q37, q38, q39};
 pub use dispatch::evaluate;
-pub use metals::{q40, q41, q42, q44, q45};
-pub use minerals::{q30, q31, q32, q33, q34, q35, q36};
-pub use products::q46;

@@ -4,9 +4,7 @@ ghost use Rattle.std.specs.Prelude.{◌≡◌, length};
 ghost use Rattle.ghg_equations.specs.Table.{parameters, sector_of};
 ghost use Rattle.ghg_cell.specs.Values.{equation_value};
 
-use crate::biomass::{q78, q79, q80, q81, q82};
-use crate::fire::{q88, q89};
-use crate::stocks::{q83, q84, q85, q86, q87};
+use crate::{biomass, fire, stocks};
 use ghg_cell::{Input, Ticket, Value};
 use ghg_equations::{EqId, Sector};
 use ghg_interval::Over;
@@ -19,30 +17,30 @@ pub fn evaluate(id: EqId, ticket: Ticket, inputs: &[Input]) -> Result<Value, Ove
 {
     match inputs {
         [a] => match id {
-            EqId::Q84 => q84(ticket, a),
+            EqId::Q84 => stocks::q84(ticket, a),
             _ => unreachable!(),
         },
         [a, b] => match id {
-            EqId::Q83 => q83(ticket, a, b),
-            EqId::Q86 => q86(ticket, a, b),
-            EqId::Q87 => q87(ticket, a, b),
+            EqId::Q83 => stocks::q83(ticket, a, b),
+            EqId::Q86 => stocks::q86(ticket, a, b),
+            EqId::Q87 => stocks::q87(ticket, a, b),
             _ => unreachable!(),
         },
         [a, b, c, d] => match id {
-            EqId::Q78 => q78(ticket, a, b, c, d),
-            EqId::Q80 => q80(ticket, a, b, c, d),
-            EqId::Q88 => q88(ticket, a, b, c, d),
-            EqId::Q89 => q89(ticket, a, b, c, d),
+            EqId::Q78 => biomass::q78(ticket, a, b, c, d),
+            EqId::Q80 => biomass::q80(ticket, a, b, c, d),
+            EqId::Q88 => fire::q88(ticket, a, b, c, d),
+            EqId::Q89 => fire::q89(ticket, a, b, c, d),
             _ => unreachable!(),
         },
         [a, b, c, d, e] => match id {
-            EqId::Q79 => q79(ticket, a, b, c, d, e),
-            EqId::Q82 => q82(ticket, a, b, c, d, e),
-            EqId::Q85 => q85(ticket, a, b, c, d, e),
+            EqId::Q79 => biomass::q79(ticket, a, b, c, d, e),
+            EqId::Q82 => biomass::q82(ticket, a, b, c, d, e),
+            EqId::Q85 => stocks::q85(ticket, a, b, c, d, e),
             _ => unreachable!(),
         },
         [a, b, c, d, e, f] => match id {
-            EqId::Q81 => q81(ticket, a, b, c, d, e, f),
+            EqId::Q81 => biomass::q81(ticket, a, b, c, d, e, f),
             _ => unreachable!(),
         },
         _ => unreachable!(),

@@ -11,7 +11,4 @@ mod dispatch;
 mod fire;
 mod stocks;
 
-pub use biomass::{q78, q79, q80, q81, q82};
 pub use dispatch::evaluate;
-pub use fire::{q88, q89};
-pub use stocks::{q83, q84, q85, q86, q87};

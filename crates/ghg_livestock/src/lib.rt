@@ -11,5 +11,3 @@ mod methane;
 mod nitrogen;
 
 pub use dispatch::evaluate;
-pub use methane::{q55, q56, q57, q58};
-pub use nitrogen::{q59, q60, q61, q62, q63, q64};

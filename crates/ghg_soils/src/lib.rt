@@ -11,7 +11,4 @@ mod dispatch;
 mod nitrogen;
 mod rice;
 
-pub use carbonates::{q74, q75};
 pub use dispatch::evaluate;
-pub use nitrogen::{q67, q68, q69, q70, q71, q72, q73};
-pub use rice::{q76, q77};

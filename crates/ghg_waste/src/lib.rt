@@ -12,6 +12,3 @@ mod treatment;
 mod wastewater;
 
 pub use dispatch::evaluate;
-pub use landfill::{q90, q91, q92, q93, q94};
-pub use treatment::{q95, q96, q97};
-pub use wastewater::{q98, q99, q100, q101, q102, q103};
