@@ -1,5 +1,5 @@
 -- What was run, call by call.
-use Rattle.std.proofs.Common.{◌≡◌, ◌≢◌, inl, inr, ℕ, zero, suc, ◌+◌, ◌<◌, ◌-◌, ◌^◌, pos, List, [], ◌∷◌, Bool, true, false, Result, Ok, Err, IfOk, IfErr, IsErr, refl, sym, subst, ◌∙◌, arith}
+use Rattle.std.proofs.Common.{◌≡◌, ◌≢◌, inl, inr, ℕ, zero, suc, ◌+◌, ◌<◌, ◌-◌, ◌^◌, pos, List, [], ◌∷◌, Bool, true, false, not, Result, Ok, Err, IfOk, IfErr, IsErr, refl, sym, subst, ◌∙◌, arith}
 use Rattle.sqlite_trees.specs.declared.store.Store.{Ghosts}
 use Rattle.sqlite.specs.declared.types.Value.TheVariants.{Int, Text, Blob}
 use Rattle.sqlite.specs.declared.error.Error.{Error}
@@ -18,6 +18,11 @@ use Rattle.ghg_keeper.proofs.Meanings.{given}
 
 one_is : {A : Type 0} (x y : A) → x ∷ [] ≡ y ∷ [] → x ≡ y
 one_is x y e = cc
+
+-- no transaction is open where the mode is autocommit
+pub is_closed : (autocommit is_open : Bool) → autocommit ≡ true → autocommit ≡ not is_open → is_open ≡ false
+is_closed autocommit true is value = absurd (let e = sym is ∙ value in cc)
+is_closed autocommit false is value = refl
 
 module _ {S : Type 0} (g : Ghosts S) where
   -- a query of one row, and what was read from the row
@@ -55,9 +60,9 @@ module _ {S : Type 0} (g : Ghosts S) where
   rolls_back Does old mid new (Ok x) back failed does ran = absurd cc
   rolls_back Does old mid new (Err e) back failed does ran = (mid, does, inr (back, ran))
 
-  pub rolls_none : (Does : Act g (Unit {0})) (old new : Held S) (r : Result (Unit {0}) Error) → Does old new r → OrRollsBack g Does old new r
-  rolls_none Does old new (Ok x) does = does
-  rolls_none Does old new (Err e) does = (new, does, inl refl)
+  pub rolls_none : (Does : Act g (Unit {0})) (old new : Held S) (r : Result (Unit {0}) Error) → Does old new r → (IsErr r → (state g new).in_transaction ≡ false) → OrRollsBack g Does old new r
+  rolls_none Does old new (Ok x) does closed = does
+  rolls_none Does old new (Err e) does closed = (new, does, inl (refl, closed refl))
 
   -- the first table had rows
   pub moves_first : (n : ℕ) (old new : Held S) (r : Result (Unit {0}) Error) → n ≢ 0 → Then g (Counts g count_text) (λ others. Then g (Needs g (λ _. others ≡ 0)) (λ _. MovesRows g n)) old new r → MovesFirst g n old new r

@@ -96,11 +96,12 @@ module _ {S : Type 0} (g : Ghosts S) where
   MovesAll count =
       Then (CopiesRows count) (λ _. Then ClearsFirst (λ _. Then (Runs commit_text []) (λ _. Ends)))
 
-  -- where it is refused, the transaction is rolled back if it is still open
+  -- where it is refused, the transaction is rolled back, unless none is open any more
   abbrev pub OrRollsBack : Act (Unit {0}) → Act (Unit {0})
   OrRollsBack Does old new (Ok x) = Does old new (Ok x)
   OrRollsBack Does old new (Err e) = (mid : Held S) × Does old mid (Err e)
-      × ((new ≡ mid) ⊎ ((result : Result ℕ Error) × Runs roll_back_text [] mid new result))
+      × (((new ≡ mid) × ((state g mid).in_transaction ≡ false))
+      ⊎ ((result : Result ℕ Error) × Runs roll_back_text [] mid new result))
 
   -- they are moved in one transaction
   abbrev pub MovesRows : ℕ → Act (Unit {0})

@@ -1,10 +1,14 @@
 -- What a keeper over a database shows.
-use Rattle.std.specs.Prelude.{◌≡◌, Bool, true, Result, OnOk}
+use Rattle.std.specs.Prelude.{◌≡◌, Bool, true, false, IsTrue, Result, IsErrOf, OnOk}
 use Rattle.sqlite_trees.specs.declared.store.Store.{Ghosts}
-use Rattle.sqlite.specs.State.{State}
+use Rattle.sqlite.specs.State.{State, HasCleanDisk}
 use Rattle.sqlite.specs.Held.{Held, state}
+use Rattle.ghg_keeper.specs.declared.keeper.KeepError.{KeepError}
+use Rattle.ghg_keeper.specs.declared.keeper.KeepError.TheVariants.{Failed}
 use Rattle.ghg_keeper.specs.declared.sql.SqlKeeper.{SqlKeeper}
+use Rattle.ghg_keeper.specs.Accepted.{has_kept_tables}
 use Rattle.ghg_keeper.specs.Listed.{sql_shelf}
+use Rattle.ghg_keeper.specs.Moving.{IsReady}
 use Rattle.ghg_keeper.specs.Shelf.{Shelf}
 
 -- its connection
@@ -27,3 +31,15 @@ attached keeper = keeper.is_attached
 abbrev pub StaysAttached : {S A E : Type 0} → SqlKeeper S → SqlKeeper S → Result A E → Type 0
 StaysAttached before after result =
     (attached after ≡ attached before) × OnOk result (attached before ≡ true)
+
+-- a call of a keeper that is not attached fails, and does nothing to the database
+abbrev pub NeedsAttached : {S A : Type 0} → SqlKeeper S → SqlKeeper S → Result A KeepError → Type 0
+NeedsAttached before after result =
+    attached before ≡ false → (held after ≡ held before) × IsErrOf result Failed
+
+-- a keeper that was attached to a store just opened: its tables are there, and over a clean disk the first of
+-- the two is empty
+abbrev pub IsInUse : {S : Type 0} → Ghosts S → SqlKeeper S → Type 0
+IsInUse store keeper =
+    (attached keeper ≡ true) × IsTrue (has_kept_tables (database store keeper).now.schema)
+    × (HasCleanDisk (database store keeper) → IsReady (database store keeper))

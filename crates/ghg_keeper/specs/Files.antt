@@ -3,7 +3,7 @@ use Rattle.std.specs.Prelude.{ℕ, Bool, ◌==◌, ◌||◌, List, [], codes, No
 use Rattle.std.specs.List.{ends_with}
 use Rattle.sqlite.specs.Files.{over_files}
 use Rattle.sqlite.specs.State.{State}
-use Rattle.ghg_keeper.specs.Databases.{attached, database, kept_shelf}
+use Rattle.ghg_keeper.specs.Databases.{NeedsAttached, attached, database, kept_shelf}
 use Rattle.ghg_keeper.specs.declared.file.FileKeeper.{FileKeeper}
 use Rattle.ghg_keeper.specs.declared.keeper.KeepError.{KeepError}
 use Rattle.ghg_keeper.specs.declared.keeper.KeepError.TheVariants.{Failed}
@@ -14,12 +14,13 @@ abbrev pub file_shelf : FileKeeper → Shelf
 file_shelf keeper =
     record { clean = ⊥; tells = ⊥; sure = λ t. t; rows = []; name = None; faults = keeper.faults }
 
--- A call is passed to the store in use, and this holds of what that tells. Where no store is in use the call
--- fails.
+-- A call is passed to the store in use, and this holds of what that tells. Where no store is in use, or it is
+-- not attached, the call fails.
 abbrev pub IsPassed : {A : Type 0} → FileKeeper → FileKeeper → Result A KeepError → (Shelf → Shelf → Type 0)
     → Type 0
 IsPassed before after result does = MatchOption before.store (IsErrOf result Failed)
-    (λ old. IsSomeAnd after.store (λ new. does (kept_shelf over_files old) (kept_shelf over_files new)))
+    (λ old. IsSomeAnd after.store (λ new. NeedsAttached old new result
+    × does (kept_shelf over_files old) (kept_shelf over_files new)))
 
 -- this holds of the database in use
 abbrev pub IsStored : FileKeeper → (State → Type 0) → Type 0

@@ -1,11 +1,10 @@
 // The keeper of the program, over a database file.
-ghost use Rattle.std.specs.Prelude.{◌≡◌, ◌⊎◌, ◌-◌, ◌≤◌, ◌^◌, pos, [], ◌∷◌, length, slice_get, codes, Some, Err, IsTrue, IfOk, IfErr, IsErrOf, OnOk, OnErr};
+ghost use Rattle.std.specs.Prelude.{◌≡◌, ◌⊎◌, ◌-◌, ◌≤◌, ◌^◌, pos, [], ◌∷◌, length, slice_get, codes, Some, Err, IsTrue, IfOk, IfErr, IsErrOf, IsSomeAnd, OnOk, OnErr};
 ghost use Rattle.sqlite.specs.declared.types.Value.TheVariants.{Int, Text, Blob};
 ghost use Rattle.sqlite.specs.Files.{over_files};
 ghost use Rattle.ghg_outer.specs.Counts.{IsCounted};
 ghost use Rattle.ghg_units.specs.Format.{format_in};
-ghost use Rattle.ghg_keeper.specs.Accepted.{has_kept_tables};
-ghost use Rattle.ghg_keeper.specs.Databases.{database};
+ghost use Rattle.ghg_keeper.specs.Databases.{IsInUse};
 ghost use Rattle.ghg_keeper.specs.Files.{is_beside};
 ghost use Rattle.ghg_keeper.specs.Errors.{CountsRows, HasCause, InsertsRow, IsCount, IsKept, IsNotReady, ReadsRow, Refuses, RefusesRow, keep_error};
 ghost use Rattle.ghg_keeper.specs.Id.{is_id};
@@ -78,13 +77,13 @@ impl<'a> FileKeeper<'a> {
 }
 
 impl Keeper for FileKeeper<'_> {
-    ghost use Rattle.ghg_keeper.specs.Files.{IsHandedOn, IsPassed, IsStored, file_shelf, is_beside};
+    ghost use Rattle.ghg_keeper.specs.Files.{IsHandedOn, IsPassed, file_shelf, is_beside};
 
     ghost shelf = { file_shelf };
 
     fn attach(&mut self, name: &str) -> Result<(), KeepError>
-        // The store in use has the tables.
-        ensures used { OnOk result (IsStored self.new (λ now. IsTrue (has_kept_tables now.now.schema))) }
+        // The store in use is attached, and has the tables.
+        ensures used { OnOk result (IsSomeAnd self.new.store (IsInUse over_files)) }
         ensures err { OnErr result (self.new.store ≡ self.old.store) }
         // This is the name of a store in memory, and of no file.
         ensures memory { name.now ≡ codes ":memory:" → IsErrOf result KeepError.Failed }
@@ -169,24 +168,22 @@ fn is_beside(name: &str) -> bool
     name.ends_with(b"-wal") || name.ends_with(b"-shm") || name.ends_with(b"-journal")
 }
 
-// A keeper over the database file of this name, which has its tables.
+// A keeper over the database file of this name, attached to it.
 fn opened(rt: &HostRuntime, name: &str) -> Result<SqlKeeper<FileStore<File>>, KeepError>
     ensures memory { name.now ≡ codes ":memory:" → IsErrOf result KeepError.Failed }
-    ensures table { IfOk result
-        (λ keeper. IsTrue (has_kept_tables (database over_files keeper).now.schema)) }
+    ensures used { IfOk result (IsInUse over_files) }
 {
     attached(Connection::open(rt, name), name)
 }
 
-// A keeper over a connection that was opened, which has its tables. It is over any store, since a proof goes
+// A keeper over a connection that was opened, attached to its store. It is over any store, since a proof goes
 // over all parts of what a function owns.
 fn attached<S: Alter + Drop>(
     opening: Result<Connection<S>, Error>,
     name: &str,
 ) -> Result<SqlKeeper<S>, KeepError>
     ensures unopened { IfErr opening (λ error. result ≡ Err (keep_error error)) }
-    ensures table { IfOk result
-        (λ keeper. IsTrue (has_kept_tables (database S.Store keeper).now.schema)) }
+    ensures used { IfOk result (IsInUse S.Store) }
 {
     let mut keeper = SqlKeeper::over(opening?);
     keeper.attach(name)?;

@@ -16,7 +16,7 @@ use crate::table::has_kept_tables;
 use sqlite::{Alter, Connection, Error, params};
 
 /// Makes each table where the store has none, and moves the rows of the first to the second. A store that has
-/// rows in both is refused, and stays as it is, as does one whose rows are not numbered from 1 on.
+/// rows in both is refused, as is one whose rows are not numbered from 1 on, and its rows stay as they are.
 pub(crate) fn prepare<S: Alter>(connection: &mut Connection<S>) -> Result<(), Error>
     requires { IsAtRest (state S.Store connection.old) }
     ensures keeps { KeepsList (state S.Store connection.old) (state S.Store connection.new) }

@@ -8,8 +8,8 @@ ghost use Rattle.ghg_units.specs.Format.{format_in};
 ghost use Rattle.ghg_keeper.specs.Accepted.{has_kept_tables};
 ghost use Rattle.ghg_keeper.specs.Course.{LacksTable, Prepares};
 ghost use Rattle.ghg_keeper.specs.Errors.{CountsRows, HasCause, InsertsRow, IsCount, IsKept, IsNotReady, ReadsRow, Refuses, RefusesRow, told_of};
-ghost use Rattle.ghg_keeper.specs.Listed.{IsBeforeOrAfter, IsSafe, IsSafeAs, ListsStore};
-ghost use Rattle.ghg_keeper.specs.Moving.{IsBeforeOrMoved, IsReady};
+ghost use Rattle.ghg_keeper.specs.Listed.{IsAtRest, IsBeforeOrAfter, IsSafe, IsSafeAs, ListsStore};
+ghost use Rattle.ghg_keeper.specs.Moving.{IsBeforeOrMoved, IsReady, Rests};
 ghost use Rattle.ghg_keeper.specs.Texts.{count_text, insert_text, row_text};
 
 use crate::moves::prepare;
@@ -35,11 +35,12 @@ pub struct SqlKeeper<S: Alter> {
 }
 
 impl<S: Alter> SqlKeeper<S> {
-    ghost use Rattle.ghg_keeper.specs.Databases.{held, kept_shelf};
+    ghost use Rattle.ghg_keeper.specs.Databases.{attached, held, kept_shelf};
 
     /// A keeper over an open connection. It takes no memory.
     pub fn over(connection: Connection<S>) -> SqlKeeper<S>
         ensures connection { held result ≡ connection }
+        ensures attached { attached result ≡ false }
         ensures faults { (kept_shelf S.Store result).faults ≡ 0 }
     {
         SqlKeeper {
@@ -112,7 +113,7 @@ impl<D: Disk + Drop> SqlKeeper<FileStore<D>> {
 }
 
 impl<S: Alter> Keeper for SqlKeeper<S> {
-    ghost use Rattle.ghg_keeper.specs.Databases.{StaysAttached, attached, database, held, kept_shelf};
+    ghost use Rattle.ghg_keeper.specs.Databases.{NeedsAttached, StaysAttached, attached, database, held, kept_shelf};
 
     ghost shelf = { kept_shelf S.Store };
 
@@ -131,6 +132,8 @@ impl<S: Alter> Keeper for SqlKeeper<S> {
         // The first attach that is acknowledged leaves the first of the two empty.
         ensures moved { attached self.old ≡ false → HasCleanDisk (database S.Store self.new)
             → OnOk result (IsReady (database S.Store self.new)) }
+        // Over a clean disk no transaction is left open, with any answer.
+        ensures rest { IsAtRest (database S.Store self.old) → Rests (database S.Store self.new) }
         // The first attach that is acknowledged ran all of this, and a later one runs nothing.
         ensures runs { attached self.old ≡ false
             → OnOk result (Prepares S.Store (held self.old) (held self.new) (Ok tt)) }
@@ -160,6 +163,7 @@ impl<S: Alter> Keeper for SqlKeeper<S> {
 
     fn count(&mut self) -> Result<u64, KeepError>
         ensures attached { StaysAttached self.old self.new result }
+        ensures unattached { NeedsAttached self.old self.new result }
         ensures count { (kept_shelf S.Store self.new).tells
             → IfOk result (λ n. n ≡ length (kept_shelf S.Store self.old).rows) }
         ensures keeps { Keeps (kept_shelf S.Store self.old) (kept_shelf S.Store self.new) }
@@ -183,6 +187,7 @@ impl<S: Alter> Keeper for SqlKeeper<S> {
     fn row(&mut self, seq: u64) -> Result<KeptRow, KeepError>
         requires { 1 ≤ seq }
         ensures attached { StaysAttached self.old self.new result }
+        ensures unattached { NeedsAttached self.old self.new result }
         ensures row { (kept_shelf S.Store self.new).tells → IfOk result (λ row.
             slice_get (kept_shelf S.Store self.old).rows (seq - 1) ≡ Some row) }
         ensures keeps { Keeps (kept_shelf S.Store self.old) (kept_shelf S.Store self.new) }
@@ -210,6 +215,7 @@ impl<S: Alter> Keeper for SqlKeeper<S> {
     fn append(&mut self, id: &[u8], body: &[u8]) -> Result<u64, KeepError>
         requires { IsTrue (is_id id.now) }
         ensures attached { StaysAttached self.old self.new result }
+        ensures unattached { NeedsAttached self.old self.new result }
         ensures ok { OnOk result (Adds (kept_shelf S.Store self.old) (kept_shelf S.Store self.new)
             (record { id = id.now; body = body.now })) }
         ensures number { (kept_shelf S.Store self.new).tells

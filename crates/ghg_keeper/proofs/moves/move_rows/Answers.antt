@@ -1,10 +1,11 @@
 use Rattle.ghg_keeper.specs.Course.{MovesAll}
-use Rattle.ghg_keeper.proofs.Course.{rolls_back, rolls_none}
+use Rattle.ghg_keeper.proofs.Course.{is_closed, rolls_back, rolls_none}
 use Rattle.std.proofs.lemmas.Result.{err_from_is_err_and}
-use Rattle.std.proofs.Common.{inl, inr, refl, sym}
+use Rattle.std.proofs.Common.{inl, inr, is_err, refl, rules, sym, ◌∙◌}
 use Rattle.sqlite.specs.Held.{state}
 use Rattle.ghg_keeper.specs.Moving.{CommitsMove}
-use Rattle.ghg_keeper.proofs.Moving.{move_survives, none_is, none_last}
+use Rattle.ghg_keeper.proofs.Moving.{move_survives, never_both, none_is, none_last}
+use Rattle.ghg_keeper.proofs.moves.move_rows.Goals.{else-is_err-via-then-is_err+else-not-is_autocommit, else-is_err-via-else-is_err}
 use Rattle.ghg_keeper.proofs.moves.move_rows.Goals as goal
 
 pub returns-in_err-begin-clause-survives : goal.returns-in_err-begin-clause-survives
@@ -43,5 +44,9 @@ returns-else-is_err-clause-runs g c =
       c.in_ok-begin.field-0,
       c.begin.new.connection,
       c.in_ok-begin.ensures.runs,
-      rolls_none g.S.Store (MovesAll g.S.Store c.args.count) c.begin.new.connection c.move_all-moved.new.connection c.move_all-moved.result c.move_all-moved.ensures.runs,
+      rolls_none g.S.Store (MovesAll g.S.Store c.args.count) c.begin.new.connection c.move_all-moved.new.connection c.move_all-moved.result c.move_all-moved.ensures.runs
+          (λ failed. elim c.else-is_err.branch [
+            | else-is_err-via-then-is_err+else-not-is_autocommit w ↦ is_closed w.is_autocommit.result (state g.S.Store c.move_all-moved.new.connection).in_transaction (search rules) w.is_autocommit.ensures.value
+            | else-is_err-via-else-is_err w ↦ never_both (is_err c.move_all-moved.result) failed (sym c.is_err.ensures.value ∙ w.if-is_err.false)
+          ]),
     )

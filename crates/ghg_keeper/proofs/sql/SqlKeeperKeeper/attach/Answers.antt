@@ -60,6 +60,24 @@ returns-then-not-has_kept_tables-clause-safe g c = elim c.if-not-self.branch [
   | else-not-self w ↦ rw (c.fault-then-not-has_kept_tables.ensures.same, w.self-is) (same_safe (database g.S.Store c.args.self.now) _ (λ live db. g.met.S.Store.settled c.args.self.now.connection.store db live))
 ]
 
+pub returns-clause-rest : goal.returns-clause-rest
+returns-clause-rest g c = elim c.if-not-self.branch [
+  | then-not-self+in_ok-told w ↦ rw (w.self-is, w.told.ensures.same) (λ was. w.prepare-prepared.ensures.rest)
+  | else-not-self w ↦ rw w.self-is (λ was clean. was)
+]
+
+pub returns-then-not-is_autocommit-clause-rest : goal.returns-then-not-is_autocommit-clause-rest
+returns-then-not-is_autocommit-clause-rest g c = rw c.fault.ensures.same (λ was clean. was)
+
+pub returns-in_err-told-clause-rest : goal.returns-in_err-told-clause-rest
+returns-in_err-told-clause-rest g c = rw c.told.ensures.same (λ was. c.prepare-prepared.ensures.rest)
+
+pub returns-then-not-has_kept_tables-clause-rest : goal.returns-then-not-has_kept_tables-clause-rest
+returns-then-not-has_kept_tables-clause-rest g c = elim c.if-not-self.branch [
+  | then-not-self+in_ok-told w ↦ rw (c.fault-then-not-has_kept_tables.ensures.same, w.self-is, w.told.ensures.same) (λ was. w.prepare-prepared.ensures.rest)
+  | else-not-self w ↦ rw (c.fault-then-not-has_kept_tables.ensures.same, w.self-is) (λ was clean. was)
+]
+
 pub returns-clause-runs : goal.returns-clause-runs
 returns-clause-runs g c = elim c.if-not-self.branch [
   | then-not-self+in_ok-told w ↦ rw (w.self-is, w.told.ensures.same)
