@@ -89,6 +89,37 @@ roots_are n low high bracket =
     let same : low ≡ low_root n = low_is n low high bracket in
     (same, subst (λ (k : ℕ). high ≡ (if square k == n then k else k + 1)) same (high_by n low high bracket (square low == n) refl))
 
+-- The root rounded down and rounded up is a bracket.
+bracket_by : (n low : ℕ) → IsRootUpTo n n low → (b : Bool) → (square low == n) ≡ b
+    → IsRootBracket n low (if b then low else low + 1)
+bracket_by n low root true e =
+    let exact : square low ≡ n = eqb-true _ _ e in
+    record {
+      below = root.below;
+      above = omega (arith, exact);
+      close = omega arith;
+      meets = (λ _. (low, exact), λ _. refl);
+    }
+bracket_by n low root false e = record {
+  below = root.below;
+  above = elim (dec_lt (square (low + 1)) n) [
+    | yes l ↦ absurd (let more : low + 1 ≤ low = root.greatest (low + 1) (within_itself (low + 1) n (omega (arith, l))) (omega (arith, l)) in omega (arith, more))
+    | no not ↦ omega (arith, not)
+  ];
+  close = omega arith;
+  meets = (
+    λ same. absurd (omega (arith, same)),
+    λ is. absurd (
+        let most : is.0 ≤ low = root.greatest is.0 (within_itself is.0 n (omega (arith, is.1))) (omega (arith, is.1)) in
+        let least : square is.0 ≤ square low = squares_rise is.0 low most in
+        eqb-false (square low) n e (omega (arith, is.1, least, root.below))),
+  );
+}
+
+pub root_brackets : (n : ℕ) → IsRootBracket n (low_root n) (high_root n)
+unfolding low_root high_root
+root_brackets n = bracket_by n (root_up_to n n) (root_is n n) (square (root_up_to n n) == n) refl
+
 -- ---- how large the bounds of a total are
 
 small_variance : (s : Share) → IsShare s → variance s ≤ largest_variance
