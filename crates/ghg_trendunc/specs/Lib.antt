@@ -1,4 +1,5 @@
 pub mod Ends
 pub mod Lines
+pub mod Sound
 pub mod Table
 pub mod Totals

@@ -9,7 +9,7 @@ mod lines;
 mod printing;
 mod totals;
 
-pub use laws::trend_totals_hold_roots;
+pub use laws::{trend_totals_hold_roots, trends_are_sound};
 pub use lines::{TrendShare, sides};
 pub use printing::print_trend;
 pub use totals::{Sides, trend_total};
