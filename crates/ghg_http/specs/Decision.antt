@@ -8,30 +8,20 @@ use Rattle.ghg_http.specs.Route.{Target, submission, table, target_of, path_of}
 use Rattle.ghg_http.specs.declared.decision.Decision as declared
 use Rattle.ghg_http.specs.declared.decision.Decision.TheVariants as decided
 use Rattle.ghg_http.specs.declared.decision.Refusal.{Refusal}
-use Rattle.ghg_http.specs.declared.decision.Refusal.TheVariants.{BadRequest, HeadTooLarge, NotFound, WrongMethod, LengthRequired, CodedBody, BodyTooLong}
+use Rattle.ghg_http.specs.declared.decision.Refusal.TheVariants as refusal
 use Rattle.ghg_http.specs.declared.fields.Framing.{Framing}
 use Rattle.ghg_http.specs.declared.fields.Length.{Length}
 use Rattle.ghg_http.specs.declared.fields.Length.TheVariants.{Missing, Malformed, Given}
 
--- the status of a refusal
-abbrev pub refusal_status : Refusal → ℕ
-refusal_status BadRequest = 400
-refusal_status HeadTooLarge = 431
-refusal_status NotFound = 404
-refusal_status WrongMethod = 405
-refusal_status LengthRequired = 411
-refusal_status CodedBody = 415
-refusal_status BodyTooLong = 413
-
--- and its text
-abbrev pub refusal_text : Refusal → List ℕ
-refusal_text BadRequest = codes "bad request"
-refusal_text HeadTooLarge = codes "head too large"
-refusal_text NotFound = codes "not found"
-refusal_text WrongMethod = codes "method"
-refusal_text LengthRequired = codes "length required"
-refusal_text CodedBody = codes "coded body"
-refusal_text BodyTooLong = codes "refused 3 BodyTooLong"
+-- the status and the text of the reply to a refusal
+abbrev pub refusal_row : Refusal → ℕ × List ℕ
+refusal_row refusal.BadRequest = (400, codes "bad request")
+refusal_row refusal.HeadTooLarge = (431, codes "head too large")
+refusal_row refusal.NotFound = (404, codes "not found")
+refusal_row refusal.WrongMethod = (405, codes "method")
+refusal_row refusal.LengthRequired = (411, codes "length required")
+refusal_row refusal.CodedBody = (415, codes "coded body")
+refusal_row refusal.BodyTooLong = (413, codes "refused 3 BodyTooLong")
 
 pub data Decision : Type 0 where
   refuse : Refusal → Decision
@@ -48,34 +38,34 @@ seen (decided.Show name year) = show name.now year.now
 
 -- a submission whose body has so many bytes
 abbrev pub sized : List ℕ → ℕ → Decision
-sized id n = if nat_lt max_body n then refuse BodyTooLong else submit id n
+sized id n = if nat_lt max_body n then refuse refusal.BodyTooLong else submit id n
 
 -- a body may have no coding
 abbrev pub uncoded : Framing → Decision → Decision
-uncoded f made = if f.is_coded then refuse CodedBody else made
+uncoded f made = if f.is_coded then refuse refusal.CodedBody else made
 
 -- a submission: its body needs one length, no transfer coding and no other coding, and is not too long
 abbrev pub submit_by_length : List ℕ → Framing → Length → Decision
-submit_by_length id f Missing = refuse LengthRequired
-submit_by_length id f Malformed = refuse BadRequest
+submit_by_length id f Missing = refuse refusal.LengthRequired
+submit_by_length id f Malformed = refuse refusal.BadRequest
 submit_by_length id f (Given n) = uncoded f (sized id n)
 
 abbrev pub submit_framed : List ℕ → Framing → Decision
-submit_framed id f = if f.is_chunked then refuse LengthRequired else submit_by_length id f f.body_length
+submit_framed id f = if f.is_chunked then refuse refusal.LengthRequired else submit_by_length id f f.body_length
 
 -- a request for a table: a body is not read, but a length must be one
 abbrev pub show_framed : List ℕ → List ℕ → Length → Decision
 show_framed name year Missing = show name year
-show_framed name year Malformed = refuse BadRequest
+show_framed name year Malformed = refuse refusal.BadRequest
 show_framed name year (Given n) = show name year
 
 -- the first case that holds, by the method, what the path asks for and how the body is sent
 abbrev pub decision : List ℕ → Option Target → Framing → Decision
-decision method None f = refuse NotFound
+decision method None f = refuse refusal.NotFound
 decision method (Some (submission id)) f =
-    if bytes_eq method (codes "POST") then submit_framed id f else refuse WrongMethod
+    if bytes_eq method (codes "POST") then submit_framed id f else refuse refusal.WrongMethod
 decision method (Some (table name year)) f =
-    if bytes_eq method (codes "GET") then show_framed name year f.body_length else refuse WrongMethod
+    if bytes_eq method (codes "GET") then show_framed name year f.body_length else refuse refusal.WrongMethod
 
 -- what a head of the grammar decides
 unfoldable pub decision_of : RequestHead → Decision

@@ -5,14 +5,14 @@ use Rattle.ghg_units.specs.declared.rule.Rule.TheVariants.{IdReused}
 use Rattle.ghg_office.specs.Replies.{reply_text}
 use Rattle.ghg_office.specs.declared.reply.Reply.{Reply}
 use Rattle.ghg_office.specs.declared.reply.Reply.TheVariants.{Accepted, Repeated, Refused, Table, NoTable, KeeperFault, Memory}
-use Rattle.ghg_http.specs.Decision.{refusal_status, refusal_text}
+use Rattle.ghg_http.specs.Decision.{refusal_row}
 use Rattle.ghg_http.specs.Reply.{HttpReply, in_json}
 use Rattle.ghg_http.specs.declared.decision.Refusal.{Refusal}
 use Rattle.ghg_http.specs.declared.reply.MediaType.TheVariants.{Csv}
 
 -- the reply to a request that is refused before its body is read
 abbrev pub refusal_reply : Refusal → HttpReply
-refusal_reply reason = in_json (refusal_status reason) (refusal_text reason)
+refusal_reply reason = in_json (refusal_row reason).0 (refusal_row reason).1
 
 -- the code for the rule that a submission breaks
 abbrev pub rule_code : Rule → ℕ

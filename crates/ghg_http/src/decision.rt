@@ -1,7 +1,7 @@
 //! What the head of a request decides, without its body.
 
 ghost use Rattle.std.specs.Prelude.{◌≡◌, option_map};
-ghost use Rattle.ghg_http.specs.Decision.{decision, refusal_status, refusal_text, seen, show_framed, sized, submit_framed};
+ghost use Rattle.ghg_http.specs.Decision.{decision, refusal_row, seen, show_framed, sized, submit_framed};
 ghost use Rattle.ghg_http.specs.Route.{seen as seen_target};
 
 use crate::fields::{Framing, Length};
@@ -14,7 +14,7 @@ use http::StatusCode;
 pub enum Refusal {
     /// It is no HTTP, or its length is no number.
     BadRequest,
-    /// Its head is longer than 16,384 bytes, or has more than 64 fields.
+    /// Its head is longer, or has more fields, than a head may.
     HeadTooLarge,
     /// Its path has no route.
     NotFound,
@@ -29,33 +29,22 @@ pub enum Refusal {
 }
 
 impl Refusal {
-    /// The status of the reply.
-    pub fn status(self) -> StatusCode
-        ensures { result ≡ refusal_status self }
+    /// The status and the text of the reply.
+    pub fn reply(self) -> (StatusCode, &'static str)
+        ensures status { result.0 ≡ (refusal_row self).0 }
+        ensures text { result.1.now ≡ (refusal_row self).1 }
     {
         match self {
-            Refusal::BadRequest => StatusCode::BAD_REQUEST,
-            Refusal::HeadTooLarge => StatusCode::REQUEST_HEADER_FIELDS_TOO_LARGE,
-            Refusal::NotFound => StatusCode::NOT_FOUND,
-            Refusal::WrongMethod => StatusCode::METHOD_NOT_ALLOWED,
-            Refusal::LengthRequired => StatusCode::LENGTH_REQUIRED,
-            Refusal::CodedBody => StatusCode::UNSUPPORTED_MEDIA_TYPE,
-            Refusal::BodyTooLong => StatusCode::PAYLOAD_TOO_LARGE,
-        }
-    }
-
-    /// The text of the reply.
-    pub fn text(self) -> &'static str
-        ensures { result.now ≡ refusal_text self }
-    {
-        match self {
-            Refusal::BadRequest => "bad request",
-            Refusal::HeadTooLarge => "head too large",
-            Refusal::NotFound => "not found",
-            Refusal::WrongMethod => "method",
-            Refusal::LengthRequired => "length required",
-            Refusal::CodedBody => "coded body",
-            Refusal::BodyTooLong => "refused 3 BodyTooLong",
+            Refusal::BadRequest => (StatusCode::BAD_REQUEST, "bad request"),
+            Refusal::HeadTooLarge => (
+                StatusCode::REQUEST_HEADER_FIELDS_TOO_LARGE,
+                "head too large",
+            ),
+            Refusal::NotFound => (StatusCode::NOT_FOUND, "not found"),
+            Refusal::WrongMethod => (StatusCode::METHOD_NOT_ALLOWED, "method"),
+            Refusal::LengthRequired => (StatusCode::LENGTH_REQUIRED, "length required"),
+            Refusal::CodedBody => (StatusCode::UNSUPPORTED_MEDIA_TYPE, "coded body"),
+            Refusal::BodyTooLong => (StatusCode::PAYLOAD_TOO_LARGE, "refused 3 BodyTooLong"),
         }
     }
 }

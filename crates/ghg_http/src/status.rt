@@ -16,7 +16,8 @@ use std::str;
 pub fn refusal_message(alloc: Global, reason: Refusal) -> Result<Message, AllocError>
     ensures { IfOk result (IsMessageOf (refusal_reply reason)) }
 {
-    json_message(alloc, reason.status(), reason.text())
+    let (status, text) = reason.reply();
+    json_message(alloc, status, text)
 }
 
 /// The reply to a request that reaches the office.
