@@ -1,5 +1,5 @@
 -- The lines of a script of `compile`.
-use Rattle.std.specs.Prelude.{◌≡◌, ◌↔◌, ℕ, Bool, true, ◌&&◌, List, ◌++◌, length, take, drop, Option, Some, None, ◌==◌, nat_le, if◌then◌else◌, codes, option_and_then}
+use Rattle.std.specs.Prelude.{◌≡◌, ◌↔◌, ℕ, Bool, true, ◌&&◌, List, ◌++◌, Option, Some, None, nat_le, if◌then◌else◌, codes, option_and_then}
 use Rattle.std.specs.Option.{option_map_or}
 use Rattle.std.specs.List.{list_all}
 use Rattle.std.specs.Str.{bytes_eq}
@@ -8,17 +8,10 @@ use Rattle.ghg_units.specs.Steps.{◌>>=◌}
 use Rattle.ghg_script.specs.declared.command.Line.{Line}
 use Rattle.ghg_script.specs.declared.command.Line.TheVariants as line
 use Rattle.ghg_script.specs.declared.script.TableQuery.{TableQuery}
-use Rattle.ghg_script.specs.declared.script.TheConstants.{LENGTH_DIGITS, LONGEST_TABLE, YEAR_DIGITS}
+use Rattle.ghg_script.specs.declared.script.TheConstants.{LENGTH_DIGITS, LONGEST_TABLE}
 use Rattle.ghg_script.specs.declared.word.TheConstants.{LONGEST_ID}
-use Rattle.ghg_script.specs.Commands.{Forms, lacks, split_at}
-
--- what follows a word that bytes begin with
-abbrev pub after_word : List ℕ → List ℕ → Option (List ℕ)
-after_word word bytes =
-    if bytes_eq (take (length word) bytes) word then Some (drop (length word) bytes) else None
-
-abbrev pub has_length : ℕ → ℕ → List ℕ → Bool
-has_length fewest most bytes = nat_le fewest (length bytes) && nat_le (length bytes) most
+use Rattle.ghg_script.specs.Commands.{Forms, split_at}
+use Rattle.ghg_script.specs.Words.{IsWord, IsYear, after_word, has_length, year_in}
 
 abbrev pub is_lower : ℕ → Bool
 is_lower b = nat_le 97 b && nat_le b 122
@@ -34,8 +27,8 @@ submit_form bytes = do
 abbrev pub show_form : List ℕ → Option (Line TableQuery)
 show_form bytes = do
   parts ← split_at 32 bytes
-  year ← number_in YEAR_DIGITS parts.1
-  if has_length 1 LONGEST_TABLE parts.0 && list_all is_lower parts.0 && (length parts.1 == YEAR_DIGITS)
+  year ← year_in parts.1
+  if has_length 1 LONGEST_TABLE parts.0 && list_all is_lower parts.0
       then Some (line.Query (record { table = parts.0; year = year })) else None
 
 -- what a line says that begins a command
@@ -51,13 +44,13 @@ script_forms bytes =
 -- SHOW, the name of a table of 1 to 16 lower-case letters, and a year of four digits; or END.
 abbrev pub IsFormOf : Line TableQuery → List ℕ → Type 0
 IsFormOf (line.Submit id n) text = (digits : List ℕ)
-    × (text ≡ codes "SUBMIT " ++ (id ++ (codes " " ++ digits))) × (has_length 1 60 id ≡ true)
-    × (lacks 32 id ≡ true) × (number_in 8 digits ≡ Some n)
+    × (text ≡ codes "SUBMIT " ++ (id ++ (codes " " ++ digits))) × IsWord id × (number_in 8 digits ≡ Some n)
 IsFormOf (line.Query show) text = (digits : List ℕ)
     × (text ≡ codes "SHOW " ++ (show.table ++ (codes " " ++ digits))) × (has_length 1 16 show.table ≡ true)
-    × (list_all is_lower show.table ≡ true) × (length digits ≡ 4) × (number_in 4 digits ≡ Some show.year)
+    × (list_all is_lower show.table ≡ true) × IsYear digits show.year
 IsFormOf line.End text = text ≡ codes "END"
 
 -- A line says exactly what it is the form of.
-abbrev pub SaysForms : Type 0
-SaysForms = (text : List ℕ) (form : Line TableQuery) → (script_forms text ≡ Some form) ↔ IsFormOf form text
+abbrev pub SaysForms : {Q : Type 0} → Forms Q → (Line Q → List ℕ → Type 0) → Type 0
+SaysForms {Q} forms is_form =
+    (text : List ℕ) (form : Line Q) → (forms text ≡ Some form) ↔ is_form form text

@@ -6,22 +6,30 @@ ghost use Rattle.ghg_script.specs.declared.script.TheConstants.{LENGTH_DIGITS, L
 ghost use Rattle.ghg_script.specs.declared.word.TheConstants.{LONGEST_ID};
 ghost use Rattle.ghg_script.specs.Commands.{ParsesTexts};
 ghost use Rattle.ghg_script.specs.Reading.{ReadsLocally, ReadsOnce};
-ghost use Rattle.ghg_script.specs.Script.{SaysForms, script_forms};
+ghost use Rattle.ghg_script.specs.Review.{IsReviewFormOf, review_forms};
+ghost use Rattle.ghg_script.specs.Script.{IsFormOf, SaysForms, script_forms};
 
-/// Bytes begin with a command exactly where its text is a prefix of them, and this is what each line says.
-pub fn parses_texts()
-    ensures texts { ParsesTexts script_forms }
-    ensures forms { SaysForms }
+use crate::dialect::Dialect;
+
+/// In every dialect, bytes begin with a command exactly where its text is a prefix of them.
+pub fn parses_texts<Q, D: Dialect<Q>>()
+    ensures { ParsesTexts D.forms }
 {}
 
-/// What stands behind the line of END changes nothing of what bytes read as.
-pub fn reads_locally()
-    ensures { ReadsLocally script_forms }
+/// What each line says, in the script of `compile` and in that of `review`.
+pub fn lines_say_forms()
+    ensures script { SaysForms script_forms IsFormOf }
+    ensures review { SaysForms review_forms IsReviewFormOf }
 {}
 
-/// No bytes begin with two scripts.
-pub fn reads_once()
-    ensures { ReadsOnce script_forms }
+/// In every dialect, what stands behind the line of END changes nothing of what bytes read as.
+pub fn reads_locally<Q, D: Dialect<Q>>()
+    ensures { ReadsLocally D.forms }
+{}
+
+/// In every dialect, no bytes begin with two scripts.
+pub fn reads_once<Q, D: Dialect<Q>>()
+    ensures { ReadsOnce D.forms }
 {}
 
 /// The limits of a script: how many commands it has, its end included, how many bytes a line has before its

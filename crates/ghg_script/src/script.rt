@@ -1,13 +1,13 @@
 //! The script of `compile`: submissions, and requests for tables.
 
-ghost use Rattle.std.specs.Prelude.{◌≡◌, ◌<◌, ◌&&◌, ◌==◌, length, position, IfSome, MatchOption, Some, None};
+ghost use Rattle.std.specs.Prelude.{◌≡◌, ◌&&◌};
 ghost use Rattle.std.specs.List.{list_all};
-ghost use Rattle.ghg_script.specs.Commands.{split_at};
-ghost use Rattle.ghg_script.specs.Script.{has_length, is_lower, show_form, submit_form};
+ghost use Rattle.ghg_script.specs.Script.{is_lower, show_form, submit_form};
+ghost use Rattle.ghg_script.specs.Words.{has_length};
 
 use crate::command::Line;
 use crate::dialect::Dialect;
-use crate::word::{LONGEST_ID, Word};
+use crate::word::{LONGEST_ID, Word, is_between, parts, year_from};
 use ghg_units::read_number;
 
 /// The lines `SUBMIT ID LENGTH`, `SHOW TABLE YEAR` and `END`.
@@ -60,46 +60,18 @@ fn submit(words: &[u8]) -> Option<Line<TableQuery>>
 
 const LONGEST_TABLE: usize = 16;
 
-const YEAR_DIGITS: usize = 4;
-
 // The name of a table, and a year.
 fn show(words: &[u8]) -> Option<Line<TableQuery>>
     ensures { result ≡ show_form words.now }
 {
-    let (table, year) = parts(words)?;
-    match read_number(year, YEAR_DIGITS) {
-        Some(number) if is_table(table) && year.len() == YEAR_DIGITS => Some(Line::Query(
-            TableQuery {
-                table: Word::new(table),
-                year: number as u32,
-            },
-        )),
+    let (table, digits) = parts(words)?;
+    match year_from(digits) {
+        Some(year) if is_table(table) => Some(Line::Query(TableQuery {
+            table: Word::new(table),
+            year,
+        })),
         _ => None,
     }
-}
-
-// What stands before the first space, and behind it.
-fn parts(words: &[u8]) -> Option<(&[u8], &[u8])>
-    ensures { MatchOption result (split_at 32 words.now ≡ None)
-        (λ parts. split_at 32 words.now ≡ Some (parts.0.now, parts.1.now)) }
-{
-    match space(words) {
-        Some(at) => Some((&words[..at], &words[at + 1..])),
-        None => None,
-    }
-}
-
-fn space(words: &[u8]) -> Option<usize>
-    ensures value { result ≡ position (λ b. b == 32) words.now }
-    ensures within { IfSome result (λ at. at < length words.now) }
-{
-    words.iter().position(|b| *b == b' ')
-}
-
-fn is_between(word: &[u8], fewest: usize, most: usize) -> bool
-    ensures { result ≡ has_length fewest most word.now }
-{
-    fewest <= word.len() && word.len() <= most
 }
 
 fn is_table(word: &[u8]) -> bool

@@ -6,7 +6,7 @@ use Rattle.std.specs.Str.{bytes_eq}
 use Rattle.std.proofs.lemmas.List.{append_assoc, drop_at, length_push}
 use Rattle.std.proofs.lemmas.Cmp.{nat_list_eq_equiv}
 use Rattle.std.proofs.lemmas.Grind.{common_steps}
-use Rattle.ghg_words.specs.Command.{command_in, command_named, compile_of, generate_of, number_from, options_of_compile, options_of_generate, options_of_serve, options_of_splice, serve_of, splice_of}
+use Rattle.ghg_words.specs.Command.{command_in, command_named, compile_of, generate_of, number_from, options_of_compile, options_of_generate, options_of_review, options_of_serve, options_of_splice, review_of, serve_of, splice_of}
 use Rattle.ghg_words.specs.declared.command.Command.{Command}
 use Rattle.ghg_words.specs.Laws.{IsReordered, OptionsStandInAnyOrder, Spelled, option_of, words_of}
 use Rattle.ghg_words.specs.Laws.IsReordered.{unchanged, behind, exchanged, in_turn}
@@ -176,14 +176,18 @@ generate_same xs ys e = simp e
 splice_same : (xs ys : Options) → HaveSameValues xs ys → splice_of xs ≡ splice_of ys
 splice_same xs ys e = simp e
 
+review_same : (xs ys : Options) → HaveSameValues xs ys → review_of xs ≡ review_of ys
+review_same xs ys e = simp e
+
 same_command : (word : List ℕ) (xs ys : Options) → IsSame xs ys → command_named word xs ≡ command_named word ys
-unfolding options_of_compile options_of_generate options_of_serve options_of_splice
+unfolding options_of_compile options_of_generate options_of_review options_of_serve options_of_splice
 same_command word xs ys h =
     cc (
       named_same _ xs ys compile_of h (compile_same xs ys),
       named_same _ xs ys serve_of h (serve_same xs ys),
       named_same _ xs ys generate_of h (generate_same xs ys),
       named_same _ xs ys splice_of h (splice_same xs ys),
+      named_same _ xs ys review_of h (review_same xs ys),
     )
 
 pub any_order : OptionsStandInAnyOrder

@@ -7,7 +7,7 @@ use Rattle.ghg_units.specs.declared.unit.Unit.TheVariants.{Year}
 use Rattle.ghg_units.specs.Name.{plain_name_in}
 use Rattle.ghg_units.specs.Units.{unit_in}
 use Rattle.ghg_words.specs.declared.command.Command.{Command}
-use Rattle.ghg_words.specs.declared.command.Command.TheVariants.{Compile, Generate, Serve, Splice}
+use Rattle.ghg_words.specs.declared.command.Command.TheVariants.{Compile, Generate, Review, Serve, Splice}
 use Rattle.ghg_words.specs.declared.command.Settings.{Settings}
 use Rattle.ghg_words.specs.declared.command.TheConstants.{MOST_WORKERS}
 use Rattle.ghg_words.specs.Options.{Options, only, options_in, value_of}
@@ -71,6 +71,10 @@ splice_of o =
     (option_and_then plain_name_in (value_of (codes "name") o)))
     (option_and_then method_named (value_of (codes "method") o))
 
+abbrev pub review_of : Options → Option Command
+review_of o =
+    option_map (λ workers. Review (record { workers = workers })) (workers_of (value_of (codes "workers") o))
+
 -- the options, if the command takes them
 unfoldable pub options_of_compile : Options → Option Options
 options_of_compile = only (codes "workers" ∷ codes "store" ∷ [])
@@ -84,13 +88,17 @@ options_of_generate = only (codes "seed" ∷ codes "lines" ∷ codes "workers" �
 unfoldable pub options_of_splice : Options → Option Options
 options_of_splice = only (codes "method" ∷ codes "name" ∷ codes "unit" ∷ [])
 
+unfoldable pub options_of_review : Options → Option Options
+options_of_review = only (codes "workers" ∷ [])
+
 -- the command of that name, with these options
 abbrev pub command_named : List ℕ → Options → Option Command
 command_named word o =
     if bytes_eq word (codes "compile") then option_and_then compile_of (options_of_compile o) else (
     if bytes_eq word (codes "serve") then option_and_then serve_of (options_of_serve o) else (
     if bytes_eq word (codes "generate") then option_and_then generate_of (options_of_generate o) else (
-    if bytes_eq word (codes "splice") then option_and_then splice_of (options_of_splice o) else None)))
+    if bytes_eq word (codes "splice") then option_and_then splice_of (options_of_splice o) else (
+    if bytes_eq word (codes "review") then option_and_then review_of (options_of_review o) else None))))
 
 -- the command that the words are
 unfoldable pub command_in : List (List ℕ) → Option Command
@@ -106,3 +114,4 @@ IsBounded (Compile settings) = AreWorkers settings.workers
 IsBounded (Serve service) = AreWorkers service.settings.workers × (1 ≤ service.connections)
 IsBounded (Generate sample) = AreWorkers sample.workers
 IsBounded (Splice splicing) = ⊤
+IsBounded (Review review) = AreWorkers review.workers

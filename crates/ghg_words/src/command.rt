@@ -2,7 +2,7 @@
 
 ghost use Rattle.std.specs.Prelude.{◌≡◌, ◌≤◌, IfSome, codes, map, option_map, option_and_then};
 ghost use Rattle.std.specs.String.{string_bytes};
-ghost use Rattle.ghg_words.specs.Command.{AreWorkers, IsBounded, command_in, command_named, compile_of, generate_of, number_from, options_of_compile, options_of_generate, options_of_serve, options_of_splice, serve_of, settings_of, splice_of, spliced_unit, workers_of};
+ghost use Rattle.ghg_words.specs.Command.{AreWorkers, IsBounded, command_in, command_named, compile_of, generate_of, number_from, options_of_compile, options_of_generate, options_of_review, options_of_serve, options_of_splice, review_of, serve_of, settings_of, splice_of, spliced_unit, workers_of};
 ghost use Rattle.ghg_words.specs.Options.{seen, value_of};
 
 use crate::options::{Options, read_options};
@@ -21,6 +21,8 @@ pub enum Command<'a> {
     Generate(Sample),
     /// To fill the years that a series lacks.
     Splice(Splicing),
+    /// To answer a script that may also compare the present data with earlier ones.
+    Review(Review),
 }
 
 /// What `compile` and `serve` take.
@@ -64,6 +66,13 @@ pub struct Splicing {
     pub unit: Unit,
 }
 
+/// How the script of a review is answered.
+#[derive(Debug, Drop)]
+pub struct Review {
+    /// The number of workers, from 1 to 64.
+    pub workers: u32,
+}
+
 /// Reads the words after the program's name. `None` where they are no command.
 #[tactic(auto, unfolding(crate::specs::Command::command_in))]
 pub fn read_command(words: &[String]) -> Option<Command<'_>>
@@ -84,6 +93,7 @@ fn command_named<'a>(word: &str, options: Options<'a>) -> Option<Command<'a>>
         "serve" => serve_with(options_of_serve(options)?),
         "generate" => generate_with(options_of_generate(options)?),
         "splice" => splice_with(options_of_splice(options)?),
+        "review" => review_with(options_of_review(options)?),
         _ => None,
     }
 }
@@ -118,6 +128,14 @@ fn options_of_splice(options: Options<'_>) -> Option<Options<'_>>
     ensures { option_map seen result ≡ options_of_splice (seen options.entry) }
 {
     options.only(&["method", "name", "unit"])
+}
+
+// The options, if `review` takes them.
+#[tactic(auto, unfolding(crate::specs::Command::options_of_review))]
+fn options_of_review(options: Options<'_>) -> Option<Options<'_>>
+    ensures { option_map seen result ≡ options_of_review (seen options.entry) }
+{
+    options.only(&["workers"])
 }
 
 fn compile_with(options: Options<'_>) -> Option<Command<'_>>
@@ -157,6 +175,15 @@ fn splice_with<'a>(options: Options<'_>) -> Option<Command<'a>>
         method: Method::named(options.value_of("method")?)?,
         name: Name::plain(options.value_of("name")?.as_bytes())?,
         unit: unit_from(options.value_of("unit")?)?,
+    }))
+}
+
+fn review_with<'a>(options: Options<'_>) -> Option<Command<'a>>
+    ensures command { result ≡ review_of (seen options.entry) }
+    ensures bounds { IfSome result IsBounded }
+{
+    Some(Command::Review(Review {
+        workers: workers_from(options)?,
     }))
 }
 

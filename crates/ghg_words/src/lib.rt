@@ -12,7 +12,7 @@ mod options;
 mod status;
 mod values;
 
-pub use command::{Command, Sample, Service, Settings, Splicing, read_command};
+pub use command::{Command, Review, Sample, Service, Settings, Splicing, read_command};
 pub use laws::options_stand_in_any_order;
 pub use status::Status;
 pub use values::StoreName;

@@ -31,6 +31,7 @@ fn parts<'c>(command: &'c Command) -> (u32, Option<&'c str>, Option<(u32, u32)>)
         ),
         Command::Generate(sample) => (sample.workers, None, Some((sample.seed, sample.lines))),
         Command::Splice(_) => (1, None, None),
+        Command::Review(review) => (review.workers, None, None),
     }
 }
 
@@ -69,6 +70,10 @@ const COMMANDS: &[(&str, u32, Option<&str>, Option<(u32, u32)>)] = &[
         None,
         None,
     ),
+    ("review", 1, None, None),
+    ("review --workers 2", 2, None, None),
+    ("review --workers=64", 64, None, None),
+    ("review --workers 01", 1, None, None),
     ("generate --seed 0 --lines 1", 1, None, Some((0, 1))),
     (
         "generate --lines=1000 --workers=64 --seed 2147483647",
@@ -123,6 +128,14 @@ const NO_COMMANDS: &[&str] = &[
     "splice --method linear --name a --unit TJ",
     "splice --method linear --name A --unit yr",
     "splice --method linear --name A --unit TJ --workers 1",
+    "review --store x",
+    "review --workers 0",
+    "review --workers 65",
+    "review --workers 00000000001",
+    "review --workers",
+    "review --workers 1 --workers 1",
+    "review x",
+    "reviews",
 ];
 
 #[test]
@@ -154,10 +167,12 @@ fn read_by_clap<'a>(alloc: Global, words: &'a [&'a str]) -> Result<ArgMatches<'a
         .arg(option(alloc, "workers"))?
         .arg(option(alloc, "seed"))?
         .arg(option(alloc, "lines"))?;
+    let review = clap::Command::new(alloc, "review").arg(option(alloc, "workers"))?;
     clap::Command::new(alloc, "ghg")
         .subcommand(compile)?
         .subcommand(serve)?
         .subcommand(generate)?
+        .subcommand(review)?
         .try_get_matches_from(words)
 }
 
@@ -176,6 +191,9 @@ fn agrees(matches: &ArgMatches, command: &Command, workers: Option<u32>) -> bool
             agrees_on_workers(options, sample.workers, workers)
                 && options.get_one::<u32>("seed") == Some(sample.seed)
                 && options.get_one::<u32>("lines") == Some(sample.lines)
+        }
+        (Some(("review", options)), Command::Review(review)) => {
+            agrees_on_workers(options, review.workers, workers)
         }
         _ => false,
     }
@@ -204,6 +222,8 @@ const COMPARED: &[(&str, Option<u32>)] = &[
     ("serve --connections=2 --store s --port=8000", None),
     ("generate --seed 1 --lines=300", None),
     ("generate --workers=7 --lines 1 --seed 0", Some(7)),
+    ("review", None),
+    ("review --workers 7", Some(7)),
 ];
 
 #[test]

@@ -1,4 +1,4 @@
-//! Tests of the public call that reads command lines.
+//! Tests of the public calls that read command lines, and of those that read the lines of scripts.
 //!
 //! They stand apart from the tests of the libraries below the office, so that those are not proved again with
 //! it.
@@ -6,3 +6,5 @@
 
 #[cfg(test)]
 mod commands;
+#[cfg(test)]
+mod scripts;
