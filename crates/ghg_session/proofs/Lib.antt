@@ -1,6 +1,6 @@
-mod Answered
-mod Answering
-mod Decided
+pub mod Answered
+pub mod Answering
+pub mod Decided
 pub mod Keeping
 mod Replied
 mod Writings

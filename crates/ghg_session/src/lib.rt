@@ -23,6 +23,6 @@ mod writing;
 
 pub use environment::Environment;
 pub use laws::what_is_left_decides;
-pub use reply::Lines;
-pub use session::answer_script;
+pub use reply::{Lines, one_line, table_lines};
+pub use session::{answer_script, refuse, write_lines};
 pub use writing::report;

@@ -82,8 +82,8 @@ pub fn answer_script<
     refuse(out, MOST_COMMANDS + 1)
 }
 
-// Reports the command of this number as malformed.
-fn refuse<W: Sink>(out: &mut W, number: u32) -> Status
+/// Reports the command of this number as malformed.
+pub fn refuse<W: Sink>(out: &mut W, number: u32) -> Status
     ensures reported { Reports (W.tape out.old) (W.tape out.new) (wrong_line number) Status.NoScript result }
     ensures counted { IsCounted (W.tape out.old).faults (W.tape out.new).faults
         (result ≡ Status.OutputFailed) }
@@ -105,8 +105,8 @@ fn refusal(number: u32) -> ArrayVec<u8, 33>
     line
 }
 
-// Writes all lines.
-fn write_lines<W: Sink>(out: &mut W, lines: &Lines) -> Result<(), Status>
+/// Writes all lines. Where that stops early, a proper prefix of them was written.
+pub fn write_lines<W: Sink>(out: &mut W, lines: &Lines) -> Result<(), Status>
     ensures written { WritesAll (W.tape out.old) (W.tape out.new) (bytes_of lines.now) result }
     ensures counted { IsCounted (W.tape out.old).faults (W.tape out.new).faults
         (IsErrOf result Status.OutputFailed) }

@@ -1,0 +1,2 @@
+pub mod Reviews
+mod Undone

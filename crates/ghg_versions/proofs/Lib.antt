@@ -1,0 +1,4 @@
+pub mod Looking
+pub mod Reports
+pub mod Keeping
+pub mod Replying
