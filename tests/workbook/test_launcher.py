@@ -19,6 +19,7 @@ class Launcher(unittest.TestCase):
             (["--help"], "ghg"), (["-h"], "ghg"), (["help"], "ghg"),
             (["help", "compile"], "compile"), (["compile", "--help"], "compile"),
             (["help", "serve"], "serve"), (["serve", "-h"], "serve"), (["generate", "--help"], "generate"),
+            (["help", "review"], "review"),
         ):
             run = ghg(*words)
             self.assertEqual((run.returncode, run.stderr), (0, ""), words)

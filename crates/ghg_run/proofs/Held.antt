@@ -16,18 +16,21 @@ use Rattle.ghg_office.proofs.InForce.{requested_sound, states_stay}
 use Rattle.ghg_script.specs.declared.command.Request.{Request}
 use Rattle.ghg_script.specs.declared.command.Request.TheVariants.{Submit, Query}
 use Rattle.ghg_script.specs.declared.script.TableQuery.{TableQuery}
-use Rattle.ghg_session.specs.Replies.{office_step}
-use Rattle.ghg_run.specs.Run.{AreSoundLines, RepliesAreSound}
+use Rattle.ghg_session.specs.Replies.{office_step, table_lines}
+use Rattle.ghg_run.specs.Sound.{AreSoundLines, AreSoundTableLines, RepliesAreSound}
 
 stays : (stored : Bool) (s : State) (asked : Request TableQuery) → IsInForce s → IsInForce (office_step stored s asked).after
 unfolding office_step
 stays stored s (Submit id body) h = states_stay.later s id body h
 stays stored s (Query show) h = h
 
+pub sound_table : (s : State) (show : TableQuery) → IsInForce s → AreSoundTableLines s show (table_lines show.table show.year (requested s show.table show.year))
+sound_table s show h = (requested s show.table show.year, refl, requested_sound s h show.table show.year)
+
 sound_lines : (stored : Bool) (s : State) (asked : Request TableQuery) → IsInForce s → AreSoundLines s asked (office_step stored s asked).reply
 unfolding office_step
 sound_lines stored s (Submit id body) h = tt
-sound_lines stored s (Query show) h = (requested s show.table show.year, refl, requested_sound s h show.table show.year)
+sound_lines stored s (Query show) h = sound_table s show h
 
 pub sound_replies : RepliesAreSound
 sound_replies stored s h [] = tt

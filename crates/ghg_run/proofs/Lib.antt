@@ -1,4 +1,5 @@
 mod Held
 mod Known
 mod Links
+mod Reviewed
 mod Stored

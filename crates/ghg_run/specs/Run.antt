@@ -1,54 +1,31 @@
 -- What the program owes for its words.
-use Rattle.std.specs.Prelude.{◌≡◌, ⊤, ◌⊎◌, ℕ, ◌+◌, ◌≤◌, true, false, Bool, List, map, Option, Some, None, String, codes}
+use Rattle.std.specs.Prelude.{◌≡◌, ◌⊎◌, ℕ, ◌+◌, ◌≤◌, true, false, Bool, List, map, Option, Some, None, String, codes}
 use Rattle.std.specs.Option.{is_some}
 use Rattle.std.specs.String.{string_bytes}
 use Rattle.ghg_generator.specs.Summary.{submissions, summary}
 use Rattle.ghg_keeper.specs.Shelf.{Shelf}
-use Rattle.ghg_office.specs.declared.reply.Reply.{Reply}
-use Rattle.ghg_office.specs.Laws.{IsInForce}
-use Rattle.ghg_office.specs.Office.{State, start}
+use Rattle.ghg_office.specs.Office.{start}
 use Rattle.ghg_office.specs.Replays.{replay_evaluations}
-use Rattle.ghg_office.specs.Sound.{IsSoundReply}
 use Rattle.ghg_outer.specs.Counts.{IsCounted}
 use Rattle.ghg_outer.specs.Doors.{Register}
 use Rattle.ghg_outer.specs.Tape.{Tape}
-use Rattle.ghg_script.specs.declared.command.Request.{Request}
-use Rattle.ghg_script.specs.declared.command.Request.TheVariants.{Submit, Query}
-use Rattle.ghg_script.specs.declared.script.TableQuery.{TableQuery}
 use Rattle.ghg_words.specs.declared.status.Status.{Status}
 use Rattle.ghg_words.specs.declared.status.Status.TheVariants.{Done, BadCommandLine, InputFailed, OutputFailed, StoreFailed, DoorFailed}
-use Rattle.ghg_session.specs.Replies.{protocol, table_lines}
+use Rattle.ghg_session.specs.Replies.{protocol}
 use Rattle.ghg_script.specs.Commands.{line_of}
-use Rattle.ghg_session.specs.Session.{EachReply, Session}
+use Rattle.ghg_session.specs.Session.{Session}
 use Rattle.ghg_words.specs.Status.{status_code}
 use Rattle.ghg_session.specs.Writing.{Reports}
 use Rattle.ghg_words.specs.Command.{command_in}
 use Rattle.ghg_words.specs.declared.command.Command.{Command}
-use Rattle.ghg_words.specs.declared.command.Command.TheVariants.{Compile, Generate, Serve, Splice}
+use Rattle.ghg_words.specs.declared.command.Command.TheVariants.{Compile, Generate, Review, Serve, Splice}
 use Rattle.ghg_words.specs.declared.command.Sample.{Sample}
 use Rattle.ghg_words.specs.declared.command.Service.{Service}
 use Rattle.ghg_run.specs.Opening.{BeginsNot, ReportsMade, RunsOffice}
+use Rattle.ghg_run.specs.Reviewing.{Reviews}
 use Rattle.ghg_run.specs.Serve.{Serves, office_at}
+use Rattle.ghg_run.specs.Sound.{HasSoundReplies}
 use Rattle.ghg_run.specs.Splicing.{Splices}
-
--- ---- the bounds that a session prints
-
--- The lines that reply to a request for a table are the office's reply, a table under its heading or that
--- there is none, and in a table the bounds hold.
-abbrev pub AreSoundLines : State → Request TableQuery → List ℕ → Type 0
-AreSoundLines s (Submit id body) lines = ⊤
-AreSoundLines s (Query show) lines = (reply : Reply)
-    × (lines ≡ table_lines show.table show.year reply) × IsSoundReply s show.table show.year reply
-
--- In each table among the replies to any requests the bounds hold the exact values of the nodes of the data
--- then in force, wherever the inputs are within their supplied bounds.
-abbrev pub HasSoundReplies : Bool → State → Type 0
-HasSoundReplies stored s =
-    (requests : List (Request TableQuery)) → EachReply (protocol stored) AreSoundLines s requests
-
--- That holds from each state in force.
-abbrev pub RepliesAreSound : Type 0
-RepliesAreSound = (stored : Bool) (s : State) → IsInForce s → HasSoundReplies stored s
 
 -- ---- each command
 
@@ -97,6 +74,7 @@ store_in _ = None
 abbrev pub reads_input : Option Command → Bool
 reads_input (Some (Compile settings)) = true
 reads_input (Some (Splice splicing)) = true
+reads_input (Some (Review settings)) = true
 reads_input _ = false
 
 -- whether a command opens the door
@@ -117,6 +95,8 @@ Runs (Some (Generate sample)) shelf shelf' input input' output output' door door
     Generates sample output output' steps steps' status
 Runs (Some (Splice splicing)) shelf shelf' input input' output output' door door' steps steps' status =
     Splices splicing input input' output output' status × (steps' ≡ steps)
+Runs (Some (Review settings)) shelf shelf' input input' output output' door door' steps steps' status =
+    Reviews input input' output output' steps steps' status
 
 -- A count of faults rose exactly where the status is that failure. What the keeper fails at while connections
 -- are served is replied on them, and counted with each (`ServesNew`).

@@ -10,10 +10,13 @@ use crate::opening::open_office;
 use crate::serving::serve_office;
 use crate::splicing::splice;
 use ghg_keeper::Keeper;
+use ghg_office::Office;
 use ghg_outer::{Door, Sink, Source};
+use ghg_review::answer_review;
 use ghg_script::Script;
 use ghg_session::{Environment, answer_script, report};
 use ghg_steps::Steps;
+use ghg_versions::Desk;
 use ghg_words::{Command, Sample, Settings, Status, read_command};
 use ghg_workers::{Gate, Workers};
 use std::alloc::{AllocError, Global};
@@ -24,9 +27,10 @@ use std::thread::Threads;
 /// Does what the words ask for, and answers the status that the program ends with.
 ///
 /// The word `compile` asks it to answer the script that the input holds, `serve` to serve connections at a
-/// port of loopback, `generate` to write the summary of a run of generated submissions, and `splice` to write
-/// a submission that fills a series. With `--store NAME` the submissions that were kept in that store are
-/// replayed first, and those that are accepted now are kept there. For each submission no more nodes are
+/// port of loopback, `generate` to write the summary of a run of generated submissions, `splice` to write a
+/// submission that fills a series, and `review` to answer a script that may also freeze the present figures
+/// and ask what became of them. With `--store NAME`, `compile` and `serve` first replay the submissions that
+/// were kept in that store, and keep there those that are accepted now. For each submission no more nodes are
 /// evaluated than its rows affect.
 ///
 /// | Status | Meaning |
@@ -97,6 +101,15 @@ pub fn run<S: Source, W: Sink, K: Keeper, D: Door, G: Gate, T: Threads + Sync, L
             generate(alloc, hasher, &workers, &sample, out, steps).code()
         }
         Some(Command::Splice(splicing)) => splice(alloc, &splicing, input, out).code(),
+        Some(Command::Review(settings)) => {
+            let workers = Workers {
+                threads: rt,
+                count: settings.workers,
+                gate,
+            };
+            let mut desk = Desk::new(alloc, Office::new(alloc, hasher));
+            answer_review(alloc, &workers, input, out, &mut desk, steps).code()
+        }
         None => report(out, BAD_COMMAND_LINE, Status::BadCommandLine).code(),
     }
 }

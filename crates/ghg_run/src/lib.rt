@@ -1,7 +1,8 @@
 //! All that the program does, over any input, output, keeper and door.
 //!
 //! [`run`] does what the words of a command line ask for, and its contract says what that is: a script of
-//! submissions and requests for tables is answered, or connections are served.
+//! submissions and requests is answered, connections are served, a sample is generated, or a series is
+//! filled.
 #![tactic(auto)]
 
 mod commands;
@@ -11,4 +12,4 @@ mod serving;
 mod splicing;
 
 pub use commands::{run, run_counted};
-pub use laws::replies_are_sound;
+pub use laws::{replies_are_sound, reviews_are_sound};

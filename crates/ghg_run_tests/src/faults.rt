@@ -34,6 +34,10 @@ const TABLE: &str = "table cells 1990 rows 2\ncode,category,equation,gas,unit,va
 const NEXT_TABLE: &str = "table cells 1991 rows 2\ncode,category,equation,gas,unit,value,low,high\n\
     ELEC.GAS,1A1a,Q10,CO2,Gg,NE,NE,NE\n";
 
+const RECALCULATION: &str =
+    "table recalc 1990 rows 2\ncategory,gas,reported,now,difference,percent\n\
+    1A1a,CO2,0.000,0.000,0.000,-\n";
+
 // Two submissions and a table.
 fn two_submissions(alloc: Global) -> Result<String, Fail> {
     Ok(format!(in alloc; "SUBMIT a 291\n{PLANT}SUBMIT b 52\n{HEADER}SHOW cells 1990\nEND\n")?)
@@ -83,16 +87,17 @@ fn ended<K: Keeper>(
 // Lets a read of each number fail, or a write: then the status is this, and a prefix was written.
 fn check_prefixes(
     rt: &(impl Abort + AllocGlobal + RandomSource + Threads + Sync),
+    words: &str,
+    script: &str,
+    whole: &str,
     is_read: bool,
     due_status: u8,
 ) -> Result<(), Fail> {
-    let script = two_submissions(rt.alloc())?;
-    let whole = two_replies(rt.alloc(), 0)?;
     let mut is_whole = false;
     for number in 1..MANY {
         let (read, write) = if is_read { (number, 0) } else { (0, number) };
         let mut keeper = SteadyKeeper::new(rt.alloc());
-        let (status, output) = ended(rt, "compile", script.as_bytes(), read, write, &mut keeper)?;
+        let (status, output) = ended(rt, words, script.as_bytes(), read, write, &mut keeper)?;
         assert!(rt; whole.as_bytes().starts_with(&output));
         is_whole = output.len() == whole.len() && status == 0;
         if is_whole {
@@ -105,14 +110,42 @@ fn check_prefixes(
     Ok(())
 }
 
+// The same of a session and of a review.
+fn check_scripts(
+    rt: &(impl Abort + AllocGlobal + RandomSource + Threads + Sync),
+    is_read: bool,
+    due_status: u8,
+) -> Result<(), Fail> {
+    let script = two_submissions(rt.alloc())?;
+    let whole = two_replies(rt.alloc(), 0)?;
+    let review = format!(in rt.alloc(); "SUBMIT a 291\n{PLANT}FREEZE V\nRECALC V 1990\nEND\n")?;
+    let told = format!(in rt.alloc(); "accepted 1\nfrozen V 1\n{RECALCULATION}")?;
+    check_prefixes(
+        rt,
+        "compile",
+        script.as_str(),
+        whole.as_str(),
+        is_read,
+        due_status,
+    )?;
+    check_prefixes(
+        rt,
+        "review",
+        review.as_str(),
+        told.as_str(),
+        is_read,
+        due_status,
+    )
+}
+
 #[test]
 fn each_read_fails_once(rt: HostRuntime) -> Result<(), Fail> {
-    check_prefixes(&rt, true, 4)
+    check_scripts(&rt, true, 4)
 }
 
 #[test]
 fn each_write_fails_once(rt: HostRuntime) -> Result<(), Fail> {
-    check_prefixes(&rt, false, 5)
+    check_scripts(&rt, false, 5)
 }
 
 // A new run over the same keeper repeats what was acknowledged, and nothing else.

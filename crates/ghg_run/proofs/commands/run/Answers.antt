@@ -1,9 +1,13 @@
 use Rattle.std.proofs.Common.{◌≡◌, ◌∙◌, inl, ap, sym, refl, Some}
+use Rattle.ghg_office.proofs.InForce.{states_stay}
 use Rattle.ghg_outer.specs.Tape.{Tape}
 use Rattle.ghg_outer.proofs.Counts.{count_stays, counted_none, counted_on, counted_told}
+use Rattle.ghg_review.proofs.Reviews.{review_no_keeper}
 use Rattle.ghg_words.specs.declared.status.Status.TheVariants.{DoorFailed, InputFailed, StoreFailed}
 use Rattle.ghg_run.proofs.Known.{made_as, no_error, no_input, no_output, not_opened_as, reported_as, session_no_door, splices_as}
+use Rattle.ghg_run.proofs.Reviewed.{sound_reviews}
 use Rattle.ghg_run.proofs.Stored.{compiled, served}
+use Rattle.ghg_run.specs.Reviewing.{first_desk}
 use Rattle.ghg_run.proofs.commands.run.Goals as goal
 
 pub returns-in-None-clause-run : goal.returns-in-None-clause-run
@@ -128,5 +132,23 @@ returns-in-Some-Splice-clause-run g c =
         output_counted = c.splice.ensures.output;
         keeper_counted = λ _. counted_none _ _ (splices_as _ _ _ _ _ _ (λ s. s ≡ StoreFailed → ⊥) done (λ e. cc) (λ e. cc) (λ e. cc) (λ e. cc) (λ e. cc));
         door_counted = counted_none _ _ (splices_as _ _ _ _ _ _ (λ s. s ≡ DoorFailed → ⊥) done (λ e. cc) (λ e. cc) (λ e. cc) (λ e. cc) (λ e. cc));
+      },
+    )
+
+-- ---- review
+
+pub returns-in-Some-Review-clause-run : goal.returns-in-Some-Review-clause-run
+returns-in-Some-Review-clause-run g c =
+    let command = sym c.read_command.ensures.command ∙ c.in-Some-Review.is ∙ ap Some c.in-Some-Review.field-0-is in
+    let script = rw (c.new-desk.ensures, c.new.ensures) at c.answer_review.ensures.session in
+    rw command (
+      c.answer_review.result,
+      c.code-in-Some-Review.ensures,
+      (c.answer_review.new.desk, script, sound_reviews first_desk states_stay.first),
+      record {
+        input_counted = c.answer_review.ensures.input;
+        output_counted = c.answer_review.ensures.output;
+        keeper_counted = λ _. counted_none _ _ (review_no_keeper _ _ _ _ _ _ _ _ _ script);
+        door_counted = counted_none _ _ (session_no_door _ _ _ _ _ _ _ _ _ _ script);
       },
     )
