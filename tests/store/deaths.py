@@ -80,7 +80,7 @@ class Deaths:
                 raise AssertionError(f"seed {self.seed}, life {self.lives}: {fault}") from fault
 
     def begin(self) -> None:
-        """Begins with no store, or with one of version 1 that the library of sqlite3 makes."""
+        """Begins with no store, or with one of version 2 that the library of sqlite3 makes."""
         for file in self.room.glob(f"{NAME}*"):
             file.unlink()
         self.kept = []

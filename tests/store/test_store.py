@@ -23,6 +23,7 @@ CELLS = b"""table cells 1990 rows 2
 code,category,equation,gas,unit,value,low,high
 ELEC.GAS,1A1a,Q10,CO2,Gg,56.100,54.300,58.300
 """
+FURTHER = HEADER + b"enter,activity,,FURTHER,2016,1,,,TJ,\n"
 POTENTIAL = HEADER + b"enter,factor,,GWP.CO2,1990,1,,,1,\n"
 HALF_LIFE = HEADER.replace(b"act", b"act2", 1) + b"enter,factor,,WOOD,1990,1.5,,,yr,\n"
 
@@ -363,7 +364,8 @@ class Moved(Stores):
         self.assertEqual(rows_of(self.store), rows)
 
     def test_stores_kept_as_text(self) -> None:
-        due: dict[str, list[Submitted]] = {"without-rows": [], "with-a-row": [(1, "a", GAS)]}
+        due: dict[str, list[Submitted]] = {"without-rows": [], "with-a-row": [(1, "a", GAS)],
+                                           "with-two-thousand-rows": list(submissions(2000))}
         self.assertEqual(sorted(path.stem for path in DUMPS.glob("*.sql")), sorted(f"version-1-{name}" for name in due))
         for name, rows in due.items():
             with self.subTest(name):
@@ -374,9 +376,9 @@ class Moved(Stores):
                 self.assertEqual(self.run_with(session()), (0, b""))
                 self.is_moved(rows)
                 number = len(rows) + 1
-                further = self.run_with(session(submit(b"c", POTENTIAL)))
+                further = self.run_with(session(submit(b"c", FURTHER)))
                 self.assertEqual(further, (0, b"accepted %d\n" % number))
-                self.assertEqual(rows_of(self.store), [*rows, (number, "c", POTENTIAL)])
+                self.assertEqual(rows_of(self.store), [*rows, (number, "c", FURTHER)])
 
     def test_each_row_has_the_format_of_its_body(self) -> None:
         marked = b"\xef\xbb\xbf" + HALF_LIFE.replace(b"WOOD", b"FOOD")
