@@ -11,7 +11,7 @@ from collections.abc import Callable, Iterable
 
 from tools import as_json, check, compare, complete, completion, from_sheets, gathered, import_sheet
 from tools import mending, missing, new_folder, recognised, report, row_templates, send, service_notices
-from tools import splice, tables, template, trace, vocabulary, wordlist
+from tools import splice, tables, template, trace, trend, vocabulary, wordlist
 from tools.faults import in_order
 from tools.progress import Progress
 from tools.program import Program, ProgramFailed, found_program
@@ -63,8 +63,8 @@ def parser() -> argparse.ArgumentParser:
     )
     commands = top.add_subparsers(dest="command", required=True, metavar="COMMAND",
                                   parser_class=CommandParser)
-    for add in (add_check, add_tables, add_complete, add_trace, add_compare, add_report, add_words,
-                add_import, add_splice, add_send, add_new, add_from_sheets, add_completion):
+    for add in (add_check, add_tables, add_complete, add_trace, add_compare, add_trend, add_report,
+                add_words, add_import, add_splice, add_send, add_new, add_from_sheets, add_completion):
         add(commands)
     return top
 
@@ -173,11 +173,23 @@ def add_trace(commands: Commands) -> None:
 
 def add_compare(commands: Commands) -> None:
     """Adds the command `compare`."""
-    what = "show what differs between two states of an inventory, and the rows that made it so"
+    what = "show what was once reported beside what holds now, and the rows that made it so"
     made = command(commands, "compare", what, "submitted-2023 -- submitted-2024 2020", compare.run)
     compare.add_words(made)
     made.add_argument("--program", metavar="PATH", help=PROGRAM)
     made.add_argument("--quiet", action="store_true", help=QUIET)
+
+
+def add_trend(commands: Commands) -> None:
+    """Adds the command `trend`."""
+    what = "show how uncertain the trend from the base year to a year is, by line and in all"
+    example = "examples/{fuel-combustion,small-country,waste,uncertainties} 2020"
+    made = over_folders(commands, "trend", what, example, trend.run)
+    made.add_argument("year", type=read_year, metavar="YEAR", help="the year of the table")
+    form = made.add_mutually_exclusive_group()
+    where = "the folder to write the table to, or one file .xlsx; without it the table is printed"
+    form.add_argument("-o", "--output", metavar="OUT", help=where)
+    form.add_argument("--json", action="store_true", help="print JSON")
 
 
 def add_report(commands: Commands) -> None:

@@ -1,25 +1,29 @@
 """What differs between two states of an inventory, and the rows that made it so.
 
-Figures are those that the program printed of each state; differences and percentages are worked out of two of
-them.
+The table of categories and gases is the program's own: its command `review` freezes the first state, is
+given what leads to the second one, and prints both with their differences. All other figures are those that
+it printed of each state; their differences and percentages are worked out of two of them.
 """
 import argparse
+import contextlib
 import dataclasses
 import decimal
 import json
+import os
 import pathlib
 import re
 import sys
 from collections.abc import Iterator
 from typing import Any
 
-from tools import vocabulary
+from tools import change, vocabulary
 from tools.book import KIND_TAKEN, Book, book_of
 from tools.complete import Taking
 from tools.faults import counted, years_said
-from tools.printed import Printed, by_size, difference, figure, percent
-from tools.program import Program, found_program
+from tools.printed import Printed, by_size, difference, figure, named_rows, percent
+from tools.program import Program, ProgramFailed, found_program
 from tools.results import figure_of
+from tools.review import Review
 from tools.sheets import FolderFault, Key, Row, Sheet, read_folders
 from tools.sources import years_in
 from tools.store import submissions
@@ -37,6 +41,11 @@ Files = tuple[list[str], list[Sheet]]
 SETS = {"span": ["year", "value", "low"], "line": ["subject", "value"], "bind": ["value", "low"],
         "activity": ["value", "low", "high", "unit"], "factor": ["value", "low", "high", "unit"]}
 WITH_FIGURES = ("activity", "factor")
+# The version that the first state is frozen as, and the tables of it that are read before it is changed.
+VERSION, TABLES = "REPORTED", ("summary", "cells", "uncertainty")
+EQUIVALENT = "Gg of CO2 equivalent"
+# So many lines and rows of a category and gas are named beside it.
+MOST_NAMED = 3
 
 
 @dataclasses.dataclass
@@ -47,6 +56,17 @@ class State:
     accepted: list[Sheet]
     book: Book
     printed: Printed
+
+
+class Kept:
+    """Tables of years, as a session printed them before its data changed."""
+
+    def __init__(self, program: Program, years: list[int]) -> None:
+        self.tables = {(table, year): program.show(table, year) for year in years for table in TABLES}
+
+    def show(self, table: str, year: int) -> list[str] | None:
+        """The lines of a table, or None where there is none."""
+        return self.tables[table, year]
 
 
 class Changed:
@@ -132,7 +152,7 @@ def lines_of(printed: Printed, year: int, gases: set[str]) -> list[dict[str, str
         if row["gas"] != "-":
             of_tree = row["code"] in equivalents and row["gas"] in gases
             found.append({"line": row["code"], "category": row["category"], "gas": row["gas"],
-                          "unit": "Gg of CO2 equivalent" if of_tree else f"Gg of {row['gas']}",
+                          "unit": EQUIVALENT if of_tree else f"Gg of {row['gas']}",
                           "value": equivalents[row["code"]] if of_tree else row["value"]})
     return found
 
@@ -183,15 +203,41 @@ def said_of(row: Any) -> str:
     return " ".join(filter(None, fields))
 
 
-def of_year(states: tuple[State, State], graphs: tuple[Changed, Changed], year: int) -> dict[str, Any]:
+def pairs_of(recalculated: list[dict[str, str]], lines: list[dict[str, str]],
+             rows: list[dict[str, Any]]) -> list[dict[str, Any]]:
+    """The categories and gases that differ, by size, each with its lines and what changed them."""
+    pairs: dict[tuple[str, str], dict[str, Any]] = {(row["category"], row["gas"]): {
+        "category": row["category"], "gas": row["gas"], "before": row["reported"], "after": row["now"],
+        "difference": signed(row["difference"]), "percent": row["percent"], "lines": [], "rows": []}
+        for row in recalculated if row["reported"] != row["now"]}
+    of_line: dict[str, list[dict[str, Any]]] = {}
+    for line in lines:
+        pair = pairs.get((line["category"], line["gas"]))
+        if pair and line["unit"] == EQUIVALENT:
+            pair["lines"].append(line["line"])
+            of_line.setdefault(line["line"], []).append(pair)
+    for row in rows:
+        taking = [pair for line in row["lines"] for pair in of_line.get(line, [])]
+        for pair in {id(pair): pair for pair in taking}.values():
+            pair["rows"].append(row["record"])
+    return by_size(pairs.values(), "difference")
+
+
+def signed(number: str) -> str:
+    """A printed number with its sign."""
+    return number if number.startswith("-") else f"+{number}"
+
+
+def of_year(states: tuple[State, State], graphs: tuple[Changed, Changed],
+            recalculated: list[dict[str, str]], year: int) -> dict[str, Any]:
     """What differs in a year: the categories, their gases, the lines, and the rows."""
     old, new = (state.printed for state in states)
     with_potential = gases_with_potential(states, year)
     lines = differences(lines_of(old, year, with_potential), lines_of(new, year, with_potential),
                         ["line", "category", "gas", "unit"])
     categories = differences(old.rows("summary", year), new.rows("summary", year), ["category"])
-    gases = differences(old.rows("checks", year), new.rows("checks", year), ["category", "gas"])
     rows = rows_of(lines, states, graphs, year)
+    gases = pairs_of(recalculated, lines, rows)
     return {"year": year, "categories": categories, "gases": gases, "lines": lines, "rows": rows}
 
 
@@ -209,7 +255,13 @@ def text_of(found: dict[str, Any]) -> Iterator[str]:
         name = "total without land" if row["category"] == "gross" else said_of_category(row["category"])
         yield f"  {name}: {said_of_difference(row)}"
     yield f"{year}, categories by gas in Gg of CO2 equivalent:"
-    yield from (f"  {row['category']}, {row['gas']}: {said_of_difference(row)}" for row in found["gases"])
+    places = {row["record"]: row["place"] or row["place_before"] for row in found["rows"]}
+    for row in found["gases"]:
+        yield f"  {row['category']}, {row['gas']}: {said_of_difference(row)}"
+        if row["lines"]:
+            lines = "line" if len(row["lines"]) == 1 else "lines"
+            by = first_of([places[record] for record in row["rows"]])
+            yield f"    {lines} {first_of(row['lines'])}, by {by}"
     yield f"{year}, lines:"
     for row in found["lines"]:
         yield (f"  {row['line']}, {row['category']}, {row['gas']}, in {row['unit']}: "
@@ -217,11 +269,18 @@ def text_of(found: dict[str, Any]) -> Iterator[str]:
     yield f"{year}, rows:"
     for row in found["rows"]:
         more = f" and {len(row['lines']) - 1} more" if len(row["lines"]) > 1 else ""
-        was = f", before {row['place_before']}" if row["place_before"] else ""
+        was = f"before {row['place_before']}" if row["place_before"] else ""
+        where = ", ".join(filter(None, (row["place"], was)))
         bound = f", with its {counted(row['bindings'], 'binding')}" if row["bindings"] else ""
-        yield (f"  {row['record']}{bound}: {row['before']} to {row['after']}; {row['place']}{was}"
+        yield (f"  {row['record']}{bound}: {row['before']} to {row['after']}; {where}"
                f"{said_of_note(row['note'])}")
         yield f"    in {row['lines'][0]}{more}, {row['difference_of_first']}"
+
+
+def first_of(names: list[str]) -> str:
+    """The first of some names, and how many more there are."""
+    more = len(names) - MOST_NAMED
+    return ", ".join(names[:MOST_NAMED]) + (f" and {more} more" if more > 0 else "")
 
 
 def of_store(path: str, words: list[str]) -> tuple[Files, Files, list[int]]:
@@ -243,7 +302,11 @@ def divided(words: list[str]) -> tuple[Files, Files, list[int]]:
     at = words.index(FOR_BETWEEN)
     before, after, years = words[:at], words[at + 1:], list[int]()
     while len(after) > 1 and years_in(after[-1]):
-        years += years_in(after.pop())
+        word = after.pop()
+        if os.path.isdir(word):
+            raise FolderFault(f"{word} is a year and a folder; write ./{word} for the folder, or {word}-{word} "
+                              "for the year")
+        years += years_in(word)
     if not before or not after:
         raise FolderFault(f"a folder has to stand on both sides of {BETWEEN}")
     return (before, named_in_full(before)), (after, named_in_full(after)), sorted(set(years))
@@ -258,11 +321,52 @@ def named_in_full(folders: list[str]) -> list[Sheet]:
     return sheets
 
 
-def state_of(program: Any, files: Files, is_quiet: bool) -> State:
-    """The state of an inventory after files."""
+def first_state(review: Review, files: Files, asked: list[int], is_quiet: bool) -> State:
+    """The first state, with the tables of its years, or of those that were asked for; it is frozen."""
+    folders, sheets = files
+    accepted = submit_all(review, sheets, is_quiet)
+    book = book_of(accepted)
+    years = range(book.span[0], book.span[1] + 1) if book.span else range(0)
+    kept = Kept(review, [year for year in asked or years if year in years])
+    review.freeze(VERSION)
+    return State(folders, sheets, accepted, book, Printed(kept))
+
+
+def second_state(review: Review, first: State, files: Files, is_quiet: bool) -> State | None:
+    """The second state where it has the files of the first one in front, and the others are submitted after
+    them; else None.
+    """
+    folders, sheets = files
+    shared = len(first.sheets)
+    if [sheet.data for sheet in sheets[:shared]] != [sheet.data for sheet in first.sheets]:
+        return None
+    taken = {id(sheet) for sheet in first.accepted}
+    accepted = [sheet for sheet, old in zip(sheets, first.sheets) if id(old) in taken]
+    accepted += submit_all(review, sheets[shared:], is_quiet)
+    return State(folders, sheets, accepted, book_of(accepted), Printed(review))
+
+
+def other_state(review: Review, first: State, files: Files, program: Program, is_quiet: bool) -> State:
+    """The second state where the program judges its files by themselves. What differs between the records of
+    both is submitted after the files of the first one.
+    """
     folders, sheets = files
     accepted = submit_all(program, sheets, is_quiet)
-    return State(folders, sheets, accepted, book_of(accepted), Printed(program))
+    book = book_of(accepted)
+    for reply in review.submit_all(change.bodies(first.book, book)):
+        if not reply.accepted:
+            raise ProgramFailed(f"a review cannot lead from the first state to the second: {reply.text}")
+    return State(folders, sheets, accepted, book, Printed(program))
+
+
+def recalculated(review: Review, after: Printed, year: int) -> list[dict[str, str]]:
+    """What the frozen state gave in a year beside what holds now, which is what the second state has."""
+    rows = named_rows(review.recalculation(VERSION, year))
+    now = {(row["category"], row["gas"]): row["now"] for row in rows}
+    due = {(row["category"], row["gas"]): row["value"] for row in after.rows("checks", year)}
+    if any(now[pair] != due.get(pair, "0.000") for pair in now) or due.keys() - now.keys():
+        raise ProgramFailed(f"what was made of the first state differs from the second one in {year}")
+    return rows
 
 
 def years_of(states: tuple[State, State], asked: list[int]) -> list[int]:
@@ -281,27 +385,46 @@ def years_of(states: tuple[State, State], asked: list[int]) -> list[int]:
 
 def run(arguments: argparse.Namespace) -> int:
     """Prints what differs, and answers the status: 1 where a file is refused."""
-    words, store = arguments.words, arguments.store
+    words, store, is_quiet = arguments.words, arguments.store, arguments.quiet
     before, after, asked = of_store(store, words) if store else divided(words)
     path = found_program(arguments.program)
-    with Program(path) as one, Program(path) as other:
-        states = (state_of(one, before, arguments.quiet), state_of(other, after, arguments.quiet))
+    with Review(path) as review, contextlib.ExitStack() as others:
+        first = first_state(review, before, asked, is_quiet)
+        second = second_state(review, first, after, is_quiet)
+        if second is None:
+            program = others.enter_context(Program(path))
+            second = other_state(review, first, after, program, is_quiet)
+        states = (first, second)
         lacking = [say_lacking(state.sheets, state.accepted, state.folders, "the figures are without {}")
                    for state in states]
         years = years_of(states, asked)
-        changed = changed_keys(states[0].book, states[1].book)
-        graphs = (Changed(states[0].book, changed), Changed(states[1].book, changed))
-        found = [of_year(states, graphs, year) for year in years]
+        changed = changed_keys(first.book, second.book)
+        graphs = (Changed(first.book, changed), Changed(second.book, changed))
+        found = [of_year(states, graphs, recalculated(review, second.printed, year), year) for year in years]
     if arguments.json:
         print(json.dumps({"years": found}, ensure_ascii=False, indent=1))
     else:
+        if not asked:
+            sys.stdout.writelines(f"{line}\n" for line in said_of_spans(states))
         print_all(found)
     return 1 if any(lacking) else 0
 
 
+def said_of_spans(states: tuple[State, State]) -> Iterator[str]:
+    """The years that one state alone has, and whether both have one base year."""
+    spans = [state.book.span or (0, -1) for state in states]
+    years = [set(range(first, last + 1)) for first, last in spans]
+    for own, other, which in ((years[0], years[1], "first"), (years[1], years[0], "second")):
+        if own - other:
+            yield f"not compared, since the {which} state alone has them: {years_said(own - other)}"
+    bases = [state.book.rows["span",].field("low") for state in states if state.book.span]
+    if len(set(bases)) > 1:
+        yield f"the base year is {bases[0]} in the first state and {bases[1]} in the second"
+
+
 def print_all(found: list[dict[str, Any]]) -> None:
     """Prints the years in which nothing differs, the national total of the others, and what differs."""
-    same = [of["year"] for of in found if not of["categories"] and not of["lines"]]
+    same = [of["year"] for of in found if not of["categories"] and not of["gases"] and not of["lines"]]
     if same:
         print(f"nothing differs in {years_said(same)}")
     totals = {of["year"]: row for of in found for row in of["categories"] if row["category"] == NATIONAL}

@@ -20,9 +20,7 @@ class Printed:
         """The rows of a table, or none where the program has no such table."""
         key = (table, year)
         if key not in self.known:
-            lines = self.program.show(table, year) or [""]
-            header = lines[0].split(",")
-            self.known[key] = [dict(zip(header, line.split(","))) for line in lines[1:]]
+            self.known[key] = named_rows(self.program.show(table, year))
         return self.known[key]
 
     def by(self, column: str, table: str, year: int) -> dict[str, Row]:
@@ -33,6 +31,12 @@ class Printed:
         """The equivalent of each line in the tree that emits a gas."""
         rows = self.rows("uncertainty", year)
         return {row["code"]: row["value"] for row in rows if row["code"] != TOTAL}
+
+
+def named_rows(lines: list[str] | None) -> list[Row]:
+    """The rows of a table by the names of its columns, or none where there is no table."""
+    header, *others = [line.split(",") for line in lines or [""]]
+    return [dict(zip(header, fields)) for fields in others]
 
 
 def figure(text: str) -> decimal.Decimal:

@@ -83,6 +83,8 @@ def spliced(path: str, words: Iterable[str], body: bytes) -> tuple[int, str]:
 class Program:
     """A session of the program. It is closed at the end of a `with` block."""
 
+    word = "compile"
+
     def __init__(self, path: str) -> None:
         self.path, self.submitted = path, 0
         self._start()
@@ -91,7 +93,7 @@ class Program:
         self.commands = 0
         self.accepted: list[bytes] = []
         try:
-            self.process = subprocess.Popen([self.path, "compile"], stdin=subprocess.PIPE,
+            self.process = subprocess.Popen([self.path, self.word], stdin=subprocess.PIPE,
                                             stdout=subprocess.PIPE)
         except OSError as error:
             raise ProgramFailed(f"{self.path} cannot be run: {error.strerror}") from error
@@ -150,9 +152,13 @@ class Program:
         """
         if not re.fullmatch(r"[a-z]{1,16} [0-9]{4}", f"{table} {year}"):
             return None
+        return self._table(f"SHOW {table} {year}")
+
+    def _table(self, command: str) -> list[str] | None:
+        """The lines of the table that a command asks for, or None where there is none."""
         if self.commands == MOST_COMMANDS:
             self._start_again()
-        self._command(f"SHOW {table} {year}\n".encode())
+        self._command(f"{command}\n".encode())
         self._flush()
         first = self._line()
         if first == "no table":

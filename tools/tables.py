@@ -5,7 +5,7 @@ import shlex
 import sys
 
 from tools import headers, tables_file, vocabulary
-from tools.book import book_of
+from tools.book import Book, book_of
 from tools.faults import counted, years_said
 from tools.program import Program, Reply
 from tools.progress import Progress
@@ -112,8 +112,12 @@ def said_of_missing(names: list[str], year: object, accepted: list[Sheet]) -> st
     unknown = [name for name in names if name not in known]
     if unknown:
         return f"there is no table {listed(unknown)}; the tables are {listed(known, 'and')}"
-    span = book_of(accepted).span
-    why = f"the span is {span[0]} to {span[1]}" if span else "no span is in force"
+    return said_of_no_year(year, book_of(accepted))
+
+
+def said_of_no_year(year: object, book: Book) -> str:
+    """Why there is no table of a year."""
+    why = f"the span is {book.span[0]} to {book.span[1]}" if book.span else "no span is in force"
     return f"there is no table of {year}: {why}"
 
 

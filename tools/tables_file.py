@@ -12,15 +12,16 @@ from tools.faults import counted
 from tools.sheets import FolderFault
 from tools.xlsx import Spreadsheet
 
-# The table that has a row for each year itself.
-OF_ALL_YEARS = "series"
+# The table that has a row for each year itself, and the one that `review` prints.
+OF_ALL_YEARS, OF_REVIEW = "series", "trendunc"
 # Columns of codes, with the heading of what is written beside them.
 NAMES = {"category": "category name", "equation": "equation name"}
 TEXTS = {"code", "category", "equation", "gas", "unit", "item", "flag", "key"}
 # The units of the columns of figures, in each table but these: in `cells` the unit is a column.
 COLUMNS = {
     "Gg CO2 eq": "value low high base previous total total_low total_high gross gross_low gross_high",
-    "percent": "activity factor combined_low combined_high trend share cumulative change",
+    "percent": "activity factor combined_low combined_high trend share cumulative change "
+               "k_low k_high l_low l_high",
 }
 UNITS = {column: unit for unit, columns in COLUMNS.items() for column in columns.split()}
 OTHER_UNITS: dict[str, dict[str, str | None]] = {
@@ -47,7 +48,12 @@ def with_unit(table: str, column: str) -> str:
 
 def columns_of(table: str, header: list[str]) -> list[str]:
     """The columns of a sheet: the year, and those of the table with names beside codes."""
-    found = [] if table == OF_ALL_YEARS else ["year"]
+    return ([] if table == OF_ALL_YEARS else ["year"]) + with_names(header)
+
+
+def with_names(header: list[str]) -> list[str]:
+    """The columns of a table with those of names beside codes."""
+    found = []
     for column in header:
         found += [column, NAMES[column]] if column in NAMES else [column]
     return found
@@ -55,7 +61,12 @@ def columns_of(table: str, header: list[str]) -> list[str]:
 
 def fields_of(table: str, year: int, header: list[str], line: str) -> list[str]:
     """The fields of a row of a sheet, as texts."""
-    found = [] if table == OF_ALL_YEARS else [str(year)]
+    return ([] if table == OF_ALL_YEARS else [str(year)]) + named_fields(header, line)
+
+
+def named_fields(header: list[str], line: str) -> list[str]:
+    """The fields of a row of a table, with names beside codes."""
+    found = []
     for column, field in zip(header, line.split(",")):
         found += [field, name_of(column, field)] if column in NAMES else [field]
     return found
@@ -97,7 +108,7 @@ def check_place(path: pathlib.Path) -> None:
         names = spreadsheet.library(".xlsx", f"to write {path}").load_workbook(path, read_only=True).sheetnames
     except (zipfile.BadZipFile, KeyError, ValueError) as error:
         raise FolderFault(f"{path} is there already, and is no file of tables; name another file") from error
-    other = next((name for name in names if name not in vocabulary.tables()), None)
+    other = next((name for name in names if name not in [*vocabulary.tables(), OF_REVIEW]), None)
     if other is not None:
         raise FolderFault(f"{path} has the sheet {other}, and is no file of tables; name another file")
 

@@ -70,6 +70,7 @@ national total in Gg of CO2 equivalent:
   total without land: 112.250 to 117.860, +5.610, 5.00 %
 1991, categories by gas in Gg of CO2 equivalent:
   1A1a, CO2: 56.100 to 61.710, +5.610, 10.00 %
+    line GAS, by new/1.csv:29
 1991, lines:
   GAS, 1A1a, CO2, in Gg of CO2 equivalent: 56.100 to 61.710, +5.610, 10.00 %
 1991, rows:
@@ -84,6 +85,7 @@ national total in Gg of CO2 equivalent:
   total without land: 112.228 to 117.838, +5.610, 5.00 %
 1992, categories by gas in Gg of CO2 equivalent:
   1A2, CO2: 56.100 to 61.710, +5.610, 10.00 %
+    line STEEL, by new/1.csv:29
 1992, lines:
   STEEL, 1A2, CO2, in Gg of CO2 equivalent: 56.100 to 61.710, +5.610, 10.00 %
 1992, rows:
@@ -143,11 +145,44 @@ national total in Gg of CO2 equivalent:
                       self.compared(after, "1991"))
         self.assertIn("  COKE, 1A2, CH4, in Gg of CO2 equivalent: - to 0.050, +0.050\n",
                       self.compared(ROWS, "1991", before=after))
-        self.assertIn("  1A2, CH4: 0.050 to -, -0.050, -100.00 %\n", self.compared(after, "1991"))
+        self.assertIn("  1A2, CH4: 0.050 to 0.000, -0.050, -100.00 %\n", self.compared(after, "1991"))
         self.assertIn("1991, rows:\n  line COKE, with its 2 bindings: 1A2 Q11 to none; ",
                       self.compared(after, "1991"))
         self.assertNotIn("binding of", self.compared(after, "1991"))
         self.assertNotIn("binding of", self.compared(ROWS, "1991", before=after))
+
+    def test_a_row_that_the_second_state_has_no_more(self) -> None:
+        gone = "enter,activity,,GAS,1990,1000,,,TJ,\n"
+        after, line = ROWS.replace(gone, ""), ROWS[:ROWS.index(gone)].count("\n") + 1
+        self.assertIn(f"  activity GAS 1990: 1000 TJ to none; before old/1.csv:{line}\n", self.compared(after, "1990"))
+        self.assertIn(f"  activity GAS 1990: none to 1000 TJ; new/1.csv:{line}\n",
+                      self.compared(ROWS, "1990", before=after))
+
+    def test_spans_that_differ(self) -> None:
+        after = ROWS.replace("enter,span,,,1990,1992,1990,,,", "enter,span,,,1990,1993,1991,,,")
+        self.assertIn("not compared, since the second state alone has them: 1993\n"
+                      "the base year is 1990 in the first state and 1991 in the second\n", self.compared(after))
+        self.assertIn("not compared, since the first state alone has them: 1993\n", self.compared(ROWS, before=after))
+
+    def test_a_folder_named_as_a_year(self) -> None:
+        with tempfile.TemporaryDirectory() as room:
+            for name in ("old", "1991"):
+                (pathlib.Path(room) / name).mkdir()
+                (pathlib.Path(room) / name / "1.csv").write_text(ROWS)
+            ran = workbook("compare", "old", "--", "old", "1991", cwd=room)
+            self.assertEqual((ran.returncode, ran.stderr), (
+                2, "./workbook: 1991 is a year and a folder; write ./1991 for the folder, or 1991-1991 for the year\n"))
+            self.assertEqual(workbook("compare", "old", "--", "./1991", "1991-1991", cwd=room).returncode, 0)
+
+    def test_a_file_of_both_states_is_sent_once(self) -> None:
+        with tempfile.TemporaryDirectory() as room:
+            for name, rows in (("old/1", ROWS), ("more/2", f"{HEADER}withdraw,activity,,GAS,1991,,,,,\n")):
+                (pathlib.Path(room) / name).parent.mkdir()
+                (pathlib.Path(room) / f"{name}.csv").write_text(rows)
+            ran = workbook("compare", "old", "--", "old", "more", "1991", cwd=room)
+        self.assertEqual(ran.stderr, "old/1.csv: accepted, 27 rows\nmore/2.csv: accepted, 1 row\n")
+        self.assertIn("  1A1a, CO2: 56.100 to 0.000, -56.100, -100.00 %\n    line GAS, by more/2.csv:2\n",
+                      ran.stdout)
 
     def test_nothing_differs(self) -> None:
         self.assertEqual(self.compared(ROWS), "nothing differs in 1990 to 1992\n")
@@ -168,6 +203,7 @@ national total in Gg of CO2 equivalent:
             subprocess.run([PROGRAM, "compile", "--store", "country.db"], input=script.encode(), check=True,
                            capture_output=True, cwd=room)
             ran = workbook("compare", "--store", store, "2", "3", "1991")
+            back = workbook("compare", "--store", store, "3", "2", "1991")
             wrong = [workbook("compare", "--store", store, *words)
                      for words in (["2", "4"], ["2"], ["2", "--", "3"], ["0", "3"])]
         self.assertEqual(ran.returncode, 0, ran.stderr)
@@ -175,6 +211,8 @@ national total in Gg of CO2 equivalent:
                       ran.stdout)
         self.assertIn("  activity GAS 1991: 1100 TJ to 1200 TJ; country.db/s2:2, before country.db/s1:2, "
                       "\"the 1200\"\n", ran.stdout)
+        self.assertIn("  1A1a, CO2: 67.320 to 61.710, -5.610, -8.33 %\n    line GAS, by country.db/s1:2\n",
+                      back.stdout)
         for one in wrong[:3]:
             due = (f"with --store the words are the numbers of two submissions of {store}, of which the last "
                    "is 3, and years")

@@ -18,6 +18,8 @@ LINES = {
     "./workbook completion z": ["zsh"],
     "./workbook new folder --categories 2A1 1A4": ["1A4", "1A4a", "1A4b", "1A4c"],
     "./workbook check exam": [],
+    "./workbook tre": ["trend"],
+    "./workbook trend folder 2020 --js": ["--json"],
     "./workbook words --te": ["--template"],
     "./workbook words --template u": [],
     "./workbook words templates wi": ["withdraw"],
