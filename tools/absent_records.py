@@ -1,5 +1,4 @@
 """Explains a binding to an activity or a factor that there is not: rule 10."""
-import re
 from collections.abc import Collection, Container
 
 from tools import vocabulary
@@ -128,8 +127,8 @@ def nearest_of(kind: str, name: str, known: Collection[str], taken: Container[tu
     """The nearest of some names of a kind, where one is near: one of the same parts in another order, else
     the nearest of those that no line takes, else the nearest.
     """
-    parts = sorted(re.split("[._-]", name))
-    same = [other for other in known if sorted(re.split("[._-]", other)) == parts]
+    parts = sorted(vocabulary.parts_of(name))
+    same = [other for other in known if sorted(vocabulary.parts_of(other)) == parts]
     free = [other for other in known if (kind, other) not in taken]
     begun = [other for other in free if len(other) > 3 and (other.startswith(name) or name.startswith(other))]
     return (same or nearest(name, free, 1, 0.7) or begun or nearest(name, known, 1, 0.8))[:1]

@@ -4,8 +4,6 @@ They are judged with all rows of a file applied. What stands where is looked up 
 To find the next fault, the row at fault is taken out, or a binding takes NE in its place, so that its line
 stays and is blank.
 """
-import re
-
 from tools import absent_records, line_targets, other_equation, swapped_bindings, units, vocabulary
 from tools.after import After, added
 from tools.asking import article, line_above
@@ -21,8 +19,6 @@ from tools.vocabulary import Parameter, listed, nearest, said_of_parameter
 UNCERTAINTY = "uncert"
 # What of a fuel may be told as its carbon or as its CO2.
 CARBON_OF_FUEL, CO2_OF_FUEL = "carbon content of fuel", "emission factor of fuel"
-# What stands between the parts of a name.
-PARTS = re.compile("[._-]")
 
 
 def explain(line: str, parameter: str, after: After) -> Rewritten:
@@ -269,8 +265,8 @@ def target_left(wanted: Parameter, line: str, after: After) -> tuple[str, str]:
     """
     decays = vocabulary.is_decay(wanted)
     left = after.records_left(wanted)
-    parts = set(PARTS.split(line))
-    shared = {record: len(parts & set(PARTS.split(record[1]))) for record in left}
+    parts = set(vocabulary.parts_of(line))
+    shared = {record: len(parts & set(vocabulary.parts_of(record[1]))) for record in left}
     most = [record for record in left if shared[record] == max(shared.values())]
     if len(most) != 1:
         return "decay" if decays else "FORM", "TARGET"

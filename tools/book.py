@@ -25,6 +25,7 @@ class Book:
         self.years: dict[str, dict[str, dict[int, Row]]] = {"activity": {}, "factor": {}}
         self.bindings: dict[str, dict[str, Row]] = {}
         self.lines: dict[str, Row] = {}
+        self.uncertainties: dict[str, Row] = {}
         self._taken: dict[tuple[str, str], list[Row]] | None = None
 
     def copy(self) -> "Book":
@@ -35,7 +36,7 @@ class Book:
         for kind, named in self.years.items():
             other.years[kind] = {name: dict(years) for name, years in named.items()}
         other.bindings = {line: dict(bound) for line, bound in self.bindings.items()}
-        other.lines = dict(self.lines)
+        other.lines, other.uncertainties = dict(self.lines), dict(self.uncertainties)
         return other
 
     def apply(self, row: Row) -> None:
@@ -52,6 +53,8 @@ class Book:
             self.years[key[0]].setdefault(key[1], {})[int(key[2])] = row
         elif key[0] == "line":
             self.lines[key[1]] = row
+        elif key[0] == "uncert":
+            self.uncertainties[key[1]] = row
         elif key[0] == "bind":
             self.bindings.setdefault(key[1], {})[key[2]] = row
             self._taken = None
@@ -65,6 +68,8 @@ class Book:
                 self.years[key[0]].pop(key[1], None)
         elif key[0] == "line":
             self.lines.pop(key[1], None)
+        elif key[0] == "uncert":
+            self.uncertainties.pop(key[1], None)
         elif key[0] == "bind":
             self.bindings.get(key[1], {}).pop(key[2], None)
             self._taken = None

@@ -1,6 +1,7 @@
 """Warnings of what is counted twice, in the wrong place or not at all: quantities that two lines take, shares
 above one, a line beside its parts, and bunkers and biomass in national totals.
 """
+import collections
 import decimal
 import functools
 import re
@@ -97,6 +98,7 @@ def activities(results: Results, line: str) -> list[str]:
     return [bound.field("low") for bound in results.bound_below(line) if bound.field("value") == "activity"]
 
 
+@functools.cache
 def subtracted(code: str) -> list[str]:
     """The parameters that an equation takes off."""
     return re.findall(r"- ([A-Z][A-Z0-9]*)", vocabulary.equations()[code]["expression"])
@@ -224,11 +226,11 @@ class Group:
         self.lines[id(line)] = line
         self.of_lines.append(amounts)
 
-    @functools.cached_property
-    def amounts(self) -> Amounts:
-        """What the lines take together in each year in which all of them take something."""
-        years = [year for year in self.of_lines[0] if all(amounts.get(year) for amounts in self.of_lines)]
-        return {year: sum((amounts[year] for amounts in self.of_lines), ZERO) for year in years}
+    @functools.cache
+    def together(self, year: int) -> decimal.Decimal | None:
+        """What the lines take together in a year, or None where one of them takes nothing."""
+        amounts = [amounts.get(year) or ZERO for amounts in self.of_lines]
+        return sum(amounts, ZERO) if all(amounts) else None
 
 
 def whole_beside_parts(results: Results) -> list[Fault]:
@@ -272,22 +274,22 @@ def groups_of_lines(lines: list[Row], amounts: dict[str, Amounts]) -> dict[tuple
     """The lines of one equation by their category, by the first part of their names and by their file, the
     last two near each other in the tree; and by each beginning of their names.
     """
-    groups: dict[tuple[str, ...], Group] = {}
+    groups: dict[tuple[str, ...], Group] = collections.defaultdict(Group)
     for row in lines:
         code, category, name = row.field("value"), row.field("subject"), row.field("name")
-        parts = re.split("[._-]", name)
+        parts = vocabulary.parts_of(name)
         keys = [(code, "in", category), (code, "first", category[:3], parts[0]),
                 (code, "file", category[:3], row.sheet.name)]
         lengths = [len(".".join(parts[:at])) for at in range(1, len(parts))]
         for key in keys + [(code, "name", name[:length]) for length in lengths]:
-            groups.setdefault(key, Group()).add(row, amounts[name])
+            groups[key].add(row, amounts[name])
     return groups
 
 
 def groups_of_parts(row: Row, groups: dict[tuple[str, ...], Group], files: list[str]) -> list[Group]:
     """The groups of lines that may be the parts of another one, which may be in them too."""
     name, code, category = row.field("name"), row.field("value"), row.field("subject")
-    first = re.split("[._-]", name)[0]
+    first = vocabulary.parts_of(name)[0]
     keys = [(code, "name", name), (code, "in", category), (code, "first", category[:3], first)]
     keys += [(code, "file", category[:3], file) for file in files if file != row.sheet.name]
     return [groups[key] for key in keys if key in groups]
@@ -303,13 +305,16 @@ def years_of_whole(row: Row, own: Amounts, group: Group) -> list[int]:
         return []
     years, others_apart = [], 0
     for year, amount in own.items():
-        if not amount or year not in group.amounts:
+        together = group.together(year) if amount else None
+        if together is None:
             continue
-        others = group.amounts[year] - amount if is_in else group.amounts[year]
-        if abs(others - amount) > APART * abs(amount):
-            others_apart += 1
-        else:
+        others = together - amount if is_in else together
+        if abs(others - amount) <= APART * abs(amount):
             years.append(year)
+            continue
+        others_apart += 1
+        if others_apart * FEW_APART > len(own):
+            return []
     if others_apart * FEW_APART > len(years):
         return []
     is_one_year = len(years) == len(own) == 1
@@ -322,6 +327,8 @@ def amounts_of(results: Results, row: Row) -> Amounts:
     bound = [bindings[name] for name in amounts_taken(code)
              if name in bindings and bindings[name].field("value") != "key"]
     taken = [results.taken_by_year(each) for each in (bound if code in TOGETHER else bound[:1])]
+    if len(taken) == 1:
+        return {year: taken[0].get(year) or ZERO for year in results.years}
     found = {year: sum((each.get(year) or ZERO for each in taken), ZERO) for year in results.years}
     return found if taken else {}
 

@@ -22,14 +22,18 @@ FEWEST_YEARS = 5
 
 
 class Cycle:
-    """The rows of the files by the record that they speak of, in their order, beside the results."""
+    """The rows of the files in their order, and those of the span and of what is corrected by their records,
+    beside the results.
+    """
 
     def __init__(self, sheets: list[Sheet], results: Results) -> None:
         self.results, self.book = results, results.book
         self.in_order = [row for sheet in sheets for row in sheet.meant[1:] if len(row.fields) == 10]
+        kept = {("span",), *(row.key for row in self.in_order if row.field("act") == "correct")}
         self.rows: dict[tuple[str, ...], list[Row]] = {}
         for row in self.in_order:
-            self.rows.setdefault(row.key, []).append(row)
+            if row.key in kept:
+                self.rows.setdefault(row.key, []).append(row)
 
     @functools.cached_property
     def order(self) -> dict[int, int]:

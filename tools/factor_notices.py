@@ -191,7 +191,7 @@ def defaults_times_a_ratio(results: Results) -> list[Fault]:
     found, told = [], set()
     for line, parameter, bound in factors(results):
         row = usual_row(line, parameter)
-        record = results.record(bound, results.years[-1])
+        record = results.record(bound, results.years[-1]) if row else None
         figure = figure_of(record) if record and not record.has_other_figure else None
         if not row or not record or not figure or id(record) in told:
             continue
@@ -256,9 +256,11 @@ def times_of(one: Row, other: Row) -> Number:
     """How many times one figure another is, or the inverse where that is more; zero where one is blank or
     nothing.
     """
-    figures = [figure_of(row) for row in (one, other) if not row.has_other_figure]
-    known = [abs(figure) for figure in figures if figure]
-    return max(known) / min(known) if len(known) == 2 else Number(0)
+    figures = figure_of(one), figure_of(other)
+    if not figures[0] or not figures[1] or one.has_other_figure or other.has_other_figure:
+        return Number(0)
+    least, most = sorted((abs(figures[0]), abs(figures[1])))
+    return most / least
 
 
 def said_of_jump(record: tuple[str, str], one: Row, other: Row) -> str:
@@ -276,12 +278,9 @@ def activities_by_a_ratio(results: Results) -> list[Fault]:
     found = []
     for name in sorted(results.book.years["activity"]):
         numbers = results.numbers(name)
-        rows, written = [row for row, _ in numbers], [size for _, size in numbers if size]
-        if not written or max(written) < LEAST_OF_THESE * min(written) and len({row.field("unit") for row in rows}) < 2:
+        if not numbers.may_be_apart(LEAST_OF_THESE):
             continue
-        sizes = [abs(figure) for figure in map(figure_of, rows) if figure]
-        if max(sizes) < LEAST_OF_THESE * min(sizes):
-            continue
+        rows = numbers.rows
         times = [times_of(one, other) for one, other in zip(rows, rows[1:])]
         jumps = [at for at, size in enumerate(times) if fitting(rows[at], size)]
         others = [size for at, size in enumerate(times) if at not in jumps]
@@ -297,11 +296,8 @@ def years_with_swapped_digits(results: Results) -> list[Fault]:
     """Activities of which one year's figure is that of the years beside it with two digits in each other's place."""
     found = []
     for name in sorted(results.book.years["activity"]):
-        numbers = results.numbers(name)
-        sizes = [size for _, size in numbers]
-        far = [at for at, three in enumerate(zip(sizes, sizes[1:], sizes[2:]), 1) if is_far(*three)]
-        rows = [row for row, _ in numbers] if far else []
-        for at in far:
+        rows, sizes, _ = results.numbers(name)
+        for at in [at for at, three in enumerate(zip(sizes, sizes[1:], sizes[2:]), 1) if is_far(*three)]:
             meant, row = swapped_in_a_year(rows, at), rows[at]
             if meant:
                 said = f"activity {name} is {row.field('value')} {row.field('unit')} in {row.field('year')}, far from"
@@ -312,7 +308,7 @@ def years_with_swapped_digits(results: Results) -> list[Fault]:
 
 def is_far(before: float, size: float, after: float) -> bool:
     """Tells whether a figure is far from those of the years beside it, which are near each other."""
-    one, other = sorted((before, after))
+    one, other = (before, after) if before <= after else (after, before)
     return other <= STEADY_YEARS * one and not other / FAR_YEAR <= size <= one * FAR_YEAR
 
 

@@ -6,7 +6,7 @@ from collections.abc import Iterator
 from tools import vocabulary
 from tools.book import Book
 from tools.faults import Fault, counted, warn
-from tools.results import NUMBER, ZERO, figure_of
+from tools.results import NUMBER, ZERO, Results, figure_of
 from tools.sheets import Row
 from tools.usual import usual_row
 
@@ -24,6 +24,7 @@ OTHER_GASES = ("5B", "Q32", "EF")
 UNITS_OF_RATIOS = (("pct", 100), ("kg/t", 1000))
 # The changes of stocks of the reference approach have a sign.
 SIGNED = {"SC"}
+HUNDREDFOLD = 100
 # The bindings that take each record.
 Taken = dict[tuple[str, str], list[Row]]
 
@@ -36,11 +37,12 @@ class Records(typing.NamedTuple):
     rows: list[Row]
 
 
-def all_of_figures(book: Book, mismeasured: set[tuple[str, str]]) -> list[Fault]:
+def all_of_figures(results: Results) -> list[Fault]:
     """Every warning about figures, but for those of activities and factors whose unit is a fault."""
+    book, mismeasured = results.book, results.refused.mismeasured
     records, taken = named_records(book), book.taken()
-    found = [*ratios(book, records, taken), *negatives(book, records, taken), *hundredfold(book, records, taken),
-             *shares_as_percentages(book), *distances(records)]
+    found = [*ratios(book, records, taken), *negatives(book, records, taken),
+             *hundredfold(results, records, taken), *shares_as_percentages(book), *distances(records)]
     return [warning for warning in found if warning.row is None or warning.row.key[:2] not in mismeasured]
 
 
@@ -136,7 +138,7 @@ def has_a_sign(book: Book, bound: Row) -> bool:
 def distances(records: list[Records]) -> Iterator[Fault]:
     """Bounds that lie at one distance to both sides of zero, and not of the value: once for each name."""
     for kind, name, _, rows in records:
-        odd = [row for row in rows if is_of_distances(row)]
+        odd = [row for row in rows if row.field("low") and is_of_distances(row)]
         if odd:
             more = f", and in {counted(len(odd) - 1, 'more record')}" if odd[1:] else ""
             bounds = f"from {odd[0].field('low')} to {odd[0].field('high')}{more}"
@@ -146,28 +148,27 @@ def distances(records: list[Records]) -> Iterator[Fault]:
 
 def is_of_distances(row: Row) -> bool:
     """Tells whether the bounds of a figure that is not zero are the same but for their sign."""
-    if not row.field("low") or row.field("value") in vocabulary.words()["keys"]:
+    if row.field("value") in vocabulary.words()["keys"]:
         return False
     value, least, most = (decimal.Decimal(row.field(column)) for column in ("value", "low", "high"))
     return value != 0 and most > 0 and least == -most
 
 
-def hundredfold(book: Book, records: list[Records], taken: Taken) -> Iterator[Fault]:
+def hundredfold(results: Results, records: list[Records], taken: Taken) -> Iterator[Fault]:
     """Activities that grow or shrink a hundredfold from one record to the next, but for changes of stocks: once
     for each name.
     """
     for kind, name, _, rows in records:
-        numbers = [row for row in rows if NUMBER.fullmatch(row.field("value"))] if kind == "activity" else []
-        known = [figure_of(row) or ZERO for row in numbers]
-        sizes = [abs(figure) for figure in known]
-        if not sizes or max(sizes) < 100 * min(sizes):
+        if kind != "activity" or not results.numbers(name).may_be_apart(HUNDREDFOLD):
             continue
         bound = taken.get((kind, name), [])
-        if bound and all(has_a_sign(book, binding) for binding in bound):
+        if bound and all(has_a_sign(results.book, binding) for binding in bound):
             continue
+        numbers = [row for row in rows if NUMBER.fullmatch(row.field("value"))]
+        known = [figure_of(row) or ZERO for row in numbers]
         for at, (one, other) in enumerate(zip(known, known[1:])):
             least, most = sorted((abs(one), abs(other)))
-            if one * other > 0 and most >= 100 * least:
+            if one * other > 0 and most >= HUNDREDFOLD * least:
                 were = " and ".join(f"{of.field('value')} {of.field('unit')} in {of.field('year')}"
                                     for of in numbers[at:at + 2])
                 yield warn(numbers[at + 1], f"activity {name} is {were}; is a unit or a point wrong?")
@@ -177,11 +178,11 @@ def hundredfold(book: Book, records: list[Records], taken: Taken) -> Iterator[Fa
 def shares_as_percentages(book: Book) -> list[Fault]:
     """Uncertainties of which both percentages are below 1."""
     found = []
-    rows = [(key, row) for key, row in book.rows.items() if key[0] == "uncert" and not row.has_other_figure]
-    for key, row in sorted(rows, key=lambda item: item[1].line):
+    rows = [row for row in book.uncertainties.values() if not row.has_other_figure]
+    for row in sorted(rows, key=lambda row: row.line):
         both = [decimal.Decimal(row.field(column)) for column in ("value", "low")]
         if all(0 < percentage < 1 for percentage in both):
             figures_said = f"{row.field('value')} and {row.field('low')}"
-            cause = f"both percentages of {key[1]} are below 1: {figures_said}; are they shares?"
+            cause = f"both percentages of {row.field('name')} are below 1: {figures_said}; are they shares?"
             found.append(warn(row, cause))
     return found

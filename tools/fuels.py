@@ -6,10 +6,14 @@ import pathlib
 import re
 import typing
 
+from tools import vocabulary
+
 DEFAULTS = pathlib.Path(__file__).resolve().parent.parent / "defaults"
 # Words of names in other languages, and further English ones, with the words below that they mean.
 NAME_WORDS = pathlib.Path(__file__).resolve().parent / "name-words.csv"
 MOST_PARTS = 4
+# The number of one of several, as in COAL2.
+NUMBER_BEHIND = re.compile("(?<=[A-Z]{3})[0-9]+$")
 # Words of names with the fuels of Volume 2, Table 1.4 that they are of; a gas that no table has is of none.
 COALS = ("ANTHRACITE", "COKING.COAL", "BITUMINOUS", "SUB.BITUMINOUS", "LIGNITE", "BKB",
          "PATENT.FUEL")
@@ -104,7 +108,7 @@ def words_of(name: str) -> tuple[str, ...]:
     """The words of the table that stand in a name, each part of it in the longest one: those of most parts
     first, and of these in the order of the table.
     """
-    parts = [re.sub("(?<=[A-Z]{3})[0-9]+$", "", part) for part in re.split("[._-]", name)]
+    parts = [NUMBER_BEHIND.sub("", part) for part in vocabulary.parts_of(name)]
     found: list[tuple[int, str]] = []
     for length in range(MOST_PARTS, 0, -1):
         for at in range(len(parts) - length + 1):
@@ -135,7 +139,7 @@ def is_of_fossil_fuel(names: list[str]) -> bool:
 
 def is_of_bunkers(names: list[str]) -> bool:
     """Tells whether one of some names is of international bunkers."""
-    return any(BUNKERS & set(re.split("[._-]", name)) for name in names)
+    return any(BUNKERS & set(vocabulary.parts_of(name)) for name in names)
 
 
 @functools.cache

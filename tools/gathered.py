@@ -27,11 +27,11 @@ def cause_of(warning: Fault) -> tuple[str, ...]:
 def gathered(warnings: list[Fault]) -> list[Fault]:
     """Warnings, of which many of one cause are one with their number and the first places."""
     alike: dict[tuple[str, ...], list[Fault]] = {}
-    for warning in warnings:
-        alike.setdefault(cause_of(warning), []).append(warning)
+    groups = [alike.setdefault(cause_of(warning), []) for warning in warnings]
+    for warning, group in zip(warnings, groups):
+        group.append(warning)
     found = []
-    for warning in warnings:
-        group = alike[cause_of(warning)]
+    for warning, group in zip(warnings, groups):
         if len(group) <= FEW:
             found.append(warning)
         elif warning is group[0]:

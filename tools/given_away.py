@@ -15,14 +15,13 @@ OF_RESULTS = (counting_notices, place_notices, result_notices)
 
 def warnings_of(program: Program, checked: Check) -> list[Fault]:
     """Every warning of a check, in the order of the rows."""
-    found = all_warnings(checked.book, checked.refused, checked.sheets, checked.left)
-    found += all_given_away(program, checked)
+    results = Results(program, checked.book, checked.refused)
+    found = all_warnings(results, checked.sheets, checked.left) + all_given_away(results, checked)
     return in_order(found, checked.sheets)
 
 
-def all_given_away(program: Program, checked: Check) -> list[Fault]:
+def all_given_away(results: Results, checked: Check) -> list[Fault]:
     """Every warning of these, for the files that a check accepted in a session of the program."""
-    results = Results(program, checked.book, checked.refused)
     if not results.years:
         return []
     cycle = Cycle([sheet for sheet in checked.sheets if sheet not in checked.left], results)

@@ -8,8 +8,8 @@ from collections.abc import Iterable
 from tools import vocabulary
 from tools.sheets import COLUMN_AT, HEADERS, Row, joined
 
-# Years with a tenth, which format 2 alone has.
-WITH_TENTH = re.compile(r"[0-9]{1,2}\.[1-9]")
+# Years with a decimal, which format 2 alone has, and those that are no whole number.
+WITH_DECIMAL, WITH_TENTH = re.compile(r"[0-9]{1,2}\.[0-9]"), re.compile(r"[0-9]{1,2}\.[1-9]")
 ONE_PLACE = decimal.Decimal("0.1")
 
 
@@ -34,16 +34,26 @@ def rounded(years: decimal.Decimal, version: int) -> str | None:
 
 
 def has_tenth(fields: list[str]) -> bool:
+    """Tells whether a row has a half-life that is no whole number of years."""
+    return has(WITH_TENTH, fields)
+
+
+def has_decimal(fields: list[str]) -> bool:
     """Tells whether a row has a half-life that format 2 alone has."""
+    return has(WITH_DECIMAL, fields)
+
+
+def has(pattern: re.Pattern[str], fields: list[str]) -> bool:
+    """Tells whether a row has a half-life of a form."""
     if len(fields) != len(COLUMN_AT):
         return False
     kind, value, unit = (fields[COLUMN_AT[column]] for column in ("kind", "value", "unit"))
-    return kind == "factor" and unit == vocabulary.HALF_LIFE_UNIT and bool(WITH_TENTH.fullmatch(value))
+    return kind == "factor" and unit == vocabulary.HALF_LIFE_UNIT and bool(pattern.fullmatch(value))
 
 
 def header_for(rows: Iterable[list[str]], version: int = 1) -> list[str]:
     """The header of rows that a tool writes: that of format 2 if one of them needs it, or if the file has it."""
-    return HEADERS[2 if version == 2 or any(map(has_tenth, rows)) else 1]
+    return HEADERS[2 if version == 2 or any(map(has_decimal, rows)) else 1]
 
 
 def needed(rows: Iterable[Row]) -> bytes:

@@ -165,7 +165,7 @@ def double_lines(book: Book) -> list[Fault]:
 
 def livestock_of(names: list[str]) -> list[str]:
     """The categories of livestock that names speak of."""
-    parts = {part for name in names for part in re.split("[._-]", name)}
+    parts = {part for name in names for part in vocabulary.parts_of(name)}
     return [code for code, words in OF_LIVESTOCK.items() if words & parts]
 
 

@@ -6,6 +6,7 @@ from tools.faults import Fault, counted, warn, warn_of, years_said
 from tools.figure_notices import all_of_figures
 from tools.line_notices import all_of_lines
 from tools.refused import Refused
+from tools.results import Results
 from tools.sheets import Row, Sheet
 from tools.unchecked import unchecked_defaults
 from tools.vocabulary import MEMOS, listed, nearest
@@ -16,11 +17,12 @@ FEW = 3
 NAMES_SHOWN = 6
 
 
-def all_warnings(book: Book, refused: Refused, sheets: list[Sheet], left: list[Sheet]) -> list[Fault]:
+def all_warnings(results: Results, sheets: list[Sheet], left: list[Sheet]) -> list[Fault]:
     """Every warning about a workbook, but for those that only follow from a refused row."""
+    book, refused = results.book, results.refused
     found = headers_alone([sheet for sheet in sheets if sheet not in left])
     found += rows_in_quotes(sheets) + orphans(book, refused, sheets)
-    found += all_of_lines(book) + all_of_figures(book, refused.mismeasured) + unchecked_defaults(book)
+    found += all_of_lines(book) + all_of_figures(results) + unchecked_defaults(book)
     span = book.rows.get(("span",))
     if not span and refused.that_sets(("span",)):
         return found
@@ -243,11 +245,10 @@ def without_uncertainty(book: Book, refused: Refused) -> list[Fault]:
     notation key in all its parameters has no value.
     """
     emitting = [row for rows in emitted(book).values() for row in rows if row.field("subject") not in MEMOS]
-    known = {key[1] for key in book.rows if key[0] == "uncert"}
-    lacking = [row for row in emitting if row.field("name") not in known]
+    lacking = [row for row in emitting if row.field("name") not in book.uncertainties]
     lacking = [row for row in lacking
                if not refused.that_sets(("uncert", row.field("name"))) and not has_keys_alone(book, row)]
-    if not known or not lacking:
+    if not book.uncertainties or not lacking:
         return []
     lines = f"{counted(len(lacking), 'line')} {'has' if len(lacking) == 1 else 'have'} no uncertainty"
     cause = f"{lines}, and others have one; where one of them has a value, the total has none"

@@ -6,7 +6,6 @@ import csv
 import decimal
 import functools
 import pathlib
-import re
 from collections.abc import Iterator
 
 from tools import unit_bases, vocabulary
@@ -257,7 +256,7 @@ def names_of_other_parameters(results: Results) -> Iterator[Fault]:
             if parameter not in words or bound.field("value") in ("key", "decay"):
                 continue
             named = lines_taken_by(bound) or [bound.field("low")]
-            parts = {part for name in named for part in re.split("[._-]", name)}
+            parts = {part for name in named for part in vocabulary.parts_of(name)}
             other = next((each for each, own in words.items() if parts & own), None)
             if other and not parts & words[parameter] and are_measured_alike(row, parameter, other):
                 said = f"{parameter} of line {row.field('name')} takes {named[0]}, which is {other} of"
@@ -360,7 +359,7 @@ def fuel_of_others_at_bunkers(results: Results) -> Iterator[Fault]:
         if row.field("subject") != "MB":
             continue
         names = [row.field("name"), *(bound.field("low") for bound in results.bindings(row.field("name")).values())]
-        parts = {part for name in names for part in re.split("[._-]", name)}
+        parts = {part for name in names for part in vocabulary.parts_of(name)}
         for (category, what), words in NO_BUNKERS.items():
             if parts & words:
                 said = f"line {row.field('name')} at MB is of {what} by its names, and their fuel is no bunker"
@@ -384,7 +383,7 @@ def records_of_two_substances(results: Results) -> Iterator[Fault]:
             known["N"] = known["urea"]
         pair = next((pair for pair in OTHERS_OF if set(pair) <= set(known)), None)
         if pair:
-            wrong, own = reversed(pair) if pair[0].upper() in re.split("[._-]", name) else pair
+            wrong, own = reversed(pair) if pair[0].upper() in vocabulary.parts_of(name) else pair
             yield warn(known[wrong], said_of_substances(results, name, known, wrong, own))
 
 
@@ -406,7 +405,7 @@ def parameters_of_others(results: Results) -> Iterator[Fault]:
         for parameter, bound in results.bindings(row.field("name")).items():
             if parameter not in OF_SOILS or bound.field("value") != "factor":
                 continue
-            said = [OF_NAMES.get(part, part) for part in re.split("[._-]", bound.field("low"))]
+            said = [OF_NAMES.get(part, part) for part in vocabulary.parts_of(bound.field("low"))]
             named = [part for part in said if part in OF_SOILS]
             if named and parameter not in named:
                 what = f"{parameter} of line {row.field('name')} takes factor {bound.field('low')}"
@@ -419,7 +418,7 @@ def ways_of_nitrogen(results: Results) -> Iterator[Fault]:
     other way round.
     """
     for row in results.lines:
-        parts = {part for part in re.split("[._-]", row.field("name"))}
+        parts = {part for part in vocabulary.parts_of(row.field("name"))}
         for equation, words in OF_WAYS.items():
             if row.field("value") in OF_WAYS and row.field("value") != equation and parts & words:
                 own = vocabulary.equations()[row.field("value")]["computes"]

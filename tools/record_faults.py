@@ -205,7 +205,7 @@ def nearest_name(asking: Asking, key: Key) -> str | None:
     """The nearest name that there is, where the key's own is none."""
     named = list(asking.book.years.get(key[0], asking.book.lines))
     if key[0] == "uncert":
-        named = [other[1] for other in asking.book.rows if other[0] == "uncert"]
+        named = list(asking.book.uncertainties)
     if len(key) == 1 or key[1] in named:
         return None
     near = nearest(key[1], named, 1, 0.75)

@@ -17,10 +17,12 @@ from tools.complete import GAP, matrix, read_cells, without_line
 from tools.faults import counted
 from tools.given_away import warnings_of
 from tools.notices import warn_left
-from tools.printed import BLANK, Printed, Row, by_size, difference, figure, percent
+from tools.printed import BLANK, Printed, Row, by_size, difference, figure, named_rows, percent
 from tools.program import Program, found_program
 from tools.progress import Progress
+from tools.review import Review
 from tools.sheets import FolderFault, Sheet, read_folders
+from tools.tables_file import OF_REVIEW
 from tools.trace import Tracer, conversion, is_in, is_under, said_of_category
 from tools.variants import Variants, gases_of
 from tools.whole_files import check_place
@@ -35,6 +37,8 @@ MOST_BARS = 25
 # How many years of figures stand beside each other on a page, and of states.
 FIGURES_ON_A_PAGE, STATES_ON_A_PAGE = 11, 40
 EQUIVALENT = "Gg of CO2 equivalent"
+# The columns of the uncertainty of the trend, which a report of the base year is without.
+OF_TREND = ("k_low", "k_high", "l_low", "l_high")
 
 
 @dataclasses.dataclass
@@ -45,6 +49,7 @@ class Inventory:
     printed: Printed
     warnings: list[str]
     year: int
+    trend: list[Row]
 
     @property
     def years(self) -> range:
@@ -196,12 +201,15 @@ class Tables:
         return found
 
     def uncertainty(self) -> list[dict[str, Cell]]:
-        """The rows of Table 3.2, each with the value of the base year."""
+        """The rows of Table 3.2, each with the value of the base year and what it adds to the trend."""
         base = self.inventory.base
         before = self.printed.by("code", "uncertainty", base)
+        trend = {row["code"]: row for row in self.inventory.trend}
         rows = self.rows("uncertainty", ["code"])
         for row in rows:
-            row["base"] = cell(before[row["code"].text], "value", "uncertainty", base, "code")
+            code = row["code"].text
+            row["base"] = cell(before[code], "value", "uncertainty", base, "code")
+            row |= {column: cell(trend[code], column, OF_REVIEW, self.year, "code") for column in OF_TREND}
         return rows
 
     def reference(self) -> list[tuple[int, dict[str, Cell]]]:
@@ -349,6 +357,7 @@ def page_of(inventory: Inventory, path: str, title: str, progress: Progress) -> 
     return str(made.get_template("report.html").render(
         title=title, without_line=without_line(inventory.book), inventory=inventory,
         tables=tables, gases=list(gases), keys=keys,
+        of_trend=OF_TREND if inventory.year != inventory.base else (),
         drawings=Drawings(tables), line=Tracer(inventory.book, inventory.printed).line,
         style=(TEMPLATES / "report.css").read_text(encoding="utf-8"),
         script=(TEMPLATES / "report.js").read_text(encoding="utf-8")))
@@ -387,7 +396,7 @@ def run(arguments: argparse.Namespace) -> int:
     path = found_program(arguments.program)
     folders, year = read_words(arguments.words)
     sheets, left = read_folders(folders)
-    with Program(path) as program, Progress(sheets, arguments.quiet) as progress:
+    with Review(path) as program, Progress(sheets, arguments.quiet) as progress:
         checked = check.Check(program, sheets)
         checked.run(progress)
         progress.after("warnings")
@@ -397,8 +406,9 @@ def run(arguments: argparse.Namespace) -> int:
             progress.clear()
             print(f"./workbook: {lacking}", file=sys.stderr)
             return 1
+        shown = year or checked.book.known_span()[1]
         inventory = Inventory(sheets, checked.book, Printed(program), list(warned(program, checked, left)),
-                              year or checked.book.known_span()[1])
+                              shown, named_rows(program.trend(shown)))
         named = " ".join(pathlib.Path(folder).name for folder in folders)
         text = page_of(inventory, path, arguments.title or named, progress)
     write(output, text)

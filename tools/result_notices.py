@@ -124,7 +124,9 @@ def blank_between(results: Results) -> list[Fault]:
 def blank_at_the_edges(results: Results) -> list[Fault]:
     """Activities that are NE in the first or the last years of the span, and have figures in most others."""
     found, taken = [], results.book.taken()
-    for name in sorted(results.book.years["activity"]):
+    for name, years in sorted(results.book.years["activity"].items()):
+        if len(results.numbers(name).rows) == len(years):
+            continue
         records = results.records("activity", name)
         blank = [year for year, row in records.items() if is_not_estimated(row) and not row.has_other_figure]
         if not blank:
@@ -378,8 +380,8 @@ def terms_that_jump(results: Results) -> list[Fault]:
                 for bound in results.bindings(row.field("name")).values()}
     found = []
     for name in sorted(results.book.years["activity"].keys() - told - deposits):
-        bound = taken.get(("activity", name), [])
-        if not bound or any(is_fitful(results, each) for each in bound) or not may_jump(results.numbers(name)):
+        bound, sizes = taken.get(("activity", name), []), results.numbers(name).sizes
+        if not bound or any(is_fitful(results, each) for each in bound) or not may_jump(sizes):
             continue
         years = [year for year, change in changes_of(results, name).items()
                  if OF_TERMS <= change < 1 and exceptional(results, name, year)]
@@ -397,9 +399,9 @@ def is_fitful(results: Results, bound: Row) -> bool:
     return bound.field("name") == "SC" or line is not None and line.field("value") in OF_DISASTERS
 
 
-def may_jump(numbers: list[tuple[Row, float]]) -> bool:
+def may_jump(sizes: list[float]) -> bool:
     """Tells whether figures as they are written become twice as much or half from one to the next."""
-    return any(not one <= 2 * other <= 4 * one for (_, one), (_, other) in zip(numbers, numbers[1:]))
+    return any(not one <= 2 * other <= 4 * one for one, other in zip(sizes, sizes[1:]))
 
 
 def deposits_that_jump(results: Results) -> list[Fault]:
@@ -469,18 +471,27 @@ def is_return(results: Results, name: str, year: int) -> bool:
     if year - 2 not in results.years or not exceptional(results, name, year - 1):
         return False
     one, other = (results.book.in_force("activity", name, at) for at in (year - 2, year))
-    return one is not None and other is not None and apart(one, other) < 2 * MOST_CHANGE
+    if one is None or other is None:
+        return False
+    figures = figure_of(one), figure_of(other)
+    return None in figures or apart(*(abs(figure or ZERO) for figure in figures)) < 2 * MOST_CHANGE
 
 
 def exceptional(results: Results, name: str, year: int) -> decimal.Decimal:
     """How many times the usual change of an activity its change to a year is, or zero where that is usual."""
-    changes = changes_of(results, name)
-    change = changes[year]
+    change = changes_of(results, name)[year]
     if change <= MOST_CHANGE:
         return ZERO
-    others = sorted(change for other, change in changes.items() if other != year)
+    others = sorted_changes(results, name).copy()
+    others.remove(change)
     middle = others[len(others) // 2] if others else ZERO
     return change / (middle + LEAST_CHANGE) if change > EXCEPTIONAL * middle else ZERO
+
+
+@functools.cache
+def sorted_changes(results: Results, name: str) -> list[decimal.Decimal]:
+    """The changes of an activity, the least first."""
+    return sorted(changes_of(results, name).values())
 
 
 @functools.cache
@@ -488,22 +499,20 @@ def changes_of(results: Results, name: str) -> dict[int, decimal.Decimal]:
     """How much of the greater of two years' figures an activity changes by to each year of the span. What
     begins or ends, with a notation key before or after, does not change.
     """
-    rows = results.book.years["activity"].get(name, {})
-    known = [year for year, row in rows.items() if NUMBER.fullmatch(row.field("value"))]
-    first, last = min(known, default=0), max(known, default=0)
-    return {year: apart(rows[year - 1], rows[year])
-            if first < year <= last and year - 1 in rows and year in rows else ZERO
+    figures = ((year, figure_of(row)) for year, row in results.book.years["activity"].get(name, {}).items())
+    sizes = {year: abs(figure) for year, figure in figures if figure is not None}
+    known = results.numbers(name).rows
+    first, last = (int(row.field("year")) for row in (known[0], known[-1])) if known else (0, 0)
+    return {year: apart(sizes[year - 1], sizes[year])
+            if first < year <= last and year - 1 in sizes and year in sizes else ZERO
             for year in results.years[1:]}
 
 
-def apart(one: Row, other: Row) -> decimal.Decimal:
-    """How much of the greater of two figures they are apart, but for a hundred times, which is told of by
+def apart(one: decimal.Decimal, other: decimal.Decimal) -> decimal.Decimal:
+    """How much of the greater of two sizes they are apart, but for a hundred times, which is told of by
     itself.
     """
-    figures = figure_of(one), figure_of(other)
-    if figures[0] is None or figures[1] is None:
-        return ZERO
-    least, most = sorted((abs(figures[0]), abs(figures[1])))
+    least, most = (one, other) if one < other else (other, one)
     if not most or most >= HUNDREDFOLD * least > 0:
         return ZERO
     return (most - least) / most
@@ -546,20 +555,24 @@ def years_alike(results: Results) -> list[Fault]:
     """Years in which all activities of a file, that move in other years, have the figures of the year
     before.
     """
-    pairs: dict[tuple[int, int], list[tuple[Row, Row]]] = {}
+    alike: dict[tuple[int, int], list[Row]] = {}
+    apart: set[tuple[int, int]] = set()
     for years in results.book.years["activity"].values():
         own = {year: row for year, row in years.items() if year in results.years}
-        values = {year: row.field("value") for year, row in own.items()}
-        counts = collections.Counter(values.values())
-        for year, row in own.items():
-            others = len(counts) - (counts[values[year]] == 1)
-            if year - 1 in own and others > 1:
-                pairs.setdefault((id(row.sheet), year), []).append((own[year - 1], row))
+        open_years = [(year, row) for year, row in own.items()
+                      if year - 1 in own and (id(row.sheet), year) not in apart]
+        counts = collections.Counter(row.field("value") for row in own.values() if open_years)
+        for year, row in open_years:
+            others = len(counts) - (counts[row.field("value")] == 1)
+            if others > 1 and are_alike(own[year - 1], row):
+                alike.setdefault((id(row.sheet), year), []).append(row)
+            elif others > 1:
+                apart.add((id(row.sheet), year))
     found = []
-    for (_, year), both in pairs.items():
-        if len(both) >= FIGURES_ALIKE and all(are_alike(*pair) for pair in both):
-            row = min((row for _, row in both), key=lambda row: int(row.line))
-            said = f"all {len(both)} activities of this file that change in other years have in {year}"
+    for (sheet, year), rows in alike.items():
+        if len(rows) >= FIGURES_ALIKE and (sheet, year) not in apart:
+            said = f"all {len(rows)} activities of this file that change in other years have in {year}"
+            row = min(rows, key=lambda row: row.line)
             found.append(warn(row, f"{said} the figures of {year - 1}; was that year copied?"))
     return found
 

@@ -12,8 +12,24 @@ from tools.sheets import Row
 Figure = decimal.Decimal | None
 NUMBER = re.compile(r"-?\d+(\.\d+)?")
 ZERO = decimal.Decimal(0)
+# So many times too few are enough for figures that are rounded.
+FEWER = 0.99
 # The columns of values in the tables that the program prints.
 VALUE_OF_CELL, VALUE_OF_UNCERTAINTY = 5, 3
+
+
+class Numbers(typing.NamedTuple):
+    """Records by year with their sizes as they are written, and their units: to see fast which of them have
+    to be looked at.
+    """
+    rows: list[Row]
+    sizes: list[float]
+    units: set[str]
+
+    def may_be_apart(self, times: int) -> bool:
+        """Tells whether one of them may be so many times another one, where neither is zero."""
+        known = [size for size in self.sizes if size]
+        return bool(known) and (len(self.units) > 1 or max(known) > FEWER * times * min(known))
 
 
 class Results:
@@ -25,19 +41,22 @@ class Results:
         self.book, self.refused, self._program = book, refused, program
         self.years = range(book.span[0], book.span[1] + 1) if book.span else range(0)
         self.cells: dict[tuple[str, int], Figure] = {}
+        self._series: dict[str, dict[int, decimal.Decimal]] = {}
         for year in self.years:
-            self.cells.update(((line, year), value) for line, value in self._column("cells", year, VALUE_OF_CELL))
+            for line, value in self._column("cells", year, VALUE_OF_CELL).items():
+                self.cells[line, year] = value
+                if value is not None:
+                    self._series.setdefault(line, {})[year] = value
 
-    def _column(self, table: str, year: int, column: int) -> list[tuple[str, Figure]]:
-        """The first field of each row of a table, with the value in a column."""
-        lines = (self._program.show(table, year) or [])[1:]
-        fields = (line.split(",", column + 1) for line in lines)
-        return [(row[0], printed(row[column])) for row in fields]
+    def _column(self, table: str, year: int, column: int) -> dict[str, Figure]:
+        """The value in a column of each row of a table, by the first field of the row."""
+        rows = (line.split(",", column + 1) for line in (self._program.show(table, year) or [])[1:])
+        return {row[0]: printed(row[column]) for row in rows}
 
     @functools.cache
     def equivalents(self, year: int) -> dict[str, Figure]:
         """What each line emits in a year in Gg of CO2 equivalent."""
-        return dict(self._column("uncertainty", year, VALUE_OF_UNCERTAINTY))
+        return self._column("uncertainty", year, VALUE_OF_UNCERTAINTY)
 
     @functools.cached_property
     def lines(self) -> list[Row]:
@@ -51,11 +70,9 @@ class Results:
         """The lines that emit a gas."""
         return [row for row in self.lines if gas_of(row)]
 
-    @functools.cache
     def series(self, line: str) -> dict[int, decimal.Decimal]:
         """The values of a line by year, without the blank ones."""
-        found = ((year, self.cells[line, year]) for year in self.years)
-        return {year: value for year, value in found if value is not None}
+        return self._series.get(line, {})
 
     def bindings(self, line: str) -> dict[str, Row]:
         """The bindings of a line by parameter."""
@@ -97,12 +114,12 @@ class Results:
         return found
 
     @functools.cache
-    def numbers(self, activity: str) -> list[tuple[Row, float]]:
-        """The records of an activity that are numbers, by year, with their sizes as they are written: to see fast
-        which of them have to be looked at.
-        """
-        rows = (row for _, row in sorted(self.book.years["activity"].get(activity, {}).items()))
-        return [(row, abs(float(text))) for row in rows if NUMBER.fullmatch(text := row.field("value"))]
+    def numbers(self, activity: str) -> Numbers:
+        """The records of an activity that are numbers."""
+        records = sorted(self.book.years["activity"].get(activity, {}).items())
+        known = [(row, text) for _, row in records if NUMBER.fullmatch(text := row.field("value"))]
+        units = {row.field("unit") for row, _ in known}
+        return Numbers([row for row, _ in known], [abs(float(text)) for _, text in known], units)
 
     @functools.cache
     def below(self, line: str) -> list[str]:
@@ -147,7 +164,8 @@ def figure_of(record: Row) -> Figure:
     if not NUMBER.fullmatch(text):
         return None if text == "NE" else ZERO
     unit = vocabulary.units()[record.field("unit")]
-    return decimal.Decimal(text) * unit["over"] / unit["under"]
+    size = decimal.Decimal(text) * unit["over"]
+    return size if unit["under"] == 1 else size / unit["under"]
 
 
 def gas_of(line: Row) -> str | None:

@@ -1,5 +1,6 @@
 """A folder of CSV files: their order, and each file's rows with the lines on which an editor shows them."""
 import bisect
+import operator
 import pathlib
 import re
 from collections.abc import Iterable, Iterator
@@ -25,7 +26,9 @@ COLUMNS_OF_KEY: dict[str, list[str]] = {
     "bind": ["subject", "name"], "uncert": ["name"],
 }
 ANY_KEY = ["subject", "name", "year"]
-KEY_AT = {kind: [COLUMN_AT[column] for column in columns] for kind, columns in COLUMNS_OF_KEY.items()}
+# What takes the key of a record out of all fields of a row; that of the span, which is its kind, is no tuple.
+KEY_OF = {kind: operator.itemgetter(COLUMN_AT["kind"], *(COLUMN_AT[column] for column in columns))
+          for kind, columns in COLUMNS_OF_KEY.items() if columns}
 
 
 # The files that spreadsheets keep, and text files that may hold rows; how a header or a row of an act begins.
@@ -66,9 +69,9 @@ class Row:
     def key(self) -> Key:
         """The key of the record that the row speaks of, out of its fields as they are."""
         if self._key is None:
-            kind, fields = self.field("kind"), self.fields
-            if kind in KEY_AT and len(fields) == len(COLUMNS):
-                self._key = (kind, *[fields[at] for at in KEY_AT[kind]])
+            kind = self.field("kind")
+            if kind in KEY_OF and len(self.fields) == len(COLUMNS):
+                self._key = KEY_OF[kind](self.fields)
             else:
                 self._key = (kind, *[self.field(column) for column in COLUMNS_OF_KEY.get(kind, ANY_KEY)])
         return self._key

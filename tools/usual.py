@@ -5,7 +5,6 @@ import csv
 import functools
 import itertools
 import pathlib
-import re
 import typing
 
 from tools import vocabulary
@@ -54,7 +53,7 @@ def usual_row(line: Row, parameter: str, said: typing.Iterable[str] = ()) -> dic
     if not rows:
         return None
     names_said = (line.field("name"), *said)
-    words = {part for name in names_said for part in re.split("[._-]", name)}.union(animals_of(names_said))
+    words = {part for name in names_said for part in vocabulary.parts_of(name)}.union(animals_of(names_said))
     return next((row for row in rows if line.field("subject").startswith(row["category"])
                  and all(words & each for each in alternatives(row["words"]))), None)
 
@@ -87,15 +86,29 @@ class Usual(typing.NamedTuple):
 
 def usual(results: Results, line: Row, parameter: str, bound: Row) -> Usual | None:
     """What is usual of what a parameter of a line takes, or None where nothing is known."""
-    measures = vocabulary.parameters_of(line.field("value"))[parameter]["measures"]
     said = names(results, line, bound)
+    return by_equation(line, parameter, said) or by_measure(line, parameter, said)
+
+
+def by_equation(line: Row, parameter: str, said: list[list[str]]) -> Usual | None:
+    """What usual-values.csv has of a parameter of a line, or None."""
+    if (line.field("value"), parameter) not in usual_values():
+        return None
     of_takers = animals_of(said[0] + said[1]) if said[2] else ()
     row = usual_row(line, parameter, sum(said[:2] if of_takers else said, []))
-    if row:
-        is_of_animals = any(each & set(ANIMALS) for each in alternatives(row["words"]))
-        animals = (of_takers or animals_of(said[2])) if is_of_animals else ()
-        of = f"{parameter} of {line.field('value')}" + (f" for {' or '.join(animals).lower()}" if animals else "")
-        return Usual(range_of(row), of, Number(row["margin"] or MARGIN), named=animals)
+    if row is None:
+        return None
+    is_of_animals = any(each & set(ANIMALS) for each in alternatives(row["words"]))
+    animals = (of_takers or animals_of(said[2])) if is_of_animals else ()
+    of = f"{parameter} of {line.field('value')}" + (f" for {' or '.join(animals).lower()}" if animals else "")
+    return Usual(range_of(row), of, Number(row["margin"] or MARGIN), named=animals)
+
+
+def by_measure(line: Row, parameter: str, said: list[list[str]]) -> Usual | None:
+    """What `defaults/` has of the fuels or animals that names speak of, by what a parameter measures; or
+    None.
+    """
+    measures = vocabulary.parameters_of(line.field("value"))[parameter]["measures"]
     if measures == "net calorific value":
         return of_fuels("volume-2-table-1.2", "NCV", said, ENERGY_OF_FUELS)
     if measures == "carbon content of fuel":
@@ -167,7 +180,7 @@ def of_other_gas(gas: str, said: list[list[str]], category: str) -> Usual:
     """
     every = Usual(of_fuels_burnt(gas, ()) or ENERGY_OF_FUELS, f"{gas} of fuels", MARGIN)
     fuels = next(filter(None, map(fuels_of, said)), ())
-    is_of_engines = ENGINES & {part for name in sum(said, []) for part in re.split("[._-]", name)}
+    is_of_engines = ENGINES & {part for name in sum(said, []) for part in vocabulary.parts_of(name)}
     is_moving = category.startswith(("1A3", "MB"))
     own = of_fuels_burnt(gas, fuels) if fuels and not is_of_engines and not is_moving else None
     if own is None:
@@ -201,7 +214,7 @@ def animals_of(said: typing.Iterable[str]) -> tuple[str, ...]:
 @functools.lru_cache(maxsize=100000)
 def animals_in(name: str) -> tuple[str, ...]:
     """The animals that a name speaks of, in words of two parts before those of one."""
-    parts, found = re.split("[._-]", name), set()
+    parts, found = vocabulary.parts_of(name), set()
     for length in (2, 1):
         for at in range(len(parts) - length + 1):
             word = ".".join(parts[at:at + length])

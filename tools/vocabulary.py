@@ -15,6 +15,8 @@ HALF_LIFE_UNIT = "yr"
 MEMOS = ("MB", "MC", "RA")
 # The parameters that take what a line gave the year before.
 OF_LAST_YEAR = {("Q91", "PREV"), ("Q92", "PREV")}
+# What stands between the parts of a name.
+PARTS = re.compile("[._-]")
 PATH = pathlib.Path(__file__).resolve().parent / "facts.json"
 EARLIER = PATH.parent / "earlier-codes.csv"
 
@@ -221,6 +223,7 @@ def record_of(parameter: Parameter) -> str | None:
     return half_life() if is_decay(parameter) else parameter["measures"]
 
 
+@functools.cache
 def parameters_of(code: str) -> dict[str, Parameter]:
     """The parameters of an equation by their names."""
     return {parameter["name"]: parameter for parameter in equations()[code]["parameters"]}
@@ -250,15 +253,20 @@ def gases() -> list[str]:
     return list(dict.fromkeys(filter(None, map(gas_of, equations()))))
 
 
+def parts_of(name: str) -> list[str]:
+    """The parts of a name between its dots and strokes."""
+    return PARTS.split(name)
+
+
 def gas_in(name: str) -> str | None:
     """The one gas that stands in a name between its dots and strokes, or None."""
-    named = set(gases()) & set(re.split("[._-]", name))
+    named = set(parts_of(name)).intersection(gases())
     return min(named) if len(named) == 1 else None
 
 
 def potential_like(name: str) -> str | None:
     """The potential that a name is but for its signs and its first part, as GWP_CH4 or CH4, or None."""
-    parts = [part for part in re.split("[._-]", name) if part != "GWP"]
+    parts = [part for part in parts_of(name) if part != "GWP"]
     potential = ".".join(["GWP", *parts])
     return potential if potential in words()["potentials"] else None
 

@@ -347,7 +347,7 @@ class Reader:
         note = f"{series.note}; {file}{places[VALUE]}" if series.note else f"{file}{places[VALUE]}"
         fields = ["enter", series.kind, "", series.name, str(year), figures[VALUE], figures.get(LOW, ""),
                   figures.get(HIGH, ""), series.unit, " ".join(note.split())]
-        if half_lives.has_tenth(fields):
+        if half_lives.has_decimal(fields):
             self.made.rows[0] = joined(half_lives.header_for([fields]))
         self.made.rows.append(joined(fields))
         self.made.places.append({**series.places, **places})
