@@ -164,6 +164,20 @@ class Audit(unittest.TestCase):
         added = self.reached({}, laws=("evens_are_even",)) - self.reached({})
         self.assertEqual(added, {"evens_are_even", "EvensAreEven", "IsEven"})
 
+    def test_the_shorter_list_of_names_is_printed(self) -> None:
+        module = audit()
+        with tempfile.TemporaryDirectory() as folder:
+            specs, code = pathlib.Path(folder) / "Even.antt", pathlib.Path(folder) / "kind.rt"
+            specs.write_text("a : Bool\na = true\n\nb : Bool\nb = a\n\nc : Bool\nc = b\n", encoding="utf-8")
+            code.write_text("pub struct Kind(u8);\n", encoding="utf-8")
+            file = module.read_spec(specs)
+            items = list(file.items.values())
+            self.assertEqual(module.names_of(file, items), "all")
+            self.assertEqual(module.names_of(file, items[1:]), "all but `a`")
+            self.assertEqual(module.names_of(file, items[:1]), "`a`")
+            file = module.read_rust(code)
+            self.assertEqual(module.names_of(file, list(file.items.values())), "`Kind`")
+
     def test_private_fields_and_proofs_are_not_followed(self) -> None:
         names = self.reached({})
         self.assertFalse({"Hidden", "a_proof", "unused"} & names)

@@ -17,6 +17,6 @@ def workbook(*words: str | pathlib.Path, cwd: pathlib.Path | str = TOP) -> subpr
                           text=True, encoding="utf-8")
 
 
-def session(script: bytes) -> bytes:
-    """What the program itself prints for a script."""
-    return subprocess.run([PROGRAM, "compile"], input=script, capture_output=True, check=True).stdout
+def session(script: bytes, command: str = "compile") -> bytes:
+    """What a command of the program itself prints for a script."""
+    return subprocess.run([PROGRAM, command], input=script, capture_output=True, check=True).stdout

@@ -9,6 +9,7 @@ from unittest import mock
 from tests.limits import limit
 from tests.workbook.running import HEADER, PROGRAM, workbook
 from tools import program as session
+from tools.review import Review
 
 SPAN = "enter,span,,,1990,2020,1990,,,\n"
 DIGITS = limit("digits")
@@ -39,14 +40,24 @@ class Limits(unittest.TestCase):
 
     def test_more_commands_than_a_script_has(self) -> None:
         span, record = (HEADER + SPAN).encode(), HEADER + "enter,activity,,A{},2000,1,,,t,\n"
-        with mock.patch.object(session, "MOST_COMMANDS", 3), session.Program(PROGRAM) as program:
-            self.assertEqual(program.submit(span).text, "accepted 1")
-            self.assertEqual([reply.rule for reply in program.submit_all([b"", span] * 3)], [4, 9] * 3)
-            self.assertEqual(program.submit(record.format(1).encode()).text, "accepted 2")
-            self.assertEqual(program.submit(record.format(2).encode()).text, "accepted 3")
-            self.assertEqual(program.submit(record.format(1).encode()).rule, 9)
-            self.assertEqual(program.show("cells", 2000), ["code,category,equation,gas,unit,value,low,high"])
-            self.assertIsNone(program.show("cells", 2021))
+        for command in (session.Program, Review):
+            with mock.patch.object(session, "MOST_COMMANDS", 3), command(PROGRAM) as program:
+                self.assertEqual(program.submit(span).text, "accepted 1")
+                self.assertEqual([reply.rule for reply in program.submit_all([b"", span] * 3)], [4, 9] * 3)
+                self.assertEqual(program.submit(record.format(1).encode()).text, "accepted 2")
+                self.assertEqual(program.submit(record.format(2).encode()).text, "accepted 3")
+                self.assertEqual(program.submit(record.format(1).encode()).rule, 9)
+                header = "code,category,equation,gas,unit,value,low,high"
+                self.assertEqual(program.show("cells", 2000), [header])
+                self.assertIsNone(program.show("cells", 2021))
+
+    def test_versions_are_not_lost(self) -> None:
+        with mock.patch.object(session, "MOST_COMMANDS", 3), Review(PROGRAM) as review:
+            review.submit((HEADER + SPAN).encode())
+            review.freeze("V1")
+            self.assertIsNotNone(review.recalculation("V1", 2000))
+            with self.assertRaisesRegex(session.ProgramFailed, "^a review takes 999,999 submissions and "):
+                review.show("cells", 2000)
 
     def test_a_fault_in_each_of_many_rows(self) -> None:
         commas = HEADER + SPAN + "".join(f'enter,activity,,A{n},2000,"{n},5",,,t,\n' for n in range(2000))

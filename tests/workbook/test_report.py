@@ -79,9 +79,14 @@ class Page(html.parser.HTMLParser):
 
 def printed(shows: list[str], more: str = "") -> dict[str, str]:
     """Each figure that the program prints of the example country and further rows, by what it is."""
+    return answered("compile", [f"SHOW {show}" for show in shows], more)
+
+
+def answered(command: str, requests: list[str], more: str = "") -> dict[str, str]:
+    """Each figure of the tables that a command answers requests with, by what it is."""
     bodies = [path.read_bytes() for path in files()] + ([f"{HEADER}{more}".encode()] if more else [])
     script = b"".join(b"SUBMIT s%d %d\n%b" % (at, len(body), body) for at, body in enumerate(bodies))
-    answer = session(script + "".join(f"SHOW {show}\n" for show in shows).encode() + b"END\n").decode()
+    answer = session(script + "\n".join([*requests, "END\n"]).encode(), command).decode()
     found = {}
     for part in re.split("^table ", answer, flags=re.MULTILINE)[1:]:
         head, columns, *rows = part.splitlines()
@@ -103,6 +108,7 @@ def all_printed() -> dict[str, str]:
     """Each figure that a report of 2020 of the example country may show."""
     found = printed([f"{table} {year}" for table in ("cells", "summary", "uncertainty", "reference", "checks")
                      for year in YEARS] + ["level 2020", "trend 2020"])
+    found |= answered("review", ["TREND 2020"])
     for gas in GASES:
         others = "".join(f"correct,factor,,GWP.{other},1990,0,,,1,\n" for other in GASES if other != gas)
         found |= renamed(printed(["summary 2020"], others), "summary", f"equivalent:{gas}")
@@ -148,7 +154,8 @@ class Reports(unittest.TestCase):
                      "level 2020 3B1 CO2 share", "level:land 2020 4A CH4 cumulative",
                      "trend 2020 4A CH4 trend", "trend:land 2020 4A CH4 base",
                      "uncertainty 1990 POWER.COAL value",
-                     "uncertainty 2020 total combined_high", "reference 2005 percent value",
+                     "uncertainty 2020 total combined_high", "trendunc 2020 POWER.LIGNITE k_high",
+                     "trendunc 2020 total l_low", "reference 2005 percent value",
                      "checks 2020 3C1 CH4 change"):
             self.assertIn(name, shown)
         lines, known = ({of.split()[2] for of in some if of.startswith("cells 2020 ")}
@@ -227,8 +234,30 @@ class Reports(unittest.TestCase):
             page = self.page(room)
         self.assertRegex(page, r">56\.100 ± 7\.\d\d %</text>")
         self.assertNotRegex(page, r">(NE|0\.000) ±")
-        self.assertIn("error propagation gives the national total an uncertainty of 7.", page.lower())
+        self.assertIn("Error propagation gives the national total an uncertainty of 7.08 percent (",
+                      self.texts(page, "totals"))
         self.assertNotIn("NE to NE", page)
+
+    def test_the_uncertainty_of_the_trend(self) -> None:
+        """GAS of 5 and 5 percent grew from 900 to 1,000 TJ; PEAT without percentages has no value."""
+        rows = HEADER + "enter,span,,,2019,2020,2019,,,\nenter,factor,,GWP.CO2,2019,1,,,1,\n"
+        for name, before, after in (("GAS", "900", "1000"), ("PEAT", "NE", "NO")):
+            rows += f"enter,line,1A1a,{name},,Q10,,,,\nenter,bind,{name},FC,,activity,{name},,,\n"
+            rows += f"enter,bind,{name},EF,,factor,EF,,,\nenter,activity,,{name},2019,{before},,,TJ,\n"
+            rows += f"enter,activity,,{name},2020,{after},,,TJ,\n"
+        rows += "enter,uncert,,GAS,,5,5,,,\nenter,factor,,EF,2019,56100,,,kg/TJ,\n"
+        with tempfile.TemporaryDirectory() as room:
+            (pathlib.Path(room) / "1.csv").write_text(rows)
+            page, of_base_year = self.page(room), self.page(room, "2019")
+        name = "1A1a Main activity electricity and heat production"
+        trend = "GAS {} CO2 50.490 56.100 5.00 5.00 7.07 7.08 0.00 0.00 7.85 7.86"
+        for row in (trend.format(name), f"PEAT {name} CO2 NE 0.000 - - - - - - - -",
+                    "total - - 50.490 56.100 - - 7.07 7.08 - - 7.85 7.86"):
+            self.assertIn(row, self.texts(page, "uncertainty"))
+        said = "7.08 percent, and its change one of 7.86 percentage points"
+        self.assertIn(said, self.texts(page, "totals"))
+        self.assertIn("total - - 50.490 50.490 - - 7.07 7.08 Table", self.texts(of_base_year, "uncertainty"))
+        self.assertNotRegex(of_base_year, "trendunc|percentage points")
 
     def test_a_key_of_what_is_left_out(self) -> None:
         part = '<td class="part"><span data-of="mass:CO2 2019 2A1 value">40.180</span>, NE</td>'
@@ -327,7 +356,8 @@ class Refusals(unittest.TestCase):
         with tempfile.TemporaryDirectory() as room:
             (pathlib.Path(room) / "jinja2.py").write_text("raise ImportError('none')\n")
             words = [str(TOP / "workbook"), "report", "examples/how-to", "-o", f"{room}/report.html"]
-            environment = {**os.environ, "PYTHONPATH": room, "GHG_PROGRAM": PROGRAM}
+            environment = {**os.environ, "PYTHONPATH": room, "GHG_PROGRAM": PROGRAM,
+                           "PYTHONDONTWRITEBYTECODE": "1"}
             ran = subprocess.run(words, cwd=TOP, env=environment, capture_output=True, text=True)
             self.assertEqual((ran.returncode, os.listdir(room)), (2, ["jinja2.py"]))
         self.assertIn("./workbook: report needs the library jinja2; install it: apt install python3-jinja2",
