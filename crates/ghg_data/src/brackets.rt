@@ -1,6 +1,6 @@
 //! The brackets of decay factors that a book keeps.
 
-ghost use Rattle.std.specs.Prelude.{◌≡◌, IfSome};
+ghost use Rattle.std.specs.Prelude.{◌≡◌, ◌==◌, IfSome, find, option_copied};
 ghost use Rattle.std.specs.List.{AllByRecursion};
 ghost use Rattle.ghg_roots.specs.Decay.{decay_bounds};
 ghost use Rattle.ghg_units.specs.WellFormed.{IsHalfLife, IsWellFormed};
@@ -18,7 +18,7 @@ struct Bracket {
     ghost right: { factor ≡ decay_bounds half_life },
 }
 
-/// The brackets of half-lives that rows of submissions named, by use. There are few of them.
+/// The brackets of half-lives that rows of submissions named. There are few of them.
 #[derive(Drop)]
 pub(crate) struct Brackets {
     kept: Vec<Bracket>,
@@ -62,20 +62,18 @@ impl Brackets {
         ensures { result ≡ decay_bounds half_life }
     {
         match self.find(half_life) {
-            Some(factor) => factor,
+            Some(bracket) => bracket.factor,
             None => decay_bracket(half_life),
         }
     }
 
-    fn find(&self, half_life: u32) -> Option<Interval>
-        ensures { IfSome result (λ factor. factor ≡ decay_bounds half_life) }
+    fn find(&self, half_life: u32) -> Option<&Bracket>
+        ensures kept { option_copied result ≡ find (λ b. b.half_life == half_life) self.now.kept.items }
+        ensures right { IfSome result (λ b. b.now.half_life ≡ half_life) }
     {
-        for bracket in &self.kept {
-            if bracket.half_life == half_life {
-                return Some(bracket.factor);
-            }
-        }
-        None
+        self.kept
+            .iter()
+            .find(|bracket| bracket.half_life == half_life)
     }
 }
 

@@ -127,7 +127,7 @@ impl Holdings {
         self.calendar.years(series)
     }
 
-    /// Keeps the brackets of the half-lives that rows name, each of which is computed once.
+    /// Keeps the brackets of the half-lives that rows name, so that a look-up finds them.
     pub(crate) fn keep_brackets(&mut self, rows: &[Row]) -> Result<(), AllocError>
         requires { AllByRecursion IsWellFormed rows.now }
         ensures { self.new ≡ self.old }

@@ -56,8 +56,7 @@ pub trait Records {
     fn next_start(&self, name: &Name, year: u32) -> Option<u32>
         ensures { IsNextStart (content self.now) name.now year result };
 
-    /// The bracket of the yearly decay factor of a half-life in tenths of a year. It costs a look-up: the
-    /// bracket was computed when a row that names the half-life was planned.
+    /// The bracket of the yearly decay factor of a half-life in tenths of a year.
     fn decay_bracket(&self, half_life: u32) -> Interval
         requires { IsHalfLife half_life }
         ensures { result ≡ decay_bounds half_life };
