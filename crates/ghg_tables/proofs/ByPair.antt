@@ -17,7 +17,10 @@ use Rattle.ghg_equations.specs.contracts.quantity.Gas.{the_type}
 use Rattle.ghg_equations.specs.contracts.quantity.GasOrd.TheImpl as gas_order
 use Rattle.ghg_equations.specs.contracts.quantity.GasOrd.TheImpl.Laws as gas_laws
 use Rattle.ghg_equations.specs.declared.quantity.Gas.{Gas}
+use Rattle.ghg_definitions.specs.Compilation.{compilation, sheet_of}
 use Rattle.ghg_definitions.specs.Data.{Data, Name, line_names}
+use Rattle.ghg_definitions.specs.Sound.{IsWorkbook}
+use Rattle.ghg_definitions.specs.Trials.{IsCompilation}
 use Rattle.ghg_definitions.proofs.NodeLists.{category_same}
 use Rattle.ghg_keycat.specs.Ranking.{key_order}
 use Rattle.ghg_tables.specs.declared.groups.Groups.{Groups}
@@ -63,8 +66,8 @@ grouped_more m names name at old new held is groups = record {
   so_far = λ q. groups q ∙ ap (λ xs. xs ++ name_if (same_pair at q) name) (held.so_far q) ∙ sym (one_more m names name (Some at) q is);
 }
 
-pub grouped_all : (m : Data) (names : List Name) (groups : Groups) → IsGroupedSoFar m names groups → names ≡ line_names m → IsGrouping m groups
-grouped_all m names groups held is = record { lines = λ q. held.so_far q ∙ ap (filter (stands_at m q)) is }
+pub grouped_all : (m : Data) (names : List Name) (groups : Groups) → IsGroupedSoFar m names groups → names ≡ line_names m → IsWorkbook m → IsCompilation (sheet_of m) (compilation m) → IsGrouping m groups
+grouped_all m names groups held is workbook compiled = record { lines = λ q. held.so_far q ∙ ap (filter (stands_at m q)) is; workbook = workbook; compiled = compiled }
 
 pub nothing_grouped : (m : Data) (groups : Groups) → groups.by_pair.entries ≡ [] → IsGroupedSoFar m [] groups
 nothing_grouped m groups e = record { so_far = λ q. ap (λ es. items_in (lookup (is_at (key_order q)) es)) e }

@@ -16,7 +16,7 @@ use Rattle.ghg_definitions.specs.Sound.{IsWorkbook}
 use Rattle.ghg_definitions.specs.Trials.{value_of}
 use Rattle.ghg_definitions.proofs.Exactness.{compilations_contain}
 use Rattle.ghg_tables.specs.declared.table.Table.{Table}
-use Rattle.ghg_tables.specs.declared.table.Table.TheVariants.{Cells, Summary, Series, Reference, Uncertainty, Level, Trend, Checks}
+use Rattle.ghg_tables.specs.declared.table.Table.TheVariants as table
 use Rattle.ghg_tables.specs.Laws.{line_precision, node_precision}
 use Rattle.ghg_tables.specs.Rounding.{high_of, low_of, reported}
 use Rattle.ghg_tables.specs.SoundTexts.{AreFigures, AreFiguresOf, AreRowsOf, IsRowOf, IsSoundText, Subject, gross_subject, line_subject, total_subject, year_subject}
@@ -95,23 +95,19 @@ module _ (m : Data) (workbook : IsWorkbook m) (acyclic : IsAcyclic m) where
 
   -- ---- the tables
 
-  pub texts_sound : (table : Table) (year : ℕ) → IsSoundText table m year (table_text table m (compilation m) year)
+  pub texts_sound : (t : Table) (year : ℕ) → IsSoundText t m year (table_text t m (compilation m) year)
   unfolding IsSoundText cells_text summary_text series_text
-  texts_sound Cells year e = (_, refl, rows_of_lists (λ name. line_subject year name (category m name) (line m name)) (line_row m (compilation m) year) (line_sound year) (line_names m))
-  texts_sound Summary year e = (
+  texts_sound table.Cells year = (_, refl, rows_of_lists (λ name. line_subject year name (category m name) (line m name)) (line_row m (compilation m) year) (line_sound year) (line_names m))
+  texts_sound table.Summary year = (
     flat_map (category_row (compilation m) year) tree ++ gross_row (compilation m) year,
-    append_assoc (header Summary) (flat_map (category_row (compilation m) year) tree) (gross_row (compilation m) year),
+    append_assoc (header table.Summary) (flat_map (category_row (compilation m) year) tree) (gross_row (compilation m) year),
     rows_joined (map (total_subject year) tree) (gross_subject year ∷ []) (flat_map (category_row (compilation m) year) tree) (gross_row (compilation m) year)
         (rows_of_each (total_subject year) (category_row (compilation m) year) (total_sound year) tree)
         (one_row (gross_subject year) (gross_row (compilation m) year) (gross_sound year)),
   )
-  texts_sound Series year e = (_, refl, rows_of_each year_subject (year_row (compilation m)) year_sound (years_from (first_year (span m)) (year + 1 - first_year (span m))))
-  texts_sound Reference year e = absurd (cc)
-  texts_sound Uncertainty year e = absurd (cc)
-  texts_sound Level year e = absurd (cc)
-  texts_sound Trend year e = absurd (cc)
-  texts_sound Checks year e = absurd (cc)
+  texts_sound table.Series year = (_, refl, rows_of_each year_subject (year_row (compilation m)) year_sound (years_from (first_year (span m)) (year + 1 - first_year (span m))))
+  texts_sound _ year = tt
 
-  pub result_sound : {E : Type 0} (table : Table) (year : ℕ) (r : Result (List ℕ) E) → IfOk r (λ text. text ≡ table_text table m (compilation m) year) → IfOk r (IsSoundText table m year)
-  result_sound table year (Ok text) is = subst (IsSoundText table m year) (sym is) (texts_sound table year)
-  result_sound table year (Err e) is = is
+  pub result_sound : {E : Type 0} (t : Table) (year : ℕ) (r : Result (List ℕ) E) → IfOk r (λ text. text ≡ table_text t m (compilation m) year) → IfOk r (IsSoundText t m year)
+  result_sound t year (Ok text) is = subst (IsSoundText t m year) (sym is) (texts_sound t year)
+  result_sound t year (Err e) is = is

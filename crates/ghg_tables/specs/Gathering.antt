@@ -7,8 +7,10 @@ use Rattle.ghg_categories.specs.declared.category.Category.{Category}
 use Rattle.ghg_equations.specs.declared.quantity.Gas.{Gas}
 use Rattle.ghg_cell.specs.declared.input.Input.{Input}
 use Rattle.ghg_units.specs.declared.node.Node.{Node}
+use Rattle.ghg_definitions.specs.Compilation.{compilation, sheet_of}
 use Rattle.ghg_definitions.specs.Data.{Data, Name}
-use Rattle.ghg_definitions.specs.Trials.{Outcomes}
+use Rattle.ghg_definitions.specs.Sound.{IsWorkbook}
+use Rattle.ghg_definitions.specs.Trials.{IsCompilation, Outcomes}
 use Rattle.ghg_keycat.specs.Ranking.{key_order}
 use Rattle.ghg_tables.specs.declared.groups.Groups.{Groups}
 use Rattle.ghg_tables.specs.Sums.{pair_lines, point_of, shown}
@@ -19,9 +21,11 @@ use Rattle.ghg_tables.specs.Sums.{pair_lines, point_of, shown}
 abbrev pub group_of : Groups → Category × Gas → List Name
 group_of groups pair = option_map_or (λ names. names.items) (get key_order groups.by_pair pair) []
 
--- each pair has its lines
+-- each pair has its lines in a workbook that is compiled
 pub record IsGrouping (m : Data) (groups : Groups) : Type 0 where
   pub lines : (pair : Category × Gas) → group_of groups pair ≡ pair_lines m pair
+  pub workbook : IsWorkbook m
+  pub compiled : IsCompilation (sheet_of m) (compilation m)
 
 -- ---- middles
 

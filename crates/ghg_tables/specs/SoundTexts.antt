@@ -1,6 +1,6 @@
 -- What the bytes of the tables cells, summary and series say of the nodes of the data: each row stands for
 -- one or two, and the bounds in it hold their exact values. It says nothing of the analyses.
-use Rattle.std.specs.Prelude.{◌≡◌, ℕ, ◌+◌, ◌-◌, Bool, true, false, ℤ, List, [], ◌∷◌, ◌++◌, map, codes, decimal, Option, Some}
+use Rattle.std.specs.Prelude.{◌≡◌, ℕ, ◌+◌, ◌-◌, ℤ, List, [], ◌∷◌, ◌++◌, map, codes, decimal, Option, Some, None, IfSome}
 use Rattle.std.specs.List.{flat_map}
 use Rattle.ghg_categories.specs.declared.category.Category.{Category}
 use Rattle.ghg_categories.specs.declared.category.Category.TheVariants.{National}
@@ -18,7 +18,7 @@ use Rattle.ghg_definitions.specs.Containment.{IsValuation}
 use Rattle.ghg_definitions.specs.Data.{Data, Name, category, line, line_names, span}
 use Rattle.ghg_definitions.specs.Trials.{value_of}
 use Rattle.ghg_tables.specs.declared.table.Table.{Table}
-use Rattle.ghg_tables.specs.declared.table.Table.TheVariants.{Cells, Summary, Series, Reference, Uncertainty, Level, Trend, Checks}
+use Rattle.ghg_tables.specs.declared.table.Table.TheVariants as table
 use Rattle.ghg_tables.specs.Laws.{Holds, node_precision}
 use Rattle.ghg_tables.specs.Rounding.{places_of}
 use Rattle.ghg_tables.specs.Tables.{header}
@@ -82,28 +82,18 @@ abbrev pub year_subject : ℕ → Subject
 year_subject year =
     record { words = field (decimal year); nodes = node.Total National year ∷ node.Gross year ∷ [] }
 
--- the rows have bounds of nodes
-abbrev pub has_bounds : Table → Bool
-has_bounds Cells = true
-has_bounds Summary = true
-has_bounds Series = true
-has_bounds Reference = false
-has_bounds Uncertainty = false
-has_bounds Level = false
-has_bounds Trend = false
-has_bounds Checks = false
-
--- what the rows of a table with bounds are of: each line, each category and the gross total, or each year
--- from the first
-abbrev pub subjects : Table → Data → ℕ → List Subject
-subjects Cells m year =
-    flat_map (λ name. line_subject year name (category m name) (line m name)) (line_names m)
-subjects Summary m year = map (total_subject year) tree ++ gross_subject year ∷ []
-subjects Series m year = map year_subject (years_from (first_year (span m)) (year + 1 - first_year (span m)))
-subjects _ m year = []
+-- what the rows of a table are of, if they have bounds of nodes: each line, each category and the gross total,
+-- or each year from the first
+abbrev pub subjects : Table → Data → ℕ → Option (List Subject)
+subjects table.Cells m year =
+    Some (flat_map (λ name. line_subject year name (category m name) (line m name)) (line_names m))
+subjects table.Summary m year = Some (map (total_subject year) tree ++ gross_subject year ∷ [])
+subjects table.Series m year =
+    Some (map year_subject (years_from (first_year (span m)) (year + 1 - first_year (span m))))
+subjects _ m year = None
 
 -- The text of a table with bounds is the header and those rows, and each bound in it holds the exact value of
 -- its node.
 unfoldable pub IsSoundText : Table → Data → ℕ → List ℕ → Type 0
-IsSoundText table m year text = has_bounds table ≡ true →
-    (rows : List ℕ) × (text ≡ header table ++ rows) × AreRowsOf m (subjects table m year) rows
+IsSoundText t m year text = IfSome (subjects t m year)
+    (λ of. (rows : List ℕ) × (text ≡ header t ++ rows) × AreRowsOf m of rows)

@@ -16,7 +16,7 @@ use Rattle.ghg_definitions.specs.Trials.{Outcomes}
 use Rattle.ghg_uncertainty.specs.declared.Share.{Share}
 use Rattle.ghg_tables.specs.declared.precision.Precision.TheVariants.{Thousandths}
 use Rattle.ghg_tables.specs.declared.table.Table.{Table}
-use Rattle.ghg_tables.specs.declared.table.Table.TheVariants.{Cells, Summary, Series, Reference, Uncertainty, Level, Trend, Checks}
+use Rattle.ghg_tables.specs.declared.table.Table.TheVariants as table
 use Rattle.ghg_tables.specs.Analyses.{approaches_text, check_row, first_check_row, level_rows, total_row, trend_rows, uncertainty_row}
 use Rattle.ghg_tables.specs.Rounding.{reported}
 use Rattle.ghg_tables.specs.declared.pairs.Years.{Years}
@@ -25,14 +25,14 @@ use Rattle.ghg_tables.specs.Texts.{cell_text, total_text, year_text}
 
 -- the line that says what stands in the columns
 abbrev pub header : Table → List ℕ
-header Cells = codes "code,category,equation,gas,unit,value,low,high\n"
-header Summary = codes "category,value,low,high\n"
-header Series = codes "year,total,total_low,total_high,gross,gross_low,gross_high\n"
-header Reference = codes "item,value\n"
-header Uncertainty = codes "code,category,gas,value,activity,factor,combined_low,combined_high\n"
-header Level = codes "category,gas,value,share,cumulative,key\n"
-header Trend = codes "category,gas,base,value,trend,share,cumulative,key\n"
-header Checks = codes "category,gas,previous,value,change,flag\n"
+header table.Cells = codes "code,category,equation,gas,unit,value,low,high\n"
+header table.Summary = codes "category,value,low,high\n"
+header table.Series = codes "year,total,total_low,total_high,gross,gross_low,gross_high\n"
+header table.Reference = codes "item,value\n"
+header table.Uncertainty = codes "code,category,gas,value,activity,factor,combined_low,combined_high\n"
+header table.Level = codes "category,gas,value,share,cumulative,key\n"
+header table.Trend = codes "category,gas,base,value,trend,share,cumulative,key\n"
+header table.Checks = codes "category,gas,previous,value,change,flag\n"
 
 -- ---- cells: each line by name
 
@@ -46,7 +46,7 @@ line_row m outcomes year name =
     present_text name (category m name) (line m name) (shown outcomes (node.Line name year))
 
 unfoldable pub cells_text : Data → Outcomes → ℕ → List ℕ
-cells_text m outcomes year = header Cells ++ flat_map (line_row m outcomes year) (line_names m)
+cells_text m outcomes year = header table.Cells ++ flat_map (line_row m outcomes year) (line_names m)
 
 -- ---- summary: each category of the tree, and the gross total
 
@@ -58,7 +58,7 @@ gross_row outcomes year = total_text (codes "gross") (shown outcomes (node.Gross
 
 unfoldable pub summary_text : Outcomes → ℕ → List ℕ
 summary_text outcomes year =
-    header Summary ++ flat_map (category_row outcomes year) tree ++ gross_row outcomes year
+    header table.Summary ++ flat_map (category_row outcomes year) tree ++ gross_row outcomes year
 
 -- ---- series: each year from a first one to this one
 
@@ -68,7 +68,7 @@ year_row outcomes year =
 
 unfoldable pub series_text : ℕ → Outcomes → ℕ → List ℕ
 series_text first outcomes year =
-    header Series ++ flat_map (year_row outcomes) (years_from first (year + 1 - first))
+    header table.Series ++ flat_map (year_row outcomes) (years_from first (year + 1 - first))
 
 -- ---- reference: CO2 at the reference approach, and of fuel combustion
 
@@ -79,7 +79,7 @@ co2_under top m outcomes year = tonnes_of outcomes
 
 unfoldable pub reference_text : Data → Outcomes → ℕ → List ℕ
 reference_text m outcomes year =
-    header Reference ++ approaches_text (co2_under RA m outcomes year) (co2_under C1A m outcomes year)
+    header table.Reference ++ approaches_text (co2_under RA m outcomes year) (co2_under C1A m outcomes year)
 
 -- ---- uncertainty: each line in the tree that emits a gas, by name, and the total
 
@@ -115,7 +115,7 @@ lacks_record m outcomes year name =
 
 unfoldable pub uncertainty_text : Data → Outcomes → ℕ → List ℕ
 uncertainty_text m outcomes year =
-    header Uncertainty ++ flat_map (emitter_row m outcomes year) (emitters m) ++
+    header table.Uncertainty ++ flat_map (emitter_row m outcomes year) (emitters m) ++
     total_row (list_any (lacks_record m outcomes year) (emitters m))
     (map (share_of m outcomes year) (emitters m))
 
@@ -130,10 +130,10 @@ abbrev pub since_base : Data → ℕ → Years
 since_base m year = record { base = base_year (span m); current = year }
 
 unfoldable pub level_text : Data → Outcomes → ℕ → List ℕ
-level_text m outcomes year = header Level ++ level_rows (pairs m outcomes (since_base m year))
+level_text m outcomes year = header table.Level ++ level_rows (pairs m outcomes (since_base m year))
 
 unfoldable pub trend_text : Data → Outcomes → ℕ → List ℕ
-trend_text m outcomes year = header Trend ++ trend_rows (pairs m outcomes (since_base m year))
+trend_text m outcomes year = header table.Trend ++ trend_rows (pairs m outcomes (since_base m year))
 
 -- ---- checks: each pair beside the year before
 
@@ -142,17 +142,17 @@ since_last year = record { base = year - 1; current = year }
 
 unfoldable pub checks_text : Data → Outcomes → ℕ → List ℕ
 checks_text m outcomes year =
-    header Checks ++ flat_map (if nat_le year (first_year (span m)) then first_check_row else check_row)
+    header table.Checks ++ flat_map (if nat_le year (first_year (span m)) then first_check_row else check_row)
     (pairs m outcomes (since_last year))
 
 -- ---- each table
 
 abbrev pub table_text : Table → Data → Outcomes → ℕ → List ℕ
-table_text Cells m outcomes year = cells_text m outcomes year
-table_text Summary m outcomes year = summary_text outcomes year
-table_text Series m outcomes year = series_text (first_year (span m)) outcomes year
-table_text Reference m outcomes year = reference_text m outcomes year
-table_text Uncertainty m outcomes year = uncertainty_text m outcomes year
-table_text Level m outcomes year = level_text m outcomes year
-table_text Trend m outcomes year = trend_text m outcomes year
-table_text Checks m outcomes year = checks_text m outcomes year
+table_text table.Cells m outcomes year = cells_text m outcomes year
+table_text table.Summary m outcomes year = summary_text outcomes year
+table_text table.Series m outcomes year = series_text (first_year (span m)) outcomes year
+table_text table.Reference m outcomes year = reference_text m outcomes year
+table_text table.Uncertainty m outcomes year = uncertainty_text m outcomes year
+table_text table.Level m outcomes year = level_text m outcomes year
+table_text table.Trend m outcomes year = trend_text m outcomes year
+table_text table.Checks m outcomes year = checks_text m outcomes year

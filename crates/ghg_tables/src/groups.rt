@@ -3,13 +3,13 @@
 ghost use Rattle.std.specs.Prelude.{◌≡◌, IfOk, OnOk, [], ◌∷◌, ◌++◌, if◌then◌else◌};
 ghost use Rattle.ghg_categories.specs.declared.category.Category.{Category};
 ghost use Rattle.ghg_equations.specs.declared.quantity.Gas.{Gas};
-ghost use Rattle.ghg_definitions.specs.Data.{line_names};
 ghost use Rattle.ghg_tables.specs.Gathering.{IsGrouping, group_of};
 ghost use Rattle.ghg_tables.specs.Sums.{emission, same_pair};
 
 use ghg_categories::Category;
 use ghg_data::Records;
 use ghg_equations::{Gas, equation};
+use ghg_graph::Cells;
 use ghg_units::Name;
 use std::alloc::{AllocError, Global};
 use std::collections::BTreeMap;
@@ -24,27 +24,26 @@ pub fn emission<R: Records>(records: &R, name: &Name) -> Option<(Category, Gas)>
     Some((category, gas))
 }
 
-/// The lines that emit a gas, by name, in a group for each pair.
+/// The lines of a workbook that emit a gas, by name, in a group for each pair of a category and a gas.
 #[derive(Drop)]
-pub(crate) struct Groups {
+pub struct Groups {
     by_pair: BTreeMap<(Category, Gas), Vec<Name>>,
 }
 
 impl Groups {
     /// The groups of the lines of a workbook.
-    pub(crate) fn of<R: Records>(
-        alloc: Global,
-        records: &R,
-        lines: &[Name],
-    ) -> Result<Groups, AllocError>
-        requires { lines.now ≡ line_names (R.content records.now) }
-        ensures { IfOk result (IsGrouping (R.content records.now)) }
+    ///
+    /// The only error is that memory ran out.
+    pub fn of<C: Cells>(alloc: Global, cells: &C) -> Result<Groups, AllocError>
+        ensures { IfOk result (IsGrouping (C.content cells.now)) }
     {
+        let book = cells.book();
+        let lines = book.lines(alloc)?;
         let mut groups = Groups {
             by_pair: BTreeMap::new(alloc),
         };
-        for name in lines {
-            if let Some(pair) = emission(records, name) {
+        for name in &lines {
+            if let Some(pair) = emission(book, name) {
                 groups.push(pair, name)?;
             }
         }

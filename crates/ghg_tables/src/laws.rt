@@ -1,5 +1,8 @@
 //! What follows of the definitions alone.
 
+ghost use Rattle.std.specs.Prelude.{◌≡◌, ◌^◌, ◌*◌};
+ghost use Rattle.ghg_interval.specs.Bounds.{bound_limit, unit_scale};
+ghost use Rattle.ghg_cell.specs.Totals.{reported_limit};
 ghost use Rattle.ghg_tables.specs.Laws.{BoundsHold, BurntFuelPrints, NearIsNearest, PairsStandInOrder, PowerPlantPrints, SmallestPrints};
 
 /// The printed bounds, as decimals, hold each fraction inside the range.
@@ -32,4 +35,12 @@ pub fn smallest_prints()
 /// categories of one size.
 pub fn pairs_stand_in_order()
     ensures { PairsStandInOrder }
+{}
+
+/// The limits of values, whose bounds are kept in 10^-12 of a base unit: a value is at most 10^14, and an
+/// equivalent or a total at most 10^9 Gg.
+pub fn limits_are_numbers()
+    ensures value { bound_limit ≡ 10 ^ 14 * unit_scale }
+    ensures reported { reported_limit ≡ 10 ^ 9 * unit_scale }
+    ensures scale { unit_scale ≡ 10 ^ 12 }
 {}

@@ -18,10 +18,10 @@ mod values;
 
 pub use analyses::{append_hundredths, append_hundredths_field, append_tonnes_field};
 pub use figures::{append_figures, reported};
-pub use groups::emission;
+pub use groups::{Groups, emission};
 pub use laws::{
-    bounds_hold, burnt_fuel_prints, near_is_nearest, pairs_stand_in_order, power_plant_prints,
-    smallest_prints,
+    bounds_hold, burnt_fuel_prints, limits_are_numbers, near_is_nearest, pairs_stand_in_order,
+    power_plant_prints, smallest_prints,
 };
 pub use precision::{Precision, precision_for};
 pub use printing::print;
@@ -29,4 +29,4 @@ pub use propagation::{append_emission_words, emitters, line_tonnes, uncertainty}
 pub use rounding::near;
 pub use sums::shown;
 pub use table::{Table, table_named};
-pub use values::{PairValue, pair_values};
+pub use values::{PairValue, grouped_values, pair_values};

@@ -1,11 +1,9 @@
 //! The pairs of a category and a gas, with what they emit in two years.
 
-ghost use Rattle.std.specs.Prelude.{◌≡◌, ◌≤◌, ◌++◌, IfOk, OnOk, length};
+ghost use Rattle.std.specs.Prelude.{◌≡◌, ◌≤◌, ◌++◌, IfOk, OnOk};
 ghost use Rattle.std.specs.List.{flat_map, sum_by};
 ghost use Rattle.ghg_equations.specs.Quantity.{gases};
 ghost use Rattle.ghg_definitions.specs.Compilation.{compilation};
-ghost use Rattle.ghg_definitions.specs.Data.{line_names};
-ghost use Rattle.ghg_definitions.specs.Rules.{most_lines};
 ghost use Rattle.ghg_keycat.specs.Ranking.{AreDistinct};
 ghost use Rattle.ghg_keycat.specs.Sizes.{gross, gross_limit};
 ghost use Rattle.ghg_tables.specs.Gathering.{IsGrouping};
@@ -14,7 +12,6 @@ ghost use Rattle.ghg_tables.specs.Sums.{pair_at, pairs};
 use crate::groups::Groups;
 use crate::sums::equivalent_tonnes;
 use ghg_categories::{Category, all};
-use ghg_data::Records;
 use ghg_equations::Gas;
 use ghg_graph::Cells;
 use ghg_keycat::Pair;
@@ -31,7 +28,6 @@ pub(crate) struct Years {
 const GASES: [Gas; 5] = [Gas::Co2, Gas::Ch4, Gas::N2o, Gas::Cf4, Gas::C2f6];
 
 /// The pairs of a category of the tree and a gas for which there is a line, by category and then by gas.
-#[tactic(auto, unfolding(crate::specs::Sums::pairs))]
 pub(crate) fn pairs<C: Cells>(
     alloc: Global,
     cells: &C,
@@ -42,11 +38,27 @@ pub(crate) fn pairs<C: Cells>(
     ensures distinct { IfOk result (λ rows. AreDistinct rows.items) }
     ensures small { IfOk result (λ rows. sum_by gross rows.items ≤ gross_limit) }
 {
-    let lines = cells.book().lines(alloc)?;
-    let groups = Groups::of(alloc, cells.book(), &lines)?;
+    let groups = Groups::of(alloc, cells)?;
+    grouped_pairs(alloc, cells, &groups, years)
+}
+
+/// The pairs of lines in groups.
+#[tactic(auto, unfolding(crate::specs::Sums::pairs))]
+pub(crate) fn grouped_pairs<C: Cells>(
+    alloc: Global,
+    cells: &C,
+    groups: &Groups,
+    years: Years,
+) -> Result<Vec<Pair>, AllocError>
+    requires { IsGrouping (C.content cells.now) groups.now }
+    ensures pairs { IfOk result (λ rows.
+        rows.items ≡ pairs (C.content cells.now) (compilation (C.content cells.now)) years) }
+    ensures distinct { IfOk result (λ rows. AreDistinct rows.items) }
+    ensures small { IfOk result (λ rows. sum_by gross rows.items ≤ gross_limit) }
+{
     let mut rows = Vec::new(alloc);
     for category in all() {
-        append_gases(&mut rows, cells, &groups, *category, years)?;
+        append_gases(&mut rows, cells, groups, *category, years)?;
     }
     Ok(rows)
 }
@@ -59,8 +71,7 @@ fn append_gases<C: Cells>(
     category: Category,
     years: Years,
 ) -> Result<(), AllocError>
-    requires grouped { IsGrouping (C.content cells.now) groups.now }
-    requires few { length (line_names (C.content cells.now)) ≤ most_lines }
+    requires { IsGrouping (C.content cells.now) groups.now }
     ensures { OnOk result (rows.new.items ≡ rows.old.items ++ flat_map
         (λ g. pair_at (C.content cells.now) (compilation (C.content cells.now)) years (category, g)) gases) }
 {
@@ -79,19 +90,25 @@ fn append_pair<C: Cells>(
     pair: (Category, Gas),
     years: Years,
 ) -> Result<(), AllocError>
-    requires grouped { IsGrouping (C.content cells.now) groups.now }
-    requires few { length (line_names (C.content cells.now)) ≤ most_lines }
+    requires { IsGrouping (C.content cells.now) groups.now }
     ensures { OnOk result (rows.new.items ≡ rows.old.items ++
         pair_at (C.content cells.now) (compilation (C.content cells.now)) years pair) }
 {
     let lines = groups.at(pair);
-    if !lines.is_empty() {
-        rows.push(Pair {
-            category: pair.0,
-            gas: pair.1,
-            base: equivalent_tonnes(cells, lines, years.base),
-            now: equivalent_tonnes(cells, lines, years.current),
-        })?;
+    if lines.is_empty() {
+        return Ok(());
     }
+    let now = equivalent_tonnes(cells, lines, years.current);
+    let base = if years.base == years.current {
+        now
+    } else {
+        equivalent_tonnes(cells, lines, years.base)
+    };
+    rows.push(Pair {
+        category: pair.0,
+        gas: pair.1,
+        base,
+        now,
+    })?;
     Ok(())
 }

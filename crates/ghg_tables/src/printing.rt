@@ -1,6 +1,6 @@
 //! The tables of a year.
 
-ghost use Rattle.std.specs.Prelude.{◌≡◌, ◌≤◌, ◌++◌, IfOk, OnOk, true};
+ghost use Rattle.std.specs.Prelude.{◌≡◌, ◌≤◌, ◌++◌, IfOk, OnOk, Some, true};
 ghost use Rattle.ghg_definitions.specs.Compilation.{compilation, first_year, is_year_of};
 ghost use Rattle.ghg_definitions.specs.Data.{span};
 ghost use Rattle.ghg_tables.specs.SoundTexts.{IsSoundText};
@@ -16,7 +16,7 @@ use crate::table::Table;
 use ghg_categories::{Category, all, code};
 use ghg_data::Records;
 use ghg_graph::Cells;
-use ghg_units::{Name, Node, Text};
+use ghg_units::{Name, Node, Span, Text};
 use std::alloc::{AllocError, Global};
 
 // Room for a row. None is longer: each of three figures takes at most 23 bytes, and with the commas between
@@ -47,19 +47,36 @@ pub fn print<C: Cells>(
     ensures bounds { IfOk result (IsSoundText table (C.content cells.now) year) }
 {
     let span = cells.book().span().unwrap();
+    print_in(alloc, table, span, year, cells)
+}
+
+// The text of a table for a year of these.
+#[tactic(auto, unfolding(crate::specs::Tables::level_text, crate::specs::Tables::trend_text))]
+fn print_in<C: Cells>(
+    alloc: Global,
+    table: Table,
+    years: Span,
+    year: u32,
+    cells: &C,
+) -> Result<Text, AllocError>
+    requires years { span (C.content cells.now) ≡ Some years }
+    requires year { is_year_of (span (C.content cells.now)) year ≡ true }
+    ensures { IfOk result (λ text.
+        text ≡ table_text table (C.content cells.now) (compilation (C.content cells.now)) year) }
+{
     let since_base = Years {
-        base: span.base,
+        base: years.base,
         current: year,
     };
     match table {
         Table::Cells => print_cells(alloc, year, cells),
         Table::Summary => print_summary(alloc, year, cells),
-        Table::Series => print_series(alloc, span.first, year, cells),
+        Table::Series => print_series(alloc, years.first, year, cells),
         Table::Reference => print_reference(alloc, year, cells),
         Table::Uncertainty => print_uncertainty(alloc, year, cells),
         Table::Level => print_level(alloc, since_base, cells),
         Table::Trend => print_trend(alloc, since_base, cells),
-        Table::Checks => checks(alloc, span.first, year, cells),
+        Table::Checks => checks(alloc, years.first, year, cells),
     }
 }
 

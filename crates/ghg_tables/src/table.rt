@@ -27,7 +27,7 @@ pub enum Table {
 
 impl Table {
     /// Each table.
-    pub const ALL: [Table; 8] = [
+    pub const ALL: &'static [Table] = &[
         Table::Cells,
         Table::Summary,
         Table::Series,

@@ -5,6 +5,7 @@ ghost use Rattle.std.specs.Str.{bytes_eq};
 ghost use Rattle.ghg_definitions.specs.Compilation.{compilation, is_year_of};
 ghost use Rattle.ghg_definitions.specs.Data.{span};
 ghost use Rattle.ghg_keycat.specs.Sizes.{gross_limit};
+ghost use Rattle.ghg_tables.specs.Gathering.{IsGrouping};
 ghost use Rattle.ghg_tables.specs.Values.{values};
 ghost use Rattle.ghg_versions.specs.Versions.{IsReportOf, column_at};
 
@@ -12,13 +13,13 @@ use ghg_categories::Category;
 use ghg_data::Records;
 use ghg_equations::Gas;
 use ghg_graph::Cells;
-use ghg_tables::{PairValue, pair_values};
+use ghg_tables::{Groups, PairValue, grouped_values};
 use ghg_units::Name;
 use std::alloc::{AllocError, Global};
 use std::marker::Model;
 use std::mem::size_of;
 
-/// A kept value takes 16 bytes: 100 versions of 275 values over 151 years take 67 million.
+/// A kept value takes 16 bytes: 100 versions of 275 values over 151 years take 66,440,000.
 const _: () = prove!(size_of::<KeptValue>() == 16);
 
 /// A value of a pair.
@@ -82,8 +83,9 @@ impl Report {
         let Some(span) = cells.book().span() else {
             return Ok(Report { first: 0, years });
         };
+        let groups = Groups::of(alloc, cells)?;
         for year in span.first..=span.last {
-            years.push(kept_values(alloc, year, cells)?)?;
+            years.push(kept_values(alloc, &groups, year, cells)?)?;
         }
         Ok(Report {
             first: span.first,
@@ -106,12 +108,18 @@ impl Report {
 }
 
 // The values of a year, in little memory.
-fn kept_values<C: Cells>(alloc: Global, year: u32, cells: &C) -> Result<Vec<KeptValue>, AllocError>
-    requires { is_year_of (span (C.content cells.now)) year ≡ true }
+fn kept_values<C: Cells>(
+    alloc: Global,
+    groups: &Groups,
+    year: u32,
+    cells: &C,
+) -> Result<Vec<KeptValue>, AllocError>
+    requires grouped { IsGrouping (C.content cells.now) groups.now }
+    requires year { is_year_of (span (C.content cells.now)) year ≡ true }
     ensures { IfOk result (λ kept.
         kept.items ≡ values (C.content cells.now) (compilation (C.content cells.now)) year) }
 {
-    let rows = pair_values(alloc, year, cells)?;
+    let rows = grouped_values(alloc, groups, year, cells)?;
     let mut kept = Vec::with_capacity(alloc, rows.len())?;
     for row in &rows {
         kept.push(KeptValue::new(*row))?;
