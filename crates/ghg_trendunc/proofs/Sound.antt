@@ -93,7 +93,7 @@ trends_sound m outcomes year known =
     let sums : List ℕ = sums_text t.base_sum t.now_sum in
     let total : total_row (list_any (lacks_sides m outcomes t) (emitters m)) t rows ≡ sums ++ root_text rows ++ 10 ∷ [] = total_is _ t rows known in
     record {
-      before = head ++ sums;
+      lines = head;
       low = low / 10_000;
       high = div_ceil high 10_000;
       ends = ap (λ text. head ++ text) total ∙ last_apart head sums (root_text rows) (10 ∷ []) ∙ ap (λ text. head ++ sums ++ text ++ 10 ∷ []) (root_is rows);

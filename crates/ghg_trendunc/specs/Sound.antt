@@ -11,7 +11,7 @@ use Rattle.ghg_tables.specs.Tables.{emitters}
 use Rattle.ghg_trendunc.specs.declared.lines.TrendShare.{TrendShare}
 use Rattle.ghg_trendunc.specs.declared.printing.Trend.{Trend}
 use Rattle.ghg_trendunc.specs.Lines.{sides_of}
-use Rattle.ghg_trendunc.specs.Table.{lacks_sides, share_of, trend_of, trendunc_text}
+use Rattle.ghg_trendunc.specs.Table.{lacks_sides, share_of, sums_text, trend_of, trendunc_text}
 use Rattle.ghg_trendunc.specs.Totals.{sum_of_m}
 
 -- what a line emits in both years, with its percentages, if it has sides
@@ -31,12 +31,12 @@ abbrev pub HoldRoot : (low high : ℕ) → Fraction → Type 0
 HoldRoot low high exact =
     Inside (between (pos (square (low * 10_000))) (pos (square (high * 10_000)))) exact
 
--- The last line of the text ends with two such bounds.
-pub record EndsWithRoot (exact : Fraction) (text : List ℕ) : Type 0 where
-  pub before : List ℕ
+-- After its other lines the text has the sums of both years, and two such bounds.
+pub record EndsWithRoot (t : Trend) (exact : Fraction) (text : List ℕ) : Type 0 where
+  pub lines : List ℕ
   pub low : ℕ
   pub high : ℕ
-  pub ends : text ≡ before ++ bounds_text (pos low) (pos high) ++ 10 ∷ []
+  pub ends : text ≡ lines ++ sums_text t.base_sum t.now_sum ++ bounds_text (pos low) (pos high) ++ 10 ∷ []
   pub holds : HoldRoot low high exact
 
 -- a line that emits something has no sides, or the base year sums to zero
@@ -48,7 +48,7 @@ is_unknown m outcomes t =
 abbrev pub IsSoundTrend : Data → Outcomes → ℕ → List ℕ → Type 0
 IsSoundTrend m outcomes year text =
     let t : Trend = trend_of m outcomes year in
-    is_unknown m outcomes t ≡ false → EndsWithRoot (exact_sum m outcomes t) text
+    is_unknown m outcomes t ≡ false → EndsWithRoot t (exact_sum m outcomes t) text
 
 -- So does the table of any data and year.
 abbrev pub TrendsAreSound : Type 0
