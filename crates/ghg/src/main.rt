@@ -9,11 +9,12 @@ ghost use Rattle.std.specs.Prelude.{◌≡◌, [], drop, IfOk, MatchResult};
 ghost use Rattle.std.specs.IoError.{error_kind};
 ghost use Rattle.std.specs.Vec.Iter.{into_iter_items};
 
-use ghg_keeper::FileKeeper;
-use ghg_outer::{InputSource, OutputSink, TcpDoor};
+use ghg_keeper::{FileKeeper, Unknown};
+use ghg_outer::{Door, InputSource, OutputSink, Source, TcpDoor};
 use ghg_run::run_counted;
 use ghg_words::Status;
 use ghg_workers::OpenGate;
+use sqlite::Start;
 use std::alloc::{AllocError, Global};
 use std::env::Args;
 use std::hash::RandomState;
@@ -21,6 +22,7 @@ use std::io::{BufReader, ErrorKind};
 use std::marker::Brand;
 use std::process::ExitCode;
 use std::sync::ledger::Blank;
+use std::thread::Threads;
 use std::{env, io};
 
 // The words behind the program's name. There are none where one of them is not UTF-8, which is no command
@@ -56,16 +58,32 @@ fn main(rt: HostRuntime) -> ExitCode {
     let Ok(hasher) = RandomState::new(&rt) else {
         return ExitCode::from(Status::OutOfMemory.code());
     };
-    let mut keeper = FileKeeper::new(&rt);
+    let mut input = InputSource::new(reader);
+    let mut door = TcpDoor::new(&rt);
+    let status = run_over(&rt, &rt, hasher, &words, &mut input, &mut door, Unknown);
+    ExitCode::from(status)
+}
+
+// Runs over any first contents of the files of a store, and then makes one file of the two.
+fn run_over<S: Source, D: Door, T: Threads + Sync, B: Start>(
+    host: &HostRuntime,
+    rt: &T,
+    hasher: RandomState,
+    words: &[String],
+    input: &mut S,
+    door: &mut D,
+    start: B,
+) -> u8 {
+    let mut keeper = FileKeeper::new(host, start);
     let status = run_counted::<_, _, _, _, _, _, Brand>(
-        &rt,
-        alloc,
+        rt,
+        host.alloc(),
         hasher,
-        &words,
-        &mut InputSource::new(reader),
-        &mut OutputSink::new(io::writer(&rt)),
+        words,
+        input,
+        &mut OutputSink::new(io::writer(host)),
         &mut keeper,
-        &mut TcpDoor::new(&rt),
+        door,
         &OpenGate,
         Blank::new(1),
     );
@@ -73,5 +91,5 @@ fn main(rt: HostRuntime) -> ExitCode {
         // What was acknowledged is kept already. Where its log cannot be copied, the two files are the store.
         drop(store.close());
     }
-    ExitCode::from(status)
+    status
 }

@@ -1,5 +1,5 @@
 -- What a keeper over a database shows.
-use Rattle.std.specs.Prelude.{◌≡◌, Bool, true, false, IsTrue, Result, IsErrOf, OnOk}
+use Rattle.std.specs.Prelude.{◌≡◌, Bool, true, false, IsTrue, Result, Ok, IsErrOf, OnOk}
 use Rattle.sqlite_trees.specs.declared.store.Store.{Ghosts}
 use Rattle.sqlite.specs.State.{State, HasCleanDisk}
 use Rattle.sqlite.specs.Held.{Held, state}
@@ -7,8 +7,9 @@ use Rattle.ghg_keeper.specs.declared.keeper.KeepError.{KeepError}
 use Rattle.ghg_keeper.specs.declared.keeper.KeepError.TheVariants.{Failed}
 use Rattle.ghg_keeper.specs.declared.sql.SqlKeeper.{SqlKeeper}
 use Rattle.ghg_keeper.specs.Accepted.{has_kept_tables}
-use Rattle.ghg_keeper.specs.Listed.{sql_shelf}
-use Rattle.ghg_keeper.specs.Moving.{IsReady}
+use Rattle.ghg_keeper.specs.Course.{Prepares}
+use Rattle.ghg_keeper.specs.Listed.{IsSafeAs, ListsStore, TellsRows, TellsStore, kept_rows, sql_shelf}
+use Rattle.ghg_keeper.specs.Moving.{IsBeforeOrMoved, IsReady}
 use Rattle.ghg_keeper.specs.Shelf.{Shelf}
 
 -- its connection
@@ -37,9 +38,20 @@ abbrev pub NeedsAttached : {S A : Type 0} → SqlKeeper S → SqlKeeper S → Re
 NeedsAttached before after result =
     attached before ≡ false → (held after ≡ held before) × IsErrOf result Failed
 
--- a keeper that was attached to a store just opened: its tables are there, and over a clean disk the first of
--- the two is empty
+-- a keeper that was attached to a store just opened: its tables are there, and over a clean disk it is ready
 abbrev pub IsInUse : {S : Type 0} → Ghosts S → SqlKeeper S → Type 0
 IsInUse store keeper =
     (attached keeper ≡ true) × IsTrue (has_kept_tables (database store keeper).now.schema)
     × (HasCleanDisk (database store keeper) → IsReady (database store keeper))
+
+-- A keeper whose first attach was to the store of this connection. It ran its statements from there. The rows
+-- are those that were told there, and stay told over a clean disk. A crash at its end leaves the list.
+pub record AttachesFrom {S : Type 0} (store : Ghosts S) (opened : Held S) (keeper : SqlKeeper S)
+    : Type 0 where
+  pub runs : Prepares store opened (held keeper) (Ok tt)
+  pub rows : TellsRows (database store keeper) → TellsStore (state store opened)
+      × (kept_rows (database store keeper).now ≡ kept_rows (state store opened).now)
+  pub told : TellsStore (state store opened) → HasCleanDisk (database store keeper)
+      → TellsRows (database store keeper)
+  pub safe : IsSafeAs {A = Unit {0}} {E = KeepError} ListsStore (state store opened) (database store keeper)
+      (Ok tt) (IsBeforeOrMoved (state store opened).now)

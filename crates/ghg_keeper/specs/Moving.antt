@@ -90,7 +90,7 @@ HasObject s = s.now.schema ≢ no_schema
 abbrev pub Rests : State → Type 0
 Rests s = HasCleanDisk s → IsAtRest s
 
--- the store is open, in no transaction, and the first table is empty where both are there
+-- the store is open, in no transaction, and has both tables; if it has nothing else, the first one is empty
 pub record IsReady (s : State) : Type 0 where
   pub is_open : IsTrue s.is_open
   pub autocommit : s.in_transaction ≡ false

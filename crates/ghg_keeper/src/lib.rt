@@ -18,4 +18,5 @@ pub use laws::limit_is_number;
 pub use memory::MemoryKeeper;
 pub use row::KeptRow;
 pub use sql::SqlKeeper;
+pub use sqlite::Unknown;
 pub use steady::SteadyKeeper;

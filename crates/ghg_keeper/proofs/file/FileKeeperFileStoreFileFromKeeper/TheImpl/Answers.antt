@@ -1,6 +1,6 @@
 use Rattle.std.proofs.Common.{refl}
 use Rattle.ghg_keeper.proofs.Files.{adds_none, keeps_none, on_err, on_ok, tells_none}
-use Rattle.ghg_keeper.proofs.file.FileKeeperKeeper.TheImpl.Goals as goal
+use Rattle.ghg_keeper.proofs.file.FileKeeperFileStoreFileFromKeeper.TheImpl.Goals as goal
 
 pub attach-tells : goal.attach-tells
 attach-tells g c = record {

@@ -1,4 +1,4 @@
-use Rattle.ghg.proofs.main.Given as goal
+use Rattle.ghg.proofs.run_over.Given as goal
 
 -- the ledger that the blank one opens
 abbrev pub ghosts-run_counted : goal.ghosts-run_counted
