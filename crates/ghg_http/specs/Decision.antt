@@ -51,7 +51,8 @@ submit_by_length id f Malformed = refuse refusal.BadRequest
 submit_by_length id f (Given n) = uncoded f (sized id n)
 
 abbrev pub submit_framed : List ℕ → Framing → Decision
-submit_framed id f = if f.is_chunked then refuse refusal.LengthRequired else submit_by_length id f f.body_length
+submit_framed id f =
+    if f.is_chunked then refuse refusal.LengthRequired else submit_by_length id f f.body_length
 
 -- a request for a table: a body is not read, but a length must be one
 abbrev pub show_framed : List ℕ → List ℕ → Length → Decision

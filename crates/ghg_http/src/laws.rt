@@ -2,6 +2,7 @@
 
 ghost use Rattle.std.specs.Prelude.{◌≡◌};
 ghost use Rattle.ghg_http.specs.declared.head.TheConstants.{MAX_FIELDS, MAX_HEAD};
+ghost use Rattle.ghg_http.specs.declared.request.TheConstants.{MAX_READ};
 ghost use Rattle.ghg_http.specs.Laws.{FindsTargets, HoldsNoneEarly, HoldsOneRequest, RepliesToRepeats};
 
 /// A request target asks for a submission exactly where its path is `/submissions/ID`, and for a table
@@ -30,8 +31,10 @@ pub fn holds_none_early()
     ensures { HoldsNoneEarly }
 {}
 
-/// The limits of a request: how many bytes its head has, and how many fields.
+/// The limits of a request: how many bytes its head has, and how many fields; and how many bytes one call of a
+/// link is asked for.
 pub fn limits_are_numbers()
     ensures head { MAX_HEAD ≡ 16_384 }
     ensures fields { MAX_FIELDS ≡ 64 }
+    ensures read { MAX_READ ≡ 4_096 }
 {}

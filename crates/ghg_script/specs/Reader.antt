@@ -12,7 +12,7 @@ pub record Found {T : Type 0} (g : Grammar T) (before after : Tape) (value : T) 
   pub each : (rest : List ℕ) → g.parse (text ++ rest) ≡ Some (value, rest)
 
 -- what was read begins with no text of a value: nothing is left, or it is none whatever follows it;
--- and no more was read than it takes to find that out
+-- and no more was read than the reach of the grammar
 pub record Missing {T : Type 0} (g : Grammar T) (before after : Tape) : Type 0 where
   pub text : List ℕ
   pub read : Consumes before after text

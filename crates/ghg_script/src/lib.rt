@@ -3,8 +3,8 @@
 //! A script is a sequence of lines, some of which have a body behind them. What its lines may say is a
 //! [`Dialect`]: [`Script`] is that of submissions and requests for tables, and [`Review`] has requests for
 //! comparisons with earlier data besides. [`next_command`] reads the next command and takes no byte behind
-//! it; of what is no command it takes no more than it takes to find that out. [`parses_texts`] says how the
-//! commands are written, and [`lines_say_forms`] what their lines may say.
+//! it; of what is no command it takes at most a line, or a line and the body that this asks for.
+//! [`parses_texts`] says how the commands are written, and [`lines_say_forms`] what their lines may say.
 #![tactic(auto)]
 
 mod command;

@@ -5,7 +5,7 @@
 //! what was read, what was written and how the office stands, with every result:
 //!
 //! - Where the session ends, its whole output was written. After END nothing was read, and of a malformed
-//!   command no more than it takes to find that out.
+//!   command at most a line, or a line and the body that this asks for.
 //! - Where it is interrupted, the replies of the requests done were written, each before the next command was
 //!   read, and at most a proper prefix of the next reply, or of the line that gives the malformed command. So
 //!   a failure of the output never follows a complete output.
