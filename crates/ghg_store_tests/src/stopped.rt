@@ -1,6 +1,6 @@
-//! A store of the first version that is stopped at each call of its files, while its rows are moved or one
-//! more is appended: the next open finds the rows as they were, or with the new one, and with it if that was
-//! acknowledged.
+//! A store of the first version that is stopped at each call of its files, while its rows are moved, one more
+//! is appended, or the store is closed: the next open finds the rows as they were, or with the new one, and
+//! with it if that was acknowledged.
 //!
 //! The files are disks in memory. One of them passes so many calls on and then fails at each; after that both
 //! crash. All calls of the keeper stand in functions over any keeper, where the proof sees nothing of a
@@ -16,7 +16,7 @@ use std::alloc::Global;
 use std::process::Abort;
 use std::test::Fail;
 
-// More calls of either file than an open, a move and an append make.
+// More calls of either file than an open, a move, an append and a close make.
 const MOST_CALLS: u64 = 1000;
 
 // A store of the first version, with two rows.
@@ -97,15 +97,39 @@ fn begun<D: Disk + Drop>(alloc: Global, files: Files<D>) -> Option<Files<D>> {
     }
 }
 
-// Whether the third row is acknowledged over files that stop, and what is left of them.
-fn stopped<D: Disk + Drop>(alloc: Global, files: Files<Fuse<D>>) -> Option<(bool, Files<Fuse<D>>)> {
+// How far files that stop come: whether the third row is acknowledged, and whether the store is closed.
+#[derive(Clone, Copy, Drop)]
+struct Progress {
+    acknowledged: bool,
+    closed: bool,
+}
+
+// How far files come, and what is left of them.
+fn stopped<D: Disk + Drop>(
+    alloc: Global,
+    files: Files<Fuse<D>>,
+) -> Option<(Progress, Files<Fuse<D>>)> {
     match opened(alloc, files) {
         Ok(connection) => {
             let mut keeper = SqlKeeper::over(connection);
             let acknowledged = appends(&mut keeper);
-            Some((acknowledged, keeper.into_connection().into_store().close()))
+            let (closed, files) = match keeper.close() {
+                Ok(files) => (true, files),
+                Err((_, store)) => (false, store.close()),
+            };
+            let progress = Progress {
+                acknowledged,
+                closed,
+            };
+            Some((progress, files))
         }
-        Err(Some(files)) => Some((false, files)),
+        Err(Some(files)) => {
+            let progress = Progress {
+                acknowledged: false,
+                closed: false,
+            };
+            Some((progress, files))
+        }
         Err(None) => None,
     }
 }
@@ -120,51 +144,55 @@ fn found<D: Crash + Drop>(alloc: Global, mut files: Files<D>) -> Option<u64> {
     }
 }
 
-// Whether the third row was acknowledged over files that pass so many calls on, and how many rows the next
-// open finds.
-fn outcome(alloc: Global, log_calls: u64, table_calls: u64) -> Option<(bool, u64)> {
+// How far files come that pass so many calls on, and how many rows the next open finds.
+fn outcome(alloc: Global, log_calls: u64, table_calls: u64) -> Option<(Progress, u64)> {
     let files = Files {
         log: Memory::new(alloc),
         db: Memory::new(alloc),
     };
     let files = begun(alloc, files)?;
-    let (acknowledged, left) = stopped(alloc, fused(files, log_calls, table_calls))?;
-    Some((acknowledged, found(alloc, left)?))
+    let (progress, left) = stopped(alloc, fused(files, log_calls, table_calls))?;
+    Some((progress, found(alloc, left)?))
 }
 
-// Fails the test where the next open finds other rows, and says whether the third one was acknowledged.
+// Fails the test where the next open finds other rows, and says whether the store was closed.
 fn check(rt: &(impl Abort + AllocGlobal), log_calls: u64, table_calls: u64) -> Result<bool, Fail> {
-    let outcome = outcome(rt.alloc(), log_calls, table_calls);
-    let kept = matches!(outcome, Some((false, 2) | (_, 3)));
+    let (kept, closed) = match outcome(rt.alloc(), log_calls, table_calls) {
+        Some((progress, rows)) => (
+            rows == 3 || rows == 2 && !progress.acknowledged,
+            progress.acknowledged && progress.closed,
+        ),
+        None => (false, false),
+    };
     assert!(rt;
         kept,
         "{log_calls} calls of the log, {table_calls} of the database file"
     );
-    Ok(matches!(outcome, Some((true, _))))
+    Ok(closed)
 }
 
 #[test]
 fn a_log_that_stops(rt: HostRuntime) -> Result<(), Fail> {
-    let mut acknowledged = false;
+    let mut closed = false;
     for calls in 0..MOST_CALLS {
-        acknowledged = check(&rt, calls, u64::MAX)?;
-        if acknowledged {
+        closed = check(&rt, calls, u64::MAX)?;
+        if closed {
             break;
         }
     }
-    assert!(rt; acknowledged);
+    assert!(rt; closed);
     Ok(())
 }
 
 #[test]
 fn a_database_file_that_stops(rt: HostRuntime) -> Result<(), Fail> {
-    let mut acknowledged = false;
+    let mut closed = false;
     for calls in 0..MOST_CALLS {
-        acknowledged = check(&rt, u64::MAX, calls)?;
-        if acknowledged {
+        closed = check(&rt, u64::MAX, calls)?;
+        if closed {
             break;
         }
     }
-    assert!(rt; acknowledged);
+    assert!(rt; closed);
     Ok(())
 }
