@@ -8,7 +8,7 @@ import unittest
 
 TOP = pathlib.Path(__file__).resolve().parent.parent.parent
 FILES = {
-    "crates.txt": "low:\ntop: low\n",
+    "crates.txt": "low: kit_low\ntop: low kit_top\nlow_tests: low kit_tests\n",
     "crates/low/src/lib.rt": "mod kind;\nmod laws;\npub use kind::{Kind, Seen};\npub const LIMIT: u32 = 4;\n",
     "crates/low/src/kind.rt": """\
 ghost use Rattle.low.specs.Even.{rank};
@@ -131,23 +131,28 @@ def audit() -> typing.Any:
 
 
 class Audit(unittest.TestCase):
-    def reached(self, changes: dict[str, tuple[str, str]], laws: tuple[str, ...] = ()) -> set[str]:
-        """The names that are reached in the small repository with a text of some files changed."""
+    def small(self, changes: dict[str, tuple[str, str]]) -> tuple[typing.Any, typing.Any]:
+        """The small repository with a text of some files changed, and docs/audit as a module."""
         module = audit()
-        with tempfile.TemporaryDirectory() as folder:
-            top = pathlib.Path(folder)
-            for name, text in FILES.items():
-                old, new = changes.get(name, ("", ""))
-                self.assertIn(old, text)
-                (top / name).parent.mkdir(parents=True, exist_ok=True)
-                (top / name).write_text(text.replace(old, new) if old else text, encoding="utf-8")
-            repository = module.Repository(top)
-            file = repository.rust_file("top", ["commands"])
-            found: dict[int, tuple[typing.Any, typing.Any]] = {}
-            module.walk(repository, [(file, file.functions["run"])], found)
-            for law in laws:
-                module.walk(repository, [module.law_of(repository, "low", law)], found)
-            return {item.name for _, item in found.values()}
+        folder = tempfile.TemporaryDirectory()
+        self.addCleanup(folder.cleanup)
+        top = pathlib.Path(folder.name)
+        for name, text in FILES.items():
+            old, new = changes.get(name, ("", ""))
+            self.assertIn(old, text)
+            (top / name).parent.mkdir(parents=True, exist_ok=True)
+            (top / name).write_text(text.replace(old, new) if old else text, encoding="utf-8")
+        return module.Repository(top), module
+
+    def reached(self, changes: dict[str, tuple[str, str]], laws: tuple[str, ...] = ()) -> set[str]:
+        """The names that are reached in it."""
+        repository, module = self.small(changes)
+        file = repository.rust_file("top", ["commands"])
+        found: dict[int, tuple[typing.Any, typing.Any]] = {}
+        module.walk(repository, [(file, file.functions["run"])], found)
+        for law in laws:
+            module.walk(repository, [module.law_of(repository, "low", law)], found)
+        return {item.name for _, item in found.values()}
 
     def ends(self, name: str, old: str, new: str) -> str:
         """What is said where the walk ends the program."""
@@ -194,8 +199,12 @@ class Audit(unittest.TestCase):
             self.assertIn("names nothing", said)
             self.assertIn(word, said)
 
+    def test_crates_of_the_kit_are_those_that_a_crate_stands_on(self) -> None:
+        repository, _ = self.small({})
+        self.assertEqual(repository.kit_below("top"), ["kit_low", "kit_top"])
+
     def test_a_crate_that_is_not_listed_ends_it(self) -> None:
-        self.assertIn("does not list low", self.ends("crates.txt", "low:\n", ""))
+        self.assertIn("does not list low", self.ends("crates.txt", "low: kit_low\n", ""))
 
     def test_a_law_that_is_missing_ends_it(self) -> None:
         with self.assertRaises(SystemExit) as caught:
