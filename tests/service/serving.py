@@ -4,7 +4,7 @@ import pathlib
 import socket
 import subprocess
 import time
-from collections.abc import Callable
+from collections.abc import Callable, Sequence
 
 TOP = pathlib.Path(__file__).resolve().parent.parent.parent
 PROGRAM = os.path.abspath(os.environ.get("GHG_PROGRAM") or TOP / "crates/ghg/out/ghg")
@@ -34,11 +34,12 @@ class Service:
     """The program as a service of so many connections, in a `with` block; at its end it is stopped."""
 
     def __init__(self, connections: int, *words: str, folder: pathlib.Path | str | None = None,
-                 before: Callable[[], None] | None = None) -> None:
+                 before: Callable[[], None] | None = None, under: Sequence[str] = ()) -> None:
+        """Starts it, by the command `under` if one is given, which has to become the program."""
         self.port = free_port()
         given = ["serve", "--port", str(self.port), "--connections", str(connections + 1), *words]
-        self.process = subprocess.Popen([PROGRAM, *given], stdin=subprocess.DEVNULL, stdout=subprocess.PIPE,
-                                        cwd=folder, preexec_fn=before)
+        self.process = subprocess.Popen([*under, PROGRAM, *given], stdin=subprocess.DEVNULL,
+                                        stdout=subprocess.PIPE, cwd=folder, preexec_fn=before)
 
     def __enter__(self) -> "Service":
         """Waits until the program listens. The connection by which that is seen is its first."""

@@ -137,7 +137,7 @@ class Deaths:
         self.acknowledged += heard
         due = self.kept + accepted(sent[:heard])
         self.kept = self.rows(self.room)
-        if self.kept not in (due, due + accepted(sent[heard:])[:1]):
+        if self.kept not in (due, due + accepted(sent[heard:heard + 1])):
             raise AssertionError(f"kept is {names(self.kept)}, and acknowledged was {names(due)}")
         self.under_way += self.kept != due
         self.repeat()

@@ -64,10 +64,10 @@ class Stores(unittest.TestCase):
         self.room = pathlib.Path(folder.name)
         self.store = self.room / "book.db"
 
-    def run_with(self, given: bytes, *words: str,
-                 before: Callable[[], None] | None = None) -> tuple[int, bytes]:
-        """The status of a run and what it prints."""
-        command = [PROGRAM, "compile", *(words or ("--store", "book.db"))]
+    def run_with(self, given: bytes, *words: str, before: Callable[[], None] | None = None,
+                 under: Sequence[str] = ()) -> tuple[int, bytes]:
+        """The status of a run, by the command `under` if one is given, and what it prints."""
+        command = [*under, PROGRAM, "compile", *(words or ("--store", "book.db"))]
         ran = subprocess.run(command, input=given, cwd=self.room, stdout=subprocess.PIPE, timeout=SECONDS,
                              preexec_fn=before, check=False)
         return ran.returncode, ran.stdout
