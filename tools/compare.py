@@ -9,10 +9,13 @@ import contextlib
 import dataclasses
 import decimal
 import json
+import operator
 import os
 import pathlib
 import re
 import sys
+import textwrap
+import typing
 from collections.abc import Iterator
 from typing import Any
 
@@ -20,9 +23,9 @@ from tools import change, vocabulary
 from tools.book import KIND_TAKEN, Book, book_of
 from tools.complete import Taking
 from tools.faults import counted, years_said
-from tools.printed import Printed, by_size, difference, figure, named_rows, percent
+from tools.printed import BLANK, Printed, by_size, difference, figure, named_rows, percent
 from tools.program import Program, ProgramFailed, found_program
-from tools.results import figure_of
+from tools.results import figure_of, in_base_unit
 from tools.review import Review
 from tools.sheets import FolderFault, Key, Row, Sheet, read_folders
 from tools.sources import years_in
@@ -41,9 +44,13 @@ Files = tuple[list[str], list[Sheet]]
 SETS = {"span": ["year", "value", "low"], "line": ["subject", "value"], "bind": ["value", "low"],
         "activity": ["value", "low", "high", "unit"], "factor": ["value", "low", "high", "unit"]}
 WITH_FIGURES = ("activity", "factor")
-# The version that the first state is frozen as, and the tables of it that are read before it is changed.
-VERSION, TABLES = "REPORTED", ("summary", "cells", "uncertainty")
+# The version that the first state is frozen as, and the columns of its tables that are kept before it is changed.
+VERSION = "REPORTED"
+KEPT = {"summary": ["category", "value"], "cells": ["code", "category", "gas", "value"],
+        "uncertainty": ["code", "value"]}
 EQUIVALENT = "Gg of CO2 equivalent"
+# What stands above the rows that are written otherwise, and give the same to every figure.
+WITHOUT_EFFECT = "rows that change no figure, as by other bounds or another unit"
 # So many lines and rows of a category and gas are named beside it.
 MOST_NAMED = 3
 
@@ -58,44 +65,74 @@ class State:
     printed: Printed
 
 
+class OfYear(typing.NamedTuple):
+    """A year as it is printed: whether anything differs, the national total where it does, and the text."""
+    year: int
+    differs: bool
+    total: dict[str, str] | None
+    text: str
+
+
 class Kept:
-    """Tables of years, as a session printed them before its data changed."""
+    """Tables of years, as a session printed them before its data changed. Each is one text of the columns that
+    are read, since the rows of all years are many.
+    """
 
     def __init__(self, program: Program, years: list[int]) -> None:
-        self.tables = {(table, year): program.show(table, year) for year in years for table in TABLES}
+        self.tables = {(table, year): columns_of(program.show(table, year), columns)
+                       for year in years for table, columns in KEPT.items()}
 
     def show(self, table: str, year: int) -> list[str] | None:
         """The lines of a table, or None where there is none."""
-        return self.tables[table, year]
+        return self.tables[table, year].splitlines() or None
 
 
 class Changed:
-    """The changed records among all that a line takes in a year, over the lines that it takes."""
+    """The changed records among all that a line takes in a year of one state, over the lines that it takes. A
+    record counts where what is in force has another value in the other state.
+    """
 
-    def __init__(self, book: Book, changed: set[Key]) -> None:
-        self.book, self.changed, self.taking = book, changed, Taking(book, self.of_record)
+    def __init__(self, book: Book, other: Book, changed: set[Key]) -> None:
+        self.book, self.other, self.changed = book, other, changed
+        self.names = {key[:2] for key in changed}
+        self.taking = Taking(book, self.of_record)
 
     def of_record(self, bound: Row, year: int) -> set[Key]:
         """The changed records among a binding, its line, and what it takes."""
         keys: set[Key] = {bound.key, ("line", bound.field("subject"))}
-        if bound.field("value") == "prev":
+        if bound.field("value") == "prev" and year == self.book.known_span()[0]:
             keys.add(("span",))
         kind = KIND_TAKEN.get(bound.field("value"))
         if kind:
-            keys.add(self.key_of(kind, bound.field("low"), year))
+            keys |= self.of_figure(kind, bound.field("low"), year)
         return keys & self.changed
 
-    def key_of(self, kind: str, name: str, year: int) -> Key:
-        """The key of the record in force, or the one that is missing."""
-        row = self.book.in_force(kind, name, year)
-        return row.key if row else (kind, name, str(year))
+    def of_figure(self, kind: str, name: str, year: int) -> set[Key]:
+        """The record in force, where its value is not that in the other state."""
+        if (kind, name) not in self.names:
+            return set()
+        row, other = (book.in_force(kind, name, year) for book in (self.book, self.other))
+        return {row.key} if row and worth(row) != worth(other) else set()
 
     def of_line(self, name: str, gas: str, year: int) -> set[Key]:
         """The changed records that the equivalent of a line takes."""
         if name not in self.book.lines:
             return set()
-        potential = {self.key_of("factor", f"GWP.{gas}", year)} & self.changed
-        return self.taking.by(name, year) | potential
+        return self.taking.by(name, year) | self.of_figure("factor", f"GWP.{gas}", year) & self.changed
+
+    def forget_before(self, year: int) -> None:
+        """Forgets what lines take in the years before one."""
+        known = self.taking.known
+        self.taking.known = {at: found for at, found in known.items() if at[1] >= year}
+
+
+def columns_of(lines: list[str] | None, columns: list[str]) -> str:
+    """Some columns of a table as one text, which is empty where there is no table."""
+    if lines is None:
+        return ""
+    header = lines[0].split(",")
+    pick = operator.itemgetter(*map(header.index, columns))
+    return "\n".join(",".join(pick(line.split(","))) for line in lines)
 
 
 def sets(row: Row) -> list[str]:
@@ -113,11 +150,35 @@ def plain(text: str) -> str:
     return f"{decimal.Decimal(text).normalize():f}" if re.fullmatch(r"-?[0-9]+(\.[0-9]+)?", text) else text
 
 
-def changed_keys(before: Book, after: Book) -> set[Key]:
-    """The keys of the records that differ."""
-    keys = {*before.rows, *after.rows}
-    return {key for key in keys if key not in before.rows or key not in after.rows
-            or sets(before.rows[key]) != sets(after.rows[key])}
+def worth(row: Row | None) -> Any:
+    """What a row gives to figures, the same however it is written: a value in the base unit, or nothing where it
+    is blank; the first year of a span; what a line or a binding is of.
+    """
+    if row is None:
+        return None
+    kind, form, target = (row.field(column) for column in ("kind", "value", "low"))
+    if kind in WITH_FIGURES:
+        value = in_base_unit(row)
+        return None if value is None else (vocabulary.measured_by(row.field("unit")), value)
+    if kind == "span":
+        return row.field("year")
+    if kind == "bind":
+        return form, (target == "NE") if form == "key" else sorted(target.split(" "))
+    return sets(row)
+
+
+def changed_keys(before: Book, after: Book) -> tuple[set[Key], set[Key]]:
+    """The keys of the records by which figures may differ, and of those that are written otherwise alone, as
+    with other bounds or in another unit.
+    """
+    changed, restated = set[Key](), set[Key]()
+    for key in {**before.rows, **after.rows}:
+        old, new = before.rows.get(key), after.rows.get(key)
+        if old is None or new is None:
+            changed.add(key)
+        elif sets(old) != sets(new):
+            (restated if worth(old) == worth(new) else changed).add(key)
+    return changed, restated
 
 
 def differences(before: list[dict[str, str]], after: list[dict[str, str]],
@@ -157,22 +218,43 @@ def lines_of(printed: Printed, year: int, gases: set[str]) -> list[dict[str, str
     return found
 
 
-def rows_of(lines: list[dict[str, str]], states: tuple[State, State], graphs: tuple[Changed, Changed],
-            year: int) -> list[dict[str, Any]]:
-    """The changed rows that lines take, those of the greatest difference first, each with its lines."""
-    found: dict[Key, list[dict[str, str]]] = {}
-    for line in lines:
-        keys: set[Key] = set()
-        for graph in graphs:
-            keys |= graph.of_line(line["line"], line["gas"], year)
-        for key in sorted(keys):
-            found.setdefault(key, []).append(line)
+def of_same_tonne(before: list[dict[str, str]], after: list[dict[str, str]], graphs: tuple[Changed, Changed],
+                  year: int) -> list[dict[str, str]]:
+    """The lines of the tree with the same tonnes in both states that take changed records: each moved by less
+    than a tonne. A category and a total are rounded after their sum, and so may differ by these alone.
+    """
+    old = {row["line"]: row for row in before}
+    return [row for row in after if row["unit"] == EQUIVALENT and row["value"] != BLANK
+            and old.get(row["line"]) == row and changed_by(row, graphs, year)]
+
+
+def changed_by(line: dict[str, str], graphs: tuple[Changed, Changed], year: int) -> list[Key]:
+    """The changed records that a line takes in one of the states."""
+    before, after = (graph.of_line(line["line"], line["gas"], year) for graph in graphs)
+    return sorted(before | after)
+
+
+def rows_of(lines: list[dict[str, str]], of_less: list[dict[str, str]], states: tuple[State, State],
+            graphs: tuple[Changed, Changed], year: int) -> list[dict[str, Any]]:
+    """The changed rows that lines take, those of the greatest difference first, each with its lines, and with
+    those that moved by less than a tonne.
+    """
+    found: dict[Key, tuple[list[dict[str, str]], list[dict[str, str]]]] = {}
+    for at, group in enumerate((lines, of_less)):
+        for line in group:
+            for key in changed_by(line, graphs, year):
+                found.setdefault(key, ([], []))[at].append(line)
     with_line = {key: bindings_with(key, states) for key in found if key[0] == "line"}
     for bound in set().union(*with_line.values()):
         found.pop(bound, None)
-    return [{**said_of_key(key, states), "bindings": len(with_line.get(key, ())),
-             "lines": list(dict.fromkeys(line["line"] for line in taking)),
-             "difference_of_first": taking[0]["difference"]} for key, taking in found.items()]
+    return [{**said_of_key(key, states), "bindings": len(with_line.get(key, ())), "lines": names_of(taking),
+             "lines_of_less": names_of(less), "difference_of_first": taking[0]["difference"] if taking else NONE}
+            for key, (taking, less) in found.items()]
+
+
+def names_of(lines: list[dict[str, str]]) -> list[str]:
+    """The names of lines, each once."""
+    return list(dict.fromkeys(line["line"] for line in lines))
 
 
 def bindings_with(line: Key, states: tuple[State, State]) -> set[Key]:
@@ -203,24 +285,30 @@ def said_of(row: Any) -> str:
     return " ".join(filter(None, fields))
 
 
-def pairs_of(recalculated: list[dict[str, str]], lines: list[dict[str, str]],
-             rows: list[dict[str, Any]]) -> list[dict[str, Any]]:
-    """The categories and gases that differ, by size, each with its lines and what changed them."""
-    pairs: dict[tuple[str, str], dict[str, Any]] = {(row["category"], row["gas"]): {
+def pairs_of(recalculated: list[dict[str, str]]) -> list[dict[str, Any]]:
+    """The categories and gases that differ, by size."""
+    found: list[dict[str, Any]] = [{
         "category": row["category"], "gas": row["gas"], "before": row["reported"], "after": row["now"],
-        "difference": signed(row["difference"]), "percent": row["percent"], "lines": [], "rows": []}
-        for row in recalculated if row["reported"] != row["now"]}
+        "difference": signed(row["difference"]), "percent": row["percent"], "lines": [], "lines_of_less": [],
+        "rows": []} for row in recalculated if row["reported"] != row["now"]]
+    return by_size(found, "difference")
+
+
+def explain(pairs: list[dict[str, Any]], lines: list[dict[str, str]], of_less: list[dict[str, str]],
+            rows: list[dict[str, Any]]) -> None:
+    """Names with each category and gas its lines, those that moved by less than a tonne, and what changed them."""
+    known = {(pair["category"], pair["gas"]): pair for pair in pairs}
     of_line: dict[str, list[dict[str, Any]]] = {}
-    for line in lines:
-        pair = pairs.get((line["category"], line["gas"]))
-        if pair and line["unit"] == EQUIVALENT:
-            pair["lines"].append(line["line"])
-            of_line.setdefault(line["line"], []).append(pair)
+    for kind, group in (("lines", lines), ("lines_of_less", of_less)):
+        for line in group:
+            pair = known.get((line["category"], line["gas"]))
+            if pair and line["unit"] == EQUIVALENT:
+                pair[kind].append(line["line"])
+                of_line.setdefault(line["line"], []).append(pair)
     for row in rows:
-        taking = [pair for line in row["lines"] for pair in of_line.get(line, [])]
+        taking = [pair for line in row["lines"] + row["lines_of_less"] for pair in of_line.get(line, [])]
         for pair in {id(pair): pair for pair in taking}.values():
             pair["rows"].append(row["record"])
-    return by_size(pairs.values(), "difference")
 
 
 def signed(number: str) -> str:
@@ -233,11 +321,13 @@ def of_year(states: tuple[State, State], graphs: tuple[Changed, Changed],
     """What differs in a year: the categories, their gases, the lines, and the rows."""
     old, new = (state.printed for state in states)
     with_potential = gases_with_potential(states, year)
-    lines = differences(lines_of(old, year, with_potential), lines_of(new, year, with_potential),
-                        ["line", "category", "gas", "unit"])
+    before, after = (lines_of(printed, year, with_potential) for printed in (old, new))
+    lines = differences(before, after, ["line", "category", "gas", "unit"])
     categories = differences(old.rows("summary", year), new.rows("summary", year), ["category"])
-    rows = rows_of(lines, states, graphs, year)
-    gases = pairs_of(recalculated, lines, rows)
+    gases = pairs_of(recalculated)
+    of_less = of_same_tonne(before, after, graphs, year) if categories or gases else []
+    rows = rows_of(lines, of_less, states, graphs, year)
+    explain(gases, lines, of_less, rows)
     return {"year": year, "categories": categories, "gases": gases, "lines": lines, "rows": rows}
 
 
@@ -258,23 +348,47 @@ def text_of(found: dict[str, Any]) -> Iterator[str]:
     places = {row["record"]: row["place"] or row["place_before"] for row in found["rows"]}
     for row in found["gases"]:
         yield f"  {row['category']}, {row['gas']}: {said_of_difference(row)}"
-        if row["lines"]:
-            lines = "line" if len(row["lines"]) == 1 else "lines"
+        if row["rows"]:
             by = first_of([places[record] for record in row["rows"]])
-            yield f"    {lines} {first_of(row['lines'])}, by {by}"
+            yield f"    {', and '.join(said_of_lines(row))}, by {by}"
     yield f"{year}, lines:"
     for row in found["lines"]:
         yield (f"  {row['line']}, {row['category']}, {row['gas']}, in {row['unit']}: "
                f"{said_of_difference(row)}")
     yield f"{year}, rows:"
     for row in found["rows"]:
+        yield said_of_row(row)
+        yield f"    in {', and '.join(said_of_effect(row))}"
+
+
+def said_of_lines(pair: dict[str, Any]) -> Iterator[str]:
+    """The lines that changed a category and gas."""
+    if pair["lines"]:
+        yield f"{'line' if len(pair['lines']) == 1 else 'lines'} {first_of(pair['lines'])}"
+    if pair["lines_of_less"]:
+        yield said_of_less(pair["lines_of_less"])
+
+
+def said_of_effect(row: dict[str, Any]) -> Iterator[str]:
+    """The line that a row changed most, its difference, and how many others it changed."""
+    if row["lines"]:
         more = f" and {len(row['lines']) - 1} more" if len(row["lines"]) > 1 else ""
-        was = f"before {row['place_before']}" if row["place_before"] else ""
-        where = ", ".join(filter(None, (row["place"], was)))
-        bound = f", with its {counted(row['bindings'], 'binding')}" if row["bindings"] else ""
-        yield (f"  {row['record']}{bound}: {row['before']} to {row['after']}; {where}"
-               f"{said_of_note(row['note'])}")
-        yield f"    in {row['lines'][0]}{more}, {row['difference_of_first']}"
+        yield f"{row['lines'][0]}{more}, {row['difference_of_first']}"
+    if row["lines_of_less"]:
+        yield said_of_less(row["lines_of_less"])
+
+
+def said_of_less(lines: list[str]) -> str:
+    """How many lines moved by less than a tonne."""
+    return f"{counted(len(lines), 'line')} by less than a tonne"
+
+
+def said_of_row(row: dict[str, Any]) -> str:
+    """A record that differs with both of its states, their places, and its note."""
+    was = f"before {row['place_before']}" if row["place_before"] else ""
+    where = ", ".join(filter(None, (row["place"], was)))
+    bound = f", with its {counted(row['bindings'], 'binding')}" if row.get("bindings") else ""
+    return f"  {row['record']}{bound}: {row['before']} to {row['after']}; {where}{said_of_note(row['note'])}"
 
 
 def first_of(names: list[str]) -> str:
@@ -398,16 +512,51 @@ def run(arguments: argparse.Namespace) -> int:
         lacking = [say_lacking(state.sheets, state.accepted, state.folders, "the figures are without {}")
                    for state in states]
         years = years_of(states, asked)
-        changed = changed_keys(first.book, second.book)
-        graphs = (Changed(first.book, changed), Changed(second.book, changed))
-        found = [of_year(states, graphs, recalculated(review, second.printed, year), year) for year in years]
+        changed, restated = changed_keys(first.book, second.book)
+        graphs = (Changed(first.book, second.book, changed), Changed(second.book, first.book, changed))
+        found = [told(states, graphs, recalculated(review, second.printed, year), year, arguments.json)
+                 for year in years]
+    same = [said_of_key(key, states) for key in sorted(restated) if is_in_force(key, states, years)]
     if arguments.json:
-        print(json.dumps({"years": found}, ensure_ascii=False, indent=1))
+        print_json(found, same)
     else:
         if not asked:
             sys.stdout.writelines(f"{line}\n" for line in said_of_spans(states))
         print_all(found)
+        if same:
+            print(f"{WITHOUT_EFFECT}:", *map(said_of_row, same), sep="\n")
     return 1 if any(lacking) else 0
+
+
+def told(states: tuple[State, State], graphs: tuple[Changed, Changed], recalculated: list[dict[str, str]],
+         year: int, as_json: bool) -> OfYear:
+    """A year as it is printed, of which nothing else is kept but what the next year takes of it."""
+    found = of_year(states, graphs, recalculated, year)
+    for state, graph in zip(states, graphs):
+        state.printed.forget()
+        graph.forget_before(year - 1)
+    total = next((row for row in found["categories"] if row["category"] == NATIONAL), None)
+    text = json_of(found, "  ") if as_json else "".join(f"{line}\n" for line in text_of(found))
+    return OfYear(year, bool(found["categories"] or found["gases"] or found["lines"]), total, text)
+
+
+def json_of(found: Any, margin: str) -> str:
+    """What was found as JSON, with a margin."""
+    return textwrap.indent(json.dumps(found, ensure_ascii=False, indent=1), margin)
+
+
+def print_json(found: list[OfYear], same: list[dict[str, str]]) -> None:
+    """Prints all years, and the rows that change no figure, as JSON."""
+    years = ",\n".join(of.text for of in found)
+    print(f'{{\n "years": [\n{years}\n ],\n "rows_without_effect":\n{json_of(same, " ")}\n}}')
+
+
+def is_in_force(key: Key, states: tuple[State, State], years: list[int]) -> bool:
+    """Tells whether a record is in force in one of some years; any but an activity or a factor is in all."""
+    if key[0] not in WITH_FIGURES:
+        return True
+    rows = (state.book.in_force(key[0], key[1], year) for state in states for year in years)
+    return any(row is not None and row.key == key for row in rows)
 
 
 def said_of_spans(states: tuple[State, State]) -> Iterator[str]:
@@ -422,19 +571,17 @@ def said_of_spans(states: tuple[State, State]) -> Iterator[str]:
         yield f"the base year is {bases[0]} in the first state and {bases[1]} in the second"
 
 
-def print_all(found: list[dict[str, Any]]) -> None:
+def print_all(found: list[OfYear]) -> None:
     """Prints the years in which nothing differs, the national total of the others, and what differs."""
-    same = [of["year"] for of in found if not of["categories"] and not of["gases"] and not of["lines"]]
+    same = [of.year for of in found if not of.differs]
     if same:
         print(f"nothing differs in {years_said(same)}")
-    totals = {of["year"]: row for of in found for row in of["categories"] if row["category"] == NATIONAL}
+    totals = {of.year: of.total for of in found if of.total}
     if totals:
         print("national total in Gg of CO2 equivalent:")
     for year, row in totals.items():
         print(f"  {year}: {said_of_difference(row)}")
-    for of in found:
-        if of["year"] not in same:
-            sys.stdout.writelines(f"{line}\n" for line in text_of(of))
+    sys.stdout.writelines(of.text for of in found if of.differs)
 
 
 def words_of(words: list[str]) -> list[str]:

@@ -23,6 +23,10 @@ class Printed:
             self.known[key] = named_rows(self.program.show(table, year))
         return self.known[key]
 
+    def forget(self) -> None:
+        """Forgets the tables that were asked for."""
+        self.known.clear()
+
     def by(self, column: str, table: str, year: int) -> dict[str, Row]:
         """The rows of a table by one of their columns."""
         return {row[column]: row for row in self.rows(table, year)}

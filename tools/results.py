@@ -159,6 +159,11 @@ def total(figures: typing.Iterable[Figure]) -> Figure:
 
 @functools.cache
 def figure_of(record: Row) -> Figure:
+    """The figure of a record in the base unit, worked out once."""
+    return in_base_unit(record)
+
+
+def in_base_unit(record: Row) -> Figure:
     """The figure of a record in the base unit: zero for the keys NO, NA and IE, and None for NE."""
     text = record.field("value")
     if not NUMBER.fullmatch(text):

@@ -39,6 +39,17 @@ enter,factor,,COKE,1990,1000,,,kg/TJ,
 """
 
 
+def plants(categories: list[str], terajoules: str, factor: int) -> str:
+    """A plant in each of some categories, all with one factor, each with an activity of its own."""
+    rows = [f"{HEADER}enter,span,,,1990,1990,1990,,,\nenter,factor,,GWP.CO2,1990,1,,,1,\n"
+            f"enter,factor,,EF,1990,{factor},,,kg/TJ,\n"]
+    for number, category in enumerate(categories, 1):
+        name = f"P{number:03}"
+        rows.append(f"enter,line,{category},{name},,Q10,,,,\nenter,bind,{name},FC,,activity,{name},,,\n"
+                    f"enter,bind,{name},EF,,factor,EF,,,\nenter,activity,,{name},1990,{terajoules},,,TJ,\n")
+    return "".join(rows)
+
+
 class Comparisons(unittest.TestCase):
     maxDiff = None
 
@@ -115,6 +126,79 @@ national total in Gg of CO2 equivalent:
             ("correct,activity,,GAS,1992,1000.5,1000.5,1000.500,TJ,", 1992, []),
         ]:
             self.assertEqual(self.rows(f"{ROWS}{change}\n", year), due, change)
+
+    def test_lines_that_move_by_less_than_a_tonne(self) -> None:
+        """200 plants of 1 TJ at 94600 kg/TJ have 94.6 t each and 18,920 t together; at 94900 they have 94.9 t,
+        also printed as 0.095, and 18,980 t.
+        """
+        before = plants(["1A1a"] * 200, "1", 94600)
+        said = self.compared(f"{before}correct,factor,,EF,1990,94900,,,kg/TJ,\n", "1990", before=before)
+        self.assertIn("""\
+  1A1a, CO2: 18.920 to 18.980, +0.060, 0.32 %
+    200 lines by less than a tonne, by new/1.csv:805
+1990, lines:
+1990, rows:
+  factor EF 1990: 94600 kg/TJ to 94900 kg/TJ; new/1.csv:805, before old/1.csv:4
+    in 200 lines by less than a tonne
+""", said)
+
+    def test_one_line_beside_others_that_move_by_less(self) -> None:
+        """At 94950 each has 94.95 t, printed as 0.095; the first, now of 2 TJ, has 189.9 t, and all together
+        have 199 x 94.95 + 189.9 = 19,084.95 t. 165 of 18,920 are 0.87 percent.
+        """
+        before = plants(["1A1a"] * 200, "1", 94600)
+        after = f"{before}correct,factor,,EF,1990,94950,,,kg/TJ,\ncorrect,activity,,P001,1990,2,,,TJ,\n"
+        said = self.compared(after, "1990", before=before)
+        self.assertIn("""\
+  1A1a, CO2: 18.920 to 19.085, +0.165, 0.87 %
+    line P001, and 199 lines by less than a tonne, by new/1.csv:806, new/1.csv:805
+1990, lines:
+  P001, 1A1a, CO2, in Gg of CO2 equivalent: 0.095 to 0.190, +0.095, 100.00 %
+1990, rows:
+  activity P001 1990: 1 TJ to 2 TJ; new/1.csv:806, before old/1.csv:8
+    in P001, +0.095
+  factor EF 1990: 94600 kg/TJ to 94950 kg/TJ; new/1.csv:805, before old/1.csv:4
+    in P001, +0.095, and 199 lines by less than a tonne
+""", said)
+
+    def test_a_total_that_differs_alone(self) -> None:
+        """Four categories of 10.1 t each have 40.4 t, and of 10.4 t each 41.6 t."""
+        before = plants(["1A1a", "1A1b", "1A1c", "1A2"], "0.1", 101000)
+        after = f"{before}correct,factor,,EF,1990,104000,,,kg/TJ,\n"
+        found = json.loads(self.compared(after, "--json", "1990", before=before))["years"][0]
+        self.assertEqual([(row["category"], row["before"], row["after"]) for row in found["categories"]
+                          if row["category"] == "0"], [("0", "0.040", "0.042")])
+        self.assertEqual((found["gases"], found["lines"]), ([], []))
+        self.assertEqual([(row["record"], row["lines"], row["lines_of_less"]) for row in found["rows"]],
+                         [("factor EF 1990", [], ["P001", "P002", "P003", "P004"])])
+
+    def test_rows_that_change_no_figure(self) -> None:
+        """1100 TJ are 61.71 Gg, 5.61 more; at 55000 kg/TJ 1000 TJ are 55 Gg, 1.1 less. Beside these rows stand
+        others of which nothing comes.
+        """
+        gas, less = "correct,activity,,GAS,1991,1100,900,1100,TJ,\n", "correct,factor,,EF,1990,55000,,,kg/TJ,\n"
+        more, fewer = ("activity GAS 1991", "+5.610"), ("factor EF 1990", "-1.100")
+        for change, row, due, same in [
+            (gas, "correct,factor,,EF,1990,56100,50000,60000,kg/TJ,", more, ["factor EF 1990"]),
+            (gas, "correct,factor,,EF,1990,56.1,,,t/TJ,", more, ["factor EF 1990"]),
+            (less, "correct,activity,,GAS,1991,1000000,900000,1100000,GJ,", fewer, ["activity GAS 1991"]),
+            (gas, "correct,bind,FUEL,EX,,key,NA,,,", more, ["binding of FUEL EX"]),
+            (gas, "correct,span,,,1990,1993,1991,,,", more, ["span"]),
+            (gas, "enter,factor,,EF,1991,56100,,,kg/TJ,", more, []),
+            (gas, "correct,factor,,EF,1990,56100.0,56100,56100.00,kg/TJ,", more, []),
+            (gas, "correct,activity,,GAS,1990,1000,900,1100,TJ,", more, []),
+        ]:
+            found = json.loads(self.compared(f"{ROWS}{change}{row}\n", "--json", "1991"))
+            self.assertEqual([(of["record"], of["difference_of_first"]) for of in found["years"][0]["rows"]],
+                             [due], row)
+            self.assertEqual([of["record"] for of in found["rows_without_effect"]], same, row)
+
+    def test_rows_that_change_no_figure_stand_at_the_end(self) -> None:
+        wider = "correct,factor,,EF,1990,56100,50000,60000,kg/TJ,new bounds\n"
+        due = ("nothing differs in 1991\nrows that change no figure, as by other bounds or another unit:\n"
+               "  factor EF 1990: 56100 kg/TJ to 56100 (50000 to 60000) kg/TJ; new/1.csv:29, before old/1.csv:27, "
+               "\"new bounds\"\n")
+        self.assertEqual(self.compared(ROWS + wider, "1991"), due)
 
     def test_the_greatest_comes_first(self) -> None:
         after = ROWS + "correct,factor,,COKE,1990,2000,,,kg/TJ,\ncorrect,activity,,GAS,1991,999,,,TJ,\n"
