@@ -2,10 +2,11 @@
 
     python3 -B -m tests.oracle PROGRAM [--count N] [--seed S]
 
-Each seed, from S on, gives a session. The program has to print what the model prints, byte for byte. The
-bounds that `cells`, `summary` and `series` print have to hold the exact values: those of the central figures,
-and those of others that are drawn between the bounds of each. Prints each difference, with its seed and the
-file of its script. The exit status is 0 only where there is none.
+Each seed, from S on, gives a session, and each third one a session of `review`, with versions, differences
+and trends. The program has to print what the model prints, byte for byte. The bounds that `cells`, `summary`
+and `series` print have to hold the exact values: those of the central figures, and those of others that are
+drawn between the bounds of each. Prints each difference, with its seed and the file of its script. The exit
+status is 0 only where there is none.
 """
 import argparse
 import pathlib
@@ -13,9 +14,11 @@ import sys
 import tempfile
 
 from tests.oracle.comparing import difference, script_in
-from tests.oracle.workbooks import session_of
+from tests.oracle.workbooks import review_of, session_of
 
 COUNT = 300
+# Each seed that this divides is that of a review.
+REVIEWED = 3
 
 
 def main() -> int:
@@ -28,8 +31,9 @@ def main() -> int:
     given = parser.parse_args()
     wrong = 0
     for seed in range(given.seed, given.seed + given.count):
-        steps = session_of(seed)
-        found = difference(str(given.program.resolve()), steps, seed)
+        is_review = seed % REVIEWED == 0
+        steps = review_of(seed) if is_review else session_of(seed)
+        found = difference(str(given.program.resolve()), steps, seed, "review" if is_review else "compile")
         if found:
             wrong += 1
             script = pathlib.Path(tempfile.gettempdir()) / f"oracle-{seed}.script"

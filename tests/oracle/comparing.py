@@ -13,10 +13,10 @@ DRAWN = 2
 END = "(the end)"
 
 
-def printed(program: str, script: bytes) -> str:
-    """What the program prints for a script, and how it ended where that is no success."""
+def printed(program: str, script: bytes, command: str = "compile") -> str:
+    """What a command of the program prints for a script, and how it ended where that is no success."""
     try:
-        run = subprocess.run([program, "compile"], input=script, stdout=subprocess.PIPE, timeout=SECONDS)
+        run = subprocess.run([program, command], input=script, stdout=subprocess.PIPE, timeout=SECONDS)
     except subprocess.TimeoutExpired:
         return f"(had not ended after {SECONDS} seconds)\n"
     ending = f"(status {run.returncode})\n" if run.returncode else ""
@@ -35,7 +35,7 @@ def first_difference(program: str, model: str) -> Optional[str]:
     for number, (left, right) in enumerate(lines, 1):
         if left != right:
             return f"line {number} of the output, after {reply!r}:\n  program {left}\n  model   {right}"
-        if left.startswith(("accepted", "repeated", "refused", "table", "no table")):
+        if left.startswith(("accepted", "repeated", "refused", "table", "no table", "frozen")):
             reply = left
     return None
 
@@ -52,9 +52,10 @@ def rows_outside(steps: list[Step], seed: int) -> Iterator[str]:
                 yield from outside(step.reply, valuation)
 
 
-def difference(program: str, steps: list[Step], seed: int) -> Optional[str]:
+def difference(program: str, steps: list[Step], seed: int, command: str = "compile") -> Optional[str]:
     """The first difference in a session, or nothing."""
-    found = first_difference(printed(program, script_in(steps)), "".join(step.reply for step in steps))
+    due = "".join(step.reply for step in steps)
+    found = first_difference(printed(program, script_in(steps), command), due)
     if found:
         return found
     row = next(rows_outside(steps, seed), None)

@@ -1,6 +1,6 @@
 """The model: what a session of submissions and requests for tables prints."""
 import re
-from typing import NamedTuple, Union
+from typing import Callable, Iterable, NamedTuple, Protocol
 
 from tests.limits import limit
 from tests.oracle.outcomes import Compilation
@@ -22,14 +22,31 @@ class Submit(NamedTuple):
     id: bytes
     body: bytes
 
+    def text(self) -> bytes:
+        """The command as a script has it."""
+        return b"SUBMIT %b %d\n%b" % (self.id, len(self.body), self.body)
+
 
 class Show(NamedTuple):
     """A request for a table."""
     table: str
     year: int
 
+    def text(self) -> bytes:
+        """The command as a script has it."""
+        return f"SHOW {self.table} {self.year:04}\n".encode()
 
-Command = Union[Submit, Show]
+
+class Written(Protocol):
+    """A command of a script."""
+
+    def text(self) -> bytes:
+        """The command as a script has it."""
+
+
+# The form of each command that is a line alone, and what it says.
+Form = tuple[re.Pattern[bytes], Callable[[re.Match[bytes]], Written]]
+FORMS: list[Form] = [(SHOW, lambda found: Show(found[1].decode(), int(found[2])))]
 
 
 class Office:
@@ -41,9 +58,12 @@ class Office:
         self.compilation = Compilation(Workbook({}, tables))
         self.accepted: list[Submit] = []
 
-    def answer(self, command: Command) -> str:
+    def answer(self, command: Written) -> str:
         """The reply to a command."""
-        return self.submit(command) if isinstance(command, Submit) else self.show(command)
+        if isinstance(command, Submit):
+            return self.submit(command)
+        assert isinstance(command, Show)
+        return self.show(command)
 
     def submit(self, given: Submit) -> str:
         """The reply to a submission, which is in force afterwards where no rule is broken."""
@@ -85,25 +105,21 @@ class Office:
         return f"table {asked.table} {asked.year} rows {len(lines)}\n{text}"
 
 
-def script_of(commands: list[Command]) -> bytes:
+def script_of(commands: Iterable[Written]) -> bytes:
     """The script of a session."""
-    script = b""
-    for command in commands:
-        if isinstance(command, Submit):
-            script += b"SUBMIT %s %d\n%s" % (command.id, len(command.body), command.body)
-        else:
-            script += f"SHOW {command.table} {command.year:04}\n".encode()
-    return script + END
+    return b"".join(command.text() for command in commands) + END
 
 
-def commands_in(script: bytes) -> tuple[list[Command], bool]:
+def commands_in(script: bytes, forms: list[Form]) -> tuple[list[Written], bool]:
     """The commands of a script up to its end, and whether they are all: else the next one is none."""
-    commands: list[Command] = []
+    commands: list[Written] = []
     at = 0
     while not script.startswith(END, at):
-        if shown := SHOW.match(script, at):
-            commands.append(Show(shown[1].decode(), int(shown[2])))
-            at = shown.end()
+        found = next(((match, made) for form, made in forms if (match := form.match(script, at))), None)
+        if found:
+            match, made = found
+            commands.append(made(match))
+            at = match.end()
         elif (sent := SUBMIT.match(script, at)) and sent.end() + int(sent[2]) <= len(script):
             at = sent.end() + int(sent[2])
             commands.append(Submit(sent[1], script[sent.end():at]))
@@ -112,9 +128,8 @@ def commands_in(script: bytes) -> tuple[list[Command], bool]:
     return commands, True
 
 
-def output_of(script: bytes, tables: Tables = TABLES) -> bytes:
-    """What a script prints."""
-    office = Office(tables)
-    commands, is_whole = commands_in(script)
-    replies = "".join(map(office.answer, commands))
+def output_of(script: bytes, forms: list[Form], answer: Callable[[Written], str]) -> bytes:
+    """What a script prints whose commands have these forms, and are answered so."""
+    commands, is_whole = commands_in(script, forms)
+    replies = "".join(map(answer, commands))
     return (replies + ("" if is_whole else f"not a script: command {len(commands) + 1}\n")).encode()

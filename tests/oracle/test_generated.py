@@ -10,7 +10,7 @@ from unittest import mock
 from tests.oracle import generated
 from tests.oracle.comparing import printed
 from tests.oracle.generated import ACTIVITY, CATEGORIES, EQUATIONS, FACTOR, YEARS
-from tests.oracle.model import Command, Show, script_of
+from tests.oracle.model import Show, Written, script_of
 
 TOP = pathlib.Path(__file__).resolve().parent.parent.parent
 PROGRAM = os.environ.get("GHG_PROGRAM") or str(TOP / "crates/ghg/out/ghg")
@@ -83,7 +83,7 @@ class Program(unittest.TestCase):
 
     def test_submissions(self) -> None:
         """It accepts the submissions as a session, and prints the same gross total for it."""
-        commands: list[Command] = [*generated.submissions(generated.made_lines(*FEW)), Show("summary", 2020)]
+        commands: list[Written] = [*generated.submissions(generated.made_lines(*FEW)), Show("summary", 2020)]
         *replies, gross = printed(PROGRAM, script_of(commands)).splitlines()
         self.assertEqual(replies[:len(commands)], [f"accepted {n}" for n in range(1, len(commands))]
                          + ["table summary 2020 rows 78"])

@@ -15,7 +15,8 @@ from tests.oracle.comparing import first_difference, printed, script_in
 from tests.oracle.exact import FRACTIONS, Choice, Valuation, outside, shares_around
 from tests.oracle.expressions import Expression, Operation, Parameter, Scaling, value_of
 from tests.oracle.intervals import SCALE, decay_bracket
-from tests.oracle.model import Command, Office, commands_in, output_of
+from tests.oracle.model import FORMS, Office, Written, commands_in, output_of
+from tests.oracle.review import REVIEW_FORMS, Desk
 from tests.oracle.tables import GASES, HALF_LIFE, TABLES, Equation, Tables
 from tests.oracle.workbooks import session_of
 
@@ -28,7 +29,7 @@ Change = Callable[[Expression], Expression]
 
 class Session(NamedTuple):
     """A session of a seed, and what the program prints for it."""
-    commands: list[Command]
+    commands: list[Written]
     script: str
     due: str
 
@@ -195,12 +196,14 @@ class Model(unittest.TestCase):
 
     def test_stored_sessions(self) -> None:
         """It prints what stored sessions have to print."""
-        stored = sorted((TESTS / "sessions").glob("*.script"))
-        self.assertTrue(stored)
-        for script in stored:
+        sessions = [path for path in sorted((TESTS / "sessions").iterdir()) if path.suffix in (".script", ".review")]
+        self.assertEqual({path.suffix for path in sessions}, {".script", ".review"})
+        for script in sessions:
             with self.subTest(script.stem):
-                due = script.with_suffix(".out").read_bytes()
-                self.assertEqual(output_of(script.read_bytes()), due)
+                due, given = script.with_suffix(".out").read_bytes(), script.read_bytes()
+                is_review = script.suffix == ".review"
+                answer = Desk(Office()).answer if is_review else Office().answer
+                self.assertEqual(output_of(given, REVIEW_FORMS if is_review else FORMS, answer), due)
 
     def test_decay_brackets(self) -> None:
         """Each holds the share whose power by the tenths is one part of 1024, and both searches find it."""
@@ -217,7 +220,7 @@ class Model(unittest.TestCase):
         """Of the worked session, 56.100 Gg are outside bounds that are a tonne too narrow."""
         script = (TESTS / "sessions" / "a-submission-acts-once.script").read_bytes()
         office = Office()
-        for command in commands_in(script)[0]:
+        for command in commands_in(script, FORMS)[0]:
             office.answer(command)
         central = Valuation(office.compilation.workbook, Choice(True, Random(0)))
         head = "table cells 1990 rows 2\ncode,category,equation,gas,unit,value,low,high\n"

@@ -7,20 +7,24 @@ from typing import NamedTuple
 
 from tests.oracle.changes import Changes, Row
 from tests.oracle.faults import Faults
-from tests.oracle.model import Command, Office, Show, Submit
+from tests.oracle.model import Office, Show, Submit, Written
 from tests.oracle.printing import TABLES as PRINTED
+from tests.oracle.review import MOST_VERSIONS, Desk, Freeze, Recalc, Trend
 from tests.oracle.rows import HEADER, header_of
 from tests.oracle.tables import HALF_LIFE, TABLES
 from tests.oracle.workbook import Workbook
 
 # About as many as a session enters: so that some sessions in a row have all equations.
 LINES = 13
+# The names that versions have, most often, and others that none has.
+VERSIONS = (b"V1", b"V2", b"R-2020.1", b"GWP.CO2", b"V")
+NO_VERSIONS = (b"v1", b"1990", b"_V", b"V,1", b"V\xc3\x89", b"\xff", b"V" * 60)
 NOTES = ("", "", "", "a note", 'with "quotes", and a comma', "of two\nlines", "à la carte", "-")
 
 
 class Step(NamedTuple):
     """A command, what the model answers to it, and the workbook afterwards."""
-    command: Command
+    command: Written
     reply: str
     workbook: Workbook
 
@@ -124,12 +128,59 @@ class Author:
         self.send(Show("cells", self.year()))
         self.send(Show("total", year))
 
-    def send(self, command: Command) -> None:
+    def send(self, command: Written) -> None:
         """Sends a command."""
-        reply = self.office.answer(command)
-        self.steps.append(Step(command, reply, self.office.compilation.workbook))
+        self.steps.append(Step(command, self.answer(command), self.office.compilation.workbook))
+
+    def answer(self, command: Written) -> str:
+        """What the model answers to a command."""
+        return self.office.answer(command)
+
+
+class Reviewer(Author):
+    """Writes the same session as one of `review`, with versions and requests of its own in between."""
+
+    def __init__(self, seed: int) -> None:
+        super().__init__(seed)
+        self.desk, self.own = Desk(self.office), random.Random(-1 - seed)
+        self.has_many = self.own.random() < 0.1
+
+    def answer(self, command: Written) -> str:
+        """What the model answers to a command."""
+        return self.desk.answer(command)
+
+    def submit(self, rows: list[Row]) -> None:
+        """Sends rows under a new id, and then what may come after."""
+        super().submit(rows)
+        if self.has_many and self.own.random() < 0.1:
+            for number in range(MOST_VERSIONS):
+                self.send(Freeze(b"N%d" % number))
+        if self.own.random() < 0.4:
+            self.send(Freeze(self.own.choice(VERSIONS if self.own.random() < 0.9 else NO_VERSIONS)))
+        if self.own.random() < 0.4:
+            self.send(Recalc(self.own.choice([*VERSIONS, *self.desk.versions]), self.own_year()))
+        if self.own.random() < 0.4:
+            self.send(Trend(self.own_year()))
+
+    def own_year(self) -> int:
+        """A year of the span, the one before it or the one after it."""
+        years = self.office.compilation.workbook.years() or range(1990, 1991)
+        return self.own.randint(years[0] - 1, years[-1] + 1)
+
+    def show_all(self) -> None:
+        """Asks also for each table of a review, of each year."""
+        super().show_all()
+        for year in self.office.compilation.workbook.years():
+            self.send(Trend(year))
+            for name in list(self.desk.versions)[:len(VERSIONS)]:
+                self.send(Recalc(name, year))
 
 
 def session_of(seed: int) -> list[Step]:
     """The session of a seed."""
     return Author(seed).session()
+
+
+def review_of(seed: int) -> list[Step]:
+    """The session of a seed with versions and requests of a review."""
+    return Reviewer(seed).session()
