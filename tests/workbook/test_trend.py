@@ -16,9 +16,10 @@ import tempfile
 import unittest
 from fractions import Fraction
 
+from tests.oracle.intervals import nearest
 from tests.oracle.model import Office, Show, Submit
 from tests.oracle.printing import fixed
-from tests.workbook.running import HEADER, workbook
+from tests.workbook.running import HEADER, TOP, workbook
 from tests.workbook.test_country import COUNTRY, files
 from tests.workbook.test_from_sheets import HAS_LIBRARY
 from tests.workbook.test_xlsx import load
@@ -33,16 +34,20 @@ def due_rows() -> list[list[str]]:
     base_sum, now_sum = (sum(tonnes(row["value"]) for row in rows) for rows in (base, now))
     rows, squares = list[list[str]](), [0, 0]
     for was, row in zip(base, now):
-        of_base, of_now = tonnes(was["value"]), tonnes(row["value"])
-        change = Fraction(100 * abs(of_now * base_sum - of_base * now_sum),
-                          abs(base_sum) * abs(100 * base_sum + of_base))
-        k = ends(change * Fraction(row["factor"]))
-        j = ends(Fraction(abs(of_now), abs(base_sum)) * Fraction(row["activity"]))
+        k, j = map(ends, sides(was, row, base_sum, now_sum))
         squares = [square + side**2 + 2 * other**2 for square, side, other in zip(squares, k, j)]
         rows.append([row["code"], row["category"], row["gas"], was["value"], row["value"],
                      *printed(*k), *printed(*roots([2 * side**2 for side in j]))])
     sums = [fixed(base_sum, 3), fixed(now_sum, 3)]
     return [*rows, ["total", "-", "-", *sums, "-", "-", *printed(*roots(squares))]]
+
+
+def sides(was: dict[str, str], row: dict[str, str], base_sum: int, now_sum: int) -> tuple[Fraction, Fraction]:
+    """Of a line in both years K, and J, which is L without the root of 2."""
+    of_base, of_now = tonnes(was["value"]), tonnes(row["value"])
+    change = Fraction(100 * abs(of_now * base_sum - of_base * now_sum),
+                      abs(base_sum) * abs(100 * base_sum + of_base))
+    return change * Fraction(row["factor"]), Fraction(abs(of_now), abs(base_sum)) * Fraction(row["activity"])
 
 
 def reported(year: int) -> list[dict[str, str]]:
@@ -94,6 +99,21 @@ class Trends(unittest.TestCase):
                                   "k_low", "k_high", "l_low", "l_high"])
         self.assertEqual([row[:2] + row[3:] for row in rows], due_rows())
         self.assertEqual(next(row[2] for row in rows if row[0] == "LANDFILL.CH4"), "Solid waste disposal")
+
+    def test_the_figures_of_the_page(self) -> None:
+        """What docs/REVIEW.md says of the growth of the total, and works out of one line."""
+        page = " ".join((TOP / "docs/REVIEW.md").read_text(encoding="utf-8").split())
+        base, now, high = (tonnes(due_rows()[-1][column]) for column in (3, 4, -1))
+        growth, width = nearest(10**4 * (now - base), base), high // 10
+        said = [fixed(number, 2) for number in (growth, width, growth - width, growth + width)]
+        self.assertIn("The total grew by {} Gg, or {} % of the base year. That is uncertain by {} percentage points, "
+                      "so the growth lies between {} and {} %,".format(fixed(now - base, 3), *said), page)
+        was, row = (next(row for row in reported(year) if row["code"] == "POWER.LIGNITE") for year in (BASE_YEAR, YEAR))
+        k, j = sides(was, row, base, now)
+        length = Fraction(math.isqrt(int(2 * (j * MILLION)**2)), 1000)
+        self.assertIn(f"{row['activity'].removesuffix('.00')} and {row['factor']}: - L: {row['value']} / ", page)
+        self.assertIn(f"√2 = {fixed(round(length), 3)} - K: ", page)
+        self.assertIn(f"{row['factor']} = {fixed(round(k * 1000), 3)} ", page)
 
     def test_lines_without_percentages(self) -> None:
         ran = workbook("trend", "examples/fuel-combustion", str(YEAR), "--json")
