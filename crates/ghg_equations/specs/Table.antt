@@ -354,4 +354,4 @@ seen e = record {
 
 -- the code that a text is
 unfoldable pub named : List ℕ → Option EqId
-named text = find (λ id. bytes_eq (code id) text) ALL
+named text = find (λ id. bytes_eq (code id) text) ALL.now

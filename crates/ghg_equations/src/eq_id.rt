@@ -166,12 +166,12 @@ pub enum EqId {
 
 // Codes by their names.
 macro_rules! codes {
-    [$($code:ident)+] => { [$(EqId::$code),+] };
+    [$($code:ident)+] => { &[$(EqId::$code),+] };
 }
 
 impl EqId {
     /// Every code, in the order of the table.
-    pub const ALL: [EqId; 78] = codes![
+    pub const ALL: &'static [EqId] = codes![
         Q10 Q11 Q12 Q13 Q14 Q15 Q16 Q17 Q20 Q21 Q22 Q23 Q24 Q25 Q26 Q30 Q31 Q32 Q33 Q34 Q35 Q36
         Q37 Q38 Q39 Q40 Q41 Q42 Q44 Q45 Q46 Q55 Q56 Q57 Q58 Q59 Q60 Q61 Q62 Q63 Q64 Q67 Q68 Q69
         Q70 Q71 Q72 Q73 Q74 Q75 Q76 Q77 Q78 Q79 Q80 Q81 Q82 Q83 Q84 Q85 Q86 Q87 Q88 Q89
