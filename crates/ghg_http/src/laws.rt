@@ -31,8 +31,8 @@ pub fn holds_none_early()
     ensures { HoldsNoneEarly }
 {}
 
-/// The limits of a request: how many bytes its head has, and how many fields; and how many bytes one call of a
-/// link is asked for.
+/// The limits of a request: how many bytes its head has, and how many fields; and how many bytes one call of
+/// a link is asked for.
 pub fn limits_are_numbers()
     ensures head { MAX_HEAD ≡ 16_384 }
     ensures fields { MAX_FIELDS ≡ 64 }

@@ -82,8 +82,8 @@ abbrev pub year_subject : ℕ → Subject
 year_subject year =
     record { words = field (decimal year); nodes = node.Total National year ∷ node.Gross year ∷ [] }
 
--- what the rows of a table are of, if they have bounds of nodes: each line, each category and the gross total,
--- or each year from the first
+-- what the rows of a table are of, if they have bounds of nodes: each line, each category and the gross
+-- total, or each year from the first
 abbrev pub subjects : Table → Data → ℕ → Option (List Subject)
 subjects table.Cells m year =
     Some (flat_map (λ name. line_subject year name (category m name) (line m name)) (line_names m))
