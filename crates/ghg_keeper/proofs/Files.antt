@@ -1,5 +1,5 @@
 -- What a keeper over a file owes its trait, which is nothing of its rows, and what it finds in its files.
-use Rattle.std.proofs.Common.{◌≡◌, ◌<◌, inl, inr, List, length, arith, true, false, Result, Ok, Err, IfOk, OnOk, OnErr, refl, sym, ap, subst, ◌∙◌}
+use Rattle.std.proofs.Common.{◌≡◌, ◌<◌, inl, inr, List, [], length, arith, true, false, Result, Ok, Err, IfOk, OnOk, OnErr, refl, sym, ap, subst, ◌∙◌}
 use Rattle.sqlite_trees.specs.declared.store.Store.{Ghosts}
 use Rattle.sqlite_disk.specs.declared.Disk as disk
 use Rattle.sqlite_store.specs.declared.store.FileStore.{FileStore}
@@ -17,7 +17,6 @@ use Rattle.sqlite.specs.Start.{FindsIn}
 use Rattle.sqlite.specs.State.{HasCleanDisk, State}
 use Rattle.ghg_keeper.specs.declared.sql.SqlKeeper.{SqlKeeper}
 use Rattle.ghg_keeper.specs.declared.keeper.KeepError.{KeepError}
-use Rattle.ghg_keeper.specs.Accepted.{no_schema}
 use Rattle.ghg_keeper.specs.Course.{Prepares}
 use Rattle.ghg_keeper.specs.Databases.{AttachesFrom, attached, database, held, kept_shelf}
 use Rattle.ghg_keeper.specs.Listed.{IsSafeAs, Lists, ListsStore, TellsAs, TellsStore, kept_rows}
@@ -78,10 +77,10 @@ found_list image list s finds (inr empty) =
     elim finds.reads [
       | inl read ↦ absurd (let some : 0 < length image.db = read.3.found.present in let none = empty.0 in omega arith)
       | inr none ↦ record {
-        found = record { schema = no_schema; trees = s.committed.trees };
+        found = record { schema = record { tables = []; indexes = []; views = [] }; trees = s.committed.trees };
         sound = empty_is_sound s.committed.trees none.1.1;
         trees = refl;
-        listed = inl refl;
+        listed = record { first = inl refl; second = inl refl; apart = tt; rows = inl (tt, refl) };
         rows = sym empty.1;
       }
     ]

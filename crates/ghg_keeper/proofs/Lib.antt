@@ -1,4 +1,7 @@
 pub mod RowLemmas
+pub mod Tables
+pub mod Selects
+pub mod Steps
 pub mod Meanings
 pub mod Texts
 pub mod Effects

@@ -1,10 +1,8 @@
 -- What the parts of the move leave.
-use Rattle.std.proofs.Common.{◌≡◌, inl, inr, ℕ, suc, ◌+◌, ◌-◌, ◌^◌, ◌<◌, ◌≤◌, get_or, pos, negsuc, OnOk, OnErr, IfOk, List, [], ◌∷◌, ◌++◌, map, length, slice_get, Bool, true, false, if◌then◌else◌, Option, Some, None, Result, Ok, Err, IsTrue, MatchBool, nat_le, length-append, append-nil, refl, sym, ap, subst, ◌∙◌, arith}
+use Rattle.std.proofs.Common.{◌≡◌, inl, inr, ℕ, suc, ◌+◌, ◌-◌, ◌^◌, ◌<◌, ◌≤◌, get_or, pos, OnOk, OnErr, IfOk, List, [], ◌∷◌, ◌++◌, map, length, slice_get, Bool, true, false, if◌then◌else◌, Option, Some, None, Result, Ok, Err, IsTrue, MatchBool, nat_le, length-append, append-nil, refl, sym, ap, subst, ◌∙◌, arith, find, ◌&&◌}
 use Rattle.sqlite.specs.declared.types.Value.TheVariants.{Int, Text, Blob}
 use Rattle.sqlite.specs.Order.{Row, column, bytes}
 use Rattle.sqlite.specs.Tree.{Trees}
-use Rattle.sqlite.specs.Term.{lit, col}
-use Rattle.sqlite.specs.Query.{Query, inner, end}
 use Rattle.sqlite.specs.declared.error.Error.{Error}
 use Rattle.sqlite.specs.declared.run.Mode.{Mode}
 use Rattle.sqlite.specs.Table.{Table}
@@ -13,9 +11,6 @@ use Rattle.sqlite_schema.specs.declared.command.Command.{Command}
 use Rattle.sqlite.specs.Command.TheVariants.{Delete, Begin, Commit, Rollback, Release}
 use Rattle.sqlite.specs.Does.{Tally, Does, AtPlace, OnRows}
 use Rattle.sqlite.specs.Rows.{Written}
-use Rattle.sqlite_rules.specs.Calls.{ids_of}
-use Rattle.sqlite.specs.Edit.{edit_of}
-use Rattle.sqlite.specs.Rowids.TheVariants.{Given}
 use Rattle.sqlite.specs.Effect.{Database, IsDatabase}
 use Rattle.sqlite_resolve.specs.declared.compiled.Compiled.{Compiled}
 use Rattle.sqlite.specs.State.{State, HasCleanDisk, mode_of, Writes, Runs, IsUnchanged, IsRolledBack, IsNotRun, RunsAlone, ExecutesIn, shows_rows, Executes, CommitsBy, Survives, text_of}
@@ -25,20 +20,25 @@ use Rattle.std.proofs.lemmas.Bool.Decides.{nat_tests}
 use Rattle.std.proofs.lemmas.Int.{ints}
 use Rattle.sqlite.specs.Listing.{understood}
 use Rattle.sqlite_tied.specs.Compute.{everything}
-use Rattle.sqlite.proofs.Callers.{IsPlain, command_of, one_step, runs_as, statement_of}
+use Rattle.sqlite.proofs.Callers.{runs_as}
 use Rattle.sqlite.specs.Calls.{IsWrite}
 use Rattle.sqlite_resolve.specs.declared.error.CompileError.{CompileError}
 use Rattle.ghg_keeper.specs.declared.row.KeptRow.{KeptRow}
-use Rattle.ghg_keeper.specs.Accepted.{accepted, accepted_schema, both_schema, has_kept_tables, no_schema}
-use Rattle.ghg_keeper.specs.Listed.{AreNumbered, HaveEach, ListsStore, ListsRows, TellsStore, TellsRows, kept_first, kept_of, kept_rows, numbered_to, stored, with_number}
-use Rattle.ghg_keeper.specs.Moving.{Moves, HasList, CommitsNone, CommitsMove, CommitsList, Copied, IsMoving, IsCleared, IsCommitted, IsMoved, Leaves, IsWithin, Rests, Recalls, StaysListed, KeepsList, HasObject, IsReady}
+use Rattle.ghg_keeper.specs.Accepted.{HasBoth, HasTable, IsAsMade, accepted, are_kept_columns, are_second_columns, has_first, has_kept_tables, has_second, is_kept_table, is_keyed, is_second_table, second}
+use Rattle.ghg_keeper.proofs.Tables.{apart_names, found_in, place, rows_there}
+use Rattle.ghg_keeper.proofs.Steps.{is_free, writes_spare}
+use Rattle.sqlite_schema.specs.Names.{same_name}
+use Rattle.std.specs.List.{list_any}
+use Rattle.std.proofs.lemmas.Bool.{cases_Bool}
+use Rattle.ghg_keeper.specs.Listed.{AreNumbered, HaveEach, ListsStore, ListsRows, TellsStore, TellsRows, kept_first, kept_of, kept_rows, first_rows, numbered_to, second_rows, stored, with_number}
+use Rattle.ghg_keeper.specs.Moving.{Moves, HasList, CommitsNone, CommitsMove, CommitsList, Copied, IsMoving, IsCleared, IsCommitted, IsMoved, Leaves, IsWithin, Rests, KeepsList, IsReady}
 use Rattle.ghg_keeper.specs.Texts.{insert_text, begin_text, clear_text, commit_text, roll_back_text}
-use Rattle.ghg_keeper.proofs.Meanings.{went, same_value, given, apart, Puts, appended}
-use Rattle.ghg_keeper.proofs.Texts.{begins, clears, commits, inserts, rolls_back}
+use Rattle.ghg_keeper.proofs.Meanings.{went, same_value, given, both_apart, second_in, Puts, appended}
+use Rattle.ghg_keeper.proofs.Texts.{begins, clears, clears_known, commits, inserts, rolls_back}
 use Rattle.ghg_keeper.proofs.Effects.{ran_as, after_refusal, inserted_as, inserted_both, more_numbered, was_clean}
 use Rattle.sqlite.proofs.StateLemmas.{survives_then, survives_weaker}
 use Rattle.sqlite.specs.Schema.{Schema}
-use Rattle.ghg_keeper.proofs.Making.{kept_two, left_rests, listed}
+use Rattle.ghg_keeper.proofs.Making.{left_rests, listed}
 
 -- ---- in a transaction
 
@@ -122,8 +122,8 @@ begin_moving old new (Ok count) clean rest ran c =
       in_transaction = it.4;
       schema = ap (λ (d : Database). d.schema) same;
       holds = λ both none.
-          let empty : new.now.trees 2 ≡ [] = ap (λ (d : Database). d.trees 2) same ∙ none in
-          (record { each = tt; size = ap length empty; numbered = subst (AreNumbered 1) (sym empty) tt; rows = ap (map kept_of) empty }, ap (λ (d : Database). d.trees 0) same);
+          let empty : second_rows new.now ≡ [] = ap second_rows same ∙ none in
+          (record { each = tt; size = ap length empty; numbered = subst (AreNumbered 1) (sym empty) tt; rows = ap (map kept_of) empty }, ap first_rows same);
     }
 
 pub begin_rests : (old new : State) (r : Result ℕ Error) → (HasCleanDisk new → HasCleanDisk old) → Rests old → (HasCleanDisk new → Executes begin_text [] old new r) → OnErr r (Rests new)
@@ -136,18 +136,19 @@ pub map_append : {A B : Type 0} (f : A → B) (xs ys : List A) → map f (xs ++ 
 map_append f [] ys = refl
 map_append f (x ∷ xs) ys = ap (λ all. f x ∷ all) (map_append f xs ys)
 
-copied_more : (n : ℕ) (first rows after : List Row) (id body : List ℕ) (r : Row) (origin now next : Database) → HaveEach n (origin.trees 0) → Copied n origin now
-    → with_number (suc n) (origin.trees 0) ≡ r ∷ [] → record { id = id; body = body } ≡ kept_first r
-    → next.trees 2 ≡ now.trees 2 ++ stored (length (now.trees 2) + 1) id body ∷ [] → Copied (suc n) origin next
+copied_more : (n : ℕ) (first rows after : List Row) (id body : List ℕ) (r : Row) (origin now next : Database) → HaveEach n (first_rows origin) → Copied n origin now
+    → with_number (suc n) (first_rows origin) ≡ r ∷ [] → record { id = id; body = body } ≡ kept_first r
+    → second_rows next ≡ second_rows now ++ stored (length (second_rows now) + 1) id body ∷ [] → Copied (suc n) origin next
+unfolding same_name
 copied_more n first rows after id body r origin now next each c one is more =
-    let row = stored (length (now.trees 2) + 1) id body in
+    let row = stored (length (second_rows now) + 1) id body in
     record {
       each = (each, ap length one);
-      size = ap length more ∙ length-append (now.trees 2) (row ∷ []) ∙ omega (arith, c.size);
-      numbered = subst (AreNumbered 1) (sym more) (more_numbered (now.trees 2) id body c.numbered);
-      rows = ap (map kept_of) more ∙ map_append kept_of (now.trees 2) (row ∷ []) ∙ ap (λ all. all ++ record { id = id; body = body } ∷ []) c.rows
-          ∙ ap (λ k. map kept_first (numbered_to n (origin.trees 0)) ++ k ∷ []) is
-          ∙ sym (map_append kept_first (numbered_to n (origin.trees 0)) (with_number (suc n) (origin.trees 0)) ∙ ap (λ rs. map kept_first (numbered_to n (origin.trees 0)) ++ map kept_first rs) one);
+      size = ap length more ∙ length-append (second_rows now) (row ∷ []) ∙ omega (arith, c.size);
+      numbered = subst (AreNumbered 1) (sym more) (more_numbered (second_rows now) id body c.numbered);
+      rows = ap (map kept_of) more ∙ map_append kept_of (second_rows now) (row ∷ []) ∙ ap (λ all. all ++ record { id = id; body = body } ∷ []) c.rows
+          ∙ ap (λ k. map kept_first (numbered_to n (first_rows origin)) ++ k ∷ []) is
+          ∙ sym (map_append kept_first (numbered_to n (first_rows origin)) (with_number (suc n) (first_rows origin)) ∙ ap (λ rs. map kept_first (numbered_to n (first_rows origin)) ++ map kept_first rs) one);
     }
 
 insert_went : (old new : State) (id body : List ℕ) (count : ℕ) → Executes insert_text (given id body) old new (Ok count) → Went old new
@@ -160,7 +161,7 @@ insert_within old new id body (Ok count) clean inside ran = within_went old new 
 
 -- the row that was read, where it is the only one of its number
 abbrev pub IsOnly : ℕ → Database → KeptRow → Type 0
-IsOnly seq db row = (r : Row) × (with_number seq (db.trees 0) ≡ r ∷ []) × (row ≡ kept_first r)
+IsOnly seq db row = (r : Row) × (with_number seq (first_rows db) ≡ r ∷ []) × (row ≡ kept_first r)
 
 pub only_text : (id body : List ℕ) (row : KeptRow) (seq : ℕ) (db : Database) → IsOnly seq db row → id ≡ row.id → body ≡ row.body → IsOnly seq db (record { id = id; body = body })
 only_text id body row seq db only same_id same_body =
@@ -172,7 +173,8 @@ alone_of (x ∷ []) r is least most = ap (λ y. y ∷ []) (sym is)
 alone_of (x ∷ y ∷ xs) r is least most = absurd (omega (arith, most))
 
 pub only_kept : (seq : ℕ) (db : Database) (result : Result KeptRow Error) (row : Row) → IfOk result (λ k. column row 0 ≡ Text k.id) → IfOk result (λ k. column row 1 ≡ Blob k.body)
-    → (r : Row) × (with_number seq (db.trees 0) ≡ r ∷ []) × (row ≡ column r 2 ∷ column r 3 ∷ []) → IfOk result (IsOnly seq db)
+    → (r : Row) × (with_number seq (first_rows db) ≡ r ∷ []) × (row ≡ column r 2 ∷ column r 3 ∷ []) → IfOk result (IsOnly seq db)
+unfolding same_name
 only_kept seq db (Err e) row id body found = tt
 only_kept seq db (Ok k) row id body found =
     let r = found.0 in
@@ -180,7 +182,7 @@ only_kept seq db (Ok k) row id body found =
     let second : k.body ≡ bytes (column r 3) = ap bytes (sym body ∙ ap (λ (x : Row). column x 1) found.2) in
     (r, found.1, ap (λ i. let it : KeptRow = record { id = i; body = k.body } in it) first ∙ ap (λ b. let it : KeptRow = record { id = bytes (column r 2); body = b } in it) second)
 
-pub copies_on : (n : ℕ) (old mid new : State) (id body : List ℕ) (count : ℕ) → IsMoving n old → IsUnchanged old mid → (old.now.schema ≡ both_schema → IsOnly (n + 1) old.now (record { id = id; body = body }))
+pub copies_on : (n : ℕ) (old mid new : State) (id body : List ℕ) (count : ℕ) → IsMoving n old → IsUnchanged old mid → (HasBoth old.now.schema → IsOnly (n + 1) old.now (record { id = id; body = body }))
     → Executes insert_text (given id body) mid new (Ok count) → IsMoving (n + 1) new
 copies_on n old mid new id body count m same only ran =
     let w = insert_went mid new id body count ran in
@@ -192,15 +194,15 @@ copies_on n old mid new id body count m same only ran =
       in_transaction = w.mode ∙ inside;
       schema = kept ∙ m.schema ∙ sym (ap (λ (d : Database). d.schema) base);
       holds = λ both none.
-          let was : old.now.schema ≡ both_schema = sym kept ∙ both in
-          let h = m.holds was (ap (λ (d : Database). d.trees 2) (sym base) ∙ none) in
-          let put = subst (λ d. Puts d new.now id body) same.0.now_is (inserted_both mid new id body count (ap (λ (d : Database). d.schema) same.0.now_is ∙ was) ran).0 in
+          let was : HasBoth old.now.schema = subst HasBoth kept both in
+          let h = m.holds was (ap second_rows (sym base) ∙ none) in
+          let put = subst (λ d. Puts d new.now id body) same.0.now_is (inserted_both mid new id body count (subst (λ (d : Database). HasBoth d.schema) (sym same.0.now_is) was) ran).0 in
           let more = appended old.now new.now id body h.0.numbered put in
           let step : suc n ≡ n + 1 = omega arith in
           let one = only was in
-          let found : with_number (suc n) (old.committed.trees 0) ≡ one.0 ∷ [] = ap (λ rs. with_number (suc n) rs) (sym h.1) ∙ ap (λ k. with_number k (old.now.trees 0)) step ∙ one.1 in
+          let found : with_number (suc n) (first_rows old.committed) ≡ one.0 ∷ [] = ap (λ rs. with_number (suc n) rs) (sym h.1) ∙ ap (λ k. with_number k (first_rows old.now)) step ∙ one.1 in
           let all = copied_more n [] [] [] id body one.0 old.committed old.now new.now h.0.each h.0 found one.2 more in
-          (subst (λ (d : Database). Copied (n + 1) d new.now) (sym base) (subst (λ k. Copied k old.committed new.now) step all), put.first ∙ h.1 ∙ ap (λ (d : Database). d.trees 0) (sym base));
+          (subst (λ (d : Database). Copied (n + 1) d new.now) (sym base) (subst (λ k. Copied k old.committed new.now) step all), put.others accepted.name apart_names.1 ∙ h.1 ∙ ap first_rows (sym base));
     }
 
 -- ---- the first table is cleared
@@ -231,45 +233,24 @@ clear_went old new count h =
     as_delete : (old new : State) (c : Compiled) (params : Row) (count at : ℕ) (q : Program) → c.returning ≡ None → c.command ≡ Delete at q → RunsAlone false old new clear_text c params (Ok count) → Writes old new None (Delete at q) (text_of clear_text c) params count
     as_delete old new c params count at q none is h = rw (none, is) at h
 
-abbrev all_query : Query
-all_query = record {
-  from = inner 0 end;
-  filter = [];
-  group = None;
-  project = col 1 0 ∷ [];
-  distinct = false;
-  collations = [];
-  order = [];
-  limit = lit (Int (negsuc 0));
-  offset = lit (Int (pos 0));
-}
-
-abbrev clear_command : Command
-clear_command = Delete 0 (record { lets = []; body = all_query })
-
-clear_is : command_of (understood both_schema clear_text) ≡ clear_command
-unfolding understood everything
-clear_is = refl
-
-clear_plain : IsPlain (understood both_schema clear_text)
-unfolding understood everything
-clear_plain = (refl, refl)
-
 -- the second table stays
-clear_keeps : (old new : State) (count : ℕ) → old.now.schema ≡ both_schema → Executes clear_text [] old new (Ok count) → new.now.trees 2 ≡ old.now.trees 2
-clear_keeps old new count has h =
-    let w = runs_as clear_text [] old new both_schema has clear_command clear_is clear_plain count h in
+clear_keeps : (old new : State) (count : ℕ) → HasBoth old.now.schema → Executes clear_text [] old new (Ok count) → second_rows new.now ≡ second_rows old.now
+clear_keeps old new count b h =
+    let schema = old.now.schema in
     let db = old.now.trees in
-    let text = statement_of clear_text (understood both_schema clear_text) in
-    let done = went (subst (λ s. Does old.step_limit (mode_of old) [] (record old.now { schema = s }) text None clear_command (Ok (w.tally, new.now))) has w.changed) in
+    let p = place accepted schema b.first in
+    let r = ran_as old new clear_text [] count h in
+    let k = clears_known schema r.c p.at p.named r.statement.is in
+    let w = runs_as clear_text [] old new schema refl (Delete p.at k.0) k.1.is k.1.plain count h in
+    let done = went (subst (λ o. AtPlace (λ table. OnRows (record { limit = old.step_limit; keys = (mode_of old).keys; schema = schema; table = table; params = [] }) (mode_of old) None (Delete p.at k.0) db) o (Ok (w.tally, new.now))) p.there w.changed) in
     let both = same_value (went (went done.2).2).2 in
     let now = ap (λ (p : Tally × Database). p.1) both in
-    let given_rows = went done.1 in
-    let written = went given_rows.2 in
-    let trees : done.0.trees ≡ written.0 = ap (λ (it : Written). it.trees) (same_value written.2) in
-    let applied = one_step both_schema _ db written.0 (edit_of db accepted (ids_of given_rows.0) Given 0 []) refl written.1 in
-    let same_trees = ap (λ (d : Database). d.trees) now ∙ trees in
-    ap (λ (t : Trees). t 2) same_trees ∙ applied.others 2 (λ e. apart 0 2 (omega arith) (sym e)) (apart 1 2 (omega arith), (λ e. apart 2 3 (omega arith) (sym e), tt))
+    let written = went (went done.1).2 in
+    let next : Database = record old.now { trees = written.0 } in
+    let same : new.now ≡ next = now ∙ ap (λ (it : Written). let d : Database = record old.now { trees = it.trees } in d) (same_value written.2) in
+    let at = (found_in (λ (t : Table). same_name t.name second.name) schema.tables _ b.second.found).0 in
+    let spared = writes_spare schema _ (second_in b.second.tree) at (is_free schema.tables _ b.apart at refl) db written.0 _ (both_apart schema b) written.1 in
+    ap second_rows same ∙ rows_there second next b.second ∙ spared ∙ sym (rows_there second old.now b.second)
 
 pub clear_within : (old new : State) (r : Result ℕ Error) → (HasCleanDisk new → HasCleanDisk old) → (HasCleanDisk old → old.in_transaction ≡ true) → (HasCleanDisk new → Executes clear_text [] old new r) → IsWithin old new
 clear_within old new (Err e) clean inside ran = left_within old new clean inside (λ c. after_refusal old new clear_text [] e (ran c))
@@ -285,7 +266,7 @@ no_rows : (rows : List Row) → 0 ≡ length rows → rows ≡ []
 no_rows [] h = refl
 no_rows (r ∷ rows) h = absurd (omega (arith, h))
 
-pub clear_clears : (old mid new : State) (count : ℕ) → Executes clear_text [] old mid (Ok count) → IsUnchanged mid new → (mid.now.schema ≡ both_schema → 0 ≡ length (mid.now.trees 0)) → (n : ℕ) → IsMoving n old → IsCleared n new
+pub clear_clears : (old mid new : State) (count : ℕ) → Executes clear_text [] old mid (Ok count) → IsUnchanged mid new → (HasBoth mid.now.schema → 0 ≡ length (first_rows mid.now)) → (n : ℕ) → IsMoving n old → IsCleared n new
 clear_clears old mid new count ran same none n m =
     let w = clear_went old mid count ran in
     let base : new.committed ≡ old.committed = same.0.committed_is ∙ w.committed ∙ ap (λ b. if b then old.committed else mid.now) m.in_transaction in
@@ -295,11 +276,11 @@ clear_clears old mid new count ran same none n m =
       in_transaction = same.0.mode ∙ w.mode ∙ m.in_transaction;
       schema = kept ∙ m.schema ∙ sym (ap (λ (d : Database). d.schema) base);
       holds = λ both empty.
-          let was : old.now.schema ≡ both_schema = sym kept ∙ both in
-          let h = m.holds was (ap (λ (d : Database). d.trees 2) (sym base) ∙ empty) in
-          let rows : new.now.trees 2 ≡ old.now.trees 2 = ap (λ (d : Database). d.trees 2) same.0.now_is ∙ clear_keeps old mid count was ran in (
+          let was : HasBoth old.now.schema = subst HasBoth kept both in
+          let h = m.holds was (ap second_rows (sym base) ∙ empty) in
+          let rows : second_rows new.now ≡ second_rows old.now = ap second_rows same.0.now_is ∙ clear_keeps old mid count was ran in (
             subst (λ (d : Database). Copied n d new.now) (sym base) (record { each = h.0.each; size = ap length rows ∙ h.0.size; numbered = subst (AreNumbered 1) (sym rows) h.0.numbered; rows = ap (map kept_of) rows ∙ h.0.rows }),
-            ap (λ (d : Database). d.trees 0) same.0.now_is ∙ no_rows (mid.now.trees 0) (none (w.schema ∙ was)),
+            ap first_rows same.0.now_is ∙ no_rows (first_rows mid.now) (none (subst HasBoth (sym w.schema) was)),
           );
     }
 
@@ -407,9 +388,6 @@ moved_from n a b c clean within m = record {
   moved = subst (λ d. Moves n d c.now) (within.committed clean m.was_open) m.moved;
 }
 
-pub moved_rests : (n : ℕ) (old new : State) → (HasCleanDisk new → IsMoved n old new) → Rests new
-moved_rests n old new moved = λ c. record { autocommit = (moved c).autocommit; settled = λ live. (moved c).committed }
-
 -- ---- the list
 
 pub keeps_trans : (a b c : State) → KeepsList a b → (HasCleanDisk b → b.in_transaction ≡ false) → KeepsList b c → KeepsList a c
@@ -420,17 +398,6 @@ keeps_trans a b c p rest q = record {
     told = λ t. let it = q.recalls.told t in let before = p.recalls.told it.0 in (before.0, it.1 ∙ before.1);
   };
   stays = λ t h live auto. let was = q.recalls.clean h in q.stays (p.stays t was (q.recalls.was_open h live) (rest was)) h live auto;
-}
-
--- the two tables, made in turn
-pub tables_keep : (a b c : State) → KeepsList a b → (HasCleanDisk b → TellsStore a → HasObject b) → Rests b → Recalls b c → (HasObject b → StaysListed b c) → KeepsList a c
-tables_keep a b c p made rest q stays = record {
-  recalls = record {
-    clean = λ h. p.recalls.clean (q.clean h);
-    was_open = λ h live. p.recalls.was_open (q.clean h) (q.was_open h live);
-    told = λ t. let it = q.told t in let before = p.recalls.told it.0 in (before.0, it.1 ∙ before.1);
-  };
-  stays = λ t h live auto. let was = q.clean h in stays (made was t) (p.stays t was (q.was_open h live) (rest was).autocommit) h live auto;
 }
 
 -- the count that is read from the answer
@@ -459,36 +426,52 @@ within_keeps old new rest w = record {
       | inr undone ↦ undone ∙ w.committed h live ∙ sym ((rest (w.clean h)).settled (w.was_open h live))
     ]
 
-lacks_one : has_kept_tables accepted_schema ≡ false
-unfolding everything
-lacks_one = refl
+front_of : (a b : Bool) → (a && b) ≡ true → a ≡ true
+front_of true b h = refl
+front_of false b h = h
 
-lacks_two : has_kept_tables no_schema ≡ false
-unfolding everything
-lacks_two = refl
+back_of : (a b : Bool) → (a && b) ≡ true → b ≡ true
+back_of true b h = h
+back_of false b h = absurd (let e = h in cc)
 
-without : {X : Type 0} (db : Database) (b : Bool) → IsTrue (has_kept_tables db.schema) → has_kept_tables db.schema ≡ false → X
-without db b has lacks = absurd (let e = sym has ∙ lacks in cc)
+-- a table that passes the test of attach is found
+never_none : {X : Type 0} (p q : Table → Bool) (tables : List Table) → ((t : Table) → q t ≡ true → p t ≡ true) → list_any q tables ≡ true → find p tables ≡ None → X
+never_none p q [] so any none = absurd (let e = any in cc)
+never_none p q (t ∷ tables) so any none = elim (cases_Bool (p t)) [
+  | inl found ↦ absurd (let e = rw found at none in cc)
+  | inr past ↦ elim (cases_Bool (q t)) [
+    | inl passes ↦ never_both (p t) (so t passes) past
+    | inr fails ↦ never_none p q tables so (rw fails at any) (rw past at none)
+  ]
+]
 
--- of the stores whose list is told, the one with both tables
-pub store_both : (db : Database) → IsTrue (has_kept_tables db.schema) → ListsStore db → db.schema ≡ both_schema
-store_both db has (inl none) = without db true has (ap has_kept_tables none ∙ lacks_two)
-store_both db has (inr (inl (inl one, each))) = without db true has (ap has_kept_tables one ∙ lacks_one)
-store_both db has (inr (inl (inr both, each))) = both.0
-store_both db has (inr (inr rows)) = rows.schema
+there_by : (made : Table) (schema : Schema) (q : Table → Bool) → ((t : Table) → q t ≡ true → same_name t.name made.name ≡ true) → list_any q schema.tables ≡ true → IsAsMade made schema → HasTable made schema
+there_by made schema q so any (inl none) = never_none (λ t. same_name t.name made.name) q schema.tables so any none
+there_by made schema q so any (inr there) = there
+
+-- of the stores whose list is told, one with both tables
+pub store_both : (db : Database) → IsTrue (has_kept_tables db.schema) → ListsStore db → HasBoth db.schema
+store_both db has l = record {
+  first = there_by accepted db.schema is_kept_table (λ t h. front_of (same_name t.name accepted.name) (are_kept_columns t.columns) (front_of (same_name t.name accepted.name && are_kept_columns t.columns) (is_keyed t) h)) (front_of (has_first db.schema) (has_second db.schema) has) l.first;
+  second = there_by second db.schema is_second_table (λ t h. front_of (same_name t.name second.name) (are_second_columns t.columns) (front_of (same_name t.name second.name && are_second_columns t.columns) (is_keyed t) h)) (back_of (has_first db.schema) (has_second db.schema) has) l.second;
+  apart = l.apart;
+}
+
+lists_store : (db : Database) → ListsRows db → ListsStore db
+lists_store db l = record { first = inr l.tables.first; second = inr l.tables.second; apart = l.tables.apart; rows = inr (l.first, l.numbered) }
 
 -- what the rows were moved to has the list
-pub moves_list : (n : ℕ) (old now : Database) → Moves n old now → old.schema ≡ both_schema → n ≡ length (old.trees 0) → old.trees 2 ≡ [] → ListsRows now × (kept_rows now ≡ kept_rows old)
+pub moves_list : (n : ℕ) (old now : Database) → Moves n old now → HasBoth old.schema → n ≡ length (first_rows old) → second_rows old ≡ [] → ListsRows now × (kept_rows now ≡ kept_rows old)
 moves_list n old now m has size empty =
-    let both = m.schema ∙ has in
+    let both = subst HasBoth (sym m.schema) has in
     let it = m.holds both empty in (
-      record { schema = both; first = it.1; numbered = it.0.numbered },
-      kept_two now both ∙ ap (λ first. listed first (now.trees 2)) it.1 ∙ it.0.rows ∙ ap (λ k. map kept_first (numbered_to k (old.trees 0))) size ∙ sym (kept_two old has ∙ ap (listed (old.trees 0)) empty ∙ append-nil _),
+      record { tables = both; first = it.1; numbered = it.0.numbered },
+      ap (λ first. listed first (second_rows now)) it.1 ∙ it.0.rows ∙ ap (λ k. map kept_first (numbered_to k (first_rows old))) size ∙ sym (ap (listed (first_rows old)) empty ∙ append-nil _),
     )
 
 -- all rows were moved, and the list stays
 pub moved_keeps : (n : ℕ) (old new : State) → Rests old → IsTrue (has_kept_tables old.now.schema) → (HasCleanDisk new → HasCleanDisk old)
-    → (HasCleanDisk new → old.now.schema ≡ both_schema → n ≡ length (old.now.trees 0)) → (HasCleanDisk new → old.now.schema ≡ both_schema → 0 ≡ length (old.now.trees 2))
+    → (HasCleanDisk new → HasBoth old.now.schema → n ≡ length (first_rows old.now)) → (HasCleanDisk new → HasBoth old.now.schema → 0 ≡ length (second_rows old.now))
     → (HasCleanDisk new → IsMoved n old new) → KeepsList old new
 moved_keeps n old new rest tables clean size none moved = record {
   recalls = record {
@@ -498,17 +481,17 @@ moved_keeps n old new rest tables clean size none moved = record {
         let h = t.clean in
         let at_rest = rest (clean h) in
         let m = moves h in
-        let has : old.now.schema ≡ both_schema = sym m.schema ∙ store_both new.now (subst (λ s. IsTrue (has_kept_tables s)) (sym m.schema) tables) t.listed in
-        let empty = no_rows (old.now.trees 2) (none h has) in
-        let each = subst (λ k. HaveEach k (old.now.trees 0)) (size h has) (m.holds (m.schema ∙ has) empty).0.each in (
-          record { clean = clean h; is_open = (moved h).was_open; autocommit = at_rest.autocommit; committed = at_rest.settled (moved h).was_open; listed = inr (inl (inr (has, empty), each)) },
+        let has : HasBoth old.now.schema = subst HasBoth m.schema (store_both new.now (subst (λ s. IsTrue (has_kept_tables s)) (sym m.schema) tables) t.listed) in
+        let empty = no_rows (second_rows old.now) (none h has) in
+        let each = subst (λ k. HaveEach k (first_rows old.now)) (size h has) (m.holds (subst HasBoth (sym m.schema) has) empty).0.each in (
+          record { clean = clean h; is_open = (moved h).was_open; autocommit = at_rest.autocommit; committed = at_rest.settled (moved h).was_open; listed = record { first = inr has.first; second = inr has.second; apart = has.apart; rows = inl (each, empty) } },
           (moves_list n old.now new.now m has (size h has) empty).1,
         );
   };
   stays = λ t h live auto.
       let has = store_both old.now tables t.listed in
-      let it = moves_list n old.now new.now (moves h) has (size h has) (no_rows (old.now.trees 2) (none h has)) in
-      record { clean = h; is_open = live; autocommit = auto; committed = (moved h).committed; listed = inr (inr it.0) };
+      let it = moves_list n old.now new.now (moves h) has (size h has) (no_rows (second_rows old.now) (none h has)) in
+      record { clean = h; is_open = live; autocommit = auto; committed = (moved h).committed; listed = lists_store new.now it.0 };
 }
   where
     moves : HasCleanDisk new → Moves n old.now new.now
@@ -516,48 +499,23 @@ moved_keeps n old new rest tables clean size none moved = record {
 
 -- from before the rows were counted, in between
 pub emptied_keeps : {A : Type 0} (n : ℕ) (a c d : State) (r : Result A Error) → Rests a → IsTrue (has_kept_tables a.now.schema) → IsWithin a c → (HasCleanDisk d → HasCleanDisk c)
-    → (HasCleanDisk c → a.now.schema ≡ both_schema → n ≡ length (a.now.trees 0)) → (HasCleanDisk c → a.now.schema ≡ both_schema → 0 ≡ length (a.now.trees 2))
+    → (HasCleanDisk c → HasBoth a.now.schema → n ≡ length (first_rows a.now)) → (HasCleanDisk c → HasBoth a.now.schema → 0 ≡ length (second_rows a.now))
     → (HasCleanDisk d → OnOk r (IsMoved n c d)) → OnErr r (IsWithin c d) → KeepsList a d
 emptied_keeps n a c d (Ok x) rest tables within clean size none moved undone =
     moved_keeps n a d rest tables (λ h. within.clean (clean h)) (λ h. size (clean h)) (λ h. none (clean h)) (λ h. moved_from n a c d (clean h) within (moved h))
 emptied_keeps n a c d (Err e) rest tables within clean size none moved undone = within_keeps a d rest (within_trans a c d within undone)
 
-pub moved_ready : (n : ℕ) (old new : State) → Rests old → IsTrue (has_kept_tables old.now.schema) → (HasCleanDisk new → HasCleanDisk old)
-    → (HasCleanDisk old → old.now.schema ≡ both_schema → 0 ≡ length (old.now.trees 2)) → HasCleanDisk new → IsMoved n old new → IsReady new × (new.now.schema ≡ old.now.schema)
-moved_ready n old new rest tables clean none h m =
-    let was = (rest (clean h)).settled m.was_open in
-    let kept : new.now.schema ≡ old.now.schema = m.moved.schema ∙ ap (λ (d : Database). d.schema) (sym was) in (
-      record {
-        is_open = m.is_open;
-        autocommit = m.autocommit;
-        tables = subst (λ s. IsTrue (has_kept_tables s)) (sym kept) tables;
-        first = λ both. (m.moved.holds both (ap (λ (d : Database). d.trees 2) (sym was) ∙ no_rows (old.now.trees 2) (none (clean h) (sym kept ∙ both)))).1;
-      },
-      kept,
-    )
-
--- a store whose first table is empty
-pub empty_ready : (old new : State) → Rests old → IsTrue (has_kept_tables old.now.schema) → HasCleanDisk old → IsUnchanged old new → (old.now.schema ≡ both_schema → 0 ≡ length (old.now.trees 0)) → IsReady new
-empty_ready old new rest tables h same none = record {
-  is_open = same.0.is_open;
-  autocommit = same.0.mode ∙ (rest h).autocommit;
-  tables = subst (λ (d : Database). IsTrue (has_kept_tables d.schema)) (sym same.0.now_is) tables;
-  first = λ both. ap (λ (d : Database). d.trees 0) same.0.now_is ∙ no_rows (old.now.trees 0) (none (ap (λ (d : Database). d.schema) (sym same.0.now_is) ∙ both));
-}
-
 -- a list that is told, with the first table empty, is told of the second
 pub ready_tells : (s : State) → IsReady s → TellsStore s → TellsRows s
-ready_tells s r t = record { clean = t.clean; is_open = t.is_open; autocommit = t.autocommit; committed = t.committed; listed = rows_of s.now r.tables (r.first (store_both s.now r.tables t.listed)) t.listed }
-  where
-    rows_of : (db : Database) → IsTrue (has_kept_tables db.schema) → db.trees 0 ≡ [] → ListsStore db → ListsRows db
-    rows_of db has empty (inl none) = without db true has (ap has_kept_tables none ∙ lacks_two)
-    rows_of db has empty (inr (inl (inl one, each))) = without db true has (ap has_kept_tables one ∙ lacks_one)
-    rows_of db has empty (inr (inl (inr both, each))) = record { schema = both.0; first = empty; numbered = subst (AreNumbered 1) (sym both.1) tt }
-    rows_of db has empty (inr (inr rows)) = rows
+ready_tells s r t =
+    let both = store_both s.now r.tables t.listed in
+    let empty = r.first both in
+    let numbered : AreNumbered 1 (second_rows s.now) = elim t.listed.rows [ inl first ↦ subst (AreNumbered 1) (sym first.1) tt | inr rows ↦ rows.1 ] in
+    record { clean = t.clean; is_open = t.is_open; autocommit = t.autocommit; committed = t.committed; listed = record { tables = both; first = empty; numbered = numbered } }
 
 -- and the other way
 pub tells_store : (s : State) → TellsRows s → TellsStore s
-tells_store s t = record { clean = t.clean; is_open = t.is_open; autocommit = t.autocommit; committed = t.committed; listed = inr (inr t.listed) }
+tells_store s t = record { clean = t.clean; is_open = t.is_open; autocommit = t.autocommit; committed = t.committed; listed = lists_store s.now t.listed }
 
 -- ---- what a crash leaves
 
@@ -633,8 +591,8 @@ move_survives n a b c within begun one two = survives_then a b c CommitsNone (Co
     (λ h db made. let was = was_clean two h in subst (λ d. CommitsMove n d db) (within.committed was (begun was).is_open) made) one two
 
 -- and so from before the rows were counted, of a list that was told
-pub list_survives : (n : ℕ) (a b c d : State) → IsTrue (has_kept_tables a.now.schema) → Survives a b CommitsNone → (HasCleanDisk b → IsUnchanged a b) → (HasCleanDisk b → a.now.schema ≡ both_schema → n ≡ length (a.now.trees 0))
-    → Survives b c CommitsNone → (HasCleanDisk c → IsUnchanged b c) → (HasCleanDisk c → b.now.schema ≡ both_schema → 0 ≡ length (b.now.trees 2)) → Survives c d (CommitsMove n c.committed) → Survives a d (CommitsList a)
+pub list_survives : (n : ℕ) (a b c d : State) → IsTrue (has_kept_tables a.now.schema) → Survives a b CommitsNone → (HasCleanDisk b → IsUnchanged a b) → (HasCleanDisk b → HasBoth a.now.schema → n ≡ length (first_rows a.now))
+    → Survives b c CommitsNone → (HasCleanDisk c → IsUnchanged b c) → (HasCleanDisk c → HasBoth b.now.schema → 0 ≡ length (second_rows b.now)) → Survives c d (CommitsMove n c.committed) → Survives a d (CommitsList a)
 list_survives n a b c d tables one same_one size two same_two none moves =
     survives_then a c d CommitsNone (CommitsMove n c.committed) (CommitsList a) (λ h db nothing. absurd nothing) (λ h db made t.
     let at_c = was_clean moves h in
@@ -643,9 +601,9 @@ list_survives n a b c d tables one same_one size two same_two none moves =
     let both = store_both a.now tables t.listed in
     let base : c.committed ≡ a.now = (same_two at_c).0.committed_is ∙ first.committed_is ∙ sym t.committed in
     let m : Moves n a.now made.0 = subst (λ d. Moves n d made.0) base made.1 in
-    let few : 0 ≡ length (a.now.trees 2) = none at_c (ap (λ (d : Database). d.schema) first.now_is ∙ both) ∙ ap (λ (d : Database). length (d.trees 2)) first.now_is in
-    let it = moves_list n a.now made.0 m both (size at_b both) (no_rows (a.now.trees 2) few) in
-    record { found = made.0; sound = m.sound; trees = made.2; listed = inr (inr it.0); rows = it.1 }) (none_first a b c CommitsNone one two) moves
+    let few : 0 ≡ length (second_rows a.now) = none at_c (subst (λ (d : Database). HasBoth d.schema) (sym first.now_is) both) ∙ ap (λ (d : Database). length (second_rows d)) first.now_is in
+    let it = moves_list n a.now made.0 m both (size at_b both) (no_rows (second_rows a.now) few) in
+    record { found = made.0; sound = m.sound; trees = made.2; listed = lists_store made.0 it.0; rows = it.1 }) (none_first a b c CommitsNone one two) moves
 
 -- after one that left the list told
 pub list_then : (a b c : State) (P : Trees → Type 0) → KeepsList a b → (HasCleanDisk b → TellsStore a → TellsStore b) → (HasCleanDisk b → TellsStore a → (db : Trees) → P db → CommitsList b db)

@@ -1,5 +1,5 @@
 -- The tables of the kept submissions: `accepted` of the first version of a store, and `accepted2`.
-use Rattle.std.specs.Prelude.{true, false, ◌&&◌, ◌==◌, [], ◌∷◌, Some, codes, ℕ, List, Bool}
+use Rattle.std.specs.Prelude.{◌≡◌, ◌≢◌, ◌⊎◌, true, false, ◌&&◌, ◌==◌, [], ◌∷◌, Option, Some, None, codes, find, ℕ, List, Bool}
 use Rattle.std.specs.List.{list_any}
 use Rattle.sqlite.specs.Collation.TheVariants.{Binary}
 use Rattle.sqlite_value.specs.Keys.{plain}
@@ -10,14 +10,7 @@ use Rattle.sqlite.specs.Table.{Table}
 use Rattle.sqlite.specs.Schema.{Schema}
 use Rattle.sqlite.specs.Kind.{Kind}
 use Rattle.sqlite.specs.Kind.TheVariants.{Integer, Text, Any}
-use Rattle.sqlite.specs.Change.{created}
-
--- the tables' numbers in a store that had no other
-abbrev pub accepted_tree : ℕ
-accepted_tree = 0
-
-abbrev pub second_tree : ℕ
-second_tree = 2
+use Rattle.sqlite_trees.specs.Tree.{IsAscending}
 
 -- a column without a default
 abbrev pub column_of : List ℕ → Kind → Bool → Column
@@ -52,23 +45,36 @@ accepted = record {
 abbrev pub second : Table
 second = record accepted {
   name = codes "accepted2";
-  tree = 2;
   columns = column_of (codes "seq") Integer false ∷ column_of (codes "id") Text true
       ∷ column_of (codes "format") Integer true ∷ column_of (codes "body") Any true ∷ [];
 }
 
-abbrev pub no_schema : Schema
-no_schema = record { tables = []; indexes = []; views = [] }
+-- ---- which tables a store has, whatever else it has
 
--- the first table and its automatic index, in a store that had no object
-abbrev pub accepted_schema : Schema
-accepted_schema = created no_schema accepted
+-- the table of this name
+abbrev pub table_of : List ℕ → Schema → Option Table
+table_of name schema = find (λ t. same_name t.name name) schema.tables
 
--- both tables, the first made before the second
-abbrev pub both_schema : Schema
-both_schema = created accepted_schema second
+-- its name finds it as it is made here, in some tree
+pub record HasTable (made : Table) (schema : Schema) : Type 0 where
+  pub tree : ℕ
+  pub found : table_of made.name schema ≡ Some (record made { tree = tree })
 
--- ---- whether a store has them
+-- no table has its name, or it is there
+abbrev pub IsAsMade : Table → Schema → Type 0
+IsAsMade made schema = (table_of made.name schema ≡ None) ⊎ HasTable made schema
+
+-- each table has a tree of its own
+abbrev pub AreApart : Schema → Type 0
+AreApart schema = IsAscending (λ s t. s.tree ≢ t.tree) schema.tables
+
+-- both are there
+pub record HasBoth (schema : Schema) : Type 0 where
+  pub first : HasTable accepted schema
+  pub second : HasTable second schema
+  pub apart : AreApart schema
+
+-- ---- the test that attach makes
 
 abbrev pub is_integer : Kind → Bool
 is_integer Integer = true

@@ -1,5 +1,5 @@
 -- The kept rows as the tables have them.
-use Rattle.std.specs.Prelude.{◌≡◌, ◌⊎◌, ℕ, zero, suc, ◌+◌, pos, Bool, true, false, length, ◌==◌, if◌then◌else◌, List, [], ◌∷◌, ◌++◌, map, filter, None, Result, ⊤, IsErr, IsTrue}
+use Rattle.std.specs.Prelude.{◌≡◌, ◌⊎◌, ℕ, zero, suc, ◌+◌, pos, Bool, true, false, length, List, [], ◌∷◌, ◌++◌, map, filter, codes, Option, Some, None, option_map, unwrap_or, Result, ⊤, IsErr, IsTrue}
 use Rattle.sqlite_disk.specs.Disk.{MoreFaults}
 use Rattle.sqlite.specs.declared.types.Value.TheVariants.{Null, Int, Text, Blob}
 use Rattle.sqlite.specs.Order.{Row, column, bytes}
@@ -9,7 +9,10 @@ use Rattle.sqlite.specs.Effect.{Database}
 use Rattle.sqlite.specs.State.{State, HasCleanDisk}
 use Rattle.ghg_units.specs.Format.{format_in}
 use Rattle.ghg_keeper.specs.declared.row.KeptRow.{KeptRow}
-use Rattle.ghg_keeper.specs.Accepted.{accepted_tree, second_tree, accepted_schema, both_schema, no_schema}
+use Rattle.sqlite.specs.Table.{Table}
+use Rattle.sqlite.specs.declared.types.Value.{Value}
+use Rattle.sqlite_schema.specs.Names.{column_named, place_of, same_name}
+use Rattle.ghg_keeper.specs.Accepted.{AreApart, HasBoth, IsAsMade, accepted, second, table_of}
 use Rattle.ghg_keeper.specs.Shelf.{Shelf}
 
 -- ---- what the tables hold
@@ -37,35 +40,52 @@ abbrev pub HaveEach : ℕ → List Row → Type 0
 HaveEach zero rows = ⊤
 HaveEach (suc n) rows = HaveEach n rows × (length (with_number (suc n) rows) ≡ 1)
 
--- the second table has the rows, and the first is empty
-pub record ListsRows (db : Database) : Type 0 where
-  pub schema : db.schema ≡ both_schema
-  pub first : db.trees accepted_tree ≡ []
-  pub numbered : AreNumbered 1 (db.trees second_tree)
+-- the rows of the table of this name, none where it is not there
+abbrev pub rows_in : Trees → Option Table → List Row
+rows_in db None = []
+rows_in db (Some table) = db table.tree
 
--- the first table is the only one, or the second is empty
-abbrev pub HasFirst : Database → Type 0
-HasFirst db =
-    (db.schema ≡ accepted_schema) ⊎ ((db.schema ≡ both_schema) × (db.trees second_tree ≡ []))
+abbrev pub rows_of : List ℕ → Database → List Row
+rows_of name db = rows_in db.trees (table_of name db.schema)
 
--- nothing yet, or the rows in one table, beside which the other is missing or empty
-abbrev pub ListsStore : Database → Type 0
-ListsStore db =
-    (db.schema ≡ no_schema)
-    ⊎ ((HasFirst db × HaveEach (length (db.trees accepted_tree)) (db.trees accepted_tree)) ⊎ ListsRows db)
-
--- the rows of each table, none where it is not there yet
 abbrev pub first_rows : Database → List Row
-first_rows db = if length db.schema.tables == 0 then [] else db.trees accepted_tree
+first_rows = rows_of accepted.name
 
 abbrev pub second_rows : Database → List Row
-second_rows db = if length db.schema.tables == 2 then db.trees second_tree else []
+second_rows = rows_of second.name
+
+-- both tables are there, the second has the rows, and the first is empty
+pub record ListsRows (db : Database) : Type 0 where
+  pub tables : HasBoth db.schema
+  pub first : first_rows db ≡ []
+  pub numbered : AreNumbered 1 (second_rows db)
+
+-- one table has the rows, and the other has none
+abbrev pub AreInOne : List Row → List Row → Type 0
+AreInOne first rows = (HaveEach (length first) first × (rows ≡ [])) ⊎ ((first ≡ []) × AreNumbered 1 rows)
+
+-- each table is there or not yet, and the rows are in one of them
+pub record ListsStore (db : Database) : Type 0 where
+  pub first : IsAsMade accepted db.schema
+  pub second : IsAsMade second db.schema
+  pub apart : AreApart db.schema
+  pub rows : AreInOne (first_rows db) (second_rows db)
+
+-- the value in the column of this name
+abbrev pub value_of : Table → List ℕ → Row → Value
+value_of table name r = column r (unwrap_or (option_map (place_of table) (column_named table name)) 0)
+
+abbrev pub kept_in : Table → Row → KeptRow
+kept_in table r = record {
+  id = bytes (value_of table (codes "id") r);
+  body = bytes (value_of table (codes "body") r);
+}
 
 abbrev pub kept_first : Row → KeptRow
-kept_first r = record { id = bytes (column r 2); body = bytes (column r 3) }
+kept_first = kept_in accepted
 
 abbrev pub kept_of : Row → KeptRow
-kept_of r = record { id = bytes (column r 2); body = bytes (column r 4) }
+kept_of = kept_in second
 
 -- the kept rows of a database, in the order of their numbers; one of the tables has none
 abbrev pub kept_rows : Database → List KeptRow
@@ -117,27 +137,32 @@ pub record IsAtRest (s : State) : Type 0 where
 abbrev pub Stays : State → State → Type 0
 Stays old new = TellsRows new → TellsRows old × (new.now ≡ old.now)
 
+-- each table but the second has the rows that it had
+abbrev pub KeepsOthers : Database → Database → Type 0
+KeepsOthers old now =
+    (name : List ℕ) → same_name second.name name ≡ false → rows_of name now ≡ rows_of name old
+
 -- an insert that was made
 pub record Appends (old new : State) (id body : List ℕ) : Type 0 where
   pub told : TellsRows old
-  pub schema : new.now.schema ≡ both_schema
-  pub first : new.now.trees accepted_tree ≡ []
-  pub rows : new.now.trees second_tree
-      ≡ old.now.trees second_tree ++ stored (length (old.now.trees second_tree) + 1) id body ∷ []
-  pub number : new.last_rowid ≡ pos (length (old.now.trees second_tree) + 1)
+  pub schema : new.now.schema ≡ old.now.schema
+  pub others : KeepsOthers old.now new.now
+  pub rows : second_rows new.now
+      ≡ second_rows old.now ++ stored (length (second_rows old.now) + 1) id body ∷ []
+  pub number : new.last_rowid ≡ pos (length (second_rows old.now) + 1)
 
 -- ---- what a crash leaves
 
--- the trees have the same list of tables, the second table has these rows, and the first has its own
+-- the trees have the same list of tables, the second table has these rows, and each other has its own
 pub record HoldsRows (now : Database) (rows : List Row) (db : Trees) : Type 0 where
   pub catalog : db catalog_tree ≡ now.trees catalog_tree
-  pub first : db accepted_tree ≡ now.trees accepted_tree
-  pub table : db second_tree ≡ rows
+  pub others : KeepsOthers now (record now { trees = db })
+  pub table : second_rows (record now { trees = db }) ≡ rows
 
 -- the rows as they were, or with the new one
 abbrev pub IsBeforeOrAfter : Database → List ℕ → List ℕ → Trees → Type 0
 IsBeforeOrAfter now id body db =
-    let rows = now.trees second_tree in
+    let rows = second_rows now in
     HoldsRows now rows db ⊎ HoldsRows now (rows ++ stored (length rows + 1) id body ∷ []) db
 
 -- What is safe after a call of the database, where the rows are told as this says. A crash at the end of the

@@ -1,19 +1,19 @@
 -- The move of the rows to the second table, in one transaction.
-use Rattle.std.specs.Prelude.{◌≡◌, ◌≢◌, ◌⊎◌, ℕ, true, false, List, length, [], map, IsTrue}
+use Rattle.std.specs.Prelude.{◌≡◌, ◌⊎◌, ℕ, true, false, List, length, [], map, IsTrue}
 use Rattle.sqlite_trees.specs.Tree.{Trees}
 use Rattle.sqlite.specs.Effect.{Database, IsDatabase}
 use Rattle.ghg_keeper.specs.declared.row.KeptRow.{KeptRow}
 use Rattle.sqlite.specs.State.{State, HasCleanDisk, IsRolledBack, IsUnchanged}
-use Rattle.ghg_keeper.specs.Accepted.{accepted_tree, second_tree, both_schema, has_kept_tables, no_schema}
-use Rattle.ghg_keeper.specs.Listed.{AreNumbered, HaveEach, IsAtRest, ListsStore, TellsStore, kept_first, kept_of, kept_rows, numbered_to}
+use Rattle.ghg_keeper.specs.Accepted.{HasBoth, has_kept_tables}
+use Rattle.ghg_keeper.specs.Listed.{AreNumbered, HaveEach, IsAtRest, ListsStore, TellsStore, first_rows, kept_first, kept_of, kept_rows, numbered_to, second_rows}
 
 -- the second table has the first rows of the first one, up to this number
 pub record Copied (count : ℕ) (old now : Database) : Type 0 where
-  pub each : HaveEach count (old.trees accepted_tree)
-  pub size : length (now.trees second_tree) ≡ count
-  pub numbered : AreNumbered 1 (now.trees second_tree)
-  pub rows : map kept_of (now.trees second_tree)
-      ≡ map kept_first (numbered_to count (old.trees accepted_tree))
+  pub each : HaveEach count (first_rows old)
+  pub size : length (second_rows now) ≡ count
+  pub numbered : AreNumbered 1 (second_rows now)
+  pub rows : map kept_of (second_rows now)
+      ≡ map kept_first (numbered_to count (first_rows old))
 
 -- A transaction is open that left the tables. Where they are both there, and the second was empty at the last
 -- commit, this holds.
@@ -21,16 +21,16 @@ pub record InMove (s : State) (Holds : Type 0) : Type 0 where
   pub is_open : IsTrue s.is_open
   pub in_transaction : s.in_transaction ≡ true
   pub schema : s.now.schema ≡ s.committed.schema
-  pub holds : s.now.schema ≡ both_schema → s.committed.trees second_tree ≡ [] → Holds
+  pub holds : HasBoth s.now.schema → second_rows s.committed ≡ [] → Holds
 
 -- the rows up to this number are copied, and the first table is unchanged
 abbrev pub IsMoving : ℕ → State → Type 0
 IsMoving count s =
-    InMove s (Copied count s.committed s.now × (s.now.trees accepted_tree ≡ s.committed.trees accepted_tree))
+    InMove s (Copied count s.committed s.now × (first_rows s.now ≡ first_rows s.committed))
 
 -- the rows up to this number are copied, and the first table is empty
 abbrev pub IsCleared : ℕ → State → Type 0
-IsCleared count s = InMove s (Copied count s.committed s.now × (s.now.trees accepted_tree ≡ []))
+IsCleared count s = InMove s (Copied count s.committed s.now × (first_rows s.now ≡ []))
 
 -- the transaction was committed
 pub record IsCommitted (old new : State) : Type 0 where
@@ -44,8 +44,8 @@ pub record IsCommitted (old new : State) : Type 0 where
 pub record Moves (count : ℕ) (old now : Database) : Type 0 where
   pub sound : IsDatabase now
   pub schema : now.schema ≡ old.schema
-  pub holds : now.schema ≡ both_schema → old.trees second_tree ≡ []
-      → Copied count old now × (now.trees accepted_tree ≡ [])
+  pub holds : HasBoth now.schema → second_rows old ≡ []
+      → Copied count old now × (first_rows now ≡ [])
 
 -- that was done from what the last commit left, and is committed
 pub record IsMoved (count : ℕ) (old new : State) : Type 0 where
@@ -82,10 +82,6 @@ pub record KeepsList (old new : State) : Type 0 where
   pub recalls : Recalls old new
   pub stays : StaysListed old new
 
--- the store has an object
-abbrev pub HasObject : State → Type 0
-HasObject s = s.now.schema ≢ no_schema
-
 -- between two transactions, over a clean store
 abbrev pub Rests : State → Type 0
 Rests s = HasCleanDisk s → IsAtRest s
@@ -95,7 +91,7 @@ pub record IsReady (s : State) : Type 0 where
   pub is_open : IsTrue s.is_open
   pub autocommit : s.in_transaction ≡ false
   pub tables : IsTrue (has_kept_tables s.now.schema)
-  pub first : s.now.schema ≡ both_schema → s.now.trees accepted_tree ≡ []
+  pub first : HasBoth s.now.schema → first_rows s.now ≡ []
 
 -- ---- what a crash leaves
 

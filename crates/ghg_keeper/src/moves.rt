@@ -4,10 +4,10 @@ ghost use Rattle.std.specs.Prelude.{◌≡◌, ◌+◌, ◌-◌, ◌<◌, ◌^�
 ghost use Rattle.sqlite.specs.Held.{state};
 ghost use Rattle.sqlite.specs.State.{HasCleanDisk, IsUnchanged, Survives};
 ghost use Rattle.sqlite.specs.Effect.{IsDatabase};
-ghost use Rattle.ghg_keeper.specs.Accepted.{accepted_tree, both_schema, has_kept_tables, second_tree};
+ghost use Rattle.ghg_keeper.specs.Accepted.{HasBoth, has_kept_tables};
 ghost use Rattle.ghg_keeper.specs.Course.{ClearsFirst, CopiesRow, Counts, EmptiesFirst, MakesTables, MovesAll, MovesRows, Prepares, ReadsFirst, Runs};
-ghost use Rattle.ghg_keeper.specs.Listed.{IsAtRest, TellsStore, kept_first, with_number};
-ghost use Rattle.ghg_keeper.specs.Moving.{CommitsList, CommitsMove, CommitsNone, HasObject, IsCleared, IsCommitted, IsMoved, IsMoving, IsReady, IsWithin, KeepsList, Leaves, Recalls, Rests, StaysListed};
+ghost use Rattle.ghg_keeper.specs.Listed.{IsAtRest, TellsStore, first_rows, kept_first, second_rows, with_number};
+ghost use Rattle.ghg_keeper.specs.Moving.{CommitsList, CommitsMove, CommitsNone, IsCleared, IsCommitted, IsMoved, IsMoving, IsReady, IsWithin, KeepsList, Leaves, Rests};
 ghost use Rattle.ghg_keeper.specs.Texts.{begin_text, commit_text, count_text, create_text, first_count_text, roll_back_text, second_text};
 
 use crate::KeptRow;
@@ -56,8 +56,8 @@ fn make_first<S: Alter>(connection: &mut Connection<S>) -> Result<usize, Error>
     ensures keeps { KeepsList (state S.Store connection.old) (state S.Store connection.new) }
     ensures survives { Survives (state S.Store connection.old) (state S.Store connection.new)
         (CommitsList (state S.Store connection.old)) }
-    ensures made { HasCleanDisk (state S.Store connection.new) → TellsStore (state S.Store connection.old) →
-        OnOk result (TellsStore (state S.Store connection.new) × HasObject (state S.Store connection.new)) }
+    ensures told { HasCleanDisk (state S.Store connection.new) → TellsStore (state S.Store connection.old)
+        → OnOk result (TellsStore (state S.Store connection.new)) }
     ensures rest { Rests (state S.Store connection.new) }
     ensures runs { Runs S.Store create_text [] connection.old connection.new result }
 {
@@ -70,13 +70,10 @@ fn make_first<S: Alter>(connection: &mut Connection<S>) -> Result<usize, Error>
 
 fn make_second<S: Alter>(connection: &mut Connection<S>) -> Result<usize, Error>
     requires { Rests (state S.Store connection.old) }
-    ensures recalls { Recalls (state S.Store connection.old) (state S.Store connection.new) }
+    ensures keeps { KeepsList (state S.Store connection.old) (state S.Store connection.new) }
     ensures survives { Survives (state S.Store connection.old) (state S.Store connection.new)
-        (λ db. HasObject (state S.Store connection.old) → CommitsList (state S.Store connection.old) db) }
-    ensures stays { HasObject (state S.Store connection.old) → StaysListed (state S.Store connection.old)
-        (state S.Store connection.new) }
-    ensures told { HasCleanDisk (state S.Store connection.new) → HasObject (state S.Store connection.old)
-        → TellsStore (state S.Store connection.old)
+        (CommitsList (state S.Store connection.old)) }
+    ensures told { HasCleanDisk (state S.Store connection.new) → TellsStore (state S.Store connection.old)
         → OnOk result (TellsStore (state S.Store connection.new)) }
     ensures rest { Rests (state S.Store connection.new) }
     ensures runs { Runs S.Store second_text [] connection.old connection.new result }
@@ -118,9 +115,9 @@ fn count_first<S: Alter>(connection: &mut Connection<S>) -> Result<u64, Error>
     ensures same { HasCleanDisk (state S.Store connection.new) → OnOk result (IsUnchanged (state S.Store
         connection.old) (state S.Store connection.new)) }
     ensures most { IfOk result (λ n. n < 2 ^ 63 - 1) }
-    ensures size { HasCleanDisk (state S.Store connection.new) → (state S.Store connection.old).now.schema ≡
-        both_schema
-        → IfOk result (λ n. n ≡ length ((state S.Store connection.old).now.trees accepted_tree)) }
+    ensures size { HasCleanDisk (state S.Store connection.new)
+        → HasBoth (state S.Store connection.old).now.schema
+        → IfOk result (λ n. n ≡ length (first_rows (state S.Store connection.old).now)) }
     ensures runs { Counts S.Store first_count_text connection.old connection.new result }
 {
     let row = connection.query_row("SELECT count(*) FROM accepted", &[])?;
@@ -135,9 +132,9 @@ fn count_second<S: Alter>(connection: &mut Connection<S>) -> Result<u64, Error>
         (state S.Store connection.new) }
     ensures same { HasCleanDisk (state S.Store connection.new) → OnOk result (IsUnchanged (state S.Store
         connection.old) (state S.Store connection.new)) }
-    ensures size { HasCleanDisk (state S.Store connection.new) → (state S.Store connection.old).now.schema ≡
-        both_schema
-        → IfOk result (λ n. n ≡ length ((state S.Store connection.old).now.trees second_tree)) }
+    ensures size { HasCleanDisk (state S.Store connection.new)
+        → HasBoth (state S.Store connection.old).now.schema
+        → IfOk result (λ n. n ≡ length (second_rows (state S.Store connection.old).now)) }
     ensures runs { Counts S.Store count_text connection.old connection.new result }
 {
     let row = count_rows(connection)?;
@@ -223,10 +220,9 @@ fn read_first<S: Alter>(connection: &mut Connection<S>, seq: u64) -> Result<Kept
         (state S.Store connection.new) }
     ensures same { HasCleanDisk (state S.Store connection.new) → OnOk result (IsUnchanged (state S.Store
         connection.old) (state S.Store connection.new)) }
-    ensures found { HasCleanDisk (state S.Store connection.new) → (state S.Store connection.old).now.schema
-        ≡ both_schema
-        → IfOk result (λ row. (r : _) × (with_number seq ((state S.Store connection.old).now.trees
-        accepted_tree) ≡ r ∷ []) × (row ≡ kept_first r)) }
+    ensures found { HasCleanDisk (state S.Store connection.new)
+        → HasBoth (state S.Store connection.old).now.schema → IfOk result (λ row. (r : _)
+        × (with_number seq (first_rows (state S.Store connection.old).now) ≡ r ∷ []) × (row ≡ kept_first r)) }
     ensures runs { ReadsFirst S.Store seq connection.old connection.new result }
 {
     let rows = connection.query_all(

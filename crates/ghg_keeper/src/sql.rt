@@ -24,9 +24,10 @@ use sqlite_disk::Disk;
 /// A store of the first version has its rows in the table `accepted`, which lacks the format, and `attach`
 /// moves them from there. Until that has answered Ok each other call fails.
 ///
-/// It tells its rows while its store is clean, has no object beside the two tables, has rows in one of them
-/// alone, and numbers them from 1 on. A statement that is refused for another cause than memory is counted as
-/// a fault, and so are a row that is not there and a transaction that somebody left open.
+/// It tells its rows while its store is clean, its tables of the two names are these, one of them alone has
+/// rows, and these are numbered from 1 on. Other tables and indexes in the store change nothing. A statement
+/// that is refused for another cause than memory is counted as a fault, and so are a row that is not there and
+/// a transaction that somebody left open.
 #[derive(Drop)]
 pub struct SqlKeeper<S: Alter> {
     connection: Connection<S>,

@@ -1,14 +1,14 @@
 // The statements of the keeper, each a function of its own with one call of the database.
-ghost use Rattle.std.specs.Prelude.{◌≡◌, ◌≢◌, ◌+◌, ◌-◌, ◌<◌, ◌≤◌, ◌^◌, pos, [], ◌∷◌, length, slice_get, Some, IfOk, IfErr, OnOk, OnErr};
+ghost use Rattle.std.specs.Prelude.{◌≡◌, ◌≢◌, ◌+◌, ◌-◌, ◌<◌, ◌≤◌, ◌^◌, pos, [], ◌∷◌, codes, length, slice_get, Some, IfOk, IfErr, OnOk, OnErr};
 ghost use Rattle.sqlite_sql.specs.Aggregate.{count};
 ghost use Rattle.sqlite.specs.Order.{column};
 ghost use Rattle.sqlite.specs.declared.types.Value.TheVariants.{Int, Text as Words, Blob};
 ghost use Rattle.sqlite.specs.State.{CommitsBy, HasCleanDisk, Executes, QueriesRow, Survives};
 ghost use Rattle.sqlite.specs.Held.{state};
 ghost use Rattle.ghg_units.specs.Format.{format_in};
-ghost use Rattle.ghg_keeper.specs.Accepted.{second_tree};
 ghost use Rattle.ghg_keeper.specs.Errors.{IsCount, IsKept};
-ghost use Rattle.ghg_keeper.specs.Listed.{TellsRows, IsAtRest, Stays, Appends, IsSafe, IsBeforeOrAfter};
+ghost use Rattle.ghg_keeper.specs.Listed.{TellsRows, IsAtRest, Stays, Appends, IsSafe, IsBeforeOrAfter, second_rows, value_of};
+ghost use Rattle.ghg_keeper.specs.Accepted.{second};
 ghost use Rattle.ghg_keeper.specs.Moving.{CommitsNone, Rests};
 ghost use Rattle.ghg_keeper.specs.Texts.{count_text, insert_text, row_text};
 
@@ -24,7 +24,7 @@ pub(crate) fn count_rows<S: Alter>(connection: &mut Connection<S>) -> Result<Row
     requires { Rests (state S.Store connection.old) }
     ensures stays { Stays (state S.Store connection.old) (state S.Store connection.new) }
     ensures count { TellsRows (state S.Store connection.new) → IfOk result
-        (λ row. row ≡ count (length ((state S.Store connection.old).now.trees second_tree)) ∷ []) }
+        (λ row. row ≡ count (length (second_rows (state S.Store connection.old).now)) ∷ []) }
     ensures safe { IsSafe (state S.Store connection.old) (state S.Store connection.new) result
         (λ db. db ≡ (state S.Store connection.old).now.trees) }
     ensures survives { Survives (state S.Store connection.old) (state S.Store connection.new) CommitsNone }
@@ -41,8 +41,8 @@ pub(crate) fn read_row<S: Alter>(connection: &mut Connection<S>, seq: u64) -> Re
     requires to { seq < 2 ^ 63 }
     ensures stays { Stays (state S.Store connection.old) (state S.Store connection.new) }
     ensures row { TellsRows (state S.Store connection.new) → IfOk result (λ row. (r : _)
-        × (slice_get ((state S.Store connection.old).now.trees second_tree) (seq - 1) ≡ Some r)
-        × (row ≡ column r 2 ∷ column r 4 ∷ [])) }
+        × (slice_get (second_rows (state S.Store connection.old).now) (seq - 1) ≡ Some r)
+        × (row ≡ value_of second (codes "id") r ∷ value_of second (codes "body") r ∷ [])) }
     ensures safe { IsSafe (state S.Store connection.old) (state S.Store connection.new) result
         (λ db. db ≡ (state S.Store connection.old).now.trees) }
     ensures reads { HasCleanDisk (state S.Store connection.new)

@@ -4,7 +4,9 @@ use Rattle.std.proofs.Common.{[], inl}
 use Rattle.ghg_keeper.specs.Texts.{first_count_text}
 use Rattle.ghg_keeper.proofs.Files.{on_ok}
 use Rattle.ghg_keeper.proofs.Texts.{first_count_parses}
-use Rattle.ghg_keeper.proofs.Meanings.{counts, first_count_is}
+use Rattle.ghg_keeper.proofs.Meanings.{counts}
+use Rattle.ghg_keeper.proofs.Selects.{first_count_parts}
+use Rattle.ghg_keeper.specs.Accepted.{accepted}
 use Rattle.ghg_keeper.proofs.Effects.{after_read, answered}
 use Rattle.ghg_keeper.proofs.Moving.{size_of}
 use Rattle.ghg_keeper.proofs.Safe.{read_survives}
@@ -22,7 +24,7 @@ returns-clause-same g c clean = on_ok c.kept_count.result (answered (state g.S.S
 
 pub returns-clause-size : goal.returns-clause-size
 returns-clause-size g c clean both =
-    size_of c.kept_count.result _ _ c.kept_count.ensures.count (counts first_count_text 0 first_count_is (state g.S.Store c.args.connection.now) (state g.S.Store c.query_row.new.self) _ both (c.in_ok-row.ensures.row clean))
+    size_of c.kept_count.result _ _ c.kept_count.ensures.count (counts first_count_text accepted first_count_parses first_count_parts (state g.S.Store c.args.connection.now) (state g.S.Store c.query_row.new.self) _ both.first (c.in_ok-row.ensures.row clean))
 
 pub returns-in_err-row-clause-survives : goal.returns-in_err-row-clause-survives
 returns-in_err-row-clause-survives g c = read_survives (state g.S.Store c.args.connection.now) (state g.S.Store c.query_row.new.self) first_count_text [] first_count_parses c.query_row.ensures.survives

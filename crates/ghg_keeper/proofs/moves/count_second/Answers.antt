@@ -4,7 +4,9 @@ use Rattle.std.proofs.Common.{[], inl}
 use Rattle.ghg_keeper.specs.Texts.{count_text}
 use Rattle.ghg_keeper.proofs.Files.{on_ok}
 use Rattle.ghg_keeper.proofs.Texts.{count_parses}
-use Rattle.ghg_keeper.proofs.Meanings.{counts, count_is}
+use Rattle.ghg_keeper.proofs.Meanings.{counts}
+use Rattle.ghg_keeper.proofs.Selects.{count_parts}
+use Rattle.ghg_keeper.specs.Accepted.{second}
 use Rattle.ghg_keeper.proofs.Effects.{after_read, answered}
 use Rattle.ghg_keeper.proofs.Moving.{size_of}
 use Rattle.sqlite.specs.Held.{state}
@@ -21,7 +23,7 @@ returns-clause-same g c clean = on_ok c.kept_count.result (answered (state g.S.S
 
 pub returns-clause-size : goal.returns-clause-size
 returns-clause-size g c clean both =
-    size_of c.kept_count.result _ _ c.kept_count.ensures.count (counts count_text 2 count_is (state g.S.Store c.args.connection.now) (state g.S.Store c.count_rows.new.connection) _ both (c.in_ok-row.ensures.reads clean))
+    size_of c.kept_count.result _ _ c.kept_count.ensures.count (counts count_text second count_parses count_parts (state g.S.Store c.args.connection.now) (state g.S.Store c.count_rows.new.connection) _ both.second (c.in_ok-row.ensures.reads clean))
 
 pub returns-in_err-row-clause-runs : goal.returns-in_err-row-clause-runs
 returns-in_err-row-clause-runs g c =

@@ -2,12 +2,14 @@ use Rattle.ghg_keeper.proofs.Course.{moves_first}
 use Rattle.ghg_keeper.specs.Course.{MovesFirst}
 use Rattle.sqlite.specs.declared.error.Error.TheVariants.{QueryReturnedNoRows}
 use Rattle.std.proofs.lemmas.Result.{err_from_is_err_and}
-use Rattle.std.proofs.Common.{◌∙◌, ap, length, arith, inl, inr, refl, Ok, Err, subst, sym}
+use Rattle.std.proofs.Common.{ap, length, arith, inl, inr, refl, Ok, Err, subst, sym}
 use Rattle.sqlite.specs.Effect.{Database}
+use Rattle.ghg_keeper.specs.Accepted.{HasBoth}
+use Rattle.ghg_keeper.specs.Listed.{second_rows}
 use Rattle.sqlite.specs.Held.{state}
 use Rattle.ghg_keeper.proofs.Effects.{was_clean}
-use Rattle.ghg_keeper.proofs.Making.{left_rests}
-use Rattle.ghg_keeper.proofs.Moving.{emptied_keeps, list_survives, rest_within, within_trans}
+use Rattle.ghg_keeper.proofs.Making.{left_keeps, left_rests}
+use Rattle.ghg_keeper.proofs.Moving.{emptied_keeps, list_survives, rest_within, within_keeps, within_trans}
 use Rattle.ghg_keeper.proofs.moves.empty_first.Goals as goal
 
 pub returns-clause-survives : goal.returns-clause-survives
@@ -30,8 +32,8 @@ returns-clause-keeps g c =
     (λ h both. c.in_ok-first.ensures.size (clean_b h) both)
     (λ h both.
     let same = (c.in_ok-first.ensures.same (clean_b h)).0.now_is in
-    let size = c.in_ok-count_second.ensures.size h (ap (λ (x : Database). x.schema) same ∙ both) in
-    let rows = ap (λ (x : Database). length (x.trees 2)) same in
+    let size = c.in_ok-count_second.ensures.size h (subst (λ (x : Database). HasBoth x.schema) (sym same) both) in
+    let rows = ap (λ (x : Database). length (second_rows x)) same in
     omega (arith, size, rows, c.if-branch-gt0.false)) c.move_rows.ensures.moved c.move_rows.ensures.undone
 
 pub returns-in_err-first-clause-runs : goal.returns-in_err-first-clause-runs
@@ -55,3 +57,25 @@ returns-then-branch-gt0-clause-runs g c =
 pub returns-clause-runs : goal.returns-clause-runs
 returns-clause-runs g c =
     inr (c.in_ok-first.first, c.count_first.new.connection, c.in_ok-first.ensures.runs, moves_first g.S.Store c.in_ok-first.first c.count_first.new.connection c.move_rows.new.connection c.move_rows.result (λ none. omega (arith, none, c.if-first-eq0.false)) (inr (c.in_ok-count_second.field-0, c.count_second.new.connection, c.in_ok-count_second.ensures.runs, inr (tt, c.count_second.new.connection, (refl, omega (arith, c.if-branch-gt0.false)), c.move_rows.ensures.runs))))
+
+pub returns-in_err-first-clause-keeps : goal.returns-in_err-first-clause-keeps
+returns-in_err-first-clause-keeps g c =
+    left_keeps (state g.S.Store c.args.connection.now) (state g.S.Store c.count_first.new.connection) (was_clean c.count_first.ensures.survives) c.requires.rest c.count_first.ensures.left
+
+pub returns-in_err-count_second-clause-keeps : goal.returns-in_err-count_second-clause-keeps
+returns-in_err-count_second-clause-keeps g c =
+    let a = state g.S.Store c.args.connection.now in
+    let b = state g.S.Store c.count_first.new.connection in
+    let m = state g.S.Store c.count_second.new.connection in
+    let clean = was_clean c.count_first.ensures.survives in
+    within_keeps a m c.requires.rest (within_trans a b m (rest_within a b clean c.requires.rest c.count_first.ensures.left)
+    (rest_within b m (was_clean c.count_second.ensures.survives) (left_rests a b c.requires.rest clean c.count_first.ensures.left) c.count_second.ensures.left))
+
+pub returns-then-branch-gt0-clause-keeps : goal.returns-then-branch-gt0-clause-keeps
+returns-then-branch-gt0-clause-keeps g c =
+    let a = state g.S.Store c.args.connection.now in
+    let b = state g.S.Store c.count_first.new.connection in
+    let m = state g.S.Store c.count_second.new.connection in
+    let clean = was_clean c.count_first.ensures.survives in
+    within_keeps a m c.requires.rest (within_trans a b m (rest_within a b clean c.requires.rest c.count_first.ensures.left)
+    (rest_within b m (was_clean c.count_second.ensures.survives) (left_rests a b c.requires.rest clean c.count_first.ensures.left) c.count_second.ensures.left))

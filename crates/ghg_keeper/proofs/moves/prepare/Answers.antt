@@ -2,7 +2,7 @@ use Rattle.std.proofs.lemmas.Result.{err_from_is_err_and}
 use Rattle.std.proofs.Common.{inl, inr, refl}
 use Rattle.sqlite.specs.Held.{state}
 use Rattle.ghg_keeper.specs.Moving.{CommitsList}
-use Rattle.ghg_keeper.proofs.Moving.{list_then}
+use Rattle.ghg_keeper.proofs.Moving.{keeps_trans, list_then}
 use Rattle.ghg_keeper.proofs.moves.prepare.Goals as goal
 
 pub returns-clause-survives : goal.returns-clause-survives
@@ -18,3 +18,8 @@ returns-in_err-make_tables-clause-runs g c =
 
 pub returns-clause-runs : goal.returns-clause-runs
 returns-clause-runs g c = inr (c.in_ok-make_tables.field-0, c.make_tables.new.connection, c.in_ok-make_tables.ensures.runs, c.empty_first.ensures.runs)
+
+pub returns-clause-keeps : goal.returns-clause-keeps
+returns-clause-keeps g c =
+    keeps_trans (state g.S.Store c.args.connection.now) (state g.S.Store c.make_tables.new.connection) (state g.S.Store c.empty_first.new.connection) c.make_tables.ensures.keeps
+    (λ h. (c.make_tables.ensures.rest h).autocommit) c.empty_first.ensures.keeps

@@ -29,7 +29,7 @@ returns-in-len1-clause-found g c clean both =
     let shows = rw (c.params-to_sql.ensures, to_z_pos w64 c.args.seq c.requires) at (c.in_ok-rows.ensures.ok clean) in
     let alone = sym c.as_slice.ensures.value ∙ alone_of c.as_slice.result.now c.row-item.result c.row-item.is c.in-len1.len_at_least c.in-len1.len_below in
     only_kept c.args.seq (state g.S.Store c.args.connection.now).now c.kept_row.result c.row-item.result c.kept_row.ensures.id c.kept_row.ensures.body
-    (finds_only (state g.S.Store c.args.connection.now) (state g.S.Store c.query_all.new.self) c.args.seq c.row-item.result both
+    (finds_only (state g.S.Store c.args.connection.now) (state g.S.Store c.query_all.new.self) c.args.seq c.row-item.result both.first
     (subst (Shown first_row_text (Int (pos c.args.seq) ∷ []) (state g.S.Store c.args.connection.now) (state g.S.Store c.query_all.new.self)) alone shows))
 
 pub returns-clause-left : goal.returns-clause-left

@@ -3,7 +3,7 @@ use Rattle.sqlite.specs.Held.{state}
 use Rattle.std.proofs.Common.{◌≡◌, false, ap, sym, ◌∙◌, inl, inr, refl, rules}
 use Rattle.ghg_keeper.specs.Accepted.{has_kept_tables}
 use Rattle.ghg_keeper.proofs.Moving.{never_both}
-use Rattle.ghg_keeper.proofs.Shelves.{attach_rows, attach_safe, attach_told, again_rows, again_told, on_told, same_safe}
+use Rattle.ghg_keeper.proofs.Shelves.{attach_rows, attach_safe, refused_rows, attach_told, again_rows, again_told, on_told, same_safe}
 use Rattle.std.proofs.lemmas.Result.{err_from_is_err_and}
 use Rattle.ghg_keeper.proofs.Course.{lacks_after, lacks_again, prepared_ok, prepared_err}
 use Rattle.ghg_keeper.proofs.sql.SqlKeeperKeeper.attach.Goals.{then-not-self+in_ok-told, else-not-self}
@@ -15,6 +15,10 @@ returns-clause-rows g c = elim c.if-not-self.branch [
       (attach_rows c.args.self.now.is_attached (database g.S.Store c.args.self.now) (state g.S.Store w.prepare-prepared.new.connection) _ _ w.if-not-self.true w.prepare-prepared.ensures.keeps)
   | else-not-self w ↦ rw w.self-is (again_rows c.args.self.now.is_attached (database g.S.Store c.args.self.now) _ _ w.if-not-self.false)
 ]
+
+pub returns-in_err-told-clause-rows : goal.returns-in_err-told-clause-rows
+returns-in_err-told-clause-rows g c = rw (c.told.ensures.same, c.told.ensures.attached)
+    (refused_rows c.args.self.now.is_attached (database g.S.Store c.args.self.now) (state g.S.Store c.prepare-prepared.new.connection) _ _ c.if-not-self.true c.prepare-prepared.ensures.keeps)
 
 pub returns-clause-told : goal.returns-clause-told
 returns-clause-told g c = elim c.if-not-self.branch [
