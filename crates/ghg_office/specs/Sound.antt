@@ -10,8 +10,10 @@ use Rattle.ghg_tables.specs.declared.table.Table.{Table}
 use Rattle.ghg_tables.specs.Names.{table_in}
 use Rattle.ghg_tables.specs.SoundTexts.{IsSoundText}
 
--- The text is the table of that name for a year of the data in force, and wherever the inputs are within
--- their supplied bounds, the exact value of each node is within the bounds that stand in it.
+-- There is a table of that name, the year is one of the data in force, and the text is sound for both: if the
+-- table has bounds of nodes, then wherever the inputs are within their supplied bounds, the exact value of
+-- each node is within the bounds that stand in it. This does not say that the text is that of the table:
+-- `requested` does.
 pub record IsSoundTable (s : State) (name : List ℕ) (year : ℕ) (text : List ℕ) : Type 0 where
   pub table : Table
   pub named : table_in name ≡ Some table

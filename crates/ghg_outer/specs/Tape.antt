@@ -4,7 +4,7 @@ use Rattle.std.specs.Io.KnownBytes as known
 
 -- The bytes that are left to be read, those that were taken, and those that were written, where they are
 -- known; how many calls failed; and whether a write takes memory, as one to a list that grows. An object
--- that tells nothing of some bytes has `None` for them.
+-- that tells nothing of some bytes has `None` for them, and then each statement on them below holds.
 pub record Tape : Type 0 where
   pub left : Option (List ℕ)
   pub taken : Option (List ℕ)
@@ -41,7 +41,7 @@ pub record AppendsProperPrefix (before after : Tape) (text : List ℕ) : Type 0 
   pub short : count < length text
   pub wrote : Appends before after (take count text)
 
--- no known byte is left
+-- no byte is left, where the tape tells what is left
 abbrev pub IsAtEnd : Tape → Type 0
 IsAtEnd tape = known.IsAtEnd tape.left
 

@@ -4,8 +4,8 @@ use Rattle.ghg_outer.specs.Tape.{Appends, AppendsProperPrefix, Tape}
 use Rattle.ghg_outer.specs.declared.sink.WriteError.{WriteError}
 use Rattle.ghg_outer.specs.declared.sink.WriteError.TheVariants.{Memory}
 
--- A proper prefix of the text was written. Then the sink failed, or memory ran out, which only one that grows
--- takes.
+-- A proper prefix of the text was written, perhaps nothing. Then the sink failed; or memory ran out, which
+-- happens only at a sink that grows.
 pub record StopsWriting (before after : Tape) (text : List ℕ) (error : WriteError) : Type 0 where
   pub wrote : AppendsProperPrefix before after text
   pub memory : error ≡ Memory → before.grows ≡ true

@@ -19,8 +19,9 @@ use Rattle.ghg_session.specs.Writing.{Reports}
 abbrev pub IsInUse : List ℕ → Shelf → Type 0
 IsInUse name shelf = IfSome shelf.name (λ used. used ≡ name)
 
--- The run begins with this office, when so many steps were taken. Without a store it accepted nothing so far.
--- If one is named, it accepted the rows that the store had, for no more steps than these ask for.
+-- The run begins with an office in this first state, when so many steps were taken. Without a store that is
+-- the start. If one is named, it is the state that the rows of the store lead to, replayed, for no more steps
+-- than these ask for. The shelves are that before the office was opened, and one then or later.
 abbrev pub Begins : Option (List ℕ) → Shelf → Shelf → ℕ → State → ℕ → Type 0
 Begins None before after steps first opened_steps = (first ≡ start) × (opened_steps ≡ steps)
 Begins (Some name) before after steps first opened_steps =
@@ -38,12 +39,15 @@ IsKeptIn (Some name) shelf accepted = IsInUse name shelf × Lists shelf accepted
 abbrev pub kept_line : ℕ → Reply → List ℕ
 kept_line seq reply = line_of (codes "kept row " ++ decimal seq ++ codes " " ++ reply_text reply)
 
--- A text is due, and a status after it. Or memory ran out before it was made, and nothing was written.
+-- A text is due, and this status once it is written: all of it was written, or a proper prefix, and then the
+-- output failed or, if it grows, memory ran out. Or memory ran out before the text was made, and nothing was
+-- written.
 abbrev pub ReportsMade : Tape → Tape → List ℕ → Status → Status → Type 0
 ReportsMade before after text due status =
     Reports before after text due status ⊎ ((after ≡ before) × (status ≡ OutOfMemory))
 
--- Of these rows one is refused, which is reported, and the store is in use.
+-- Of these rows one is refused, the first that is. The line that names it is due, with the status of a row
+-- that is refused, and the store is in use.
 pub record RefusesRow (name : List ℕ) (rows : List KeptRow) (shelf' : Shelf) (output output' : Tape)
     (status : Status) : Type 0 where
   pub seq : ℕ
@@ -52,7 +56,7 @@ pub record RefusesRow (name : List ℕ) (rows : List KeptRow) (shelf' : Shelf) (
   pub told : ReportsMade output output' (kept_line seq reply) RowRefused status
   pub used : IsInUse name shelf'
 
--- The keeper failed or memory ran out, and nothing was written. The store in use is the one that was, or the
+-- The keeper failed, or memory ran out, and nothing was written. The store in use is the one that was, or the
 -- one of this name.
 pub record FailsBeforeOffice (name : List ℕ) (shelf shelf' : Shelf) (output output' : Tape) (status : Status)
     : Type 0 where
@@ -60,7 +64,8 @@ pub record FailsBeforeOffice (name : List ℕ) (shelf shelf' : Shelf) (output ou
   pub nothing : output' ≡ output
   pub used : (shelf'.name ≡ shelf.name) ⊎ IsInUse name shelf'
 
--- No office was opened from the store of this name, and its rows are kept as they were.
+-- No office was opened from the store of this name, and its rows are kept as they were. No more steps were
+-- taken than they ask for.
 pub record OpensNone (name : List ℕ) (shelf shelf' : Shelf) (output output' : Tape) (steps steps' : ℕ)
     (status : Status) : Type 0 where
   pub rows : List KeptRow
@@ -70,7 +75,7 @@ pub record OpensNone (name : List ℕ) (shelf shelf' : Shelf) (output output' : 
   pub kept : KeepsRows shelf shelf'
   pub spent : steps' ≤ steps + replay_evaluations start rows
 
--- the same of the store that is named, if one is
+-- that, of the store that is named; without one there is always an office
 abbrev pub BeginsNot : Option (List ℕ) → Shelf → Shelf → Tape → Tape → ℕ → ℕ → Status → Type 0
 BeginsNot None shelf shelf' output output' steps steps' status = ⊥
 BeginsNot (Some name) shelf shelf' output output' steps steps' status =
@@ -78,9 +83,9 @@ BeginsNot (Some name) shelf shelf' output output' steps steps' status =
 
 -- ---- with a store or without
 
--- The run begins with an office, of which this holds, by its first state, the steps when it was opened and
--- its last state. If a store is named, the accepted submissions are kept in it in the end, whatever the
--- status.
+-- The run begins with an office. `holds` is true of its first state, the steps that were taken when it was
+-- opened, and its last state. If a store is named, the accepted submissions of the last state are kept in it
+-- in the end, whatever the status.
 pub record RunsOffice (store : Option (List ℕ)) (shelf shelf' : Shelf) (steps : ℕ)
     (holds : State → ℕ → State → Type 0) : Type 0 where
   pub first : State

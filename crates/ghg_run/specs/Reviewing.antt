@@ -20,19 +20,22 @@ use Rattle.ghg_run.specs.Sound.{AreSoundTableLines}
 
 -- ---- the bounds that a review prints
 
--- For a year of the span the lines are a table under its heading, and where that has bounds for the total,
--- they hold the root of the exact sum.
+-- For a year of the span the lines are a table under its heading. Unless the uncertainty of its total is
+-- unknown, it ends with bounds of that, which hold the root of the exact sum. Of another year this says
+-- nothing.
 abbrev pub AreSoundTrendLines : State → ℕ → List ℕ → Type 0
 AreSoundTrendLines s year lines = is_year_of (span s.content) year ≡ true → (text : List ℕ)
     × (lines ≡ table_lines (codes "trendunc") year (Table text))
     × IsSoundTrend s.content (compilation s.content) year text
 
--- The bounds hold in each table of the office that is asked for, and in that of the trend's uncertainty.
+-- The bounds hold in each table of the office that is asked for, and in that of the trend's uncertainty. Of
+-- the replies to other requests this says nothing.
 abbrev pub AreSoundReviewLines : DeskState → Request ReviewQuery → List ℕ → Type 0
 AreSoundReviewLines s (Query (Show show)) lines = AreSoundTableLines s.office show lines
 AreSoundReviewLines s (Query (Trend year)) lines = AreSoundTrendLines s.office year lines
 AreSoundReviewLines s asked lines = ⊤
 
+-- That holds of the replies to any requests from this desk on.
 abbrev pub HasSoundReview : DeskState → Type 0
 HasSoundReview s = (requests : List (Request ReviewQuery)) → EachReply review AreSoundReviewLines s requests
 
@@ -46,7 +49,7 @@ ReviewsAreSound = (s : DeskState) → IsInForce s.office → HasSoundReview s
 abbrev pub first_desk : DeskState
 first_desk = record { office = start; versions = [] }
 
--- A desk answered the script that the input holds, with sound replies.
+-- A desk answered the script that the input holds, as a session, and its replies to any requests are sound.
 abbrev pub Reviews : Tape → Tape → Tape → Tape → ℕ → ℕ → Status → Type 0
 Reviews input input' output output' steps steps' status = (last : DeskState)
     × Session review first_desk last input input' output output' steps steps' status

@@ -1,4 +1,5 @@
--- What the program owes for its words.
+-- What the program owes for its words. A name with a prime is the same thing after the run: `shelf` and
+-- `shelf'` are what the keeper tells before and after it.
 use Rattle.std.specs.Prelude.{◌≡◌, ◌⊎◌, ℕ, ◌+◌, ◌≤◌, true, false, Bool, List, map, Option, Some, None, String, codes}
 use Rattle.std.specs.Option.{is_some}
 use Rattle.std.specs.String.{string_bytes}
@@ -32,8 +33,8 @@ use Rattle.ghg_run.specs.Splicing.{Splices}
 abbrev pub bad_command_line : List ℕ
 bad_command_line = line_of (codes "bad command line")
 
--- An office answered the script that the input holds, with sound replies, or there was none, and nothing was
--- read.
+-- No office was opened, and nothing was read. Or an office answered the script that the input holds, as a
+-- session, and its replies to any requests for tables are sound.
 abbrev pub Compiles : Option (List ℕ) → Shelf → Shelf → Tape → Tape → Tape → Tape → ℕ → ℕ → Status → Type 0
 Compiles store shelf shelf' input input' output output' steps steps' status =
     (BeginsNot store shelf shelf' output output' steps steps' status × (input' ≡ input))
@@ -41,8 +42,8 @@ Compiles store shelf shelf' input input' output output' steps steps' status =
     Session (protocol (is_some store)) first last input input' output output' opened_steps steps' status
     × HasSoundReplies (is_some store) first)
 
--- An office served connections, and wrote nothing to the output. Or there was none: no connection was taken,
--- and the keeper's count of faults rose exactly where the status says that.
+-- No office was opened: no connection was taken, and the keeper's count of faults rose exactly where the
+-- status says that the store failed. Or an office served connections, and nothing was written to the output.
 abbrev pub ServesAll : Service → Shelf → Shelf → Tape → Tape → Register Tape → Register Tape → ℕ → ℕ
     → Status → Type 0
 ServesAll service shelf shelf' output output' door door' steps steps' status =
@@ -82,7 +83,7 @@ abbrev pub opens_door : Option Command → Bool
 opens_door (Some (Serve service)) = true
 opens_door _ = false
 
--- What a run did for the command that its words ask for.
+-- What a run did for the command that its words ask for. For words that are no command a line was reported.
 abbrev pub Runs : Option Command → Shelf → Shelf → Tape → Tape → Tape → Tape → Register Tape → Register Tape
     → ℕ → ℕ → Status → Type 0
 Runs None shelf shelf' input input' output output' door door' steps steps' status =
@@ -98,8 +99,8 @@ Runs (Some (Splice splicing)) shelf shelf' input input' output output' door door
 Runs (Some (Review settings)) shelf shelf' input input' output output' door door' steps steps' status =
     Reviews input input' output output' steps steps' status
 
--- A count of faults rose exactly where the status is that failure. What the keeper fails at while connections
--- are served is replied on them, and counted with each (`ServesNew`).
+-- A count of faults rose exactly where the status is that failure. For `serve`, `ServesAll` says it of the
+-- keeper: what it fails at while connections are served is replied on them, and counted with each.
 pub record FaultsAreCounted (command : Option Command) (shelf shelf' : Shelf)
     (input input' output output' : Tape) (door door' : Register Tape) (status : Status) : Type 0 where
   pub input_counted : IsCounted input.faults input'.faults (status ≡ InputFailed)
@@ -108,7 +109,8 @@ pub record FaultsAreCounted (command : Option Command) (shelf shelf' : Shelf)
       → IsCounted shelf.faults shelf'.faults (status ≡ StoreFailed)
   pub door_counted : IsCounted door.faults door'.faults (status ≡ DoorFailed)
 
--- A run did what the command asks for, with a status that has its cause, and answered the status's number.
+-- A run did what the command asks for, and ended with a status, whose number it answered. The counts of
+-- faults rose as the status says.
 abbrev pub IsRun : Option Command → Shelf → Shelf → Tape → Tape → Tape → Tape → Register Tape → Register Tape
     → ℕ → ℕ → ℕ → Type 0
 IsRun command shelf shelf' input input' output output' door door' steps steps' code =

@@ -15,7 +15,7 @@ use Rattle.ghg_words.specs.declared.command.Service.{Service}
 
 -- ---- links, one after the other
 
--- a link when it was done with, the reply that was due on it, and how it ended
+-- what a link told when it was done with; the reply that was due on it, if one was; and how it ended
 pub record ServedLink : Type 0 where
   pub link : Tape
   pub due : Option HttpReply
@@ -28,8 +28,8 @@ pub record OfficeAt : Type 0 where
   pub steps : ℕ
   pub faults : ℕ
 
--- A new link was served, with a store or without: no call had failed on it, nothing was taken from it and
--- nothing was written to it.
+-- A link was served, by an office with a store or without. It was new: before that no call had failed on it,
+-- and nothing had been taken from it or written to it.
 pub record ServesNew (stored : Bool) (before : OfficeAt) (served : ServedLink) (after : OfficeAt)
     : Type 0 where
   pub new : Tape
@@ -63,9 +63,10 @@ register_of tape door = record {
   faults = door.faults;
 }
 
--- How a serving ends, by its status: these links were taken back, and one more perhaps was served and
--- dropped. All connections were taken back, at the port that is asked for. Or fewer, since the door failed,
--- or memory ran out: before the first link was taken, or when a link was handed back.
+-- How a serving ends, by its status: these links were taken back, and perhaps one more was served and then
+-- dropped. As many were taken back as are asked for, and the port that the door tells is the one that is
+-- asked for. Or fewer were: the door failed; or memory ran out, before the first link was given, or when a
+-- link that was served was handed back, and so dropped.
 abbrev pub EndsServing : Service → Option ℕ → List ServedLink → List ServedLink → Status → Type 0
 EndsServing service port taken dropped Done =
     (length taken ≡ service.connections) × (dropped ≡ [])
@@ -75,7 +76,8 @@ EndsServing service port taken dropped OutOfMemory =
     (length taken < service.connections) × ((length dropped ≡ 1) ⊎ ((taken ≡ []) × (dropped ≡ [])))
 EndsServing service port taken dropped _ = ⊥
 
--- An office served links.
+-- An office served the links that the door gave, one after the other, and the last state of the office is
+-- that after them.
 pub record Serves (service : Service) (before after : OfficeAt) (door door' : Register Tape)
     (status : Status) : Type 0 where
   -- the links that the door took back, in their order, and the one that was dropped

@@ -13,13 +13,14 @@ use Rattle.ghg_words.specs.declared.status.Status.{Status}
 use Rattle.ghg_words.specs.declared.status.Status.TheVariants.{Done, InputFailed, OutOfMemory, SpliceRefused}
 use Rattle.ghg_run.specs.Opening.{ReportsMade}
 
--- The series is the input to its end, or to its 65,537th byte.
+-- The series is the input to its end, or as many bytes of it as are one more than a series may have.
 pub record ReadsSeries (before after : Tape) (series : List ℕ) : Type 0 where
   pub read : Consumes before after series
   pub few : length series ≤ max_body + 1
   pub whole : IsAtEnd after ⊎ (length series ≡ max_body + 1)
 
--- The input failed, or memory ran out, before it was read to there.
+-- Some of the input was read, at most as many bytes as for a series. Then the input failed, or memory ran
+-- out.
 pub record StopsInSeries (before after : Tape) (stop : Status) : Type 0 where
   pub text : List ℕ
   pub read : Consumes before after text
@@ -35,8 +36,8 @@ ReportsSpliced (Body text) output output' status = ReportsMade output output' te
 ReportsSpliced (Refused refusal) output output' status =
     ReportsMade output output' (refusal_line refusal) SpliceRefused status
 
--- A series was read, and what splicing it gives is due. The printed bounds hold the exact fractions of the
--- formula. Or it was not read to its end, and nothing was written.
+-- A series was read, and what splicing it gives is due: the bounds of filled years hold the exact fractions
+-- of the formula. Or the reading stopped, and nothing was written.
 abbrev pub Splices : Splicing → Tape → Tape → Tape → Tape → Status → Type 0
 Splices splicing input input' output output' status =
     ((series : List ℕ) × ReadsSeries input input' series

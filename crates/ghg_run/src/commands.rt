@@ -24,7 +24,7 @@ use std::hash::RandomState;
 use std::sync::ledger::{Blank, Ledger};
 use std::thread::Threads;
 
-/// Does what the words ask for, and answers the status that the program ends with.
+/// Does what the words ask for, and answers the number of the status that the program ends with.
 ///
 /// The word `compile` asks it to answer the script that the input holds, `serve` to serve connections at a
 /// port of loopback, `generate` to write the summary of a run of generated submissions, `splice` to write a
@@ -33,18 +33,26 @@ use std::thread::Threads;
 /// were kept in that store, and keep there those that are accepted now. For each submission no more nodes are
 /// evaluated than its rows affect.
 ///
-/// | Status | Meaning |
-/// |---|---|
-/// | 0 | the script was answered to its end, all connections were served, or what is due was written |
-/// | 2 | the words are no command |
-/// | 3 | the input is no script |
-/// | 4 | the input failed |
-/// | 5 | the output failed |
-/// | 6 | the store failed |
-/// | 7 | the door failed |
-/// | 8 | memory ran out |
-/// | 9 | a kept submission is refused |
-/// | 10 | the series is not spliced |
+/// | Status | Cause | Written, behind the replies to the requests that were answered |
+/// |---|---|---|
+/// | 0 | the script was answered to its end | nothing |
+/// | 0 | all connections were served | nothing |
+/// | 0 | the summary or the spliced series is due | all of it |
+/// | 2 | the words are no command | the line `bad command line` |
+/// | 3 | the input is no script | the line with the number of the first malformed command |
+/// | 4 | the input failed | nothing |
+/// | 5 | the output failed | a proper prefix of what is due next |
+/// | 6 | the store failed | nothing |
+/// | 7 | the door failed | nothing |
+/// | 8 | memory ran out | nothing; if the output grows, perhaps a proper prefix of what is due next |
+/// | 9 | a kept submission is refused | the line with its number and the reply to it |
+/// | 10 | the series is not spliced | the line of the refusal |
+///
+/// With each of them the rows that a store tells are the submissions that were accepted: those that it had,
+/// and those of this run, also where the reply to one was broken off.
+///
+/// The contract says this of what the objects of the outside tell before and after: the tape of the input
+/// and that of the output, the shelf of the keeper, and the register of the door.
 pub fn run<S: Source, W: Sink, K: Keeper, D: Door, G: Gate, T: Threads + Sync, L: Ledger>(
     rt: &T,
     alloc: Global,
@@ -132,7 +140,8 @@ pub fn run_counted<S: Source, W: Sink, K: Keeper, D: Door, G: Gate, T: Threads +
     requires name { blank.name ≡ L.name }
     requires parts { blank.parts ≡ L.parts }
     requires some { 0 < blank.parts }
-    // No type of the signature may name the ledger, so the steps are not answered.
+    // Of the steps it says only that there is such a number, since no type of the signature may name the
+    // ledger. The bound on them is a clause of `run`.
     ensures run { (steps : _) × IsRun (asked_for words.now) (K.shelf keeper.old) (K.shelf keeper.new)
         (S.tape input.old) (S.tape input.new) (W.tape out.old) (W.tape out.new)
         (register_of D.Link.Told.tape (D.register door.old))

@@ -8,8 +8,8 @@ use Rattle.ghg_script.specs.declared.command.Request.{Request}
 use Rattle.ghg_script.specs.declared.reading.TheConstants.{MOST_COMMANDS}
 use Rattle.ghg_script.specs.Commands.{Forms, Grammar, commands_of}
 
--- what a script asks for, in order; the number of the command that is none, where the bytes are no script;
--- and the bytes that stand behind END, or where that command should
+-- What a script asks for, in order. Where the bytes are no script, the number of the first command that is
+-- none, or one too many. The bytes that stand behind END, or where that command should.
 pub record Reading (Request : Type 0) : Type 0 where
   pub requests : List Request
   pub wrong : Option ℕ
@@ -56,20 +56,21 @@ reading_of g bytes = reading g most_commands 1 bytes
 abbrev pub IsScriptOf : {Request : Type 0} → Grammar (Command Request) → List ℕ → List Request → Type 0
 IsScriptOf g bytes requests = reading_of g bytes ≡ record { requests = requests; wrong = None; rest = [] }
 
--- the bytes are these requests, and after them this, which begins with no command
+-- the bytes are these requests, and after them this, which begins with no command, or with one too many
 abbrev pub ReadsAs : {Request : Type 0} → Grammar (Command Request) → List ℕ → List Request → List ℕ → Type 0
 ReadsAs g bytes requests rest =
     reading_of g bytes ≡ record { requests = requests; wrong = Some (length requests + 1); rest = rest }
 
--- After these requests a command was not read to its end, and no more than it takes to find out that it is
--- one or none.
+-- What was read after these requests begins with no command, or with one too many, and is no more than it
+-- takes to find out whether a command follows.
 pub record IsBeforeNextCommand {Request : Type 0} (g : Grammar (Command Request)) (took : List ℕ)
     (requests : List Request) : Type 0 where
   pub rest : List ℕ
   pub holds : ReadsAs g took requests rest
   pub near : length rest ≤ g.reach rest
 
--- What was read after these requests is no command: nothing is left, or it is none whatever follows.
+-- No command follows these requests: nothing is left, or whatever comes next the bytes read as these requests
+-- alone.
 pub record IsMalformed {Request : Type 0} (g : Grammar (Command Request)) (left : Tape) (took : List ℕ)
     (requests : List Request) : Type 0 where
   pub read : IsBeforeNextCommand g took requests

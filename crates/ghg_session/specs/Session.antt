@@ -80,8 +80,9 @@ pub record LeavesUndone {State Request : Type 0} (p : Protocol State Request) (n
   pub holds : ReadsAs p.commands took (answered ++ asked ∷ []) []
   pub why : MayLeaveUndone (p.step now asked) status
 
--- These lines are due next, and then this is the state. They are the reply to one more request, after which
--- nothing was read, or the line that names the command that is none.
+-- After the replies to the requests that were answered these lines are due next, and this is the last state.
+-- They are the reply to one more request, after which nothing was read, and the state is the one after it. Or
+-- no command follows, they are the line that says so, and the state is as it was.
 abbrev pub IsDueNext : {State Request : Type 0} → Protocol State Request → State → State → Tape → List ℕ
     → List Request → List ℕ → Type 0
 IsDueNext p now last left took answered lines =
@@ -104,8 +105,14 @@ StopsReading p took answered =
     (length answered < most_commands) × IsBeforeNextCommand p.commands took answered
 
 -- How a session ends, by its status: `took` was read, these requests were answered, which left the state
--- `now`, and the part was written after their replies. The last state is `last`. `left` is the input in the
--- end, and `grows` says whether a write to the output takes memory.
+-- `now`, and the part was written after their replies. The last state is `last`. `left` is the tape of the
+-- input in the end, and `grows` says whether a write to the output takes memory.
+--
+-- Done: a script of these requests was read. NoScript: after them no command follows, and the line that says
+-- so was written. InputFailed: after them a command was not read to its end. OutputFailed: a proper prefix of
+-- the lines that are due next was written. StoreFailed: one more request was read, which has to be kept, and
+-- was left undone. OutOfMemory: a command was not read to its end, or a request whose answer takes memory was
+-- left undone; or, where a write to the output takes memory, as for OutputFailed. No other status comes.
 abbrev pub EndsBy : {State Request : Type 0} → Protocol State Request → State → State → Tape → Bool → List ℕ
     → List Request → List ℕ → Status → Type 0
 EndsBy p now last left grows took answered part Done =
@@ -123,7 +130,7 @@ EndsBy p now last left grows took answered part OutOfMemory =
     ⊎ ((grows ≡ true) × BreaksOff p now last left took answered part)
 EndsBy p now last left grows took answered part _ = ⊥
 
--- What a session did from one state to another.
+-- What a session did, from the state `first` to the state `last`.
 pub record Session {State Request : Type 0} (p : Protocol State Request) (first last : State)
     (input input' output output' : Tape) (steps steps' : ℕ) (status : Status) : Type 0 where
   -- the bytes that it read, and no more

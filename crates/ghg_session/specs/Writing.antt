@@ -4,8 +4,8 @@ use Rattle.ghg_outer.specs.Tape.{Appends, AppendsProperPrefix, Tape}
 use Rattle.ghg_words.specs.declared.status.Status.{Status}
 use Rattle.ghg_words.specs.declared.status.Status.TheVariants.{OutputFailed, OutOfMemory}
 
--- A proper prefix of the text was written. Then the sink failed, or memory ran out, which only a sink that
--- grows takes.
+-- A proper prefix of the text was written, perhaps nothing. Then the sink failed; or memory ran out, which
+-- happens only at a sink that grows.
 pub record StoppedWriting (before after : Tape) (text : List ℕ) (status : Status) : Type 0 where
   pub wrote : AppendsProperPrefix before after text
   pub why : (status ≡ OutputFailed) ⊎ ((status ≡ OutOfMemory) × (before.grows ≡ true))

@@ -26,8 +26,8 @@ use Rattle.ghg_tables.specs.Texts.{cell_words, field, three_decimals}
 
 -- ---- the figures of a node
 
--- a value and its bounds: wherever the inputs are within their supplied bounds, the exact value of the node
--- is within those that are written
+-- A value, of which this says nothing, and its bounds: at every choice within the supplied bounds the exact
+-- value of the node is within those that are written.
 pub record AreBoundsOf (m : Data) (n : Node) (figures : List ℕ) : Type 0 where
   pub value : ℤ
   pub low : ℤ
@@ -37,7 +37,7 @@ pub record AreBoundsOf (m : Data) (n : Node) (figures : List ℕ) : Type 0 where
       (fractions : Node → Fraction) → IsValuation m choice fractions →
       Holds low high (places_of (node_precision m n)) (fractions n)
 
--- of a node that is known, and else no numbers
+-- of a known node a value and its bounds, and of any other no numbers
 abbrev pub AreFiguresOf : Data → Node → Option Input → List ℕ → Type 0
 AreFiguresOf m n (Some (Known point range)) figures = AreBoundsOf m n figures
 AreFiguresOf m n _ figures = figures ≡ codes "NE,NE,NE"
@@ -92,8 +92,8 @@ subjects table.Series m year =
     Some (map year_subject (years_from (first_year (span m)) (year + 1 - first_year (span m))))
 subjects _ m year = None
 
--- The text of a table with bounds is the header and those rows, and each bound in it holds the exact value of
--- its node.
+-- The text of a table with bounds is the header and those rows, and the bounds in it hold the exact value of
+-- each known node. Of the text of an analysis this says nothing.
 unfoldable pub IsSoundText : Table → Data → ℕ → List ℕ → Type 0
 IsSoundText t m year text = IfSome (subjects t m year)
     (λ of. (rows : List ℕ) × (text ≡ header t ++ rows) × AreRowsOf m of rows)

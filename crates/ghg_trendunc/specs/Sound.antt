@@ -44,7 +44,8 @@ abbrev pub is_unknown : Data → Outcomes → Trend → Bool
 is_unknown m outcomes t =
     list_any (lacks_sides m outcomes t) (emitters m) || (unsigned_abs t.base_sum == 0)
 
--- unless the uncertainty of the total is unknown, the text ends with bounds of it
+-- unless the uncertainty of the total is unknown, the text ends with bounds of it, which hold the root of the
+-- exact sum
 abbrev pub IsSoundTrend : Data → Outcomes → ℕ → List ℕ → Type 0
 IsSoundTrend m outcomes year text =
     let t : Trend = trend_of m outcomes year in

@@ -11,17 +11,28 @@ use ghg_splice::Method;
 use ghg_units::{Name, Unit, unit_named};
 
 /// What a command line asks for.
+///
+/// | First word | Options, each at most once, in any order |
+/// |---|---|
+/// | `compile` | `--workers`, `--store` |
+/// | `serve` | `--port`, `--connections`; `--workers`, `--store` |
+/// | `generate` | `--seed`, `--lines`; `--workers` |
+/// | `splice` | `--method`, `--name`, `--unit` |
+/// | `review` | `--workers` |
+///
+/// Those before a semicolon, and all of `splice`, have to stand. Without `--workers` there is one worker.
 #[derive(Drop)]
 pub enum Command<'a> {
-    /// To answer a script.
+    /// To answer a script of submissions and requests for tables.
     Compile(Settings<'a>),
-    /// To serve connections.
+    /// To answer the same requests over HTTP, one connection after the other.
     Serve(Service<'a>),
-    /// To run the submissions that a seed decides.
+    /// To answer the submissions that a seed decides, and write a summary.
     Generate(Sample),
-    /// To fill the years that a series lacks.
+    /// To fill the years that a series lacks, and write the submission that enters them.
     Splice(Splicing),
-    /// To answer a script that may also compare the present data with earlier ones.
+    /// To answer a script that may also freeze the present data as a version, compare them with one, and ask
+    /// for the uncertainty of a trend.
     Review(Review),
 }
 

@@ -9,7 +9,7 @@ use std::alloc::{AllocError, AllocFailed};
 /// What the program ends with.
 #[derive(Clone, Copy, Debug, PartialEq, Eq, Drop)]
 pub enum Status {
-    /// The script was answered to its end, or all connections were served.
+    /// The script was answered to its end, all connections were served, or what is due was written.
     Done,
     /// The words are no command.
     BadCommandLine,
@@ -19,13 +19,13 @@ pub enum Status {
     InputFailed,
     /// The output failed.
     OutputFailed,
-    /// The store failed.
+    /// The store failed: it was not opened or not read, or it did not keep a submission of a script.
     StoreFailed,
-    /// The door failed.
+    /// The door failed: its port was not opened, or it gave no further connection.
     DoorFailed,
     /// Memory ran out.
     OutOfMemory,
-    /// A kept submission is refused.
+    /// A submission that a store had is refused as it is replayed.
     RowRefused,
     /// The series is not spliced.
     SpliceRefused,
