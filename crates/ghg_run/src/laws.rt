@@ -3,7 +3,8 @@
 ghost use Rattle.ghg_run.specs.Reviewing.{ReviewsAreSound};
 ghost use Rattle.ghg_run.specs.Sound.{RepliesAreSound};
 
-/// The bounds that a session prints hold the exact values of the data in force.
+/// From each state in force the bounds that a session prints, whatever is requested, hold the exact values of
+/// the data in force then.
 #[tactic(auto, using(crate::proofs::Held::sound_replies))]
 pub fn replies_are_sound()
     ensures { RepliesAreSound }

@@ -1,8 +1,8 @@
 //! All that the program does, over any input, output, keeper and door.
 //!
 //! [`run`] does what the words of a command line ask for, and its contract says what that is: a script of
-//! submissions and requests is answered, connections are served, a sample is generated, or a series is
-//! filled.
+//! submissions and requests is answered, connections are served, a sample is generated, a series is filled,
+//! or a script of a review is answered.
 #![tactic(auto)]
 
 mod commands;

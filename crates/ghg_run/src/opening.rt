@@ -18,7 +18,7 @@ use std::sync::ledger::Ledger;
 use std::thread::Threads;
 
 /// Opens the office that a run begins with: a new one, or that of the store of this name, whose rows are
-/// replayed. The store becomes the one in use.
+/// replayed. A store that gives an office, or of which a row is refused, is the one in use then.
 ///
 /// Where there is no office, the error is the status that the program ends with.
 pub fn open_office<W: Sink, K: Keeper, G: Gate, T: Threads + Sync, L: Ledger>(

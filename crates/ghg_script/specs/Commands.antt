@@ -12,8 +12,8 @@ use Rattle.ghg_script.specs.declared.command.Request.{Request}
 use Rattle.ghg_script.specs.declared.command.Request.TheVariants as request
 use Rattle.ghg_script.specs.declared.reading.TheConstants.{LONGEST_LINE}
 
--- Which values the prefixes of bytes are texts of: the value that bytes begin with, and what follows it; and
--- how many bytes may be taken to find that they begin with no value.
+-- Which texts are values: the value whose text bytes begin with, and what follows it, or none; and how many
+-- of the bytes a reader takes at most to find that they begin with none.
 pub record Grammar (T : Type 0) : Type 0 where
   pub parse : List ℕ → Option (T × List ℕ)
   pub reach : List ℕ → ℕ
@@ -41,7 +41,7 @@ line_of text = text ++ 10 ∷ []
 abbrev pub longest_line : ℕ
 longest_line = LONGEST_LINE
 
--- the first line, which is no longer, and what follows
+-- the first line without its line feed, if it is no longer than that, and what follows
 unfoldable pub line_at : List ℕ → Option (List ℕ × List ℕ)
 line_at bytes = do
   split ← split_at 10 bytes

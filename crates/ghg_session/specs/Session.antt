@@ -19,7 +19,7 @@ bytes_of (Short line) = line.items
 bytes_of (Long first below) = first.items ++ below
 
 -- What a request comes to: the lines that reply to it, and the state after it; whether it takes memory to
--- answer it; whether it changes the state, and so has to be kept; and the most steps that it may take.
+-- answer it; whether a store has to keep it; and the most steps that it may take.
 pub record Step (State : Type 0) : Type 0 where
   pub reply : List ℕ
   pub after : State
