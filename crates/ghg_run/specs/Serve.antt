@@ -64,16 +64,18 @@ register_of tape door = record {
 }
 
 -- How a serving ends, by its status: these links were taken back, and perhaps one more was served and then
--- dropped. As many were taken back as are asked for, and the port that the door tells is the one that is
--- asked for. Or fewer were: the door failed; or memory ran out, before the first link was given, or when a
--- link that was served was handed back, and so dropped.
+-- dropped.
 abbrev pub EndsServing : Service → Option ℕ → List ServedLink → List ServedLink → Status → Type 0
+-- as many were taken back as are asked for, at the port that is asked for, if the door tells it
 EndsServing service port taken dropped Done =
     (length taken ≡ service.connections) × (dropped ≡ [])
     × IfSome port (λ open_port. open_port ≡ service.port)
+-- the door failed before that
 EndsServing service port taken dropped DoorFailed = (length taken < service.connections) × (dropped ≡ [])
+-- memory ran out before that: when a link that was served was handed back, or before any was served
 EndsServing service port taken dropped OutOfMemory =
     (length taken < service.connections) × ((length dropped ≡ 1) ⊎ ((taken ≡ []) × (dropped ≡ [])))
+-- no other status ends a serving
 EndsServing service port taken dropped _ = ⊥
 
 -- An office served the links that the door gave, one after the other, and the last state of the office is

@@ -107,27 +107,29 @@ StopsReading p took answered =
 -- How a session ends, by its status: `took` was read, these requests were answered, which left the state
 -- `now`, and the part was written after their replies. The last state is `last`. `left` is the tape of the
 -- input in the end, and `grows` says whether a write to the output takes memory.
---
--- Done: a script of these requests was read. NoScript: after them no command follows, and the line that says
--- so was written. InputFailed: after them a command was not read to its end. OutputFailed: a proper prefix of
--- the lines that are due next was written. StoreFailed: one more request was read, which has to be kept, and
--- was left undone. OutOfMemory: a command was not read to its end, or a request whose answer takes memory was
--- left undone; or, where a write to the output takes memory, as for OutputFailed. No other status comes.
 abbrev pub EndsBy : {State Request : Type 0} → Protocol State Request → State → State → Tape → Bool → List ℕ
     → List Request → List ℕ → Status → Type 0
+-- what was read is a script of these requests
 EndsBy p now last left grows took answered part Done =
     IsScriptOf p.commands took answered × (part ≡ []) × (last ≡ now)
+-- no command follows, and the line that says so was written
 EndsBy p now last left grows took answered part NoScript =
     IsMalformed p.commands left took answered × (part ≡ wrong_line (length answered + 1)) × (last ≡ now)
+-- the next command was not read to its end
 EndsBy p now last left grows took answered part InputFailed =
     StopsReading p took answered × (part ≡ []) × (last ≡ now)
+-- the lines that are due next were broken off
 EndsBy p now last left grows took answered part OutputFailed = BreaksOff p now last left took answered part
+-- the next request was read, which is to be kept, and left undone
 EndsBy p now last left grows took answered part StoreFailed =
     LeavesUndone p now took answered StoreFailed × (part ≡ []) × (last ≡ now)
+-- the next command was not read to its end, or the next request, whose answer takes memory, was left undone;
+-- or the output grows, and the lines that are due next were broken off
 EndsBy p now last left grows took answered part OutOfMemory =
     ((StopsReading p took answered ⊎ LeavesUndone p now took answered OutOfMemory)
     × (part ≡ []) × (last ≡ now))
     ⊎ ((grows ≡ true) × BreaksOff p now last left took answered part)
+-- no other status ends a session
 EndsBy p now last left grows took answered part _ = ⊥
 
 -- What a session did, from the state `first` to the state `last`.
