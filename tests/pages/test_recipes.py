@@ -10,7 +10,7 @@ import unittest
 
 TOP = pathlib.Path(__file__).resolve().parent.parent.parent
 PATH = re.compile(r"[\w.]+/[\w./{},-]+\w|ghg_\w+")
-# Places of four recipes, tried on a copy: the file, the text before the new one (none is the end), and that.
+# Places of five recipes, tried on a copy: the file, the text before the new one (none is the end), and that.
 PLACES = [
     ("ghg_units/src/unit.rt", "    Gigagram,\n", "    /// `Mt`\n    Megatonne,\n"),
     ("ghg_units/specs/Units.antt", 'row units.Gigagram = unit (codes "Gg") dims.Mass 1000 1 (lit< tt)\n',
@@ -26,6 +26,10 @@ PLACES = [
     ("ghg_units/specs/Refusals.antt", 'refusal_text (rules.Cycle line) = codes "12 Cycle " ++ line\n',
      'refusal_text (rules.Late row) = codes "14 Late row " ++ decimal row\n'),
     ("tools/words/rules.csv", "", "14,the row is late\n"),
+    ("ghg_http/src/decision.rt", "    BodyTooLong,\n",
+     "    /// The client asks for more than `MAX_FIELDS` things. Ask for fewer.\n    TooMany,\n"),
+    ("ghg_http/specs/Decision.antt", 'refusal_row refusal.CodedBody = (415, codes "coded body")\n',
+     'refusal_row refusal.TooMany = (429, codes "too many")\n'),
     ("ghg_units/src/names.rt", "const MOST_NAMES: usize = 40", "1; // before: "),
 ]
 # What stands then in what scripts make.
@@ -36,6 +40,7 @@ MADE = {
         "| Q110 | Mass of fuel sold: half of `FM`. | Equation 9.9 |", "`FM * 1/2`"),
     "docs/FORMATS.md": (
         "`Gg` 1000, `Mt` 1000000", "| 14 | `14 Late row N` | the row is late |", "1 to 401 different"),
+    "docs/SERVICE.md": ("| 429 | `too many` | the client asks for more than 64 things | ask for fewer |",),
 }
 
 

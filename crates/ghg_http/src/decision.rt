@@ -9,22 +9,23 @@ use crate::route::Target;
 use ghg_import::MAX_BODY;
 use http::StatusCode;
 
-/// Why a request is refused before its body is read.
+/// Why a request is refused before its body is read. Each comment ends with what to do.
 #[derive(Clone, Copy, Debug, PartialEq, Eq, Drop)]
 pub enum Refusal {
-    /// It is no HTTP, or its length is no number.
+    /// The bytes are no request, as if the path is not UTF-8, or `Content-Length` is not 1 to 10 digits, or
+    /// stands twice with different texts, as `291` and `0291`. Mend the client.
     BadRequest,
-    /// Its head is longer, or has more fields, than a head may.
+    /// The head has more than `MAX_HEAD` bytes or `MAX_FIELDS` fields. Mend the client.
     HeadTooLarge,
-    /// Its path has no route.
+    /// There is no such path. Take `/submissions/ID` or `/tables/TABLE/YEAR`.
     NotFound,
-    /// Its route has another method.
+    /// The path has the other method. POST to `/submissions/`, GET from `/tables/`.
     WrongMethod,
-    /// It is a submission without a length, or in chunks.
+    /// A POST without `Content-Length`, or in chunks. Send the length.
     LengthRequired,
-    /// Its body is coded.
+    /// The body is compressed. Send it plain.
     CodedBody,
-    /// Its body is longer than a submission may be.
+    /// The body has more than `MAX_BODY` bytes. Split the file.
     BodyTooLong,
 }
 
