@@ -33,6 +33,14 @@ class Launcher(unittest.TestCase):
         for page in HELP.glob("*.txt"):
             self.assertRegex(page.read_text("utf-8"), r"\nExample: \./ghg ", page.name)
 
+    def test_each_page_has_the_options_of_its_command(self) -> None:
+        spec = (TOP / "crates/ghg_words/specs/Command.antt").read_text("utf-8")
+        taken = dict(re.findall(r"^options_of_(\w+) = only \((.*) ∷ \[\]\)$", spec, re.MULTILINE))
+        self.assertEqual({"ghg", *taken}, {page.stem for page in HELP.glob("*.txt")})
+        for command, options in taken.items():
+            told = re.findall(r"^--(\w+) ", (HELP / f"{command}.txt").read_text("utf-8"), re.MULTILINE)
+            self.assertEqual(sorted(told), sorted(re.findall(r'codes "(\w+)"', options)), command)
+
     def test_no_such_command(self) -> None:
         for word in ("nothing", "../compile", "Compile"):
             run = ghg("help", word)

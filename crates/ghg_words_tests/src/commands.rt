@@ -1,245 +1,349 @@
-//! Command lines, and the same ones as `clap` reads them.
+//! Each option of the command line, and the same lines as `clap` reads them.
 
 use clap::{Arg, ArgAction, ArgMatches, Error};
-use ghg_words::{Command, Settings, read_command};
+use ghg_units::unit_word;
+use ghg_words::{Command, read_command};
 use std::alloc::{AllocError, Global};
 use std::process::Abort;
+use std::str;
 use std::test::Fail;
 
-// Fails with the line where it is not read as it has to be.
-fn check(rt: &impl Abort, holds: bool, line: &str) {
-    assert!(rt; holds, "{line}");
+// An option of commands.
+struct Case {
+    name: &'static str,
+    // The commands that take it.
+    commands: &'static [&'static str],
+    // What they have without it. `None` where they need it.
+    default: Option<&'static str>,
+    // Texts that it takes, and what the commands have then.
+    taken: &'static [(&'static str, &'static str)],
+    // Texts that it does not take.
+    refused: &'static [&'static str],
 }
 
-// The words of a line, as the program gets them.
-fn words_of(alloc: Global, line: &str) -> Result<Vec<String>, AllocError> {
+const OPTIONS: &[Case] = &[
+    Case {
+        name: "workers",
+        commands: &["compile", "serve", "generate", "review"],
+        default: Some("1"),
+        taken: &[("7", "7"), ("64", "64"), ("0000000001", "1")],
+        refused: &["", "0", "65", "x", "00000000001"],
+    },
+    Case {
+        name: "store",
+        commands: &["compile", "serve"],
+        default: Some("None"),
+        taken: &[
+            ("s", "Some(StoreName { text: \"s\" })"),
+            ("help", "Some(StoreName { text: \"help\" })"),
+        ],
+        refused: &["", ".x", "-x"],
+    },
+    Case {
+        name: "port",
+        commands: &["serve"],
+        default: None,
+        taken: &[("8000", "8000"), ("65535", "65535")],
+        refused: &["0", "65536", "00000008000"],
+    },
+    Case {
+        name: "connections",
+        commands: &["serve"],
+        default: None,
+        taken: &[("2", "2"), ("1000000", "1000000")],
+        refused: &["0", "1000001"],
+    },
+    Case {
+        name: "seed",
+        commands: &["generate"],
+        default: None,
+        taken: &[("0", "0"), ("2147483647", "2147483647")],
+        refused: &["-1", "2147483648"],
+    },
+    Case {
+        name: "lines",
+        commands: &["generate"],
+        default: None,
+        taken: &[("1", "1"), ("1000", "1000")],
+        refused: &["0", "1001"],
+    },
+    Case {
+        name: "method",
+        commands: &["splice"],
+        default: None,
+        taken: &[("linear", "linear"), ("overlap", "overlap")],
+        refused: &["mean", "Linear"],
+    },
+    Case {
+        name: "name",
+        commands: &["splice"],
+        default: None,
+        taken: &[("A", "A"), ("ELEC.GAS", "ELEC.GAS")],
+        refused: &["a", "GWP.CO2"],
+    },
+    Case {
+        name: "unit",
+        commands: &["splice"],
+        default: None,
+        taken: &[("TJ", "TJ"), ("kt", "kt")],
+        refused: &["tj", "yr"],
+    },
+];
+
+const COMMANDS: &[&str] = &["compile", "serve", "generate", "splice", "review"];
+
+// Lines that are no command, whatever the options are.
+const NO_COMMANDS: &[&[&str]] = &[
+    &[],
+    &["help"],
+    &["-h"],
+    &["reviews"],
+    &["compile", "--help"],
+    &["compile", "--"],
+    &["review", "x"],
+];
+
+impl Case {
+    fn is_of(&self, command: &str) -> bool {
+        self.commands.iter().any(|one| *one == command)
+    }
+
+    // A text that it takes.
+    fn text(&self) -> &'static str {
+        match self.taken.first() {
+            Some((text, _)) => *text,
+            None => "",
+        }
+    }
+}
+
+// Fails with the words where they are not read as they have to be.
+fn check(rt: &impl Abort, holds: bool, words: &[String]) {
+    assert!(rt; holds, "{words:?}");
+}
+
+fn push(alloc: Global, words: &mut Vec<String>, word: &str) -> Result<(), AllocError> {
+    words.push(String::from_str(alloc, word)?)?;
+    Ok(())
+}
+
+// Appends an option in two words.
+fn push_option(
+    alloc: Global,
+    words: &mut Vec<String>,
+    name: &str,
+    text: &str,
+) -> Result<(), AllocError> {
+    words.push(format!(in alloc; "--{name}")?)?;
+    push(alloc, words, text)
+}
+
+// A command with the options that it needs, but for the one of a name.
+fn line_without(alloc: Global, command: &str, name: &str) -> Result<Vec<String>, AllocError> {
     let mut words = Vec::new(alloc);
-    for word in line.split_whitespace() {
-        words.push(String::from_str(alloc, word)?)?;
+    push(alloc, &mut words, command)?;
+    for option in OPTIONS {
+        if option.default.is_none() && option.is_of(command) && option.name != name {
+            push_option(alloc, &mut words, option.name, option.text())?;
+        }
     }
     Ok(words)
 }
 
-// The number of workers, the store, and the numbers that are required.
-fn parts<'c>(command: &'c Command) -> (u32, Option<&'c str>, Option<(u32, u32)>) {
+// The same with that option at the end, in two words.
+fn line_ended(
+    alloc: Global,
+    command: &str,
+    name: &str,
+    text: &str,
+) -> Result<Vec<String>, AllocError> {
+    let mut words = line_without(alloc, command, name)?;
+    push_option(alloc, &mut words, name, text)?;
+    Ok(words)
+}
+
+// A command with all options that it takes, of which the one of a name stands at the front, in one word.
+fn line_begun(
+    alloc: Global,
+    command: &str,
+    name: &str,
+    text: &str,
+) -> Result<Vec<String>, AllocError> {
+    let mut words = Vec::new(alloc);
+    push(alloc, &mut words, command)?;
+    words.push(format!(in alloc; "--{name}={text}")?)?;
+    for option in OPTIONS {
+        if option.is_of(command) && option.name != name {
+            push_option(alloc, &mut words, option.name, option.text())?;
+        }
+    }
+    Ok(words)
+}
+
+// What a command has, each option by its name.
+fn shown(alloc: Global, command: &Command) -> Result<String, AllocError> {
     match command {
-        Command::Compile(settings) => (settings.workers, store_of(settings), None),
-        Command::Serve(service) => (
-            service.settings.workers,
-            store_of(&service.settings),
-            Some((u32::from(service.port), service.connections)),
-        ),
-        Command::Generate(sample) => (sample.workers, None, Some((sample.seed, sample.lines))),
-        Command::Splice(_) => (1, None, None),
-        Command::Review(review) => (review.workers, None, None),
+        Command::Compile(settings) => format!(in alloc; "{settings:?}"),
+        Command::Serve(service) => format!(in alloc; "{service:?}"),
+        Command::Generate(sample) => format!(in alloc; "{sample:?}"),
+        Command::Review(review) => format!(in alloc; "{review:?}"),
+        Command::Splice(splicing) => {
+            let method = splicing.method.word();
+            let name = str::from_utf8(splicing.name.as_bytes()).unwrap_or("");
+            let unit = unit_word(splicing.unit);
+            format!(in alloc; "{{ method: {method}, name: {name}, unit: {unit} }}")
+        }
     }
 }
 
-fn store_of<'c>(settings: &'c Settings) -> Option<&'c str> {
-    settings.store.as_ref().map(|name| name.as_str())
+// Whether words are a command that has this by the name of an option.
+fn has(alloc: Global, words: &[String], name: &str, want: &str) -> Result<bool, AllocError> {
+    match read_command(words) {
+        None => Ok(false),
+        Some(command) => {
+            let shown = shown(alloc, &command)?;
+            let within = format!(in alloc; "{name}: {want},")?;
+            let last = format!(in alloc; "{name}: {want} }}")?;
+            Ok(shown.contains(within.as_str()) || shown.contains(last.as_str()))
+        }
+    }
 }
 
-// Command lines, with what they name.
-const COMMANDS: &[(&str, u32, Option<&str>, Option<(u32, u32)>)] = &[
-    ("compile", 1, None, None),
-    ("compile --store s", 1, Some("s"), None),
-    ("compile --workers=7", 7, None, None),
-    ("compile --workers 64 --store s", 64, Some("s"), None),
-    ("compile --store=help", 1, Some("help"), None),
-    (
-        "serve --port 8000 --connections 2",
-        1,
-        None,
-        Some((8000, 2)),
-    ),
-    (
-        "serve --connections=2 --store s --port=8000",
-        1,
-        Some("s"),
-        Some((8000, 2)),
-    ),
-    (
-        "serve --port 65535 --workers 0000000001 --connections 1000000",
-        1,
-        None,
-        Some((65_535, 1_000_000)),
-    ),
-    (
-        "splice --unit kt --name=ELEC.GAS --method overlap",
-        1,
-        None,
-        None,
-    ),
-    ("review", 1, None, None),
-    ("review --workers 2", 2, None, None),
-    ("review --workers=64", 64, None, None),
-    ("review --workers 01", 1, None, None),
-    ("generate --seed 0 --lines 1", 1, None, Some((0, 1))),
-    (
-        "generate --lines=1000 --workers=64 --seed 2147483647",
-        64,
-        None,
-        Some((2_147_483_647, 1_000)),
-    ),
-];
-
 #[test]
-fn options_may_stand_in_any_order(rt: HostRuntime) -> Result<(), Fail> {
-    for (line, workers, store, service) in COMMANDS {
-        let words = words_of(rt.alloc(), line)?;
-        match read_command(&words) {
-            Some(command) => check(&rt, parts(&command) == (*workers, *store, *service), line),
-            None => check(&rt, false, line),
+fn texts_of_options_are_taken_at_any_place(rt: HostRuntime) -> Result<(), Fail> {
+    let alloc = rt.alloc();
+    for option in OPTIONS {
+        for command in option.commands {
+            for (text, want) in option.taken {
+                let ended = line_ended(alloc, command, option.name, text)?;
+                check(&rt, has(alloc, &ended, option.name, want)?, &ended);
+                let begun = line_begun(alloc, command, option.name, text)?;
+                check(&rt, has(alloc, &begun, option.name, want)?, &begun);
+            }
         }
     }
     Ok(())
 }
 
-// Lines that are no command.
-const NO_COMMANDS: &[&str] = &[
-    "",
-    "help",
-    "-h",
-    "compile --help",
-    "compile --workers 65",
-    "compile --workers 0",
-    "compile --workers x",
-    "compile --store",
-    "compile --store s --store s",
-    "compile --store .x",
-    "compile --store -x",
-    "compile --",
-    "compile --port 8000",
-    "serve --port 8000",
-    "serve --port 65536 --connections 1",
-    "serve --port 8000 --connections 1000001",
-    "serve --port 00000008000 --connections 1",
-    "generate --seed 1",
-    "generate --lines 1",
-    "generate --seed 1 --lines 1 --seed 1",
-    "generate --seed 1 --lines 1 --store s",
-    "generate --seed 1 --lines 1 --workers 65",
-    "generate --seed 0 --lines 0",
-    "generate --seed 0 --lines 1001",
-    "generate --seed 2147483648 --lines 1",
-    "splice --method linear --name A",
-    "splice --method mean --name A --unit TJ",
-    "splice --method linear --name GWP.CO2 --unit TJ",
-    "splice --method linear --name a --unit TJ",
-    "splice --method linear --name A --unit yr",
-    "splice --method linear --name A --unit TJ --workers 1",
-    "review --store x",
-    "review --workers 0",
-    "review --workers 65",
-    "review --workers 00000000001",
-    "review --workers",
-    "review --workers 1 --workers 1",
-    "review x",
-    "reviews",
-];
+#[test]
+fn options_are_left_out_where_they_have_a_default(rt: HostRuntime) -> Result<(), Fail> {
+    let alloc = rt.alloc();
+    for option in OPTIONS {
+        for command in option.commands {
+            let words = line_without(alloc, command, option.name)?;
+            match option.default {
+                Some(want) => check(&rt, has(alloc, &words, option.name, want)?, &words),
+                None => check(&rt, read_command(&words).is_none(), &words),
+            }
+        }
+    }
+    Ok(())
+}
+
+#[test]
+fn other_texts_are_no_command(rt: HostRuntime) -> Result<(), Fail> {
+    let alloc = rt.alloc();
+    for option in OPTIONS {
+        for command in option.commands {
+            for text in option.refused {
+                let ended = line_ended(alloc, command, option.name, text)?;
+                check(&rt, read_command(&ended).is_none(), &ended);
+                let begun = line_begun(alloc, command, option.name, text)?;
+                check(&rt, read_command(&begun).is_none(), &begun);
+            }
+        }
+    }
+    Ok(())
+}
+
+#[test]
+fn an_option_stands_once_with_its_text_behind_its_own_commands(
+    rt: HostRuntime,
+) -> Result<(), Fail> {
+    let alloc = rt.alloc();
+    for option in OPTIONS {
+        for command in COMMANDS {
+            let mut words = line_ended(alloc, command, option.name, option.text())?;
+            check(
+                &rt,
+                read_command(&words).is_some() == option.is_of(command),
+                &words,
+            );
+            words.push(format!(in alloc; "--{}", option.name)?)?;
+            check(&rt, read_command(&words).is_none(), &words);
+            push(alloc, &mut words, option.text())?;
+            check(&rt, read_command(&words).is_none(), &words);
+        }
+    }
+    Ok(())
+}
 
 #[test]
 fn all_else_is_no_command(rt: HostRuntime) -> Result<(), Fail> {
+    let alloc = rt.alloc();
     for line in NO_COMMANDS {
-        let words = words_of(rt.alloc(), line)?;
-        check(&rt, read_command(&words).is_none(), line);
+        let mut words = Vec::new(alloc);
+        for word in *line {
+            push(alloc, &mut words, word)?;
+        }
+        check(&rt, read_command(&words).is_none(), &words);
     }
     Ok(())
 }
 
 // ---- the same by `clap`
 
-// An option that takes one value.
-fn option(alloc: Global, name: &str) -> Arg<'_> {
-    Arg::new(alloc, name).long(name).action(ArgAction::Set)
+// What `clap` reads of the options of a command, behind the name of the program.
+fn read_by_clap<'a>(
+    alloc: Global,
+    command: &'a str,
+    words: &'a [&'a str],
+) -> Result<ArgMatches<'a>, Error> {
+    let mut reader = clap::Command::new(alloc, command);
+    for option in OPTIONS {
+        if option.is_of(command) {
+            let arg = Arg::new(alloc, option.name)
+                .long(option.name)
+                .required(option.default.is_none())
+                .action(ArgAction::Set);
+            reader = reader.arg(arg)?;
+        }
+    }
+    reader.try_get_matches_from(words)
 }
 
-fn read_by_clap<'a>(alloc: Global, words: &'a [&'a str]) -> Result<ArgMatches<'a>, Error> {
-    let compile = clap::Command::new(alloc, "compile")
-        .arg(option(alloc, "workers"))?
-        .arg(option(alloc, "store"))?;
-    let serve = clap::Command::new(alloc, "serve")
-        .arg(option(alloc, "workers"))?
-        .arg(option(alloc, "store"))?
-        .arg(option(alloc, "port"))?
-        .arg(option(alloc, "connections"))?;
-    let generate = clap::Command::new(alloc, "generate")
-        .arg(option(alloc, "workers"))?
-        .arg(option(alloc, "seed"))?
-        .arg(option(alloc, "lines"))?;
-    let review = clap::Command::new(alloc, "review").arg(option(alloc, "workers"))?;
-    clap::Command::new(alloc, "ghg")
-        .subcommand(compile)?
-        .subcommand(serve)?
-        .subcommand(generate)?
-        .subcommand(review)?
-        .try_get_matches_from(words)
-}
-
-// What `clap` reads is what the reader reads, with `--workers` as the line gives it.
-fn agrees(matches: &ArgMatches, command: &Command, workers: Option<u32>) -> bool {
-    match (matches.subcommand(), command) {
-        (Some(("compile", options)), Command::Compile(settings)) => {
-            agrees_on_settings(options, settings, workers)
-        }
-        (Some(("serve", options)), Command::Serve(service)) => {
-            agrees_on_settings(options, &service.settings, workers)
-                && options.get_one::<u16>("port") == Some(service.port)
-                && options.get_one::<u32>("connections") == Some(service.connections)
-        }
-        (Some(("generate", options)), Command::Generate(sample)) => {
-            agrees_on_workers(options, sample.workers, workers)
-                && options.get_one::<u32>("seed") == Some(sample.seed)
-                && options.get_one::<u32>("lines") == Some(sample.lines)
-        }
-        (Some(("review", options)), Command::Review(review)) => {
-            agrees_on_workers(options, review.workers, workers)
-        }
-        _ => false,
+// Whether `clap` reads words as a command whose option has this text; nothing where it takes them for none.
+fn clap_has(alloc: Global, words: &[String], name: &str, text: Option<&str>) -> Result<bool, Fail> {
+    let mut named = Vec::new(alloc);
+    for word in words {
+        named.push(word.as_str())?;
+    }
+    let command = match words.first() {
+        Some(word) => word.as_str(),
+        None => "",
+    };
+    match read_by_clap(alloc, command, &named) {
+        Ok(matches) => Ok(text.is_some() && matches.get_str(name) == text),
+        Err(_) => Ok(text.is_none()),
     }
 }
 
-fn agrees_on_settings(options: &ArgMatches, settings: &Settings, workers: Option<u32>) -> bool {
-    options.get_str("store") == store_of(settings)
-        && agrees_on_workers(options, settings.workers, workers)
-}
-
-// Where the line does not give it, `clap` reads none, and the reader the default.
-fn agrees_on_workers(options: &ArgMatches, read: u32, workers: Option<u32>) -> bool {
-    options.get_one::<u32>("workers") == workers && read == workers.unwrap_or(DEFAULT_WORKERS)
-}
-
-const DEFAULT_WORKERS: u32 = 1;
-
-// The lines that both read, with the number that stands behind `--workers`.
-const COMPARED: &[(&str, Option<u32>)] = &[
-    ("compile", None),
-    ("compile --store s", None),
-    ("compile --workers=7", Some(7)),
-    ("compile --workers 64", Some(64)),
-    ("serve --port 8000 --connections 2", None),
-    ("serve --workers 1 --port 8000 --connections 2", Some(1)),
-    ("serve --connections=2 --store s --port=8000", None),
-    ("generate --seed 1 --lines=300", None),
-    ("generate --workers=7 --lines 1 --seed 0", Some(7)),
-    ("review", None),
-    ("review --workers 7", Some(7)),
-];
-
 #[test]
-fn clap_reads_commands_in_the_same_way(rt: HostRuntime) -> Result<(), Fail> {
+fn clap_reads_options_in_the_same_way(rt: HostRuntime) -> Result<(), Fail> {
     let alloc = rt.alloc();
-    for (line, workers) in COMPARED {
-        let mut named = Vec::new(alloc);
-        named.push("ghg")?;
-        for word in line.split_whitespace() {
-            named.push(word)?;
-        }
-        let matches = read_by_clap(alloc, &named)?;
-        let words = words_of(alloc, line)?;
-        match read_command(&words) {
-            Some(command) => check(&rt, agrees(&matches, &command, *workers), line),
-            None => check(&rt, false, line),
+    for option in OPTIONS {
+        for command in COMMANDS {
+            for (text, _) in option.taken {
+                let want = if option.is_of(command) {
+                    Some(*text)
+                } else {
+                    None
+                };
+                let ended = line_ended(alloc, command, option.name, text)?;
+                check(&rt, clap_has(alloc, &ended, option.name, want)?, &ended);
+                let begun = line_begun(alloc, command, option.name, text)?;
+                check(&rt, clap_has(alloc, &begun, option.name, want)?, &begun);
+            }
         }
     }
     Ok(())
