@@ -1,8 +1,10 @@
 """The model on stored sessions, and mistakes put into copies of its tables. Each mistake has to be found: the
 model then prints something else than the program, which GHG_PROGRAM names, for the session of some seed.
 """
+import json
 import os
 import pathlib
+import re
 import unittest
 from dataclasses import replace
 from fractions import Fraction
@@ -23,6 +25,10 @@ from tests.oracle.workbooks import session_of
 SEEDS = range(100)
 TESTS = pathlib.Path(__file__).resolve().parent.parent
 PROGRAM = os.environ.get("GHG_PROGRAM") or str(TESTS.parent / "crates/ghg/out/ghg")
+
+# How each rule is printed, with words of capitals for what stands with it.
+RULES: list[str] = [printed for rule in json.loads((TESTS.parent / "tools/facts.json").read_text("utf-8"))["rules"]
+                    for printed in rule["printed"]]
 
 Change = Callable[[Expression], Expression]
 
@@ -189,6 +195,15 @@ class Mistakes(unittest.TestCase):
 
     def test_parents(self) -> None:
         self.assertEqual(missed(parents()), [])
+
+
+class Rules(unittest.TestCase):
+    def test_each_rule_is_broken(self) -> None:
+        """The program prints each rule in the session of some seed."""
+        replies = {line for session in sessions() for line in session.due.splitlines()}
+        for rule in RULES:
+            form = re.compile("refused " + re.sub(r"\b[A-Z]+\b", r"\\S+", rule))
+            self.assertTrue(any(map(form.fullmatch, replies)), rule)
 
 
 class Model(unittest.TestCase):

@@ -7,7 +7,7 @@ from typing import NamedTuple
 
 from tests.oracle.changes import Changes, Row
 from tests.oracle.faults import Faults
-from tests.oracle.model import Office, Show, Submit, Written
+from tests.oracle.model import MOST_BODY_BYTES, Office, Show, Submit, Written
 from tests.oracle.printing import TABLES as PRINTED
 from tests.oracle.review import MOST_VERSIONS, Desk, Freeze, Recalc, Trend
 from tests.oracle.rows import HEADER, header_of
@@ -16,6 +16,8 @@ from tests.oracle.workbook import Workbook
 
 # About as many as a session enters: so that some sessions in a row have all equations.
 LINES = 13
+# One session of so many has a body that is too long: few, since it is.
+LONG = 50
 # The names that versions have, most often, and others that none has.
 VERSIONS = (b"V1", b"V2", b"R-2020.1", b"GWP.CO2", b"V")
 NO_VERSIONS = (b"v1", b"1990", b"_V", b"V,1", b"V\xc3\x89", b"\xff", b"V" * 60)
@@ -34,6 +36,7 @@ class Author:
 
     def __init__(self, seed: int) -> None:
         self.random = random.Random(seed)
+        self.is_long = seed % LONG == 1
         self.office = Office()
         first = seed * LINES % len(TABLES.equations)
         self.codes = islice(cycle(TABLES.equations), first, None)
@@ -43,6 +46,8 @@ class Author:
     def session(self) -> list[Step]:
         """All steps."""
         self.submit(self.changes().opening())
+        if self.is_long:
+            self.send(Submit(b"long", b"," * (MOST_BODY_BYTES + 1)))
         for _ in range(self.random.randint(3, 5)):
             self.submit(self.new_lines())
             self.now_and_then()
