@@ -12,14 +12,14 @@ from tools.after import After
 from tools.ahead import Ahead
 from tools.asking import Asking
 from tools.book import Book
-from tools.faults import Fault, Rewritten, counted
+from tools.faults import Fault, Rewritten, at_row, counted
 from tools.mending import Cures
 from tools.program import Program, Reply
 from tools.progress import Progress
 from tools.record_faults import exists
 from tools.refused import Refused
 from tools.sheets import COLUMNS_OF_KEY, HEADERS, Key, Row, Sheet, joined, version_of
-from tools.vocabulary import limit
+from tools.vocabulary import broken_if, limit
 
 # A row that no workbook has its line for. After it no body is accepted: what a row breaks by itself comes
 # first.
@@ -196,7 +196,9 @@ class Check:
             return bindings.explain(words[0], words[1], after)
         if reply.rule == 12:
             return limit_faults.cycle(words[0], after)
-        return limit_faults.overflow(words[0], sheet, after)
+        if reply.rule == 13:
+            return limit_faults.overflow(words[0], sheet, after)
+        return unexplained(sheet, rows, reply)
 
     def swept(self, rows: list[Row], reply: Reply) -> list[Row]:
         """The rows without those that break a rule by themselves: the one that the reply names, and those
@@ -327,6 +329,14 @@ class Check:
             if reply.rule in OF_A_ROW and reply.row != 2 + len(others):
                 reply.rule = 0
         return replies
+
+
+def unexplained(sheet: Sheet, rows: list[Row], reply: Reply) -> Rewritten:
+    """The fault of a rule that has no explanation of its own: when it is broken. A row that is named is taken out."""
+    cause = f"the program answers: {reply.text}: {broken_if(reply.rule)}"
+    if not reply.row or reply.row >= len(rows):
+        return Fault(sheet, 1, "", None, cause), None
+    return at_row(rows[reply.row], cause), rows[:reply.row] + rows[reply.row + 1:]
 
 
 def lines_of(rows: list[Row]) -> bytes:

@@ -69,6 +69,12 @@ class Table(typing.TypedDict):
     header: str
 
 
+class Rule(typing.TypedDict):
+    """A rule that refuses, by its number, and when it is broken."""
+    number: str
+    broken_if: str
+
+
 class Words(typing.TypedDict):
     """The facts of tools/facts.json that the tools read."""
     header: list[str]
@@ -81,6 +87,7 @@ class Words(typing.TypedDict):
     potentials: list[str]
     tables: list[Table]
     limits: dict[str, str]
+    rules: list[Rule]
     units: list[Unit]
     categories: list[Category]
     equations: list[Equation]
@@ -101,6 +108,11 @@ def tables() -> list[str]:
 def limit(name: str) -> str:
     """A limit of the program, as it is written in docs/FORMATS.md."""
     return words()["limits"][name]
+
+
+def broken_if(number: int) -> str:
+    """When a rule is broken, as docs/FORMATS.md says it; nothing of what is no rule."""
+    return next((rule["broken_if"] for rule in words()["rules"] if rule["number"] == str(number)), "")
 
 
 @functools.cache

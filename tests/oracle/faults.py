@@ -1,4 +1,6 @@
 """Random faults: bodies that break a rule, most of them beside rows that break none."""
+from collections.abc import Callable
+
 from tests.limits import limit
 from tests.oracle.changes import Changes, Row, row
 from tests.oracle.rows import FIRST_YEAR, HEADER, LAST_YEAR
@@ -22,11 +24,10 @@ class Faults:
         self.workbook = changes.workbook
 
     def any(self) -> list[Row]:
-        """Rows of one fault."""
-        return self.random.choice((self.junk, self.junk, self.disorder, self.other_unit, self.misplaced_unit,
-                                   self.half_life, self.twice, self.absent, self.unsound, self.unsound_decay,
-                                   self.unbound, self.lone_uncertainty, self.long_span, self.cycle, self.overflow,
-                                   self.overflow_of_totals))()
+        """Rows of one fault: of a method below, and of the first one twice as often."""
+        below: list[Callable[[Faults], list[Row]]] = [
+            method for name, method in vars(Faults).items() if name != "any" and not name.startswith("_")]
+        return self.random.choice([below[0], *below])(self)
 
     def junk(self) -> list[Row]:
         """A column of a row that holds something else: rules 5 to 10."""
