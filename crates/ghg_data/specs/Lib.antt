@@ -10,3 +10,4 @@ pub mod YearSet
 pub mod Series
 pub mod Calendar
 pub mod Lasting
+pub mod Slots
