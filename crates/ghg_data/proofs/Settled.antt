@@ -183,3 +183,8 @@ module _ (m : Data) (w : IsWorkbook m) (cs : List Change) (now : IsConsistent (a
     names = names_kept none_put none_gone;
     lines = λ k. false_from_ne_true _ (λ loses. both_ways _ no_line (listed_any (loses_equation m (applied m cs)) k (map (λ d. d.0) cs) (lost_changed k loses) loses));
   }
+
+-- where nothing loses anything, none of these does
+pub none_lose : {A : Type 0} (p : A → Bool) (xs : List A) → ((x : A) → p x ≡ false) → list_any p xs ≡ false
+none_lose p [] none = refl
+none_lose p (x ∷ xs) none = rw (none x) (none_lose p xs none)

@@ -1,6 +1,6 @@
 //! Whether edits may leave a binding unsound that none of them is about.
 
-ghost use Rattle.std.specs.Prelude.{◌≡◌, false};
+ghost use Rattle.std.specs.Prelude.{◌≡◌, ◌↔◌, false};
 ghost use Rattle.std.specs.List.{list_any};
 ghost use Rattle.ghg_definitions.specs.Sound.{IsConsistent, IsWorkbook};
 ghost use Rattle.ghg_data.specs.Changes.{applied};
@@ -64,7 +64,7 @@ pub(crate) fn unsettles(
     requires workbook { IsWorkbook holdings.now.content }
     requires consistent { IsConsistent after.now }
     requires after { after.now ≡ applied holdings.now.content edits.now }
-    ensures { result ≡ false → IsSettled holdings.now.content after.now }
+    ensures { (result ≡ false) ↔ IsSettled holdings.now.content after.now }
 {
     let none = Edits::new(alloc, holdings.hasher());
     let before = Draft::of(holdings, &none);

@@ -21,7 +21,7 @@ pub returns-else-unsettles : goal.returns-else-unsettles
 returns-else-unsettles c =
     let m = c.args.holdings.now.content in
     let cs = c.args.edits.now in
-    let settled = c.unsettles.ensures c.if-unsettles.false in (
+    let settled = c.unsettles.ensures.0 c.if-unsettles.false in (
       [],
       refl,
       subst (λ (n : Data). (p : Place) → is_fault n p ≡ true → IsListed p (flat_map (key_places n) (map (λ d. d.0) cs))) (sym c.requires.draft)
