@@ -17,3 +17,4 @@ pub mod Dates
 pub mod Calendars
 pub mod Changed
 pub mod Considered
+pub mod HalfLives

@@ -11,3 +11,6 @@ pub mod Series
 pub mod Calendar
 pub mod Lasting
 pub mod Slots
+pub mod HalfLives
+pub mod Brackets
+pub mod Stock

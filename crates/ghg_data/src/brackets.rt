@@ -1,9 +1,10 @@
 //! The brackets of decay factors that a book keeps.
 
-ghost use Rattle.std.specs.Prelude.{◌≡◌, ◌==◌, IfSome, find, option_copied};
+ghost use Rattle.std.specs.Prelude.{◌≡◌, ◌==◌, [], ◌∷◌, IfSome, OnOk, find, option_copied};
 ghost use Rattle.std.specs.List.{AllByRecursion};
 ghost use Rattle.ghg_roots.specs.Decay.{decay_bounds};
 ghost use Rattle.ghg_units.specs.WellFormed.{IsHalfLife, IsWellFormed};
+ghost use Rattle.ghg_data.specs.HalfLives.{HasAlso, HasStill, half_life_of, half_lives_of};
 
 use ghg_interval::Interval;
 use ghg_roots::decay_bracket;
@@ -25,27 +26,47 @@ pub(crate) struct Brackets {
 }
 
 impl Brackets {
+    ghost use Rattle.ghg_data.specs.Brackets.{half_lives};
+
     /// None. It takes no memory.
-    pub(crate) fn new(alloc: Global) -> Brackets {
+    pub(crate) fn new(alloc: Global) -> Brackets
+        ensures { half_lives result ≡ [] }
+    {
         Brackets {
             kept: Vec::new(alloc),
         }
     }
 
-    /// Keeps the brackets of the half-lives that rows name.
+    /// Keeps the brackets of the half-lives that rows name. What is kept stays with every answer.
     pub(crate) fn keep(&mut self, rows: &[Row]) -> Result<(), AllocError>
         requires { AllByRecursion IsWellFormed rows.now }
+        ensures named { OnOk result (HasAlso (half_lives self.old) (half_lives self.new)
+            (half_lives_of rows.now)) }
+        ensures kept { HasStill (half_lives self.old) (half_lives self.new) }
     {
         for row in rows {
-            if let Some(half_life) = half_life_of(row) {
-                self.keep_one(half_life)?;
-            }
+            self.keep_named(row)?;
         }
         Ok(())
     }
 
+    // Keeps the bracket of the half-life that a row names, if it names one.
+    fn keep_named(&mut self, row: &Row) -> Result<(), AllocError>
+        requires { IsWellFormed row.now }
+        ensures named { OnOk result (HasAlso (half_lives self.old) (half_lives self.new)
+            (half_lives_of (row.now ∷ []))) }
+        ensures kept { HasStill (half_lives self.old) (half_lives self.new) }
+    {
+        match half_life_of(row) {
+            Some(half_life) => self.keep_one(half_life),
+            None => Ok(()),
+        }
+    }
+
     fn keep_one(&mut self, half_life: u32) -> Result<(), AllocError>
         requires { IsHalfLife half_life }
+        ensures named { OnOk result (HasAlso (half_lives self.old) (half_lives self.new) (half_life ∷ [])) }
+        ensures kept { HasStill (half_lives self.old) (half_lives self.new) }
     {
         if self.find(half_life).is_none() {
             self.kept.push(Bracket {
@@ -80,7 +101,8 @@ impl Brackets {
 // The half-life that a row names, if it names one.
 fn half_life_of(row: &Row) -> Option<u32>
     requires { IsWellFormed row.now }
-    ensures { IfSome result IsHalfLife }
+    ensures named { result ≡ half_life_of row.now.form }
+    ensures sound { IfSome result IsHalfLife }
 {
     match &row.form {
         RowForm::Factor(_, _, Some(figure)) => match figure.amount {
