@@ -1,7 +1,4 @@
-"""The built program with a store: how runs end, what they leave in the file, and calls of the system that fail.
-
-strace makes a call fail. Where it is not installed, or may trace nothing, the tests that need it are skipped.
-"""
+"""The built program with a store: how runs end, what they leave in the file, and calls of the system that fail."""
 import os
 import pathlib
 import resource
@@ -15,26 +12,12 @@ from tests.service.serving import GAS, HEADER, HOST, PROGRAM, SECONDS, Service, 
 from tests.store.test_store import (CELLS, FURTHER, GAS_THEN_CELLS, POTENTIAL, Stores, session, submit,
                                     without_room)
 from tests.store.versions import TABLE_1, Submitted, list_of, make, rows_of
+from tests.tracing import failing, telling, traced
 
 # The bytes of a log that has nothing.
 EMPTY_LOG = 41
 LONG = HEADER + b"enter,activity,,A,1990,1,,,t,%b\n" % (b"n" * (1 << 20))
 KEEPER_FAULT = reply("503 Service Unavailable", "keeper fault")
-
-
-def may_trace() -> bool:
-    """Whether strace is here, and may trace a program."""
-    strace = shutil.which("strace")
-    return strace is not None and subprocess.run([strace, "-qq", "-o", os.devnull, "true"], check=False,
-                                                 capture_output=True).returncode == 0
-
-
-traced = unittest.skipUnless(may_trace(), "there is no strace that may trace")
-
-
-def failing(call: str, error: str, number: int, told: str = os.devnull) -> list[str]:
-    """What a program runs under so that the call of this name and number fails; each one is told to a file."""
-    return ["strace", "-D", "-f", "-qq", "-o", told, f"--trace={call}", f"--inject={call}:error={error}:when={number}"]
 
 
 def limited() -> None:
@@ -89,7 +72,7 @@ class Syncs(Stores):
         told = self.room / "told"
         before = []
         with Service(2, "--store", "book.db", folder=self.room,
-                     under=failing("fdatasync", "EIO", 1 << 15, str(told))) as service:
+                     under=telling("fdatasync", told)) as service:
             for name, each in (("a", GAS), ("b", body)):
                 before.append(told.read_text("utf-8").count("fdatasync("))
                 self.assertEqual(service.exchange(post(name, each))[:12], b"HTTP/1.1 201")
