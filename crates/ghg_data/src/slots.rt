@@ -1,9 +1,5 @@
 //! Where records may stand.
 
-ghost use Rattle.std.specs.Prelude.{◌≡◌, ◌+◌, ◌-◌, ◌*◌, ◌≤◌, ◌<◌, ◌↔◌, [], IsTrue, IfOk, OnOk, option_and_then, replicate, slice_get, vec_len, vec_capacity};
-ghost use Rattle.std.specs.Option.{option_map_or};
-ghost use Rattle.ghg_data.specs.Slots.{HasPlaces, end, end_with, first_with, slot_of, with_column, with_place, without_column};
-
 use ghg_units::Span;
 use std::alloc::{AllocError, Global};
 
@@ -18,11 +14,7 @@ pub(crate) struct Slots {
 
 impl Slots {
     /// No years. It takes no memory.
-    pub(crate) fn new(alloc: Global) -> Slots
-        ensures first { result.first ≡ 0 }
-        ensures years { result.years ≡ 0 }
-        ensures places { result.places.items ≡ [] }
-    {
+    pub(crate) fn new(alloc: Global) -> Slots {
         Slots {
             first: 0,
             years: 0,
@@ -36,13 +28,14 @@ impl Slots {
         alloc: Global,
         span: &Span,
         columns: usize,
-    ) -> Result<Slots, AllocError>
-        ensures first { IfOk result (λ slots. slots.first ≡ first_with self.now span.now) }
-        ensures years { IfOk result (λ slots. slots.years ≡ end_with self.now span.now - slots.first) }
-        ensures places { IfOk result (λ slots. slots.places.items ≡ replicate (columns * slots.years) 0) }
-    {
-        let first = self.first_with(span);
-        let years = self.end_with(span).saturating_sub(first as usize);
+    ) -> Result<Slots, AllocError> {
+        let mut first = span.first;
+        let mut end = end_of(span);
+        if self.years > 0 {
+            first = first.min(self.first);
+            end = end.max(self.end());
+        }
+        let years = end.saturating_sub(first as usize);
         let mut places = Vec::new(alloc);
         places.resize(columns.saturating_mul(years), 0)?;
         Ok(Slots {
@@ -52,57 +45,23 @@ impl Slots {
         })
     }
 
-    // The first year of a span and of these slots.
-    fn first_with(&self, span: &Span) -> u32
-        ensures { result ≡ first_with self.now span.now }
-    {
-        if self.years == 0 {
-            span.first
-        } else {
-            span.first.min(self.first)
-        }
-    }
-
-    // The year behind the last one of a span and of these slots.
-    fn end_with(&self, span: &Span) -> usize
-        ensures { result ≡ end_with self.now span.now }
-    {
-        if self.years == 0 {
-            end_of(span)
-        } else {
-            end_of(span).max(self.end())
-        }
-    }
-
     /// Whether there are slots for each year of a span.
-    pub(crate) fn cover(&self, span: &Span) -> bool
-        ensures { IsTrue result ↔ (self.now.first ≤ span.now.first) × (span.now.last < self.now.first +
-            self.now.years) }
-    {
+    pub(crate) fn cover(&self, span: &Span) -> bool {
         self.first <= span.first && end_of(span) <= self.end()
     }
 
     // The year behind the last.
-    fn end(&self) -> usize
-        ensures { result ≡ end self.now }
-    {
+    fn end(&self) -> usize {
         (self.first as usize).saturating_add(self.years)
     }
 
     /// Makes room for so many more columns.
-    pub(crate) fn reserve(&mut self, columns: usize) -> Result<(), AllocError>
-        ensures same { HasPlaces self.old self.new self.old.places.items }
-        ensures room { OnOk result (vec_len self.new.places + columns * self.new.years ≤ vec_capacity
-            self.new.places) }
-    {
+    pub(crate) fn reserve(&mut self, columns: usize) -> Result<(), AllocError> {
         self.places.reserve(columns.saturating_mul(self.years))
     }
 
     /// Adds a column without places, if there is room for it. It takes no memory.
-    pub(crate) fn add_column(&mut self)
-        ensures added { HasPlaces self.old self.new (with_column self.old) }
-        ensures room { vec_capacity self.old.places ≤ vec_capacity self.new.places }
-    {
+    pub(crate) fn add_column(&mut self) {
         let len = self.places.len().saturating_add(self.years);
         if len <= self.places.capacity() {
             self.places.resize(len, 0).unwrap();
@@ -110,11 +69,7 @@ impl Slots {
     }
 
     /// Removes the column with a number, if there is one. The last one comes to stand in its place.
-    pub(crate) fn remove_column(&mut self, number: Option<usize>)
-        ensures removed { HasPlaces self.old self.new (option_map_or (without_column self.old) number
-            self.old.places.items) }
-        ensures room { vec_capacity self.new.places ≡ vec_capacity self.old.places }
-    {
+    pub(crate) fn remove_column(&mut self, number: Option<usize>) {
         let Some(number) = number else {
             return;
         };
@@ -127,43 +82,32 @@ impl Slots {
     }
 
     /// Where the record of a year may stand.
-    pub(crate) fn get(&self, column: usize, year: u32) -> Option<usize>
-        ensures { result ≡ option_and_then (slice_get self.now.places.items) (slot_of self.now column year) }
-    {
-        let slot = self.slot(column, year)?;
-        Some(self.places[slot] as usize)
+    pub(crate) fn get(&self, column: usize, year: u32) -> Option<usize> {
+        let place = *self.places.get(self.slot(column, year)?)?;
+        Some(place as usize)
     }
 
     /// Writes where the record of a year stands, if the year has a slot.
-    pub(crate) fn set(&mut self, column: usize, year: u32, place: usize)
-        ensures written { HasPlaces self.old self.new (with_place self.old column year place) }
-        ensures room { vec_capacity self.new.places ≡ vec_capacity self.old.places }
-    {
-        if let Some(slot) = self.slot(column, year) {
+    pub(crate) fn set(&mut self, column: usize, year: u32, place: usize) {
+        let Some(slot) = self.slot(column, year) else {
+            return;
+        };
+        if slot < self.places.len() {
             self.places[slot] = u32::try_from(place).unwrap_or(0);
         }
     }
 
-    // The number of a year's slot, if there is one.
-    fn slot(&self, column: usize, year: u32) -> Option<usize>
-        ensures { result ≡ slot_of self.now column year }
-    {
+    // The number of a year's slot.
+    fn slot(&self, column: usize, year: u32) -> Option<usize> {
         let offset = year.checked_sub(self.first)? as usize;
         if offset >= self.years {
             return None;
         }
-        let slot = column.checked_mul(self.years)?.checked_add(offset)?;
-        if slot < self.places.len() {
-            Some(slot)
-        } else {
-            None
-        }
+        column.checked_mul(self.years)?.checked_add(offset)
     }
 }
 
 // The year behind the last one of a span.
-fn end_of(span: &Span) -> usize
-    ensures { result ≡ span.now.last + 1 }
-{
+fn end_of(span: &Span) -> usize {
     (span.last as usize).saturating_add(1)
 }

@@ -33,4 +33,4 @@ pub invariant_of-self-2 : goal.invariant_of-self-2
 invariant_of-self-2 c =
     let old = c.self.inside in
     kept old.records.entries _ (sym c.reserve.ensures.entries) old.lines.items _ old.calendar c.reserve_slots.new.self c.self.invariant c.reserve-2.ensures.items
-    (λ s y. ap (λ m. holds_year (lookup (same_series s) m.entries) y) (c.reserve_slots.ensures.years ∙ c.make_slots.ensures) ∙ c.reserve-3.ensures.dates s y)
+    (λ s y. ap (λ m. holds_year (lookup (same_series s) m.entries) y) (c.reserve_slots.ensures ∙ c.make_slots.ensures) ∙ c.reserve-3.ensures.dates s y)
