@@ -15,6 +15,8 @@ from tests.store.test_store import POTENTIAL, Stores, session, submit
 from tests.store.versions import TABLE, TABLE_1, make, rows_of
 
 VIEW = "CREATE VIEW w AS SELECT seq FROM accepted2"
+NOTES = "CREATE TABLE notes(seq INTEGER REFERENCES Accepted ON DELETE CASCADE, text)"
+TABLE_OF_KEY = TABLE.replace("NOT NULL", "NOT NULL REFERENCES accepted(id) ON DELETE CASCADE", 1)
 
 
 class Cause(typing.NamedTuple):
@@ -38,6 +40,14 @@ def begun(*statements: str) -> Callable[[pathlib.Path], None]:
     def run(path: pathlib.Path) -> None:
         path.unlink()
         make(path, *statements, TABLE, rows=[(1, "a", GAS)])
+    return run
+
+
+def begun_1(*statements: str) -> Callable[[pathlib.Path], None]:
+    """Makes the file anew, as a store of version 1 in which these statements come after the table."""
+    def run(path: pathlib.Path) -> None:
+        path.unlink()
+        make(path, TABLE_1, *statements, rows_1=[(1, "a", GAS)])
     return run
 
 
@@ -108,6 +118,12 @@ CAUSES = (
           said("DROP TRIGGER t")),
     Cause("a trigger on the first table",
           said(TABLE_1, "CREATE TRIGGER t AFTER INSERT ON accepted BEGIN SELECT 1; END"), said("DROP TRIGGER t")),
+    Cause("a foreign key to the first table", said("CREATE TABLE notes(id TEXT REFERENCES accepted(id))"),
+          said("DROP TABLE notes")),
+    Cause("rows that refer to rows of the first table", begun_1(NOTES, "INSERT INTO notes VALUES (1, 'seen')"),
+          said("ALTER TABLE notes RENAME TO old", "CREATE TABLE notes(seq INTEGER, text)",
+               "INSERT INTO notes SELECT * FROM old", "DROP TABLE old")),
+    Cause("a second table that refers to the first", begun_1(TABLE_OF_KEY), said("DROP TABLE accepted2")),
     Cause("a trigger on a view",
           said(VIEW, "CREATE TRIGGER t INSTEAD OF INSERT ON w BEGIN SELECT 1; END"), tables_alone),
     Cause("a virtual table", said("CREATE VIRTUAL TABLE v USING rtree(a, b, c)"), tables_alone),
@@ -153,9 +169,10 @@ class Causes(Stores):
 
     def test_what_is_left_alone(self) -> None:
         others = ("CREATE INDEX i ON accepted2(id, seq DESC)", "CREATE TABLE other(a)", VIEW,
+                  "CREATE TABLE notes(seq INTEGER REFERENCES accepted2)",
                   "CREATE INDEX j ON other(a) WHERE a > 1", "CREATE INDEX k ON other(length(a))",
                   "CREATE TRIGGER t AFTER INSERT ON other BEGIN DELETE FROM other; END")
-        make(self.store, TABLE, *others, rows=[(1, "a", GAS)])
+        make(self.store, TABLE, *others, "INSERT INTO notes VALUES (1)", rows=[(1, "a", GAS)])
         given = session(submit(b"a", GAS), submit(b"c", POTENTIAL))
         self.assertEqual(self.run_with(given), (0, b"repeated 1\naccepted 2\n"))
         self.assertEqual(rows_of(self.store), [(1, "a", GAS), (2, "c", POTENTIAL)])

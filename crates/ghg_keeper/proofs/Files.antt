@@ -1,5 +1,5 @@
 -- What a keeper over a file owes its trait, which is nothing of its rows, and what it finds in its files.
-use Rattle.std.proofs.Common.{◌≡◌, ◌<◌, inl, inr, List, [], length, arith, true, false, Result, Ok, Err, IfOk, OnOk, OnErr, refl, sym, ap, subst, ◌∙◌}
+use Rattle.std.proofs.Common.{◌≡◌, ◌<◌, inl, inr, List, [], length, arith, Bool, true, false, IsTrue, Result, Ok, Err, IfOk, OnOk, OnErr, refl, sym, ap, subst, ◌∙◌}
 use Rattle.sqlite_trees.specs.declared.store.Store.{Ghosts}
 use Rattle.sqlite_disk.specs.declared.Disk as disk
 use Rattle.sqlite_store.specs.declared.store.FileStore.{FileStore}
@@ -17,6 +17,7 @@ use Rattle.sqlite.specs.Start.{FindsIn}
 use Rattle.sqlite.specs.State.{HasCleanDisk, State}
 use Rattle.ghg_keeper.specs.declared.sql.SqlKeeper.{SqlKeeper}
 use Rattle.ghg_keeper.specs.declared.keeper.KeepError.{KeepError}
+use Rattle.ghg_keeper.specs.Accepted.{is_referred_to}
 use Rattle.ghg_keeper.specs.Course.{Prepares}
 use Rattle.ghg_keeper.specs.Databases.{AttachesFrom, attached, database, held, kept_shelf}
 use Rattle.ghg_keeper.specs.Listed.{IsSafeAs, Lists, ListsStore, TellsAs, TellsStore, kept_rows}
@@ -50,13 +51,19 @@ pub ok_then : {A E : Type 0} {P Q : A → Type 0} (answer : Result A E) → ((x 
 ok_then (Ok x) f p = f x p
 ok_then (Err e) f p = tt
 
+none_refers : (refers : Bool) → (refers ≡ true → ⊥) → refers ≡ false
+none_refers true never = absurd (never refl)
+none_refers false never = refl
+
 -- what `attach` says of a keeper that was made over a connection
 pub attaches_from : {S : Type 0} (store : Ghosts S) (opened : Held S) (old new : SqlKeeper S) → held old ≡ opened → attached old ≡ false → attached new ≡ true
+    → (IsTrue (is_referred_to (database store old).now.schema) → ⊥)
     → KeepsRows (kept_shelf store old) (kept_shelf store new)
     → ((kept_shelf store old).tells → (kept_shelf store new).clean → (kept_shelf store new).tells)
     → IsSafeAs {A = Unit {0}} {E = KeepError} ListsStore (database store old) (database store new) (Ok tt) (IsBeforeOrMoved (database store old).now)
     → Prepares store (held old) (held new) (Ok tt) → AttachesFrom store opened new
-attaches_from store opened old new is was now rows told safe runs = subst (λ it. AttachesFrom store it new) is (record {
+attaches_from store opened old new is was now unreferred rows told safe runs = subst (λ it. AttachesFrom store it new) is (record {
+  unreferred = none_refers _ unreferred;
   runs = runs;
   rows = λ t.
       let here = subst (λ x. TellsAs (Lists x) (database store new)) (sym now) t in

@@ -8,6 +8,7 @@ use Rattle.sqlite_schema.specs.declared.schema.Column.{Column}
 use Rattle.sqlite_schema.specs.Names.{same_name, is_key}
 use Rattle.sqlite.specs.Table.{Table}
 use Rattle.sqlite.specs.Schema.{Schema}
+use Rattle.sqlite_rules.specs.Audit.{refers_to}
 use Rattle.sqlite.specs.Kind.{Kind}
 use Rattle.sqlite.specs.Kind.TheVariants.{Integer, Text, Any}
 use Rattle.sqlite_trees.specs.Tree.{IsAscending}
@@ -74,7 +75,11 @@ pub record HasBoth (schema : Schema) : Type 0 where
   pub second : HasTable second schema
   pub apart : AreApart schema
 
--- ---- the test that attach makes
+-- ---- the tests that attach makes
+
+-- a table has a foreign key that refers to the first one
+abbrev pub is_referred_to : Schema → Bool
+is_referred_to schema = list_any (refers_to (codes "accepted")) schema.tables
 
 abbrev pub is_integer : Kind → Bool
 is_integer Integer = true

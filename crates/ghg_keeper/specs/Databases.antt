@@ -6,7 +6,7 @@ use Rattle.sqlite.specs.Held.{Held, state}
 use Rattle.ghg_keeper.specs.declared.keeper.KeepError.{KeepError}
 use Rattle.ghg_keeper.specs.declared.keeper.KeepError.TheVariants.{Failed}
 use Rattle.ghg_keeper.specs.declared.sql.SqlKeeper.{SqlKeeper}
-use Rattle.ghg_keeper.specs.Accepted.{has_kept_tables}
+use Rattle.ghg_keeper.specs.Accepted.{has_kept_tables, is_referred_to}
 use Rattle.ghg_keeper.specs.Course.{Prepares}
 use Rattle.ghg_keeper.specs.Listed.{IsSafeAs, ListsStore, TellsRows, TellsStore, kept_rows, sql_shelf}
 use Rattle.ghg_keeper.specs.Moving.{IsBeforeOrMoved, IsReady}
@@ -44,10 +44,12 @@ IsInUse store keeper =
     (attached keeper ≡ true) × IsTrue (has_kept_tables (database store keeper).now.schema)
     × (HasCleanDisk (database store keeper) → IsReady (database store keeper))
 
--- A keeper whose first attach was to the store of this connection. It ran its statements from there. The rows
--- are those that were told there, and stay told over a clean disk. A crash at its end leaves the list.
+-- A keeper whose first attach was to the store of this connection, in which no table refers to the first one.
+-- It ran its statements from there. The rows are those that were told there, and stay told over a clean disk.
+-- A crash at its end leaves the list.
 pub record AttachesFrom {S : Type 0} (store : Ghosts S) (opened : Held S) (keeper : SqlKeeper S)
     : Type 0 where
+  pub unreferred : is_referred_to (state store opened).now.schema ≡ false
   pub runs : Prepares store opened (held keeper) (Ok tt)
   pub rows : TellsRows (database store keeper) → TellsStore (state store opened)
       × (kept_rows (database store keeper).now ≡ kept_rows (state store opened).now)

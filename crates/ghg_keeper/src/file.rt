@@ -25,8 +25,8 @@ use std::rt::HostRuntime;
 /// not open for another cause than memory, and a call before `attach`, fail and are counted: a folder, a file
 /// that is no database or that this process may not write, a database that another process has open, and a
 /// name that ends in `-wal`, `-shm` or `-journal`, of which nothing is opened. Want of memory at the open is
-/// told as such, and not counted. A file whose table of that name is another one fails too, and no store of
-/// it is in use.
+/// told as such, and not counted. A file whose table of that name is another one fails too, as does one in
+/// which a table refers to `accepted`, and no store of it is in use.
 ///
 /// The file has its log beside it, named as the file with `-wal` behind that, and the two are one store. A
 /// row that was acknowledged has been synced. It outlives a crash where the disk has what a sync

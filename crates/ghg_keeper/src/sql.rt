@@ -5,7 +5,7 @@ ghost use Rattle.ghg_outer.specs.Counts.{IsCounted};
 ghost use Rattle.ghg_keeper.specs.Id.{is_id};
 ghost use Rattle.ghg_keeper.specs.Shelf.{Adds, CountsFaults, Keeps, KeepsRows, StaysTold};
 ghost use Rattle.ghg_units.specs.Format.{format_in};
-ghost use Rattle.ghg_keeper.specs.Accepted.{has_kept_tables};
+ghost use Rattle.ghg_keeper.specs.Accepted.{has_kept_tables, is_referred_to};
 ghost use Rattle.ghg_keeper.specs.Course.{LacksTable, Prepares};
 ghost use Rattle.ghg_keeper.specs.Errors.{CountsRows, HasCause, InsertsRow, IsCount, IsKept, IsNotReady, ReadsRow, Refuses, RefusesRow, told_of};
 ghost use Rattle.ghg_keeper.specs.Listed.{IsAtRest, IsBeforeOrAfter, IsSafe, IsSafeAs, ListsStore};
@@ -14,7 +14,7 @@ ghost use Rattle.ghg_keeper.specs.Texts.{count_text, insert_text, row_text};
 
 use crate::moves::prepare;
 use crate::statements::{MOST, count_rows, insert_row, kept_count, kept_row, read_row};
-use crate::table::has_kept_tables;
+use crate::table::{has_kept_tables, is_referred_to};
 use crate::{KeepError, Keeper, KeptRow};
 use sqlite::{Alter, Connection, Error, FileStore, Files};
 use sqlite_disk::Disk;
@@ -25,9 +25,10 @@ use sqlite_disk::Disk;
 /// moves them from there. Until that has answered Ok each other call fails.
 ///
 /// It tells its rows while its store is clean, its tables of the two names are these, one of them alone has
-/// rows, and these are numbered from 1 on. Other tables and indexes in the store change nothing. A statement
-/// that is refused for another cause than memory is counted as a fault, and so are a row that is not there and
-/// a transaction that somebody left open.
+/// rows, and these are numbered from 1 on. Other tables and indexes in the store change nothing, unless a
+/// table refers to `accepted` by a foreign key, which `attach` refuses. A statement that is refused for
+/// another cause than memory is counted as a fault, and so are a row that is not there and a transaction that
+/// somebody left open.
 #[derive(Drop)]
 pub struct SqlKeeper<S: Alter> {
     connection: Connection<S>,
@@ -119,12 +120,16 @@ impl<S: Alter> Keeper for SqlKeeper<S> {
     ghost shelf = { kept_shelf S.Store };
 
     /// Makes each table where the store has none, and moves the rows of the first one to the second in one
-    /// transaction. It does not look at the name. A store that has rows in both, or another table of one of
-    /// the two names, is refused, and its rows stay as they are.
+    /// transaction. It does not look at the name. A store that has rows in both, another table of one of the
+    /// two names, or a foreign key that refers to the first table, is refused, and its rows stay as they are.
     fn attach(&mut self, name: &str) -> Result<(), KeepError>
         ensures rows { KeepsRows (kept_shelf S.Store self.old) (kept_shelf S.Store self.new) }
         ensures told { StaysTold (kept_shelf S.Store self.old) (kept_shelf S.Store self.new) result }
         ensures faults { CountsFaults (kept_shelf S.Store self.old) (kept_shelf S.Store self.new) result }
+        // A store in which a table refers to the first one is refused, and nothing is done to it: rows that
+        // refer to one that is moved would be deleted or changed with it.
+        ensures referred { IsTrue (is_referred_to (database S.Store self.old).now.schema)
+            → (held self.new ≡ held self.old) × IsErrOf result KeepError.Failed }
         // The keeper is attached once that is acknowledged, and else it is as it was.
         ensures attached { OnOk result (attached self.new ≡ true) }
         ensures err { OnErr result (attached self.new ≡ attached self.old) }
@@ -144,11 +149,15 @@ impl<S: Alter> Keeper for SqlKeeper<S> {
             (IsBeforeOrMoved (database S.Store self.old).now) }
         ensures cause { HasCause result
             (IsTrue (database S.Store self.old).in_transaction
+            ⊎ IsTrue (is_referred_to (database S.Store self.old).now.schema)
             ⊎ LacksTable S.Store (attached self.old) (held self.old) (held self.new))
             (λ e. (attached self.old ≡ false) × Prepares S.Store (held self.old) (held self.new) (Err e)) }
     {
         let _ = name;
         if !self.connection.is_autocommit() {
+            return Err(self.fault());
+        }
+        if is_referred_to(self.connection.schema()) {
             return Err(self.fault());
         }
         if !self.is_attached {

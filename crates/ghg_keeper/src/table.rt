@@ -1,10 +1,26 @@
-//! Whether a store has the tables of kept submissions.
-ghost use Rattle.std.specs.Prelude.{◌≡◌};
-ghost use Rattle.ghg_keeper.specs.Accepted.{are_kept_columns, are_second_columns, has_first, has_kept_tables, has_second, has_unique_id, is_body, is_format, is_id, is_kept_table, is_keyed, is_second_table, is_seq};
+//! Whether a store has the tables of kept submissions, and whether a table refers to the first of them.
+ghost use Rattle.std.specs.Prelude.{◌≡◌, codes};
+ghost use Rattle.ghg_keeper.specs.Accepted.{are_kept_columns, are_second_columns, has_first, has_kept_tables, has_second, has_unique_id, is_body, is_format, is_id, is_kept_table, is_keyed, is_referred_to, is_second_table, is_seq};
+ghost use Rattle.sqlite_rules.specs.Audit.{refers_to};
 
 use sqlite_items::Items;
 use sqlite_schema::names::same_name;
 use sqlite_schema::schema::{Column, Kind, Schema, Table};
+
+/// Whether a table has a foreign key that refers to the first one.
+pub(crate) fn is_referred_to(schema: &Schema) -> bool
+    ensures { result ≡ is_referred_to schema.now }
+{
+    let tables = schema.tables.as_slice();
+    tables.iter().any(|table| refers_to_first(table))
+}
+
+fn refers_to_first(table: &Table) -> bool
+    ensures { result ≡ refers_to (codes "accepted") table.now }
+{
+    let references = table.references.as_slice();
+    references.iter().any(|reference| same_name(b"accepted", reference.parent.as_slice()))
+}
 
 /// Whether there are tables of both names with the columns of kept submissions.
 pub(crate) fn has_kept_tables(schema: &Schema) -> bool

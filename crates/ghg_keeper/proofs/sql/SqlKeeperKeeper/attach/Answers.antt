@@ -115,15 +115,15 @@ returns-in_err-told-clause-cause g c =
 
 pub returns-then-not-has_kept_tables-clause-cause : goal.returns-then-not-has_kept_tables-clause-cause
 returns-then-not-has_kept_tables-clause-cause g c =
-    let lacks : has_kept_tables c.if-not-self.self.connection.schema ≡ false = ap has_kept_tables (sym c.schema.ensures.value) ∙ sym c.has_kept_tables.ensures ∙ c.if-not-has_kept_tables.true in
+    let lacks : has_kept_tables c.if-not-self.self.connection.schema ≡ false = ap has_kept_tables (sym c.schema-2.ensures.value) ∙ sym c.has_kept_tables.ensures ∙ c.if-not-has_kept_tables.true in
     inl (
       c.fault-then-not-has_kept_tables.ensures.result,
-      inr (elim c.if-not-self.branch [
+      inr (inr (elim c.if-not-self.branch [
         | then-not-self+in_ok-told w ↦ rw (c.fault-then-not-has_kept_tables.ensures.same, w.self-is, w.told.ensures.same)
             (lacks_after g.S.Store c.args.self.now.is_attached c.args.self.now.connection w.prepare-prepared.new.connection w.if-not-self.true
             (prepared_ok g.S.Store c.args.self.now.connection w.prepare-prepared.new.connection w.prepare-prepared.result w.in_ok-told.field-0 w.in_ok-told.ensures.answer w.prepare-prepared.ensures.runs)
             (rw (w.self-is, w.told.ensures.same) at lacks))
         | else-not-self w ↦ rw (c.fault-then-not-has_kept_tables.ensures.same, w.self-is)
             (lacks_again g.S.Store c.args.self.now.is_attached c.args.self.now.connection w.if-not-self.false (rw w.self-is at lacks))
-      ]),
+      ])),
     )
