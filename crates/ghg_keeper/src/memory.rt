@@ -1,5 +1,5 @@
 // The form in memory whose calls fail by a list.
-ghost use Rattle.std.specs.Prelude.{◌≡◌, ◌-◌, ◌≤◌, length, slice_get, Some, None, IsTrue, IfOk, OnOk, OnErr};
+ghost use Rattle.std.specs.Prelude.{◌≡◌, ◌-◌, ◌≤◌, length, slice_get, Some, None, IsTrue, IfOk, IfErr, OnOk, OnErr};
 ghost use Rattle.ghg_outer.specs.Plans.{planned};
 ghost use Rattle.ghg_keeper.specs.Id.{is_id};
 ghost use Rattle.ghg_keeper.specs.Forms.{FollowsPlan, planned_shelf};
@@ -56,6 +56,8 @@ impl Keeper for MemoryKeeper {
 
     fn count(&mut self) -> Result<u64, KeepError>
         ensures count { IfOk result (λ n. n ≡ length self.old.stored.rows) }
+        // It takes no memory.
+        ensures failed { IfErr result (λ error. error ≡ KeepError.Failed) }
         ensures keeps { Keeps (planned_shelf self.old) (planned_shelf self.new) }
         ensures faults { CountsFaults (planned_shelf self.old) (planned_shelf self.new) result }
         ensures plan { FollowsPlan self.old.plan self.new.plan result }

@@ -1,13 +1,15 @@
 // The form in memory whose calls do not fail.
-ghost use Rattle.std.specs.Prelude.{◌≡◌, ◌-◌, ◌≤◌, ◌++◌, ◌∷◌, [], length, slice_get, Some, None, IfOk, OnOk, OnErr};
+ghost use Rattle.std.specs.Prelude.{◌≡◌, ◌-◌, ◌≤◌, ◌++◌, ◌∷◌, [], length, slice_get, Some, None, Ok, IsTrue, IfOk, IfErr, OnOk, OnErr};
 ghost use Rattle.ghg_keeper.specs.Forms.{stored_shelf};
+ghost use Rattle.ghg_keeper.specs.Id.{is_id};
 
 use crate::{KeepError, Keeper, KeptRow};
 use ghg_units::Text;
 use std::alloc::{AllocError, Global};
 use std::marker::Model;
 
-/// Rows in memory, in one store under any name. No call fails, but memory may run out.
+/// Rows in memory, in one store under any name. No call fails, but memory may run out. It counts no faults:
+/// those that it tells are none.
 #[derive(Drop)]
 pub struct SteadyKeeper {
     rows: Vec<KeptRow>,
@@ -85,19 +87,41 @@ impl SteadyKeeper {
 impl Keeper for SteadyKeeper {
     ghost shelf = { λ k. stored_shelf k 0 };
 
-    fn attach(&mut self, name: &str) -> Result<(), KeepError> {
+    fn attach(&mut self, name: &str) -> Result<(), KeepError>
+        ensures rows { self.new.rows ≡ self.old.rows }
+        ensures ok { OnOk result (self.new.name ≡ Some name.now) }
+        ensures err { OnErr result (self.new.name ≡ self.old.name) }
+        ensures memory { IfErr result (λ error. error ≡ KeepError.Memory) }
+    {
         Ok(self.set_name(name)?)
     }
 
-    fn count(&mut self) -> Result<u64, KeepError> {
+    fn count(&mut self) -> Result<u64, KeepError>
+        ensures count { result ≡ Ok (length self.old.rows) }
+        ensures keeps { self.new ≡ self.old }
+    {
         Ok(self.len())
     }
 
-    fn row(&mut self, seq: u64) -> Result<KeptRow, KeepError> {
+    fn row(&mut self, seq: u64) -> Result<KeptRow, KeepError>
+        requires counted { 1 ≤ seq }
+        requires present { seq ≤ length self.old.rows }
+        ensures row { IfOk result (λ row. slice_get self.old.rows (seq - 1) ≡ Some row) }
+        ensures keeps { self.new ≡ self.old }
+        ensures memory { IfErr result (λ error. error ≡ KeepError.Memory) }
+    {
         Ok(self.copied_row(seq)?)
     }
 
-    fn append(&mut self, id: &[u8], body: &[u8]) -> Result<u64, KeepError> {
+    fn append(&mut self, id: &[u8], body: &[u8]) -> Result<u64, KeepError>
+        requires { IsTrue (is_id id.now) }
+        ensures name { self.new.name ≡ self.old.name }
+        ensures ok { OnOk result
+            (self.new.rows ≡ self.old.rows ++ record { id = id.now; body = body.now } ∷ []) }
+        ensures number { IfOk result (λ seq. seq ≡ length self.new.rows) }
+        ensures err { OnErr result (self.new.rows ≡ self.old.rows) }
+        ensures memory { IfErr result (λ error. error ≡ KeepError.Memory) }
+    {
         self.push(id, body)?;
         Ok(self.len())
     }
