@@ -27,9 +27,14 @@ def load() -> float:
 
 
 def commit() -> str:
-    """The commit of the repository, and whether it was changed since."""
-    words = ["git", "describe", "--always", "--dirty"]
-    return subprocess.run(words, cwd=HOME, stdout=subprocess.PIPE, text=True, check=True).stdout.strip()
+    """The commit of the repository, and whether more than the results was changed since."""
+    changed = in_git("diff", "--name-only", "HEAD", "--", ".", ":!bench/results.jsonl")
+    return in_git("rev-parse", "--short", "HEAD") + ("-dirty" if changed else "")
+
+
+def in_git(*words: str) -> str:
+    """What a command of git prints."""
+    return subprocess.run(["git", *words], cwd=HOME, stdout=subprocess.PIPE, text=True, check=True).stdout.strip()
 
 
 def machine() -> str:
