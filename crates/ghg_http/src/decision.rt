@@ -9,7 +9,7 @@ use crate::route::Target;
 use ghg_import::MAX_BODY;
 use http::StatusCode;
 
-/// Why a request is refused before its body is read. Each comment ends with what to do.
+/// Why a request is refused before its body is read, and what to do then.
 #[derive(Clone, Copy, Debug, PartialEq, Eq, Drop)]
 pub enum Refusal {
     /// The bytes are no request, as if the path is not UTF-8, or `Content-Length` is not 1 to 10 digits, or
