@@ -293,7 +293,21 @@ fn all_else_is_no_command(rt: HostRuntime) -> Result<(), Fail> {
 
 // ---- the same by `clap`
 
-// What `clap` reads of the options of a command, behind the name of the program.
+// The reader with an option that takes one text.
+fn with_option<'a>(
+    alloc: Global,
+    reader: clap::Command<'a>,
+    name: &'a str,
+    is_needed: bool,
+) -> Result<clap::Command<'a>, AllocError> {
+    let option = Arg::new(alloc, name)
+        .long(name)
+        .required(is_needed)
+        .action(ArgAction::Set);
+    reader.arg(option)
+}
+
+// What `clap` reads of the options of a command.
 fn read_by_clap<'a>(
     alloc: Global,
     command: &'a str,
@@ -302,11 +316,7 @@ fn read_by_clap<'a>(
     let mut reader = clap::Command::new(alloc, command);
     for option in OPTIONS {
         if option.is_of(command) {
-            let arg = Arg::new(alloc, option.name)
-                .long(option.name)
-                .required(option.default.is_none())
-                .action(ArgAction::Set);
-            reader = reader.arg(arg)?;
+            reader = with_option(alloc, reader, option.name, option.default.is_none())?;
         }
     }
     reader.try_get_matches_from(words)
