@@ -40,7 +40,7 @@ is_within m s e year low high = ap (λ o. is_year_of o year) e ∙ both _ _ (le-
 
 -- ---- keys
 
-no_name : (k : RecordKey) → ((name : Name) → k ≡ key.Line name → ⊥) → line_name k ≡ None
+pub no_name : (k : RecordKey) → ((name : Name) → k ≡ key.Line name → ⊥) → line_name k ≡ None
 no_name key.Span never = refl
 no_name (key.Activity name year) never = refl
 no_name (key.Factor name start) never = refl

@@ -17,3 +17,4 @@ pub mod Done
 pub mod Edited
 pub mod Dropped
 pub mod Proposed
+pub mod Spent

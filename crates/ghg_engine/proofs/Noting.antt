@@ -54,6 +54,10 @@ module _ (keys : List RecordKey) where
       turned false true = refl
       turned false false = refl
 
+  -- it edits that line too
+  pub line_edited_too : (name other : Name) → is_edited (keys ++ key.Line name ∷ []) other ≡ (is_edited keys other || is_at (name_cmp name) other)
+  line_edited_too name other = one_key (key.Line name) other ∙ ap (λ b. is_edited keys other || b) (same_line name other)
+
   -- it edits no other line
   pub others_as_before : (name other : Name) → (other ≡ name → ⊥) → is_edited keys other ≡ is_edited (keys ++ key.Line name ∷ []) other
   others_as_before name other apart = sym (one_key (key.Line name) other ∙ ap (λ b. is_edited keys other || b)

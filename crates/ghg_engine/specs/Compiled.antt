@@ -17,7 +17,3 @@ pub record IsCompiled (m : Data) (outcomes : Outcomes) : Type 0 where
   pub fits : IsCompilation (sheet_of m) (compilation m)
   pub none_over : overflow m ≡ None
   pub contained : HoldsExactValues m
-
--- at the nodes of the data the new outcomes are the old ones
-abbrev pub AreAlike : Data → Outcomes → Outcomes → Type 0
-AreAlike m old new = (n : Node) → is_node m n ≡ true → new n ≡ old n

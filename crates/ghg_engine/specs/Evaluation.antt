@@ -1,5 +1,5 @@
 -- What the evaluation of nodes gives.
-use Rattle.std.specs.Prelude.{◌≡◌, ⊤, Bool, if◌then◌else◌, true, List, Option, Some, None}
+use Rattle.std.specs.Prelude.{◌≡◌, ⊤, Bool, if◌then◌else◌, true, List, Option, Some, None, Result, Ok, Err}
 use Rattle.std.specs.List.{Contains}
 use Rattle.ghg_units.specs.declared.node.Node.{Node}
 use Rattle.ghg_definitions.specs.Compilation.{compilation, is_node, sheet_of}
@@ -45,3 +45,9 @@ pub record AreEvaluated (m : Data) (ns : List Node) (fresh : Outcomes) : Type 0 
 abbrev pub NamesLeastBreak : Data → List Node → EngineRefusal → Type 0
 NamesLeastBreak m ns (refusal.Overflow n) = least_break m ns ≡ Some n
 NamesLeastBreak m ns refusal.Memory = ⊤
+
+-- the fact holds, unless memory ran out
+abbrev pub UnlessMemory : {A : Type 0} → Result A EngineRefusal → Type 0 → Type 0
+UnlessMemory (Ok a) fact = fact
+UnlessMemory (Err (refusal.Overflow n)) fact = fact
+UnlessMemory (Err refusal.Memory) fact = ⊤

@@ -5,3 +5,4 @@ pub mod Notes
 pub mod Evaluation
 pub mod Progress
 pub mod Layers
+pub mod Withdrawn

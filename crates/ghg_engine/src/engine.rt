@@ -14,6 +14,7 @@ ghost use Rattle.ghg_data.specs.Changes.{AreOfRows, applied};
 ghost use Rattle.ghg_data.specs.Refusal.{IsPlanOf};
 ghost use Rattle.ghg_search.specs.Found.{ListsAffected};
 ghost use Rattle.ghg_search.specs.Index.{HasUsers};
+ghost use Rattle.ghg_engine.specs.Evaluation.{UnlessMemory};
 ghost use Rattle.ghg_engine.specs.Proposals.{IsArranged, IsFresh, IsMadeOn};
 ghost use Rattle.ghg_engine.specs.Proposals.{NamesOverflow, Proposes, affected_count};
 ghost use Rattle.ghg_engine.specs.Views.{shelf_of};
@@ -141,11 +142,11 @@ impl Engine {
     }
 
     /// The compilation of the book with edits that were planned on it as it stands; or the least node that is
-    /// beyond the limits, while none of its inputs is. It spends at most one step for each node that the
-    /// edits affect. The nodes are evaluated layer by layer, by so many workers, and `gate` is told of each
-    /// before; the answer depends on neither. The book and the outcomes of its nodes stay with every answer;
-    /// only room is made, and the index may name lines for these edits. So nothing has to be undone after a
-    /// refusal, or where a proposal is dropped.
+    /// beyond the limits, while none of its inputs is. It spends one step for each node that the edits
+    /// affect, also where some overflow, and fewer only if memory runs out. The nodes are evaluated layer by
+    /// layer, by so many workers, and `gate` is told of each before; the answer depends on neither. The book
+    /// and the outcomes of its nodes stay with every answer; only room is made, and the index may name lines
+    /// for these edits. So nothing has to be undone after a refusal, or where a proposal is dropped.
     pub fn propose<G: Gate, T: Threads + Sync, L: Ledger>(
         &mut self,
         rt: &T,
@@ -159,6 +160,8 @@ impl Engine {
         requires workers { (1 ≤ workers) × (workers ≤ 64) }
         ensures kept { self.new.content ≡ self.old.content }
         ensures steps { steps.new ≤ steps.old + affected_count self.old.content edits }
+        ensures spent { UnlessMemory result
+            (steps.new ≡ steps.old + affected_count self.old.content edits) }
         ensures proposed { MatchResult result (Proposes self.new edits)
             (NamesOverflow (applied self.old.content edits)) }
         ensures contained { IfOk result (λ p. HoldsExactValues (applied self.old.content p.edits)) }
@@ -209,6 +212,7 @@ impl Engine {
         requires arranged { IsArranged self.old edits.now }
         requires nodes { ListsAffected self.old.content (applied self.old.content edits.now) nodes.items }
         ensures steps { steps.new ≤ steps.old + length nodes.items }
+        ensures spent { UnlessMemory result (steps.new ≡ steps.old + length nodes.items) }
         ensures shelf { shelf_of self.new ≡ shelf_of self.old }
         ensures index { self.new.index ≡ self.old.index }
         ensures fresh { MatchResult result (IsFresh self.old.content (applied self.old.content edits.now))
@@ -233,6 +237,7 @@ impl Engine {
         requires arranged { IsArranged self.now edits.now }
         requires nodes { ListsAffected self.now.content (applied self.now.content edits.now) nodes.items }
         ensures steps { steps.new ≤ steps.old + length nodes.items }
+        ensures spent { UnlessMemory result (steps.new ≡ steps.old + length nodes.items) }
         ensures fresh { MatchResult result (IsFresh self.now.content (applied self.now.content edits.now))
             (NamesOverflow (applied self.now.content edits.now)) }
     {

@@ -4,7 +4,7 @@ ghost use Rattle.std.specs.Prelude.{◌≡◌, ◌+◌, ◌≤◌, [], length, M
 ghost use Rattle.ghg_columns.specs.Cells.{cell_at};
 ghost use Rattle.ghg_columns.specs.Fresh.{fresh_at};
 ghost use Rattle.ghg_shifts.specs.Progress.{IsEdit};
-ghost use Rattle.ghg_engine.specs.Evaluation.{AreEvaluated, AreInTurn, AreKept, NamesLeastBreak};
+ghost use Rattle.ghg_engine.specs.Evaluation.{AreEvaluated, AreInTurn, AreKept, NamesLeastBreak, UnlessMemory};
 ghost use Rattle.ghg_engine.specs.Layers.{AreLayersOfSome};
 ghost use Rattle.ghg_engine.specs.Notes.{AreNotes};
 
@@ -55,6 +55,7 @@ pub(crate) fn evaluate_all<
         (λ fresh. AreEvaluated (R.content change.now.records.now) layers.now.nodes.items (fresh_at fresh))
         (NamesLeastBreak (R.content change.now.records.now) layers.now.nodes.items) }
     ensures steps { steps.new ≤ steps.old + length layers.now.nodes.items }
+    ensures spent { UnlessMemory result (steps.new ≡ steps.old + length layers.now.nodes.items) }
 {
     let all = layers.nodes.as_slice();
     let ends = layers.ends.as_slice();

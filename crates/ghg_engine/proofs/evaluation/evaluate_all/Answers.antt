@@ -258,3 +258,19 @@ returns-clause-steps g c =
     let over : length l.ends.items ≤ c.loop-layer.layer = subst (λ es. length es ≤ c.loop-layer.layer) same_ends c.loop-layer-test.false in
     let all : c.loop-layer.start ≡ length l.nodes.items = c.loop-layer.invariant.start ∙ all_spanned 0 l.ends.items (length l.nodes.items) c.loop-layer.layer c.requires.layers.1.ends over in
     omega (arith, all, c.loop-layer.invariant.steps)
+
+pub returns-in-None-clause-spent : goal.returns-in-None-clause-spent
+returns-in-None-clause-spent g c =
+    let l = c.args.layers.now in
+    let same_ends = c.as_slice-ends.ensures.value in
+    let over : length l.ends.items ≤ c.loop-layer.layer = subst (λ es. length es ≤ c.loop-layer.layer) same_ends c.loop-layer-test.false in
+    let all : c.loop-layer.start ≡ length l.nodes.items = c.loop-layer.invariant.start ∙ all_spanned 0 l.ends.items (length l.nodes.items) c.loop-layer.layer c.requires.layers.1.ends over in
+    omega (arith, all, c.loop-layer.invariant.steps)
+
+pub returns-clause-spent : goal.returns-clause-spent
+returns-clause-spent g c =
+    let l = c.args.layers.now in
+    let same_ends = c.as_slice-ends.ensures.value in
+    let over : length l.ends.items ≤ c.loop-layer.layer = subst (λ es. length es ≤ c.loop-layer.layer) same_ends c.loop-layer-test.false in
+    let all : c.loop-layer.start ≡ length l.nodes.items = c.loop-layer.invariant.start ∙ all_spanned 0 l.ends.items (length l.nodes.items) c.loop-layer.layer c.requires.layers.1.ends over in
+    omega (arith, all, c.loop-layer.invariant.steps)

@@ -1,10 +1,9 @@
-use Rattle.std.proofs.Common.{◌∙◌, sym, subst}
-use Rattle.ghg_columns.specs.Cells.{cell_at}
-use Rattle.ghg_engine.specs.Compiled.{AreAlike}
-use Rattle.ghg_engine.proofs.Dropped.{equivalents_left}
+use Rattle.std.proofs.Common.{◌∙◌, sym}
+use Rattle.ghg_engine.proofs.Dropped.{dropped_if, kept_if}
 use Rattle.ghg_engine.proofs.withdrawn.drop_equivalents.Goals as goal
 
+pub returns-then-emits : goal.returns-then-emits
+returns-then-emits g c = kept_if _ _ _ (sym c.emits.ensures ∙ c.if-emits.true)
+
 pub returns : goal.returns
-returns g c =
-    let m = g.R.Records.content c.args.records.now in
-    subst (AreAlike m (cell_at c.args.cells.now)) (sym c.remove.ensures) (equivalents_left m (cell_at c.args.cells.now) c.args.name.now (sym c.emits.ensures ∙ c.if-emits.false))
+returns g c = c.remove.ensures ∙ dropped_if _ _ _ (sym c.emits.ensures ∙ c.if-emits.false)

@@ -1,10 +1,9 @@
-use Rattle.std.proofs.Common.{◌∙◌, sym, subst}
-use Rattle.ghg_columns.specs.Cells.{cell_at}
-use Rattle.ghg_engine.specs.Compiled.{AreAlike}
-use Rattle.ghg_engine.proofs.Dropped.{values_left}
+use Rattle.std.proofs.Common.{◌∙◌, sym}
+use Rattle.ghg_engine.proofs.Dropped.{dropped_if, kept_if}
 use Rattle.ghg_engine.proofs.withdrawn.drop_values.Goals as goal
 
+pub returns-then-is_line : goal.returns-then-is_line
+returns-then-is_line g c = kept_if _ _ _ (sym c.is_line.ensures ∙ c.if-is_line.true)
+
 pub returns : goal.returns
-returns g c =
-    let m = g.R.Records.content c.args.records.now in
-    subst (AreAlike m (cell_at c.args.cells.now)) (sym c.remove.ensures) (values_left m (cell_at c.args.cells.now) c.args.name.now (sym c.is_line.ensures ∙ c.if-is_line.false))
+returns g c = c.remove.ensures ∙ dropped_if _ _ _ (sym c.is_line.ensures ∙ c.if-is_line.false)

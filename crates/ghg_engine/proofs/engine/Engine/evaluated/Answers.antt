@@ -1,4 +1,4 @@
-use Rattle.std.proofs.Common.{◌∙◌, [], sym, ap, subst, arith}
+use Rattle.std.proofs.Common.{◌∙◌, ◌+◌, [], sym, ap, subst, arith}
 use Rattle.std.specs.Prelude.{MatchResult}
 use Rattle.std.proofs.lemmas.List.Sorted.{length_permutation}
 use Rattle.ghg_columns.specs.Cells.{cell_at}
@@ -9,6 +9,7 @@ use Rattle.ghg_engine.specs.Proposals.{IsFresh, NamesOverflow}
 use Rattle.ghg_engine.proofs.FewNodes.{few_affected}
 use Rattle.ghg_engine.proofs.Patched.{all_affected}
 use Rattle.ghg_engine.proofs.Edited.{distinct_nodes, edit_given, edit_moved, in_turn, is_answered, kept_moved, notes_moved, under_way}
+use Rattle.ghg_engine.proofs.Spent.{answered}
 use Rattle.ghg_engine.proofs.engine.Engine.evaluated.Goals as goal
 
 pub of-requires-clause-edit : goal.of-requires-clause-edit
@@ -116,3 +117,8 @@ pub returns-clause-steps : goal.returns-clause-steps
 returns-clause-steps g c =
     let same = length_permutation c.args.nodes.items c.in_ok-layers.layers.nodes.items c.in_ok-layers.ensures.same in
     omega (arith, same, c.evaluate_all.ensures.steps)
+
+pub returns-clause-spent : goal.returns-clause-spent
+returns-clause-spent g c =
+    let same = length_permutation c.args.nodes.items c.in_ok-layers.layers.nodes.items c.in_ok-layers.ensures.same in
+    answered _ _ (λ spent. spent ∙ ap (λ count. c.args.steps.now + count) same) c.evaluate_all.result c.evaluate_all.ensures.spent

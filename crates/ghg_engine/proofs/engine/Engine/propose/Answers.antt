@@ -1,10 +1,13 @@
-use Rattle.std.proofs.Common.{◌≡◌, ◌∙◌, length, refl, sym, ap, arith}
+use Rattle.std.proofs.Common.{◌≡◌, ◌∙◌, ◌+◌, length, refl, sym, ap, arith}
 use Rattle.ghg_affected.specs.Affected.{affected_nodes}
 use Rattle.ghg_data.specs.Changes.{applied}
 use Rattle.ghg_data.specs.Shelf.{Shelf}
 use Rattle.ghg_engine.specs.Proposals.{affected_count}
+use Rattle.ghg_columns.specs.declared.fresh.FreshCells.{FreshCells}
+use Rattle.ghg_engine.specs.declared.proposal.Proposal.{Proposal}
 use Rattle.ghg_engine.proofs.Patched.{all_affected}
 use Rattle.ghg_engine.proofs.Proposed.{made_on}
+use Rattle.ghg_engine.proofs.Spent.{refused}
 use Rattle.ghg_engine.proofs.engine.Engine.propose.Goals as goal
 
 pub returns-in-Ok-clause-steps : goal.returns-in-Ok-clause-steps
@@ -18,6 +21,18 @@ returns-in-Err-clause-steps g c =
     let old = c.args.self.now.content in
     let all : length c.in_ok-nodes.nodes.items ≡ length (affected_nodes old (applied old c.args.edits)) = all_affected old (applied old c.args.edits) c.in_ok-nodes.nodes.items c.in_ok-nodes.ensures.nodes in
     omega (arith, all, c.in-Err.ensures.steps)
+
+pub returns-in-Ok-clause-spent : goal.returns-in-Ok-clause-spent
+returns-in-Ok-clause-spent g c =
+    let old = c.args.self.now.content in
+    let all : length c.in_ok-nodes.nodes.items ≡ length (affected_nodes old (applied old c.args.edits)) = all_affected old (applied old c.args.edits) c.in_ok-nodes.nodes.items c.in_ok-nodes.ensures.nodes in
+    omega (arith, all, c.in-Ok.ensures.spent)
+
+pub returns-in-Err-clause-spent : goal.returns-in-Err-clause-spent
+returns-in-Err-clause-spent g c =
+    let old = c.args.self.now.content in
+    let all : length c.in_ok-nodes.nodes.items ≡ length (affected_nodes old (applied old c.args.edits)) = all_affected old (applied old c.args.edits) c.in_ok-nodes.nodes.items c.in_ok-nodes.ensures.nodes in
+    refused _ _ (λ spent. spent ∙ ap (λ count. c.args.steps.now + count) all) FreshCells Proposal c.in-Err.refusal c.in-Err.ensures.spent
 
 pub returns-in-Ok-clause-proposed : goal.returns-in-Ok-clause-proposed
 returns-in-Ok-clause-proposed g c =
