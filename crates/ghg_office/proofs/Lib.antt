@@ -8,3 +8,4 @@ pub mod Rebuilt
 pub mod Repeats
 pub mod Replayed
 pub mod Lines
+pub mod Requests

@@ -25,11 +25,14 @@ reply_text Memory = codes "memory"
 abbrev pub is_short : Reply → Bool
 is_short (Accepted seq cells) = true
 is_short (Repeated seq) = true
-is_short (Refused rule) = false
-is_short (Table text) = false
 is_short NoTable = true
-is_short KeeperFault = false
-is_short Memory = false
+is_short reply = false
+
+-- a repeat is answered without memory, and so is a request for a table that is not there
+abbrev pub needs_memory : Reply → Bool
+needs_memory (Repeated seq) = false
+needs_memory NoTable = false
+needs_memory reply = true
 
 abbrev pub is_table : Reply → Bool
 is_table (Table text) = true

@@ -9,6 +9,7 @@ mod laws;
 mod office;
 mod proposing;
 mod reply;
+mod request;
 
 pub use fault::OpenFault;
 pub use laws::{
@@ -17,3 +18,4 @@ pub use laws::{
 };
 pub use office::Office;
 pub use reply::{Reply, ShortLine, append_reply, short_text};
+pub use request::Request;

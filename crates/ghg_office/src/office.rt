@@ -10,6 +10,7 @@ ghost use Rattle.ghg_office.specs.Office.{IsRead, evaluations, requested, start,
 ghost use Rattle.ghg_office.specs.Keeping.{HadRows, KeepsAccepted, Lists, is_to_append};
 ghost use Rattle.ghg_office.specs.Replays.{IsReplay, Takes, replay_evaluations, replayed, taken};
 ghost use Rattle.ghg_office.specs.Replies.{Answers, Shows, is_failure, reply_of};
+ghost use Rattle.ghg_office.specs.Requests.{MayFail, answer_to, evaluations_for, seen};
 ghost use Rattle.ghg_office.specs.Laws.{IsInForce, IsRebuilt};
 ghost use Rattle.ghg_office.specs.Sound.{IsSoundReply};
 
@@ -19,6 +20,7 @@ use crate::id::SubmissionId;
 use crate::keeping::keep_body;
 use crate::proposing::prepare;
 use crate::reply::{Acceptance, Reply};
+use crate::request::Request;
 use ghg_cell::Input;
 use ghg_data::{Book, Records};
 use ghg_engine::Engine;
@@ -306,6 +308,48 @@ impl Office {
         match print(alloc, table, year, &self.engine) {
             Ok(text) => Reply::Table(text),
             Err(_) => Reply::Memory,
+        }
+    }
+
+    /// Answers a request: a submission as [`Office::submit`] does, and a request for a table as
+    /// [`Office::show`] does.
+    pub fn answer<K: Keeper, G: Gate, T: Threads + Sync, L: Ledger>(
+        &mut self,
+        alloc: Global,
+        workers: &Workers<'_, T, G>,
+        request: &Request<&[u8]>,
+        keeper: &mut K,
+        stored: bool,
+        steps: &mut Steps<L>,
+    ) -> Reply
+        requires workers { (1 ≤ workers.now.count) × (workers.now.count ≤ 64) }
+        requires same { stored ≡ true → Lists (K.shelf keeper.old) self.old.accepted }
+        ensures answer { Answers (answer_to self.old (seen request.now)) result self.old self.new }
+        ensures failure { MayFail self.old (seen request.now) result }
+        ensures store { result ≡ Reply.KeeperFault → stored ≡ true }
+        ensures steps { steps.new ≤ steps.old + evaluations_for self.old (seen request.now) }
+        // With any answer the rows that a keeper tells are the accepted submissions.
+        ensures kept { stored ≡ true
+            → KeepsAccepted (K.shelf keeper.old) (K.shelf keeper.new) self.new.accepted }
+        // The keeper is called only for a submission that is to be stored and breaks no rule.
+        ensures untouched { is_to_append stored (answer_to self.old (seen request.now)) ≡ false
+            → keeper.new ≡ keeper.old }
+        ensures faults { IsCounted (K.shelf keeper.old).faults (K.shelf keeper.new).faults
+            (result ≡ Reply.KeeperFault) }
+    {
+        match request {
+            Request::Submit { id, body } => self.submit(
+                workers.threads,
+                alloc,
+                id,
+                body,
+                workers.count,
+                workers.gate,
+                keeper,
+                stored,
+                steps,
+            ),
+            Request::Show { table, year } => self.show(alloc, table, *year),
         }
     }
 
