@@ -1,11 +1,14 @@
 -- What the office replies to requests, as bytes, and its state after them.
-use Rattle.std.specs.Prelude.{◌≡◌, ℕ, Bool, true, false, List, ◌++◌, ◌==◌, codes, count_by}
+use Rattle.std.specs.Prelude.{◌≡◌, ℕ, Bool, false, List, ◌++◌, ◌==◌, codes, count_by}
 use Rattle.std.specs.Fmt.{decimal}
 use Rattle.ghg_office.specs.Keeping.{is_to_append}
-use Rattle.ghg_office.specs.Office.{Answer, State, evaluations, submitted, requested}
-use Rattle.ghg_office.specs.Replies.{is_short, reply_text}
+use Rattle.ghg_office.specs.Office.{State}
+use Rattle.ghg_office.specs.Replies.{is_short, needs_memory, reply_text}
+use Rattle.ghg_office.specs.Requests.{answer_to, evaluations_for}
 use Rattle.ghg_office.specs.declared.reply.Reply.{Reply}
-use Rattle.ghg_office.specs.declared.reply.Reply.TheVariants.{KeeperFault, NoTable, Repeated, Table}
+use Rattle.ghg_office.specs.declared.reply.Reply.TheVariants.{KeeperFault, Table}
+use Rattle.ghg_office.specs.declared.request.Request.{Request as Asked}
+use Rattle.ghg_office.specs.declared.request.Request.TheVariants as asked
 use Rattle.ghg_script.specs.declared.command.Request.{Request}
 use Rattle.ghg_script.specs.declared.command.Request.TheVariants.{Submit, Query}
 use Rattle.ghg_script.specs.declared.script.TableQuery.{TableQuery}
@@ -39,35 +42,24 @@ HasNoReply reply stop = stop ≡ OutOfMemory
 abbrev pub HasNoLines : Reply → Status → Type 0
 HasNoLines reply stop = HasNoReply reply stop × (is_short reply ≡ false)
 
--- the office's answer to a request, and the state after it
-abbrev pub answer_of : State → Request TableQuery → Answer
-answer_of s (Submit id body) = submitted s id body
-answer_of s (Query show) = record { reply = requested s show.table show.year; after = s }
+-- what a script asks of the office
+abbrev pub asked_of : Request TableQuery → Asked (List ℕ)
+asked_of (Submit id body) = asked.Submit id body
+asked_of (Query show) = asked.Show show.table show.year
 
 abbrev pub lines_of : Request TableQuery → Reply → List ℕ
 lines_of (Submit id body) reply = line_of (reply_text reply)
 lines_of (Query show) reply = table_lines show.table show.year reply
 
--- a repeat is answered without memory, and so is a request for a table that is not there
-abbrev pub needs_memory : Reply → Bool
-needs_memory (Repeated seq) = false
-needs_memory NoTable = false
-needs_memory reply = true
-
--- A step is the evaluation of a node. A submission evaluates at most the nodes that its rows affect, and a
--- table none.
-abbrev pub steps_for : State → Request TableQuery → ℕ
-steps_for s (Submit id body) = evaluations s id body
-steps_for s (Query show) = 0
-
--- What a request to the office comes to. Where submissions are stored, one that is accepted is kept.
+-- What a request to the office comes to. Where submissions are stored, one that is accepted is kept. A step
+-- is the evaluation of a node.
 unfoldable pub office_step : Bool → State → Request TableQuery → Step State
-office_step stored s asked = record {
-  reply = lines_of asked (answer_of s asked).reply;
-  after = (answer_of s asked).after;
-  takes_memory = needs_memory (answer_of s asked).reply;
-  is_kept = is_to_append stored (answer_of s asked);
-  steps = steps_for s asked;
+office_step stored s request = record {
+  reply = lines_of request (answer_to s (asked_of request)).reply;
+  after = (answer_to s (asked_of request)).after;
+  takes_memory = needs_memory (answer_to s (asked_of request)).reply;
+  is_kept = is_to_append stored (answer_to s (asked_of request));
+  steps = evaluations_for s (asked_of request);
 }
 
 abbrev pub protocol : Bool → Protocol State (Request TableQuery)

@@ -2,14 +2,15 @@
 
 ghost use Rattle.std.specs.Prelude.{◌≡◌, ◌≤◌, ◌+◌, true, false, IfErr, IfOk, IsErrOf, OnErr, OnOk};
 ghost use Rattle.ghg_office.specs.Keeping.{KeepsAccepted, Lists};
+ghost use Rattle.ghg_office.specs.Requests.{seen};
 ghost use Rattle.ghg_outer.specs.Counts.{IsCounted};
-ghost use Rattle.ghg_session.specs.Replies.{office_step};
+ghost use Rattle.ghg_session.specs.Replies.{asked_of, office_step};
 ghost use Rattle.ghg_session.specs.Session.{MayLeaveUndone, bytes_of};
 
 use crate::environment::Environment;
 use crate::reply::{Lines, one_line, table_lines};
 use ghg_keeper::Keeper;
-use ghg_office::Office;
+use ghg_office::{Office, Request as Asked};
 use ghg_script::{Request, TableQuery};
 use ghg_steps::Steps;
 use ghg_words::Status;
@@ -51,24 +52,25 @@ pub(crate) fn answer<K: Keeper, G: Gate, T: Threads + Sync, L: Ledger>(
         workers,
         stored,
     } = environment;
+    let reply = office.answer(*alloc, workers, &asked_of(request), keeper, *stored, steps);
     match request {
-        Request::Submit { id, body } => {
-            let reply = office.submit(
-                workers.threads,
-                *alloc,
-                id.as_slice(),
-                body.as_slice(),
-                workers.count,
-                workers.gate,
-                keeper,
-                *stored,
-                steps,
-            );
-            one_line(*alloc, &reply)
-        }
-        Request::Query(show) => {
-            let reply = office.show(*alloc, show.table.as_slice(), show.year);
-            table_lines(*alloc, show.table.as_slice(), show.year, reply)
-        }
+        Request::Submit { .. } => one_line(*alloc, &reply),
+        Request::Query(show) => table_lines(*alloc, show.table.as_slice(), show.year, reply),
+    }
+}
+
+// What a script asks of the office.
+fn asked_of(request: &Request<TableQuery>) -> Asked<&[u8]>
+    ensures { seen result ≡ asked_of request.now }
+{
+    match request {
+        Request::Submit { id, body } => Asked::Submit {
+            id: id.as_slice(),
+            body: body.as_slice(),
+        },
+        Request::Query(show) => Asked::Show {
+            table: show.table.as_slice(),
+            year: show.year,
+        },
     }
 }
