@@ -7,11 +7,12 @@ use Rattle.httparse.proofs.GrammarLemmas.{request_unique}
 use Rattle.ghg_http.specs.Decision.{Decision, decision_of, refuse, show, submit}
 use Rattle.ghg_http.specs.Head.{AwaitsHead, HasHead, IsTooLarge}
 use Rattle.ghg_http.specs.Laws.{HasTwoFaults, HoldsNoneEarly, HoldsOneRequest, IsHeadFault}
-use Rattle.ghg_http.specs.Receive.{EndsEarly, HasShortBody, HoldsRequest, HoldsSubmission, HoldsTableRequest, IsRefusedBy}
+use Rattle.ghg_http.specs.Receive.{Decides, EndsEarly, HasShortBody, HoldsRequest, HoldsSubmission, IsRefusedBy}
 use Rattle.ghg_http.specs.declared.decision.Refusal.{Refusal}
 use Rattle.ghg_http.specs.declared.decision.Refusal.TheVariants.{BadRequest, HeadTooLarge}
 use Rattle.ghg_http.specs.declared.request.Request.{Request}
-use Rattle.ghg_http.specs.declared.request.Request.TheVariants.{Refused, Show, Submit}
+use Rattle.ghg_http.specs.declared.request.Request.TheVariants.{Refused, Asked}
+use Rattle.ghg_office.specs.declared.request.Request.TheVariants.{Show, Submit}
 use Rattle.ghg_http.proofs.Excess.{exceeds}
 
 refuse_same : (r s : Refusal) → refuse r ≡ refuse s → r ≡ s
@@ -20,7 +21,7 @@ refuse_same r s e = cc
 submit_same : (i j : List ℕ) (m n : ℕ) → submit i m ≡ submit j n → (i ≡ j) × (m ≡ n)
 submit_same i j m n e = (cc, cc)
 
-show_same : (a b x y : List ℕ) → show a x ≡ show b y → (a ≡ b) × (x ≡ y)
+show_same : (a b : List ℕ) (x y : ℕ) → show a x ≡ show b y → (a ≡ b) × (x ≡ y)
 show_same a b x y e = (cc, cc)
 
 -- the front of two equal texts, of the same length
@@ -74,44 +75,46 @@ module _ (bytes : List ℕ) where
   refused_or_submitted reason id body x y =
       let e = sym (refused_by_head y.head (body ++ y.extra) y.has_head reason x) ∙ y.decides in absurd (cc)
 
-  refused_or_shown : {X : Type 0} (reason : Refusal) (table year : List ℕ) → IsRefusedBy bytes reason
-      → HoldsTableRequest bytes table year → X
+  refused_or_shown : {X : Type 0} (reason : Refusal) (table : List ℕ) (year : ℕ) → IsRefusedBy bytes reason
+      → Decides bytes (show table year) → X
   refused_or_shown reason table year x y =
       let e = sym (refused_by_head y.head y.rest y.has_head reason x) ∙ y.decides in absurd (cc)
 
   -- ---- submissions and tables
 
-  submitted_or_shown : {X : Type 0} (id body table year : List ℕ) → HoldsSubmission bytes id body
-      → HoldsTableRequest bytes table year → X
+  submitted_or_shown : {X : Type 0} (id body table : List ℕ) (year : ℕ) → HoldsSubmission bytes id body
+      → Decides bytes (show table year) → X
   submitted_or_shown id body table year x y =
       let e = sym x.decides ∙ one_decision x.head (body ++ x.extra) x.has_head y.head y.rest (show table year) y.has_head y.decides
       in absurd (cc)
 
-  one_submission : (i j a b : List ℕ) → HoldsSubmission bytes i a → HoldsSubmission bytes j b → Submit i a ≡ Submit j b
+  one_submission : (i j a b : List ℕ) → HoldsSubmission bytes i a → HoldsSubmission bytes j b
+      → Asked (Submit i a) ≡ Asked (Submit j b)
   one_submission i j a b x y =
       let made = one_decision x.head (a ++ x.extra) x.has_head y.head (b ++ y.extra) (submit j (length b)) y.has_head y.decides in
       let same = submit_same i j (length a) (length b) (sym x.decides ∙ made) in
       let behind = (one_head x.head (a ++ x.extra) x.has_head y.head (b ++ y.extra) y.has_head).1 in
       let body = front_same a b x.extra y.extra behind same.1 in
-      ap (λ i. Submit i a) same.0 ∙ ap (Submit j) body
+      ap (λ i. Asked (Submit i a)) same.0 ∙ ap (λ b. Asked (Submit j b)) body
 
-  one_table : (a b x y : List ℕ) → HoldsTableRequest bytes a x → HoldsTableRequest bytes b y → Show a x ≡ Show b y
+  one_table : (a b : List ℕ) (x y : ℕ) → Decides bytes (show a x) → Decides bytes (show b y)
+      → Asked (Show a x) ≡ Asked (Show b y)
   one_table a b x y p q =
       let made = one_decision p.head p.rest p.has_head q.head q.rest (show b y) q.has_head q.decides in
       let same = show_same a b x y (sym p.decides ∙ made) in
-      ap (λ t. Show t x) same.0 ∙ ap (Show b) same.1
+      ap (λ t. Asked (Show t x)) same.0 ∙ ap (λ y. Asked (Show b y)) same.1
 
   one : (x y : Request) → HoldsRequest bytes x → HoldsRequest bytes y
       → (x ≡ y) ⊎ (IsHeadFault x × IsHeadFault y × HasTwoFaults bytes)
   one (Refused r) (Refused s) x y = one_refusal r s x.0 y.0
-  one (Refused r) (Submit id body) x y = refused_or_submitted r id body x.0 y
-  one (Refused r) (Show table year) x y = refused_or_shown r table year x.0 y.0
-  one (Submit id body) (Refused s) x y = refused_or_submitted s id body y.0 x
-  one (Submit i a) (Submit j b) x y = inl (one_submission i j a b x y)
-  one (Submit id body) (Show table year) x y = submitted_or_shown id body table year x y.0
-  one (Show table year) (Refused s) x y = refused_or_shown s table year y.0 x.0
-  one (Show table year) (Submit id body) x y = submitted_or_shown id body table year y x.0
-  one (Show a x) (Show b y) p q = inl (one_table a b x y p.0 q.0)
+  one (Refused r) (Asked (Submit id body)) x y = refused_or_submitted r id body x.0 y
+  one (Refused r) (Asked (Show table year)) x y = refused_or_shown r table year x.0 y.0
+  one (Asked (Submit id body)) (Refused s) x y = refused_or_submitted s id body y.0 x
+  one (Asked (Submit i a)) (Asked (Submit j b)) x y = inl (one_submission i j a b x y)
+  one (Asked (Submit id body)) (Asked (Show table year)) x y = submitted_or_shown id body table year x y.0
+  one (Asked (Show table year)) (Refused s) x y = refused_or_shown s table year y.0 x.0
+  one (Asked (Show table year)) (Asked (Submit id body)) x y = submitted_or_shown id body table year y x.0
+  one (Asked (Show a x)) (Asked (Show b y)) p q = inl (one_table a b x y p.0 q.0)
 
   -- ---- bytes that end early
 
@@ -131,19 +134,19 @@ module _ (bytes : List ℕ) where
 
   awaits_none : (x : Request) → AwaitsHead bytes → HoldsRequest bytes x → IsExcused x
   awaits_none (Refused reason) early x = refused_early reason early x.0
-  awaits_none (Submit id body) early x = absurd (early.0 x.head (body ++ x.extra) x.has_head.reads)
-  awaits_none (Show table year) early x = absurd (early.0 x.0.head x.0.rest x.0.has_head.reads)
+  awaits_none (Asked (Submit id body)) early x = absurd (early.0 x.head (body ++ x.extra) x.has_head.reads)
+  awaits_none (Asked (Show table year)) early x = absurd (early.0 x.0.head x.0.rest x.0.has_head.reads)
 
   short_none : {X : Type 0} (x : Request) → HasShortBody bytes → HoldsRequest bytes x → X
   short_none (Refused reason) s x =
       let e = sym (refused_by_head s.head s.rest s.has_head reason x.0) ∙ s.decides in absurd (cc)
-  short_none (Submit id body) s x =
+  short_none (Asked (Submit id body)) s x =
       let made = one_decision s.head s.rest s.has_head x.head (body ++ x.extra) (submit id (length body)) x.has_head x.decides in
       let same = submit_same s.id id s.size (length body) (sym s.decides ∙ made) in
       let behind = (one_head s.head s.rest s.has_head x.head (body ++ x.extra) x.has_head).1 in
       let size = ap length behind ∙ length-append body x.extra in
       absurd (omega (arith, same.1, size, s.short))
-  short_none (Show table year) s x =
+  short_none (Asked (Show table year)) s x =
       let e = sym s.decides
       ∙ one_decision s.head s.rest s.has_head x.0.head x.0.rest (show table year) x.0.has_head x.0.decides in absurd (cc)
 

@@ -15,7 +15,8 @@ use Rattle.ghg_http.specs.declared.decision.Refusal.{Refusal}
 use Rattle.ghg_http.specs.declared.request.ReceiveError.{ReceiveError}
 use Rattle.ghg_http.specs.declared.request.ReceiveError.TheVariants.{Memory}
 use Rattle.ghg_http.specs.declared.request.Request.{Request}
-use Rattle.ghg_http.specs.declared.request.Request.TheVariants.{Refused, Submit, Show}
+use Rattle.ghg_http.specs.declared.request.Request.TheVariants.{Refused, Asked}
+use Rattle.ghg_office.specs.declared.request.Request.TheVariants.{Submit, Show}
 
 -- ---- stopping
 
@@ -194,14 +195,14 @@ module _ (bytes : List ℕ) (made : Decision) (size : ℕ) (h : IsWhole bytes ma
   )
 
   -- it asks for a table
-  pub shows : (a : Tape) (table year : Bor (List ℕ)) (name when : List ℕ) → IsPrompt bytes → made ≡ decided.Show table year
-      → name ≡ table.now → when ≡ year.now → FollowsHead a a bytes (Some (Show name when))
-  shows a table year name when prompt is named dated = at_once a (Show name when) prompt (
+  pub shows : (a : Tape) (table : Bor (List ℕ)) (name : List ℕ) (year : ℕ) → IsPrompt bytes → made ≡ decided.Show table year
+      → name ≡ table.now → FollowsHead a a bytes (Some (Asked (Show name year)))
+  shows a table name year prompt is named = at_once a (Asked (Show name year)) prompt (
     record {
       head = h.head;
       rest = drop size bytes ++ [];
       has_head = has_head [] (drop size bytes ++ []) refl;
-      decides = sym h.decides ∙ ap seen is ∙ ap (λ t. show t year.now) (sym named) ∙ ap (show name) (sym dated);
+      decides = sym h.decides ∙ ap seen is ∙ ap (λ t. show t year) (sym named);
     },
     no_more,
   )
@@ -259,7 +260,7 @@ module _ (bytes : List ℕ) (made : Decision) (size : ℕ) (h : IsWhole bytes ma
   -- it is a submission whose body came
   pub submits : (a b : Tape) (id : Bor (List ℕ)) (n : ℕ) (name body : List ℕ) → IsPrompt bytes → made ≡ decided.Submit id n
       → name ≡ id.now → CompletesBody a b (drop size bytes) body → length body ≡ n
-      → FollowsHead a b bytes (Some (Submit name body))
+      → FollowsHead a b bytes (Some (Asked (Submit name body)))
   submits a b id n name body prompt is named came count = record {
     got = came.grows.got;
     read = came.grows.read;

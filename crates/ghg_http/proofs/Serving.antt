@@ -1,49 +1,21 @@
 -- What comes of a link, from what was read, answered and written.
-use Rattle.std.proofs.Common.{◌≡◌, ◌≢◌, ℕ, ◌+◌, ◌<◌, ◌≤◌, Bool, true, false, List, [], length, take, Option, Some, None, Result, Ok, refl, sym, ap, subst, ◌∙◌, arith}
-use Rattle.std.specs.Prelude.{if◌then◌else◌}
+use Rattle.std.proofs.Common.{◌≡◌, ℕ, ◌+◌, ◌<◌, ◌≤◌, Bool, true, false, List, [], length, take, Option, Some, None, Result, Ok, refl, sym, ap, subst, ◌∙◌, arith}
 use Rattle.std.specs.declared.alloc.AllocError.{AllocError}
 use Rattle.std.proofs.lemmas.Bool.{false≢true}
-use Rattle.ghg_definitions.specs.Compilation.{is_year_of}
-use Rattle.ghg_definitions.specs.Data.{span}
 use Rattle.ghg_outer.specs.Tape.{Appends, Consumes, IsAtEnd, Tape}
 use Rattle.ghg_outer.specs.Counts.{IsCounted}
 use Rattle.ghg_outer.proofs.Counts.{counted_none, counted_on}
 use Rattle.ghg_outer.proofs.Tapes.{appends_nothing}
-use Rattle.ghg_office.specs.Office.{State, asked, requested}
-use Rattle.ghg_office.specs.Replies.{Shows}
-use Rattle.ghg_office.specs.declared.reply.Reply.{Reply}
-use Rattle.ghg_office.specs.declared.reply.Reply.TheVariants as answered
-use Rattle.ghg_tables.specs.declared.table.Table.{Table}
-use Rattle.ghg_tables.specs.Names.{table_in}
+use Rattle.ghg_office.specs.Office.{State}
 use Rattle.ghg_http.specs.Receive.{EndsEarly, IsPrompt, Stopped, TakesRequest}
 use Rattle.ghg_http.specs.Reply.{HttpReply, reply_bytes}
-use Rattle.ghg_http.specs.Serve.{AnswersRequest, BreaksOff, Exchange, IsAnswered, IsUnanswered, Passes, Sends, ServesLink, Snapshot, TellsFaults, asks_to_append, evaluations_for, shown, snapshot}
+use Rattle.ghg_http.specs.Serve.{AnswersRequest, BreaksOff, Exchange, IsAnswered, IsUnanswered, Passes, Sends, ServesLink, Snapshot, TellsFaults, asks_to_append, evaluations_asked, snapshot}
 use Rattle.ghg_http.specs.declared.reply.Message.{Message}
 use Rattle.ghg_http.specs.declared.request.ReceiveError.TheVariants as stopped
 use Rattle.ghg_http.specs.declared.request.Request.{Request}
-use Rattle.ghg_http.specs.declared.request.Request.TheVariants.{Refused, Show, Submit}
+use Rattle.ghg_http.specs.declared.request.Request.TheVariants.{Refused, Asked}
 use Rattle.ghg_http.specs.declared.serve.LinkEnd.{LinkEnd}
 use Rattle.ghg_http.specs.declared.serve.LinkEnd.TheVariants.{Served, Cut, LinkFault, Memory}
-
--- ---- tables
-
--- a request for a table is never answered by a fault of the keeper
-is_shown : (s : State) (name : List ℕ) (year : Option ℕ) → shown s name year ≢ answered.KeeperFault
-unfolding requested
-is_shown s name None e = cc
-is_shown s name (Some year) e = by (table_in name) e
-  where
-    within : (b : Bool) (text : List ℕ) → (if b then answered.Table text else answered.NoTable) ≢ answered.KeeperFault
-    within true text e = cc
-    within false text e = cc
-
-    by : (found : Option Table) → asked s year found ≢ answered.KeeperFault
-    by None e = cc
-    by (Some table) e = within (is_year_of (span s.content) year) _ e
-
-pub shows_no_fault : (s : State) (name : List ℕ) (year : Option ℕ) (answer : Reply) → Shows (shown s name year) answer
-    → answer ≢ answered.KeeperFault
-shows_no_fault s name year answer h e = is_shown s name year (sym (subst (Shows (shown s name year)) e h))
 
 -- ---- faults of the keeper
 
@@ -108,7 +80,7 @@ unfolding reply_bytes
 reply_some due = omega arith
 
 module _ (stored : Bool) (count later : ℕ) (Same : Type 0) (s after : State) (a b : Tape) (n m : ℕ) (request : Request)
-    (due : HttpReply) (t : TakesRequest a b (Some request)) (stays : b.faults ≡ a.faults) (spent : m ≤ n + evaluations_for s (Some request))
+    (due : HttpReply) (t : TakesRequest a b (Some request)) (stays : b.faults ≡ a.faults) (spent : m ≤ n + evaluations_asked s (Some request))
     (faults : TellsFaults (Some due) stored count later)
     (untouched : asks_to_append stored s (Some request) ≡ false → Same) where
   abbrev loud : List ℕ → Exchange
@@ -169,9 +141,8 @@ module _ (stored : Bool) (count later : ℕ) (Same : Type 0) (s after : State) (
 -- ---- the keeper
 
 not_asked : (stored : Bool) (s : State) (request : Request) → stored ≡ false → asks_to_append stored s (Some request) ≡ false
-not_asked stored s (Submit id body) none = rw none refl
 not_asked stored s (Refused reason) none = refl
-not_asked stored s (Show table year) none = refl
+not_asked stored s (Asked request) none = rw none refl
 
 -- where submissions are not stored, none is to be appended
 pub unstored : (stored : Bool) (Same : Type 0) (s after : State) (request : Request) (due : HttpReply) (r : Result Message AllocError)

@@ -5,6 +5,7 @@ use Rattle.httparse.specs.Grammar.{EndsInTarget, NeverHasRequest}
 use Rattle.httparse.specs.Spans.{RequestExceeds}
 use Rattle.ghg_office.specs.Office.{State, repeated, submitted}
 use Rattle.ghg_office.specs.declared.reply.Reply.TheVariants.{Repeated}
+use Rattle.ghg_office.specs.declared.request.Request.TheVariants.{Submit}
 use Rattle.ghg_http.specs.declared.head.TheConstants.{MAX_FIELDS, MAX_HEAD}
 use Rattle.ghg_http.specs.Receive.{EndsEarly, HoldsRequest}
 use Rattle.ghg_http.specs.Reply.{HttpReply}
@@ -13,7 +14,7 @@ use Rattle.ghg_http.specs.Serve.{Replies}
 use Rattle.ghg_http.specs.Statuses.{office_reply}
 use Rattle.ghg_http.specs.declared.decision.Refusal.TheVariants.{BadRequest, HeadTooLarge}
 use Rattle.ghg_http.specs.declared.request.Request.{Request}
-use Rattle.ghg_http.specs.declared.request.Request.TheVariants.{Refused, Submit}
+use Rattle.ghg_http.specs.declared.request.Request.TheVariants.{Refused, Asked}
 
 -- any byte but a slash and a question mark
 abbrev pub is_segment_byte : ℕ → Bool
@@ -39,7 +40,7 @@ FindsTargets = (text : List ℕ) (found : Target) → IsTrue (list_all (λ b. na
 -- The reply to a repeat is 200 with its number, and nothing changes. So it is never 503 nor 507.
 abbrev pub RepliesToRepeats : Type 0
 RepliesToRepeats = (s after : State) (id body : List ℕ) (seq : ℕ) (due : HttpReply)
-    → submitted s id body ≡ repeated s seq → Replies s (Submit id body) due after
+    → submitted s id body ≡ repeated s seq → Replies s (Asked (Submit id body)) due after
     → (due ≡ office_reply (Repeated seq)) × (after ≡ s)
 
 -- The request is refused as malformed, or as too large.

@@ -2,7 +2,7 @@
 use Rattle.std.specs.Prelude.{◌≡◌, ℕ, ◌<◌, ◌≤◌, ◌⊎◌, List, [], ◌++◌, length, Option, Some, None}
 use Rattle.httparse.specs.Grammar.{RequestHead, NeverHasRequest}
 use Rattle.ghg_outer.specs.Tape.{Consumes, IsAtEnd, Tape}
-use Rattle.ghg_http.specs.Decision.{decision_of, refuse, submit, show}
+use Rattle.ghg_http.specs.Decision.{Decision, decision_of, refuse, submit, show}
 use Rattle.ghg_http.specs.Head.{AwaitsHead, HasHead, IsTooLarge}
 use Rattle.ghg_http.specs.declared.decision.Refusal.{Refusal}
 use Rattle.ghg_http.specs.declared.decision.Refusal.TheVariants.{BadRequest, HeadTooLarge}
@@ -11,7 +11,8 @@ use Rattle.ghg_http.specs.declared.request.TheConstants.{MAX_READ}
 use Rattle.ghg_http.specs.declared.request.ReceiveError.{ReceiveError}
 use Rattle.ghg_http.specs.declared.request.ReceiveError.TheVariants.{Failed}
 use Rattle.ghg_http.specs.declared.request.Request.{Request}
-use Rattle.ghg_http.specs.declared.request.Request.TheVariants.{Refused, Submit, Show}
+use Rattle.ghg_http.specs.declared.request.Request.TheVariants.{Refused, Asked}
+use Rattle.ghg_office.specs.declared.request.Request.TheVariants.{Submit, Show}
 
 -- ---- reading
 
@@ -65,17 +66,17 @@ pub record CutsBody (before after : Tape) (rest : List ℕ) (size : ℕ) : Type 
 -- ---- requests
 
 -- The bytes begin with a head that decides this.
-pub record DecidesRefusal (bytes : List ℕ) (reason : Refusal) : Type 0 where
+pub record Decides (bytes : List ℕ) (made : Decision) : Type 0 where
   pub head : RequestHead
   pub rest : List ℕ
   pub has_head : HasHead bytes head rest
-  pub decides : decision_of head ≡ refuse reason
+  pub decides : decision_of head ≡ made
 
 -- why a request is refused before its body
 abbrev pub IsRefusedBy : List ℕ → Refusal → Type 0
 IsRefusedBy bytes reason =
     ((reason ≡ BadRequest) × NeverHasRequest bytes)
-    ⊎ (((reason ≡ HeadTooLarge) × IsTooLarge bytes) ⊎ DecidesRefusal bytes reason)
+    ⊎ (((reason ≡ HeadTooLarge) × IsTooLarge bytes) ⊎ Decides bytes (refuse reason))
 
 -- The head decides that a submission of this id and size follows, and this is its body. Bytes stand behind it
 -- only in the room that a head has.
@@ -85,13 +86,6 @@ pub record HoldsSubmission (bytes id body : List ℕ) : Type 0 where
   pub has_head : HasHead bytes head (body ++ extra)
   pub decides : decision_of head ≡ submit id (length body)
   pub near : (length bytes ≤ MAX_HEAD) ⊎ (extra ≡ [])
-
--- The head asks for a table.
-pub record HoldsTableRequest (bytes table year : List ℕ) : Type 0 where
-  pub head : RequestHead
-  pub rest : List ℕ
-  pub has_head : HasHead bytes head rest
-  pub decides : decision_of head ≡ show table year
 
 -- There is less of a submission's body than its head says.
 pub record HasShortBody (bytes : List ℕ) : Type 0 where
@@ -106,8 +100,8 @@ pub record HasShortBody (bytes : List ℕ) : Type 0 where
 -- The bytes hold this request. There are no more of them than the room of a head, or than its body takes.
 abbrev pub HoldsRequest : List ℕ → Request → Type 0
 HoldsRequest bytes (Refused reason) = IsRefusedBy bytes reason × (length bytes ≤ MAX_HEAD)
-HoldsRequest bytes (Submit id body) = HoldsSubmission bytes id body
-HoldsRequest bytes (Show name year) = HoldsTableRequest bytes name year × (length bytes ≤ MAX_HEAD)
+HoldsRequest bytes (Asked (Submit id body)) = HoldsSubmission bytes id body
+HoldsRequest bytes (Asked (Show name year)) = Decides bytes (show name year) × (length bytes ≤ MAX_HEAD)
 
 -- The bytes end before a whole request: before the end of a head that has room, or of a body. Bytes that can
 -- begin no head are no such bytes, nor are those that fill the room of a head.

@@ -1,51 +1,31 @@
 -- What comes of a link that is served: a request is read from it, the office answers, and the reply is
 -- written to it.
-use Rattle.std.specs.Prelude.{◌≡◌, ◌≢◌, ◌==◌, ⊤, ℕ, Bool, true, false, ◌+◌, ◌<◌, ◌≤◌, List, [], length, take, Option, Some, None, Result, IfOk, if◌then◌else◌}
+use Rattle.std.specs.Prelude.{◌≡◌, ◌==◌, ℕ, Bool, true, false, ◌+◌, ◌<◌, ◌≤◌, List, [], length, take, Option, Some, None, Result, IfOk}
 use Rattle.std.specs.declared.alloc.AllocError.{AllocError}
-use Rattle.ghg_units.specs.Decimal.{number_in}
 use Rattle.ghg_outer.specs.Counts.{IsCounted}
 use Rattle.ghg_outer.specs.Tape.{Appends, AppendsProperPrefix, Consumes, IsAtEnd, Tape}
 use Rattle.ghg_office.specs.Keeping.{is_to_append}
-use Rattle.ghg_office.specs.Office.{IsRead, State, evaluations, requested, submitted}
-use Rattle.ghg_office.specs.Replies.{Answers, Shows, is_accepted}
+use Rattle.ghg_office.specs.Office.{State}
+use Rattle.ghg_office.specs.Replies.{Answers}
+use Rattle.ghg_office.specs.Requests.{MayFail, answer_to, evaluations_for}
 use Rattle.ghg_office.specs.declared.reply.Reply.{Reply}
-use Rattle.ghg_office.specs.declared.reply.Reply.TheVariants.{KeeperFault, NoTable, Memory as OutOfMemory}
 use Rattle.ghg_http.specs.Receive.{EndsEarly, HoldsRequest, IsPrompt}
 use Rattle.ghg_http.specs.Reply.{HttpReply, IsMessageOf, reply_bytes}
 use Rattle.ghg_http.specs.Statuses.{office_reply, refusal_reply}
 use Rattle.ghg_http.specs.declared.reply.Message.{Message}
 use Rattle.ghg_http.specs.declared.request.Request.{Request}
-use Rattle.ghg_http.specs.declared.request.Request.TheVariants.{Refused, Submit, Show}
+use Rattle.ghg_http.specs.declared.request.Request.TheVariants.{Refused, Asked}
 use Rattle.ghg_http.specs.declared.serve.LinkEnd.{LinkEnd}
 use Rattle.ghg_http.specs.declared.serve.LinkEnd.TheVariants.{Served, Cut, LinkFault, Memory}
 
 -- ---- the reply to a request
 
--- the year that four digits write
-abbrev pub year_of : List ℕ → Option ℕ
-year_of text = if length text == 4 then number_in 4 text else None
-
--- what the office shows of a table; for what is no year there is none
-abbrev pub shown : State → List ℕ → Option ℕ → Reply
-shown s name None = NoTable
-shown s name (Some year) = requested s name year
-
--- Which requests the office may fail at: the keeper fails at a new submission that breaks no rule, and memory
--- runs out for a new submission whose body is read, or for a table that there is. So a repeat meets neither.
-abbrev pub MayFail : State → Request → Reply → Type 0
-MayFail s (Submit id body) KeeperFault = is_accepted (submitted s id body).reply ≡ true
-MayFail s (Submit id body) OutOfMemory = IsRead s id body
-MayFail s (Show name year) OutOfMemory = shown s name (year_of year) ≢ NoTable
-MayFail s request answer = ⊤
-
 -- The office's answer to a request, and the state after it, as the reply that is due. Where the keeper failed
 -- or memory ran out, the reply says so, and the state is as before.
 abbrev pub Replies : State → Request → HttpReply → State → Type 0
 Replies s (Refused reason) due after = (due ≡ refusal_reply reason) × (after ≡ s)
-Replies s (Submit id body) due after = (answer : Reply) × Answers (submitted s id body) answer s after
-    × MayFail s (Submit id body) answer × (due ≡ office_reply answer)
-Replies s (Show name year) due after = (answer : Reply) × Shows (shown s name (year_of year)) answer
-    × MayFail s (Show name year) answer × (due ≡ office_reply answer) × (after ≡ s)
+Replies s (Asked request) due after = (answer : Reply) × Answers (answer_to s request) answer s after
+    × MayFail s request answer × (due ≡ office_reply answer)
 
 -- The office answered the request, and where there was memory for it, this is the reply.
 pub record AnswersRequest (s : State) (request : Request) (due : HttpReply) (after : State)
@@ -53,15 +33,14 @@ pub record AnswersRequest (s : State) (request : Request) (due : HttpReply) (aft
   pub replies : Replies s request due after
   pub made : IfOk result (IsMessageOf due)
 
--- how many evaluations a request asks for, if there is one: of a submission those of the nodes that its rows
--- affect
-abbrev pub evaluations_for : State → Option Request → ℕ
-evaluations_for s (Some (Submit id body)) = evaluations s id body
-evaluations_for s request = 0
+-- how many evaluations the office is asked for, if there is a request
+abbrev pub evaluations_asked : State → Option Request → ℕ
+evaluations_asked s (Some (Asked request)) = evaluations_for s request
+evaluations_asked s request = 0
 
 -- whether there is a request, which is a submission that is to be stored and breaks no rule
 abbrev pub asks_to_append : Bool → State → Option Request → Bool
-asks_to_append stored s (Some (Submit id body)) = is_to_append stored (submitted s id body)
+asks_to_append stored s (Some (Asked request)) = is_to_append stored (answer_to s request)
 asks_to_append stored s request = false
 
 -- ---- what passes over a link
@@ -156,7 +135,7 @@ pub record ServesLink (before after : Snapshot) (due : Option HttpReply) (end : 
   pub passes : Passes exchange due end
   pub cut : end ≡ Cut → IsAtEnd after.link
   pub counted : IsCounted before.link.faults after.link.faults (end ≡ LinkFault)
-  pub spent : after.steps ≤ before.steps + evaluations_for before.state exchange.asked
+  pub spent : after.steps ≤ before.steps + evaluations_asked before.state exchange.asked
 
 -- ---- faults of the keeper
 

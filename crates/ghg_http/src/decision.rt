@@ -1,12 +1,13 @@
 //! What the head of a request decides, without its body.
 
 ghost use Rattle.std.specs.Prelude.{◌≡◌, option_map};
-ghost use Rattle.ghg_http.specs.Decision.{decision, refusal_row, seen, show_framed, sized, submit_framed};
+ghost use Rattle.ghg_http.specs.Decision.{decision, refusal_row, seen, show_dated, show_framed, sized, submit_framed, year_of};
 ghost use Rattle.ghg_http.specs.Route.{seen as seen_target};
 
 use crate::fields::{Framing, Length};
 use crate::route::Target;
 use ghg_import::MAX_BODY;
+use ghg_units::read_number;
 use http::StatusCode;
 
 /// Why a request is refused before its body is read, and what to do then.
@@ -27,6 +28,8 @@ pub enum Refusal {
     CodedBody,
     /// The body has more than `MAX_BODY` bytes. Split the file.
     BodyTooLong,
+    /// It asks for a table of what is no year.
+    NoYear,
 }
 
 impl Refusal {
@@ -46,6 +49,7 @@ impl Refusal {
             Refusal::LengthRequired => (StatusCode::LENGTH_REQUIRED, "length required"),
             Refusal::CodedBody => (StatusCode::UNSUPPORTED_MEDIA_TYPE, "coded body"),
             Refusal::BodyTooLong => (StatusCode::PAYLOAD_TOO_LARGE, "refused 3 BodyTooLong"),
+            Refusal::NoYear => (StatusCode::NOT_FOUND, "no table"),
         }
     }
 }
@@ -58,7 +62,7 @@ pub enum Decision<'b> {
     /// That a submission follows, of so many bytes.
     Submit { id: &'b str, size: u64 },
     /// That a table is shown.
-    Show { table: &'b str, year: &'b str },
+    Show { table: &'b str, year: u32 },
 }
 
 /// The first case that holds, by the method, what the path asks for and how the body is sent.
@@ -103,11 +107,31 @@ fn sized(id: &str, size: u64) -> Decision<'_>
     }
 }
 
-fn show_framed<'b>(table: &'b str, year: &'b str, length: Length) -> Decision<'b>
+fn show_framed<'b>(table: &'b str, year: &str, length: Length) -> Decision<'b>
     ensures { seen result ≡ show_framed table.now year.now length }
 {
     match length {
         Length::Malformed => Decision::Refuse(Refusal::BadRequest),
-        Length::Missing | Length::Given(_) => Decision::Show { table, year },
+        Length::Missing | Length::Given(_) => show_dated(table, read_year(year.as_bytes())),
     }
+}
+
+fn show_dated(table: &str, year: Option<u32>) -> Decision<'_>
+    ensures { seen result ≡ show_dated table.now year }
+{
+    match year {
+        Some(year) => Decision::Show { table, year },
+        None => Decision::Refuse(Refusal::NoYear),
+    }
+}
+
+// The year that four digits write.
+fn read_year(text: &[u8]) -> Option<u32>
+    ensures { result ≡ year_of text.now }
+{
+    if text.len() != 4 {
+        return None;
+    }
+    let year = read_number(text, 4)?;
+    Some(year as u32)
 }

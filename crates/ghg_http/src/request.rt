@@ -10,6 +10,7 @@ ghost use Rattle.ghg_outer.specs.Tape.{IsAtEnd};
 use crate::decision::{Decision, Refusal};
 use crate::head::{Head, MAX_HEAD, read_head};
 use crate::route::Route;
+use ghg_office::Request as Asked;
 use ghg_outer::{Failed, Source};
 use ghg_units::Text;
 use matchit::Router;
@@ -52,10 +53,8 @@ impl From<AllocError> for ReceiveError {
 pub enum Request {
     /// It is refused before its body is read.
     Refused(Refusal),
-    /// A submission.
-    Submit { id: Text, body: Text },
-    /// A request for a table.
-    Show { table: Text, year: Text },
+    /// It is put to the office.
+    Asked(Asked<Text>),
 }
 
 /// Receives the next request from a link, or finds that the input ends before a whole one.
@@ -112,8 +111,7 @@ fn receive_rest<T: Source>(
         Decision::Refuse(reason) => Ok(Some(Request::Refused(reason))),
         Decision::Show { table, year } => {
             let table = text_of(alloc, table)?;
-            let year = text_of(alloc, year)?;
-            Ok(Some(Request::Show { table, year }))
+            Ok(Some(Request::Asked(Asked::Show { table, year })))
         }
         Decision::Submit {
             id,
@@ -122,7 +120,7 @@ fn receive_rest<T: Source>(
             let id = text_of(alloc, id)?;
             let rest = bytes.split_at(size).1;
             match receive_body(alloc, link, rest, body_size as usize)? {
-                Some(body) => Ok(Some(Request::Submit { id, body })),
+                Some(body) => Ok(Some(Request::Asked(Asked::Submit { id, body }))),
                 None => Ok(None),
             }
         }

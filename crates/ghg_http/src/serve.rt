@@ -1,22 +1,20 @@
 //! One connection is served: one request is read, and one reply is written.
 
-ghost use Rattle.std.specs.Prelude.{◌≡◌, ◌≢◌, ◌≤◌, ◌+◌, true, false, Option, Some};
+ghost use Rattle.std.specs.Prelude.{◌≡◌, ◌≤◌, ◌+◌, true, false, Option, Some};
 ghost use Rattle.ghg_office.specs.Keeping.{KeepsAccepted, Lists};
-ghost use Rattle.ghg_office.specs.Replies.{Shows};
 ghost use Rattle.ghg_outer.specs.Counts.{IsCounted};
 ghost use Rattle.ghg_http.specs.Reply.{HttpReply};
 ghost use Rattle.ghg_http.specs.Route.{routes};
-ghost use Rattle.ghg_http.specs.Serve.{AnswersRequest, Sends, ServesLink, TellsFaults, asks_to_append, evaluations_for, shown, snapshot, year_of};
+ghost use Rattle.ghg_http.specs.Serve.{AnswersRequest, Sends, ServesLink, TellsFaults, asks_to_append, evaluations_asked, snapshot};
 
 use crate::reply::Message;
 use crate::request::{ReceiveError, Request, receive_request};
 use crate::route::Route;
 use crate::status::{office_message, refusal_message};
 use ghg_keeper::Keeper;
-use ghg_office::{Office, Reply};
+use ghg_office::Office;
 use ghg_outer::{Sink, Source, WriteError, write_all};
 use ghg_steps::Steps;
-use ghg_units::read_number;
 use ghg_workers::{Gate, Workers};
 use matchit::Router;
 use std::alloc::{AllocError, Global};
@@ -100,7 +98,7 @@ fn answer<K: Keeper, G: Gate, R: Threads + Sync, L: Ledger>(
     requires same { stored ≡ true → Lists (K.shelf keeper.old) office.old.accepted }
     ensures answers { (due : HttpReply) × AnswersRequest office.old request.now due office.new result
         × TellsFaults (Some due) stored (K.shelf keeper.old).faults (K.shelf keeper.new).faults }
-    ensures steps { steps.new ≤ steps.old + evaluations_for office.old (Some request.now) }
+    ensures steps { steps.new ≤ steps.old + evaluations_asked office.old (Some request.now) }
     ensures kept { stored ≡ true
         → KeepsAccepted (K.shelf keeper.old) (K.shelf keeper.new) office.new.accepted }
     ensures untouched { asks_to_append stored office.old (Some request.now) ≡ false
@@ -108,48 +106,11 @@ fn answer<K: Keeper, G: Gate, R: Threads + Sync, L: Ledger>(
 {
     match request {
         Request::Refused(reason) => refusal_message(alloc, *reason),
-        Request::Submit { id, body } => {
-            let reply = office.submit(
-                workers.threads,
-                alloc,
-                id.as_slice(),
-                body.as_slice(),
-                workers.count,
-                workers.gate,
-                keeper,
-                stored,
-                steps,
-            );
-            office_message(alloc, &reply)
-        }
-        Request::Show { table, year } => {
-            let reply = show(alloc, office, table.as_slice(), year.as_slice());
+        Request::Asked(request) => {
+            let reply = office.answer(alloc, workers, &request.as_slices(), keeper, stored, steps);
             office_message(alloc, &reply)
         }
     }
-}
-
-// What the office shows of a table for a text that may be a year.
-fn show(alloc: Global, office: &Office, table: &[u8], year: &[u8]) -> Reply
-    ensures table { Shows (shown office.now table.now (year_of year.now)) result }
-    ensures fault { result ≢ Reply.KeeperFault }
-    ensures memory { result ≡ Reply.Memory → shown office.now table.now (year_of year.now) ≢ Reply.NoTable }
-{
-    match read_year(year) {
-        Some(year) => office.show(alloc, table, year),
-        None => Reply::NoTable,
-    }
-}
-
-// The year that four digits write.
-fn read_year(text: &[u8]) -> Option<u32>
-    ensures { result ≡ year_of text.now }
-{
-    if text.len() != 4 {
-        return None;
-    }
-    let year = read_number(text, 4)?;
-    Some(year as u32)
 }
 
 // Writes a whole message to a link.

@@ -1,5 +1,5 @@
 -- The bounds that are printed hold, since the data stay in force.
-use Rattle.std.proofs.Common.{Bool, Option, Some, None, [], ◌∷◌, refl, sym, subst}
+use Rattle.std.proofs.Common.{ℕ, Bool, List, Option, Some, None, [], ◌∷◌, refl, sym, subst}
 use Rattle.ghg_http.specs.declared.request.Request.{Request as LinkRequest}
 use Rattle.ghg_http.specs.declared.request.Request.TheVariants as on_link
 use Rattle.ghg_http.specs.declared.serve.LinkEnd.{LinkEnd}
@@ -10,19 +10,25 @@ use Rattle.ghg_http.specs.Serve.{Snapshot as LinkSnapshot}
 use Rattle.ghg_office.specs.declared.reply.Reply.{Reply}
 use Rattle.ghg_office.specs.declared.reply.Reply.TheVariants as answered
 use Rattle.ghg_office.specs.Laws.{IsInForce}
-use Rattle.ghg_office.specs.Office.{Answer, State, requested, submitted}
+use Rattle.ghg_office.specs.Office.{Answer, State, requested}
 use Rattle.ghg_office.specs.Replies.{Answers}
+use Rattle.ghg_office.specs.Requests.{answer_to}
+use Rattle.ghg_office.specs.declared.request.Request.{Request as OfficeRequest}
+use Rattle.ghg_office.specs.declared.request.Request.TheVariants as office
 use Rattle.ghg_office.proofs.InForce.{requested_sound, states_stay}
 use Rattle.ghg_script.specs.declared.command.Request.{Request}
 use Rattle.ghg_script.specs.declared.command.Request.TheVariants.{Submit, Query}
 use Rattle.ghg_script.specs.declared.script.TableQuery.{TableQuery}
-use Rattle.ghg_session.specs.Replies.{office_step, table_lines}
+use Rattle.ghg_session.specs.Replies.{asked_of, office_step, table_lines}
 use Rattle.ghg_run.specs.Sound.{AreSoundLines, AreSoundTableLines, RepliesAreSound}
+
+next_stays : (s : State) (request : OfficeRequest (List ℕ)) → IsInForce s → IsInForce (answer_to s request).after
+next_stays s (office.Submit id body) h = states_stay.later s id body h
+next_stays s (office.Show name year) h = h
 
 stays : (stored : Bool) (s : State) (asked : Request TableQuery) → IsInForce s → IsInForce (office_step stored s asked).after
 unfolding office_step
-stays stored s (Submit id body) h = states_stay.later s id body h
-stays stored s (Query show) h = h
+stays stored s asked h = next_stays s (asked_of asked) h
 
 pub sound_table : (s : State) (show : TableQuery) → IsInForce s → AreSoundTableLines s show (table_lines show.table show.year (requested s show.table show.year))
 sound_table s show h = (requested s show.table show.year, refl, requested_sound s h show.table show.year)
@@ -52,9 +58,8 @@ answer_stays s after answer answered.NoTable a h next = subst IsInForce (sym a.1
 reply_stays : (s after : State) (asked : LinkRequest) (due : HttpReply) → Replies s asked due after → IsInForce s
     → IsInForce after
 reply_stays s after (on_link.Refused reason) due r h = subst IsInForce (sym r.1) h
-reply_stays s after (on_link.Submit id body) due r h =
-    answer_stays s after (submitted s id body) r.0 r.1 h (states_stay.later s id body h)
-reply_stays s after (on_link.Show name year) due r h = subst IsInForce (sym r.4) h
+reply_stays s after (on_link.Asked request) due r h =
+    answer_stays s after (answer_to s request) r.0 r.1 h (next_stays s request h)
 
 passes_stay : (x : Exchange) (due : Option HttpReply) (end : LinkEnd) → Passes x due end
     → IsInForce x.before → IsInForce x.after

@@ -5,14 +5,14 @@ use Rattle.ghg_http.proofs.request.receive_rest.Goals as goal
 pub returns-in-Refuse-clause-request : goal.returns-in-Refuse-clause-request
 returns-in-Refuse-clause-request g c = refuses _ _ _ c.requires.whole c.requires.short _ _ c.requires.prompt c.in-Refuse.is
 
-pub returns-in_ok-year-in-Show-clause-request : goal.returns-in_ok-year-in-Show-clause-request
-returns-in_ok-year-in-Show-clause-request g c =
-    shows _ _ _ c.requires.whole c.requires.short _ c.in-Show.table c.in-Show.year _ _ c.requires.prompt c.in-Show.is
-    c.in_ok-table-in-Show.ensures c.in_ok-year-in-Show.ensures
+pub returns-in_ok-table-in-Show-clause-request : goal.returns-in_ok-table-in-Show-clause-request
+returns-in_ok-table-in-Show-clause-request g c =
+    shows _ _ _ c.requires.whole c.requires.short _ c.in-Show.table _ c.in-Show.year c.requires.prompt c.in-Show.is
+    c.in_ok-table-in-Show.ensures
 
-pub returns-in_err-year-in-Show-clause-stopped : goal.returns-in_err-year-in-Show-clause-stopped
-returns-in_err-year-in-Show-clause-stopped g c =
-    let residual = c.from_residual-in_err-year-in-Show in
+pub returns-in_err-table-in-Show-clause-stopped : goal.returns-in_err-table-in-Show-clause-stopped
+returns-in_err-table-in-Show-clause-stopped g c =
+    let residual = c.from_residual in
     let p = err_from_is_err_and residual.result residual.ensures.1 in
     rw (p.1, p.2) (stops_at_head _ _ _ c.requires.whole c.requires.short _ c.requires.prompt)
 
